@@ -1,0 +1,4 @@
+mod Decimal
+pub mod Among
+pub mod Lanes
+mod Camel

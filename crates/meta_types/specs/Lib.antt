@@ -1,0 +1,7 @@
+pub mod Shape
+pub mod Function
+pub mod Lane
+pub mod ValueTypes
+pub mod CamelCase
+pub mod Name
+pub mod Fault

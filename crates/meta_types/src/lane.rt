@@ -1,0 +1,211 @@
+ghost use Rattle.std.specs.Prelude.{◌≡◌, ◌↔◌, ◌+◌, IsTrue, Contains};
+ghost use Rattle.meta_types.specs.Shape.{IntKind, FloatKind, widths, scalar, number_of, name_of};
+ghost use Rattle.meta_types.specs.Lane.{lane_shape};
+
+use std::fmt;
+
+/// An integer lane, by its width.
+#[derive(Clone, Copy, PartialEq, Eq, Hash)]
+pub enum Int {
+    /// 8 bits.
+    I8,
+    /// 16 bits.
+    I16,
+    /// 32 bits.
+    I32,
+    /// 64 bits.
+    I64,
+    /// 128 bits.
+    I128,
+}
+
+/// A floating-point lane, by its width. No arithmetic is meant: a float is a name and a width.
+#[derive(Clone, Copy, PartialEq, Eq, Hash)]
+pub enum Float {
+    /// 16 bits.
+    F16,
+    /// 32 bits.
+    F32,
+    /// 64 bits.
+    F64,
+    /// 128 bits.
+    F128,
+}
+
+/// A type that can stand alone or as a lane of a vector (`cdsl/types.rs`).
+#[derive(Clone, Copy, PartialEq, Eq, Hash)]
+pub enum LaneType {
+    Int(Int),
+    Float(Float),
+}
+
+/// The number from which the numbers of types count. It is this project's own profile of the numbers that a consumer of
+/// the tables reads.
+const LANE_BASE: u16 = 0x70;
+
+/// Whether an integer lane may be this wide: 8, 16, 32, 64 or 128 bits.
+pub fn is_int_width(num_bits: u16) -> bool
+    ensures { IsTrue result ↔ Contains (widths IntKind) num_bits }
+{
+    [8, 16, 32, 64, 128].contains(&num_bits)
+}
+
+/// Whether a floating-point lane may be this wide: 16, 32, 64 or 128 bits.
+pub fn is_float_width(num_bits: u16) -> bool
+    ensures { IsTrue result ↔ Contains (widths FloatKind) num_bits }
+{
+    [16, 32, 64, 128].contains(&num_bits)
+}
+
+impl LaneType {
+    /// The width in bits, 8 to 128.
+    pub fn lane_bits(self) -> u64
+        ensures { result ≡ (lane_shape self).width }
+    {
+        match self {
+            LaneType::Int(Int::I8) => 8,
+            LaneType::Int(Int::I16) | LaneType::Float(Float::F16) => 16,
+            LaneType::Int(Int::I32) | LaneType::Float(Float::F32) => 32,
+            LaneType::Int(Int::I64) | LaneType::Float(Float::F64) => 64,
+            LaneType::Int(Int::I128) | LaneType::Float(Float::F128) => 128,
+        }
+    }
+
+    /// The number of the type, 0x74 to 0x7c: `i8` is 0x74, and the others follow in the order of `i16`, `i32`, `i64`,
+    /// `i128`, `f16`, `f32`, `f64` and `f128`.
+    pub fn number(self) -> u16
+        ensures { result ≡ number_of (lane_shape self) }
+    {
+        LANE_BASE + self.code()
+    }
+
+    /// The code of a lane, 4 to 12.
+    fn code(self) -> u16
+        ensures { 0x70 + result ≡ number_of (lane_shape self) }
+    {
+        match self {
+            LaneType::Int(Int::I8) => 4,
+            LaneType::Int(Int::I16) => 5,
+            LaneType::Int(Int::I32) => 6,
+            LaneType::Int(Int::I64) => 7,
+            LaneType::Int(Int::I128) => 8,
+            LaneType::Float(Float::F16) => 9,
+            LaneType::Float(Float::F32) => 10,
+            LaneType::Float(Float::F64) => 11,
+            LaneType::Float(Float::F128) => 12,
+        }
+    }
+
+    /// The integer lane of this width, which `is_int_width` tells.
+    pub fn int_from_bits(num_bits: u16) -> LaneType
+        requires { Contains (widths IntKind) num_bits }
+        ensures { lane_shape result ≡ scalar IntKind num_bits }
+    {
+        LaneType::Int(match num_bits {
+            8 => Int::I8,
+            16 => Int::I16,
+            32 => Int::I32,
+            64 => Int::I64,
+            _ => Int::I128,
+        })
+    }
+
+    /// The floating-point lane of this width, which `is_float_width` tells.
+    pub fn float_from_bits(num_bits: u16) -> LaneType
+        requires { Contains (widths FloatKind) num_bits }
+        ensures { lane_shape result ≡ scalar FloatKind num_bits }
+    {
+        LaneType::Float(match num_bits {
+            16 => Float::F16,
+            32 => Float::F32,
+            64 => Float::F64,
+            _ => Float::F128,
+        })
+    }
+
+    /// The name, as `i32`.
+    #[tactic(auto, using(crate::proofs::Decimal::decimals))]
+    pub(crate) fn name(self) -> &'static str
+        ensures { result.now ≡ name_of (lane_shape self) }
+    {
+        match self {
+            LaneType::Int(Int::I8) => "i8",
+            LaneType::Int(Int::I16) => "i16",
+            LaneType::Int(Int::I32) => "i32",
+            LaneType::Int(Int::I64) => "i64",
+            LaneType::Int(Int::I128) => "i128",
+            LaneType::Float(Float::F16) => "f16",
+            LaneType::Float(Float::F32) => "f32",
+            LaneType::Float(Float::F64) => "f64",
+            LaneType::Float(Float::F128) => "f128",
+        }
+    }
+}
+
+impl From<Int> for LaneType {
+    ghost use Rattle.std.specs.Prelude.{◌≡◌};
+    ghost use Rattle.meta_types.specs.declared.lane.LaneType.TheVariants.{Int};
+
+    ghost from_gives = { λ x r. r ≡ Int x };
+
+    fn from(i: Int) -> LaneType {
+        LaneType::Int(i)
+    }
+}
+
+impl From<Float> for LaneType {
+    ghost use Rattle.std.specs.Prelude.{◌≡◌};
+    ghost use Rattle.meta_types.specs.declared.lane.LaneType.TheVariants.{Float};
+
+    ghost from_gives = { λ x r. r ≡ Float x };
+
+    fn from(f: Float) -> LaneType {
+        LaneType::Float(f)
+    }
+}
+
+impl fmt::Display for LaneType {
+    ghost use Rattle.std.specs.Prelude.{Some};
+    ghost use Rattle.meta_types.specs.Shape.{name_of};
+    ghost use Rattle.meta_types.specs.Lane.{lane_shape};
+
+    ghost output = { λ l. Some (name_of (lane_shape l)) };
+
+    fn fmt<W: fmt::Write>(&self, f: &mut fmt::Formatter<W>) -> fmt::Result {
+        f.write_str(self.name())
+    }
+}
+
+impl fmt::Debug for LaneType {
+    fn fmt<W: fmt::Write>(&self, f: &mut fmt::Formatter<W>) -> fmt::Result {
+        let bits = self.lane_bits();
+        match self {
+            LaneType::Int(_) => write!(f, "IntType(bits={bits})"),
+            LaneType::Float(_) => write!(f, "FloatType(bits={bits})"),
+        }
+    }
+}
+
+#[cfg(test)]
+mod tests {
+    use super::*;
+    use std::test::Fail;
+
+    #[test]
+    fn shows_lanes(rt: HostRuntime) -> Result<(), Fail> {
+        let alloc = rt.alloc();
+        let int = LaneType::from(Int::I32);
+        let float = LaneType::from(Float::F16);
+        assert_eq!(rt; int.to_string(alloc)?.as_str(), "i32");
+        assert_eq!(rt;
+            format!(in alloc; "{int:?} {float:?}")?.as_str(),
+            "IntType(bits=32) FloatType(bits=16)"
+        );
+        assert_eq!(rt; LaneType::int_from_bits(128).lane_bits(), 128);
+        assert_eq!(rt; LaneType::float_from_bits(64).number(), 0x7b);
+        assert!(rt;
+            !is_int_width(12) && !is_float_width(8) && is_int_width(8) && is_float_width(16)
+        );
+        Ok(())
+    }
+}

@@ -1,0 +1,84 @@
+ghost use Rattle.std.specs.Prelude.{◌≡◌, ◌↔◌, IfOk, IsTrue};
+ghost use Rattle.meta_types.specs.CamelCase.{capital_at, camel_case_of};
+ghost use Rattle.meta_types.specs.Name.{IsName};
+
+use super::text::Text;
+use std::alloc::{AllocError, Global};
+
+/// Whether a text may name a declaration: an ASCII letter followed by ASCII letters, digits or `_` (this project's own).
+pub fn is_name(text: &Text) -> bool
+    ensures { IsTrue result ↔ IsName text.now }
+{
+    match text.as_bytes() {
+        [] => false,
+        [first, rest @ ..] => first.is_ascii_alphabetic()
+            && rest.iter().all(|c| c.is_ascii_alphanumeric() || *c == b'_'),
+    }
+}
+
+/// The character, or its capital where it is a letter `a` to `z` and `at_start` is set.
+fn capital_at(at_start: bool, c: char) -> char
+    ensures { result ≡ capital_at at_start c }
+{
+    if at_start { c.to_ascii_uppercase() } else { c }
+}
+
+/// The camel case of a name: each `_` is dropped, and a letter `a` to `z` that is first or follows a `_` becomes a capital
+/// (this project's own rule, in place of the crate `heck`).
+pub fn camel_case(alloc: Global, s: &Text) -> Result<Text, AllocError>
+    ensures { IfOk result (λ t. t ≡ camel_case_of s.now) }
+{
+    let mut out = String::new(alloc);
+    let mut at_start = true;
+    for c in s.as_str().chars() {
+        if c == '_' {
+            at_start = true;
+        } else {
+            out.push(capital_at(at_start, c))?;
+            at_start = false;
+        }
+    }
+    Text::new(alloc, out.as_str())
+}
+
+#[cfg(test)]
+mod tests {
+    use super::*;
+    use std::test::Fail;
+
+    #[test]
+    fn makes_camel_case(rt: HostRuntime) -> Result<(), Fail> {
+        let alloc = rt.alloc();
+        for (name, camel) in [
+            ("dynamic_stack_addr", "DynamicStackAddr"),
+            ("x86_pshufb", "X86Pshufb"),
+            ("iadd", "Iadd"),
+            ("a__b_", "AB"),
+            ("_9a", "9a"),
+            ("é_éa", "ééa"),
+            ("", ""),
+        ] {
+            let text = camel_case(alloc, &Text::new(alloc, name)?)?;
+            assert_eq!(rt; text.as_str(), camel, "{name}");
+        }
+        Ok(())
+    }
+
+    #[test]
+    fn tells_names(rt: HostRuntime) -> Result<(), Fail> {
+        let alloc = rt.alloc();
+        for (text, want) in [
+            ("iadd", true),
+            ("A_9", true),
+            ("9a", false),
+            ("_a", false),
+            ("", false),
+            ("a b", false),
+            ("a-b", false),
+            ("aé", false),
+        ] {
+            assert_eq!(rt; is_name(&Text::new(alloc, text)?), want, "{text}");
+        }
+        Ok(())
+    }
+}

@@ -1,0 +1,114 @@
+ghost use Rattle.std.specs.Prelude.{◌≡◌, ◌==◌, IfOk};
+ghost use Rattle.std.proofs.Common.{rules};
+ghost use Rattle.std.specs.Cmp.{partial_order_from_own_ties};
+ghost use Rattle.std.specs.Cmp.Rules.{comparing};
+ghost use Rattle.std.specs.Cmp.Lexicographic.{slice_cmp, pointwise};
+ghost use Rattle.std.specs.Ordering.{nat_cmp, as_partial_cmp};
+
+use std::alloc::{AllocError, Global};
+use std::cmp::Ordering;
+use std::marker::Model;
+
+/// An owned text. A contract sees its bytes (this project's own).
+#[derive(Debug, Drop)]
+pub struct Text {
+    inner: String,
+}
+
+impl Model for Text {
+    ghost use Rattle.std.specs.Prelude.{List, ℕ, string_bytes};
+
+    ghost Value = { List ℕ };
+
+    ghost view = { λ t. string_bytes t.inner };
+}
+
+impl Text {
+    /// An owned copy of the text.
+    pub fn new(alloc: Global, text: &str) -> Result<Text, AllocError>
+        ensures { IfOk result (λ t. t ≡ text.now) }
+    {
+        Ok(Text {
+            inner: String::from_str(alloc, text)?,
+        })
+    }
+
+    /// An equal text of its own.
+    pub fn copy(&self, alloc: Global) -> Result<Text, AllocError>
+        ensures { IfOk result (λ t. t ≡ self.now) }
+    {
+        Text::new(alloc, self.inner.as_str())
+    }
+
+    /// The text as it is.
+    pub fn as_str(&self) -> &str
+        ensures { result.now ≡ self.now }
+    {
+        self.inner.as_str()
+    }
+
+    /// Its bytes.
+    pub fn as_bytes(&self) -> &[u8]
+        ensures { result.now ≡ self.now }
+    {
+        self.inner.as_bytes()
+    }
+}
+
+impl PartialEq for Text {
+    ghost eq = { pointwise ◌==◌ };
+
+    ghost laws = { Prim.search (comparing, rules) };
+
+    fn eq(&self, other: &Text) -> bool {
+        self.inner == other.inner
+    }
+}
+
+impl Eq for Text {
+    ghost laws = { Prim.search (comparing, rules) };
+}
+
+impl PartialOrd for Text {
+    ghost partial_cmp = { as_partial_cmp (slice_cmp nat_cmp) };
+
+    ghost laws = { partial_order_from_own_ties (Prim.search (comparing, rules)) (Prim.search (comparing, rules)) };
+
+    fn partial_cmp(&self, other: &Text) -> Option<Ordering> {
+        Some(self.cmp(other))
+    }
+}
+
+/// By its bytes.
+impl Ord for Text {
+    ghost cmp = { slice_cmp nat_cmp };
+
+    ghost total = { Prim.search (comparing, rules) };
+
+    ghost matches_partial_cmp = { Prim.search (comparing, rules) };
+
+    ghost matches_eq = { Prim.search (comparing, rules) };
+
+    fn cmp(&self, other: &Text) -> Ordering {
+        self.inner.cmp(&other.inner)
+    }
+}
+
+#[cfg(test)]
+mod tests {
+    use super::*;
+    use std::test::Fail;
+
+    #[test]
+    fn compares_by_bytes(rt: HostRuntime) -> Result<(), Fail> {
+        let alloc = rt.alloc();
+        let text = Text::new(alloc, "iadd")?;
+        let copy = text.copy(alloc)?;
+        assert_eq!(rt; copy.as_str(), "iadd");
+        let same = text == copy;
+        assert!(rt; same);
+        let before = Text::new(alloc, "Z")? < text;
+        assert!(rt; before, "a capital stands before a small letter");
+        Ok(())
+    }
+}
