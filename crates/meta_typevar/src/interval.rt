@@ -1,0 +1,66 @@
+ghost use Rattle.std.specs.Prelude.{◌≡◌, ◌↔◌, ◌^◌, ◌<◌, IsTrue, sum, filter};
+ghost use Rattle.meta_typevar.specs.Intervals.{has, IsWithin};
+
+use std::ops::Range;
+
+/// Which numbers of a part of a type set are meant (`cdsl/typevar.rs`).
+#[derive(Debug, Drop, PartialEq, Eq)]
+pub enum Interval {
+    /// None.
+    None,
+    /// Each that the part may have.
+    All,
+    /// The powers of two from `start` to `end`, both of them included.
+    Range(Range<u16>),
+}
+
+/// A part of a type set builder (this project's own).
+#[derive(Clone, Copy, Debug, PartialEq, Eq)]
+pub enum Part {
+    Ints,
+    Floats,
+}
+
+impl From<Range<u16>> for Interval {
+    ghost use Rattle.std.specs.Prelude.{◌≡◌};
+    ghost use Rattle.meta_typevar.specs.declared.interval.Interval.TheVariants.{Range as Between};
+
+    ghost from_gives = { λ range result. result ≡ Between range };
+
+    fn from(range: Range<u16>) -> Interval {
+        Interval::Range(range)
+    }
+}
+
+impl Interval {
+    /// Whether the number is meant.
+    pub(crate) fn has(&self, n: u16) -> bool
+        ensures { result ≡ has self.now n }
+    {
+        match self {
+            Interval::None => false,
+            Interval::All => true,
+            Interval::Range(range) => range.start <= n && n <= range.end,
+        }
+    }
+
+    /// Whether, if it is a range, both ends are among the numbers, and the low one is at most the high one.
+    pub(crate) fn is_within(&self, all: &[u16]) -> bool
+        ensures { IsTrue result ↔ IsWithin all.now self.now }
+    {
+        match self {
+            Interval::None | Interval::All => true,
+            Interval::Range(range) => all.contains(&range.start)
+                && all.contains(&range.end)
+                && range.start <= range.end,
+        }
+    }
+
+    /// The mask of those of the numbers, which are powers of two, that are meant.
+    pub(crate) fn to_mask(&self, all: &[u16]) -> u16
+        requires { sum all.now < 2 ^ 16 }
+        ensures { result ≡ sum (filter (has self.now) all.now) }
+    {
+        all.iter().filter(|n| self.has(**n)).sum()
+    }
+}
