@@ -1,0 +1,187 @@
+-- The operands by the numbers of their variables, and the instruction that they make.
+use Rattle.std.proofs.Common.{◌≡◌, ◌<◌, ◌≤◌, inl, inr, ℕ, List, [], Bool, true, false, length, take, drop, Option, None, Some, slice_get, arith, refl, sym, ap, ◌∙◌, map, subst, ⊎_elim, ◌+◌, ◌∷◌, zero, suc, zero-add, suc-add}
+use Rattle.std.specs.Prelude.{option_map, option_and_then, if◌then◌else◌}
+use Rattle.std.proofs.lemmas.Option.{slice_get-map}
+use Rattle.std.proofs.lemmas.List.{take-append-drop, map-append, length-map, length-take}
+use Rattle.meta_typevar.specs.FourSets.{HasOne}
+use Rattle.meta_typevar.specs.Variable.{Variable, underived}
+use Rattle.meta_typevar.specs.Registry.{sets_of, variable_at}
+use Rattle.meta_typevar.specs.declared.typevar.TypeVarContent.{TypeVarContent}
+use Rattle.meta_inst.specs.Instruction.{Instruction, operands, IsOperand, IsDesignated, IsFirstOutput}
+use Rattle.meta_inst.specs.Control.{IsLoneInput, IsRuled, MayControl, IsPolymorphic, HasOneEverywhere, IsControlledBy, DesignatesNone}
+use Rattle.meta_inst.specs.Operands.{OperandList, instruction_with, variables_at, IsAlone, LetsControl, AllLetControl, HasSeveralTypes, AllHaveOneType, designated_number, first_number, AreOf}
+use Rattle.meta_inst.specs.FoundControl.{IsFound, IsFoundIn, MayNot, IsChosen}
+use Rattle.meta_inst.specs.declared.operands.Control.{Control}
+use Rattle.meta_inst.specs.declared.operands.Control.TheVariants.{NotPolymorphic, By, Missing}
+
+-- what a map of an option has at a value
+mapped : {X Y : Type 0} (f : X → Y) (o : Option X) (y : Y) → option_map f o ≡ Some y → (x : X) × (o ≡ Some x) × (y ≡ f x)
+mapped f None y e = absurd (cc)
+mapped f (Some x) y e = (x, refl, (cc))
+
+-- what an option leads to
+chained : {X Y : Type 0} (f : X → Option Y) (p : Option X) (y : Y) → option_and_then f p ≡ Some y → (x : X) × (p ≡ Some x) × (f x ≡ Some y)
+chained f None y e = absurd (cc)
+chained f (Some x) y e = (x, refl, e)
+
+-- a choice of an option or none
+chosen : {X : Type 0} (b : Bool) (p : Option X) (x : X) → (if b then p else None) ≡ Some x → (b ≡ true) × (p ≡ Some x)
+chosen true p x e = (refl, e)
+chosen false p x e = absurd (cc)
+
+choose : {X : Type 0} (b : Bool) (p : Option X) → b ≡ true → (if b then p else None) ≡ p
+choose true p e = refl
+choose false p e = absurd (cc)
+
+some_same : {X : Type 0} {x y : X} → Some x ≡ Some y → x ≡ y
+some_same e = cc
+
+-- places behind the first n, and before
+slice_get-drop : (xs : List ℕ) (n k : ℕ) → slice_get (drop n xs) k ≡ slice_get xs (n + k)
+slice_get-drop xs zero k = ap (slice_get xs) (sym (zero-add k))
+slice_get-drop [] (suc n) k = refl
+slice_get-drop (x ∷ xs) (suc n) k = slice_get-drop xs n k ∙ ap (slice_get (x ∷ xs)) (sym (suc-add n k))
+
+first_taken : (xs : List ℕ) (n x : ℕ) → slice_get (take n xs) 0 ≡ Some x → slice_get xs 0 ≡ Some x
+first_taken xs zero x e = absurd (cc)
+first_taken [] (suc n) x e = absurd (cc)
+first_taken (y ∷ ys) (suc n) x e = e
+
+-- two roots are one number
+one_root : (m n : ℕ) → underived m ≡ underived n → m ≡ n
+one_root m n e = ap (λ (v : Variable). v.root) e
+
+module _ (vars : List TypeVarContent) (o : OperandList) (within : o.result_count ≤ length o.variables) where
+  abbrev i : Instruction
+  i = instruction_with vars o
+
+  -- the operands are the variables
+  all_operands : operands i ≡ variables_at vars o.variables
+  all_operands = sym (map-append (variable_at vars) (take o.result_count o.variables) (drop o.result_count o.variables)) ∙ ap (map (variable_at vars)) (take-append-drop o.result_count o.variables)
+
+  -- the operand at a place
+  pub operand_at : (k n : ℕ) → slice_get o.variables k ≡ Some n → IsOperand i k (variable_at vars n)
+  operand_at k n at = ap (λ ws. slice_get ws k) all_operands ∙ slice_get-map (variable_at vars) o.variables k ∙ ap (option_map (variable_at vars)) at
+
+  -- and what stands there
+  pub operand_from : (k : ℕ) (w : Variable) → IsOperand i k w → (n : ℕ) × (slice_get o.variables k ≡ Some n) × (w ≡ variable_at vars n)
+  operand_from k w is = mapped (variable_at vars) (slice_get o.variables k) w (sym (slice_get-map (variable_at vars) o.variables k) ∙ sym (ap (λ ws. slice_get ws k) all_operands) ∙ is)
+
+  taken : length (take o.result_count o.variables) ≡ o.result_count
+  taken = omega (arith, length-take o.result_count o.variables)
+
+  pub results_length : length i.results ≡ o.result_count
+  results_length = length-map (take o.result_count o.variables) (variable_at vars) ∙ taken
+
+  -- a variable that stands alone is a lone input
+  lone : (k n : ℕ) → slice_get o.variables k ≡ Some n → IsAlone o.variables o.result_count k → IsLoneInput i k (variable_at vars n)
+  lone k n at alone = record {
+    underived = refl;
+    is_input = omega (arith, results_length, alone.is_input);
+    alone = λ j l op.
+        let (m, found, e) = operand_from j (variable_at vars n) op in
+        alone.alone j n (omega (arith, results_length, l)) (found ∙ ap Some (sym (one_root n m e))) at;
+  }
+
+  alone_from : (k n : ℕ) → slice_get o.variables k ≡ Some n → IsLoneInput i k (variable_at vars n) → IsAlone o.variables o.result_count k
+  alone_from k n at lone = record {
+    is_input = omega (arith, results_length, lone.is_input);
+    alone = λ j m l found same.
+        let e : m ≡ n = some_same (sym same ∙ at) in
+        lone.alone j (omega (arith, results_length, l)) (operand_at j n (found ∙ ap Some e));
+  }
+
+  -- what lets v control rules the operand
+  ruled : (v k n : ℕ) → slice_get o.variables k ≡ Some n → LetsControl vars o.variables o.result_count v k n → IsRuled (sets_of vars) i (variable_at vars v) k (variable_at vars n)
+  ruled v k n at (inl e) = inl e
+  ruled v k n at (inr (inl one)) = inr (inl one)
+  ruled v k n at (inr (inr alone)) = inr (inr (lone k n at alone))
+
+  ruled_from : (v k n : ℕ) → slice_get o.variables k ≡ Some n → IsRuled (sets_of vars) i (variable_at vars v) k (variable_at vars n) → LetsControl vars o.variables o.result_count v k n
+  ruled_from v k n at (inl e) = inl e
+  ruled_from v k n at (inr (inl one)) = inr (inl one)
+  ruled_from v k n at (inr (inr lone)) = inr (inr (alone_from k n at lone))
+
+  -- that all let v control is that it may control
+  may : (v : ℕ) → AllLetControl vars o.variables o.result_count v → MayControl (sets_of vars) i (variable_at vars v)
+  may v all = record {
+    underived = refl;
+    others = λ k w op.
+        let (n, at, e) = operand_from k w op in
+        subst (IsRuled (sets_of vars) i (variable_at vars v) k) (sym e) (ruled v k n at (all k n at));
+  }
+
+  may_from : (v : ℕ) → MayControl (sets_of vars) i (variable_at vars v) → AllLetControl vars o.variables o.result_count v
+  may_from v m k n at = ruled_from v k n at (m.others k (variable_at vars n) (operand_at k n at))
+
+  -- the designated operand
+  pub designated_is : (d : ℕ) → designated_number o ≡ Some d → IsDesignated i (variable_at vars d)
+  designated_is d e =
+      let (place, is, at) = chained (λ place. slice_get (drop o.result_count o.variables) place) o.designated d e in
+      record { place = place; designates = is; is_value = slice_get-map (variable_at vars) (drop o.result_count o.variables) place ∙ ap (option_map (variable_at vars)) at }
+
+  pub designated_from : (w : Variable) → IsDesignated i w → (d : ℕ) × (designated_number o ≡ Some d) × (w ≡ variable_at vars d)
+  designated_from w h =
+      let (d, at, e) = mapped (variable_at vars) (slice_get (drop o.result_count o.variables) h.place) w (sym (slice_get-map (variable_at vars) (drop o.result_count o.variables) h.place) ∙ h.is_value) in
+      (d, ap (option_and_then (λ place. slice_get (drop o.result_count o.variables) place)) h.designates ∙ at, e)
+
+  -- the first output
+  first_is : (v : ℕ) → first_number o ≡ Some v → IsFirstOutput i (variable_at vars v)
+  first_is v e =
+      let (begins, at) = chosen o.begins_with_value (slice_get (take o.result_count o.variables) 0) v e in
+      record { is_value = begins; first = slice_get-map (variable_at vars) (take o.result_count o.variables) 0 ∙ ap (option_map (variable_at vars)) at }
+
+  first_from : (w : Variable) → IsFirstOutput i w → (v : ℕ) × (first_number o ≡ Some v) × (w ≡ variable_at vars v)
+  first_from w h =
+      let (v, at, e) = mapped (variable_at vars) (slice_get (take o.result_count o.variables) 0) w (sym (slice_get-map (variable_at vars) (take o.result_count o.variables) 0) ∙ h.first) in
+      (v, choose o.begins_with_value (slice_get (take o.result_count o.variables) 0) h.is_value ∙ at, e)
+
+  polymorphic : HasSeveralTypes vars o.variables → IsPolymorphic (sets_of vars) i
+  polymorphic h = record { place = h.place; variable = variable_at vars h.variable; operand = operand_at h.place h.variable h.at; several = h.several }
+
+  one_everywhere : AllHaveOneType vars o.variables → HasOneEverywhere (sets_of vars) i
+  one_everywhere all k w op =
+      let (n, at, e) = operand_from k w op in
+      subst (λ (w : Variable). HasOne (sets_of vars w.root)) (sym e) (all k n at)
+
+  -- a candidate that may not control
+  designates_none : MayNot vars o.variables o.result_count (designated_number o) → DesignatesNone (sets_of vars) i
+  designates_none never w is m =
+      let (d, at, e) = designated_from w is in
+      never d at (may_from d (subst (MayControl (sets_of vars) i) e m))
+
+  first_never : MayNot vars o.variables o.result_count (first_number o) → (w : Variable) → IsFirstOutput i w → MayControl (sets_of vars) i w → ⊥
+  first_never never w is m =
+      let (v, at, e) = first_from w is in
+      never v at (may_from v (subst (MayControl (sets_of vars) i) e m))
+
+  controlled : (v : ℕ) → IsChosen vars o.variables o.result_count (designated_number o) (first_number o) v → IsControlledBy (sets_of vars) i (variable_at vars v)
+  controlled v h = record {
+    polymorphic = polymorphic h.several;
+    may = may v h.may;
+    chosen = ⊎_elim (λ d. inl (designated_is v d)) (λ f. inr (designates_none f.0, first_is v f.1)) h.chosen;
+  }
+
+  -- what was found by numbers is found of the instruction
+  pub found : (c : Control) → IsFoundIn vars o.variables o.result_count (designated_number o) (first_number o) c → IsFound vars i c
+  found NotPolymorphic h = one_everywhere h
+  found (By v) h = controlled v h
+  found Missing h = record { polymorphic = polymorphic h.several; designated = designates_none h.designated_may_not; first = first_never h.first_may_not }
+
+  -- the variable that controls is of the registry
+  pub of_registry : (c : Control) (v : ℕ) → AreOf vars o.variables → IsFoundIn vars o.variables o.result_count (designated_number o) (first_number o) c → c ≡ By v → v < length vars
+  of_registry NotPolymorphic v are h e = absurd (cc)
+  of_registry Missing v are h e = absurd (cc)
+  of_registry (By u) v are h e =
+      let same : u ≡ v = cc in
+      subst (λ n. n < length vars) same (⊎_elim (λ d. values_of u d) (λ f. results_of u f.1) h.chosen)
+    where
+      values_of : (u : ℕ) → designated_number o ≡ Some u → u < length vars
+      values_of u d =
+          let (place, is, at) = chained (λ place. slice_get (drop o.result_count o.variables) place) o.designated u d in
+          are (o.result_count + place) u (sym (slice_get-drop o.variables o.result_count place) ∙ at)
+
+      results_of : (u : ℕ) → first_number o ≡ Some u → u < length vars
+      results_of u f =
+          let (begins, at) = chosen o.begins_with_value (slice_get (take o.result_count o.variables) 0) u f in
+          are 0 u (first_taken o.variables o.result_count u at)

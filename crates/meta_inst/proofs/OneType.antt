@@ -1,0 +1,21 @@
+-- A type is fixed for an underived variable exactly where its set has one type.
+use Rattle.std.proofs.Common.{◌≢◌, [], refl, sym, ◌∙◌, IsTrue, ◌↔◌, IfSome, IfNone, Option, None, Some}
+use Rattle.std.specs.Prelude.{is_some}
+use Rattle.std.proofs.lemmas.List.Elements.{All-nil}
+use Rattle.meta_types.specs.Shape.{Shape}
+use Rattle.meta_types.specs.Function.{Narrower, Wider, Function}
+use Rattle.meta_types.specs.ValueTypes.{shape_of}
+use Rattle.meta_types.specs.declared.value_type.ValueType.{ValueType}
+use Rattle.meta_typevar.specs.FourSets.{FourSets, HasOne}
+use Rattle.meta_typevar.specs.Chain.{IsFixed, IsFixedNowhere}
+
+one_from_fixed : (s : FourSets) (t : Shape) → IsFixed s [] t → HasOne s
+one_from_fixed s t h = record { one = h.member; member = h.inhabited; only = λ r m. sym (h.reached r m) ∙ h.reached h.member h.inhabited }
+
+fixed_from_one : (s : FourSets) (one : HasOne s) → IsFixed s [] one.one
+fixed_from_one s one = record { functions = All-nil (λ (f : Function). (f ≢ Narrower) × (f ≢ Wider)); member = one.one; inhabited = one.member; reached = λ r m. sym (one.only r m); only = λ r x m e. e ∙ one.only r m }
+
+-- what an answer that tells the fixed type says of the set
+pub one_told : (s : FourSets) (o : Option ValueType) → IfSome o (λ t. IsFixed s [] (shape_of t)) → IfNone o (IsFixedNowhere s []) → IsTrue (is_some o) ↔ HasOne s
+one_told s None found nowhere = ((λ e. cc), (λ one. absurd (nowhere one.one (fixed_from_one s one))))
+one_told s (Some t) found nowhere = ((λ e. one_from_fixed s (shape_of t) found), (λ one. refl))

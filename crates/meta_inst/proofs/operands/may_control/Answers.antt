@@ -1,0 +1,16 @@
+use Rattle.std.proofs.Common.{◌≡◌, ◌↔◌, IsTrue, Bool, false, arith, refl, sym, ◌∙◌}
+use Rattle.std.proofs.lemmas.Bool.{false≢true}
+use Rattle.std.proofs.lemmas.Option.{slice_get-get_or, slice_get_within}
+use Rattle.meta_inst.proofs.operands.may_control.Goals as goal
+
+-- an answer of no to one test
+told : (r : Bool) (P Q : Type 0) → r ≡ false → (IsTrue r ↔ P) → (Q → P) → (IsTrue false → Q) × (Q → IsTrue false)
+told r P Q e h f = ((λ e. absurd (false≢true e)), (λ q. sym e ∙ h.1 (f q)))
+
+pub returns-then-not-lets_control : goal.returns-then-not-lets_control
+returns-then-not-lets_control c =
+    let at = slice_get-get_or c.args.variables.now c.loop-place.place 0 c.loop-place-test.true in
+    told c.lets_control.result _ _ c.if-not-lets_control.true (c.lets_control.ensures _ at) (λ all. all _ _ at)
+
+pub returns : goal.returns
+returns c = ((λ e place n at. let l = slice_get_within c.args.variables.now place n at in c.loop-place.invariant place n (omega arith) at), (λ all. refl))

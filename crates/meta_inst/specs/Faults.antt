@@ -1,0 +1,214 @@
+-- The faults of declarations, and the order in which they are looked for.
+--     ShowsAt d e p          the declarations show the fault e, which is looked for at the position p
+--     IsFirstFault d e       e is the first fault that they show
+--     IsValid d              they show none
+use Rattle.std.specs.Prelude.{◌≡◌, ◌≢◌, ◌<◌, ◌≤◌, ◌+◌, ◌⊎◌, ℕ, List, [], length, map, slice_get, Option, Some}
+use Rattle.meta_types.specs.CamelCase.{camel_case_of}
+use Rattle.meta_types.specs.Name.{IsName}
+use Rattle.meta_types.specs.declared.fault.Place.TheVariants.{Instruction as AtInstruction, Format as AtFormat}
+use Rattle.meta_types.specs.declared.fault.DefinitionError.{DefinitionError}
+use Rattle.meta_types.specs.declared.fault.DefinitionError.TheVariants.{BadName, DuplicateName, TooManyOpcodes, FormatMismatch, NoControl, TooManyOperands, FormatClash, TooManyTypeSets, OutOfMemory}
+use Rattle.meta_typevar.specs.FourSets.{FourSets, HasOne}
+use Rattle.meta_typevar.specs.Variable.{Variable, Sets}
+use Rattle.meta_operands.specs.Operand.{variables_of}
+use Rattle.meta_operands.specs.declared.format.InstructionFormat.{InstructionFormat}
+use Rattle.meta_inst.specs.Builder.{Builder, inputs_of, outputs_of}
+use Rattle.meta_inst.specs.Instruction.{Instruction, IsOperand}
+use Rattle.meta_inst.specs.Control.{IsControl, HasNoControl}
+use Rattle.meta_inst.specs.InstructionSet.{InstructionSet, root_sets, instruction_of}
+
+-- the instruction at place k, counted from 0, and the number that a fault has for it, counted from 1
+abbrev pub IsAt : InstructionSet → ℕ → Builder → Type 0
+IsAt d k b = slice_get d.instructions k ≡ Some b
+
+-- two names that can't stand side by side: they are the same, or their camel cases are
+abbrev pub SharesName : List ℕ → List ℕ → Type 0
+SharesName a b = (a ≡ b) ⊎ (camel_case_of a ≡ camel_case_of b)
+
+abbrev pub names_of : InstructionSet → List (List ℕ)
+names_of d = map (λ b. b.name) d.instructions
+
+-- the name at place k is shared by an earlier one, the first of which is at place j
+pub record IsDuplicate (names : List (List ℕ)) (k j : ℕ) : Type 0 where
+  pub name : List ℕ
+  pub earlier : List ℕ
+  pub is_name : slice_get names k ≡ Some name
+  pub is_earlier : slice_get names j ≡ Some earlier
+  pub before : j < k
+  pub shares : SharesName earlier name
+  pub first : (i : ℕ) (other : List ℕ) → i < j → slice_get names i ≡ Some other → SharesName other name → ⊥
+
+-- more than 255 instructions
+abbrev pub HasTooManyOpcodes : InstructionSet → Type 0
+HasTooManyOpcodes d = 255 < length d.instructions
+
+-- the name isn't a name
+abbrev pub HasBadName : Builder → Type 0
+HasBadName b = IsName b.name → ⊥
+
+-- the instruction hasn't as many value inputs as its format
+abbrev pub HasFormatMismatch : InstructionSet → Builder → Type 0
+HasFormatMismatch d b = (format : InstructionFormat) × (slice_get d.formats b.format ≡ Some format) × (length (variables_of (inputs_of b)) ≢ format.num_value_operands)
+
+-- the instruction is polymorphic, and nothing controls it
+abbrev pub LacksControl : InstructionSet → Builder → Type 0
+LacksControl d b = HasNoControl (root_sets d) (instruction_of d b)
+
+-- eight or more value results, and how many; or, with fewer results, eight or more value inputs, and how many
+abbrev pub HasTooManyOperands : Builder → ℕ → Type 0
+HasTooManyOperands b count =
+    ((7 < length (variables_of (outputs_of b))) × (count ≡ length (variables_of (outputs_of b))))
+    ⊎ ((length (variables_of (outputs_of b)) ≤ 7) × (7 < length (variables_of (inputs_of b))) × (count ≡ length (variables_of (inputs_of b))))
+
+-- the format f is in use, and the instruction at place k is the first that uses it
+pub record IsFirstUse (d : InstructionSet) (f k : ℕ) : Type 0 where
+  pub user : Builder
+  pub at : IsAt d k user
+  pub uses : user.format ≡ f
+  pub first : (i : ℕ) (b : Builder) → i < k → IsAt d i b → b.format ≢ f
+
+-- the name of the format isn't a name
+abbrev pub HasBadFormatName : InstructionSet → ℕ → Type 0
+HasBadFormatName d f = (format : InstructionFormat) × (slice_get d.formats f ≡ Some format) × (IsName format.name → ⊥)
+
+-- two formats that can't both be in use: they share their name or their structure, the count of value inputs
+abbrev pub SharesFormat : InstructionFormat → InstructionFormat → Type 0
+SharesFormat a b = (a.name ≡ b.name) ⊎ (a.num_value_operands ≡ b.num_value_operands)
+
+abbrev pub AreClashing : InstructionSet → ℕ → ℕ → Type 0
+AreClashing d f g = (a : InstructionFormat) × (b : InstructionFormat) × (slice_get d.formats f ≡ Some a) × (slice_get d.formats g ≡ Some b) × SharesFormat a b
+
+-- g is the format, of those used before place k, that clashes with f, and the first used of them
+pub record IsFirstClash (d : InstructionSet) (f k g : ℕ) : Type 0 where
+  pub place : ℕ
+  pub first_use : IsFirstUse d g place
+  pub earlier : place < k
+  pub clashes : AreClashing d f g
+  pub first : (i h : ℕ) → i < place → IsFirstUse d h i → AreClashing d f h → ⊥
+
+-- s is the set of the control
+pub record IsControlSet (sets : Sets) (control : Option Variable) (s : FourSets) : Type 0 where
+  pub variable : Variable
+  pub controls : control ≡ Some variable
+  pub set : s ≡ sets variable.root
+
+-- s is the set of an underived value operand other than the control, and hasn't exactly one type
+pub record IsFreeSet (sets : Sets) (i : Instruction) (control : Option Variable) (s : FourSets) : Type 0 where
+  pub place : ℕ
+  pub variable : Variable
+  pub operand : IsOperand i place variable
+  pub underived : variable.chain ≡ []
+  pub other : control ≢ Some variable
+  pub set : s ≡ sets variable.root
+  pub several : HasOne s → ⊥
+
+-- the instruction at place k needs the set in the tables: it is the set of its control, or that of another underived value
+-- operand whose set hasn't exactly one type
+pub record NeedsSetAt (d : InstructionSet) (k : ℕ) (s : FourSets) : Type 0 where
+  pub user : Builder
+  pub at : IsAt d k user
+  pub control : Option Variable
+  pub is_control : IsControl (root_sets d) (instruction_of d user) control
+  pub needs : IsControlSet (root_sets d) control s ⊎ IsFreeSet (root_sets d) (instruction_of d user) control s
+
+-- an instruction needs the set
+abbrev pub NeedsSet : InstructionSet → FourSets → Type 0
+NeedsSet d s = (k : ℕ) × NeedsSetAt d k s
+
+-- these are the sets that the instructions need, each once
+pub record AreNeededSets (d : InstructionSet) (sets : List FourSets) : Type 0 where
+  pub needed : (k : ℕ) (s : FourSets) → slice_get sets k ≡ Some s → NeedsSet d s
+  pub all : (s : FourSets) → NeedsSet d s → (k : ℕ) × (slice_get sets k ≡ Some s)
+  pub once : (j k : ℕ) (s : FourSets) → slice_get sets j ≡ Some s → slice_get sets k ≡ Some s → j ≡ k
+
+-- the instructions need this many different sets, and these are more than 255
+abbrev pub HasTooManyTypeSets : InstructionSet → ℕ → Type 0
+HasTooManyTypeSets d count = (sets : List FourSets) × AreNeededSets d sets × (count ≡ length sets) × (255 < count)
+
+-- Where a fault is looked for: in all declarations; at the instruction of a place, by a rule; at the format that the
+-- instruction of a place is the first to use, by a rule; in the sets of all instructions.
+pub data Position : Type 0 where
+  OfOpcodes : Position
+  OfInstruction : ℕ → ℕ → Position
+  OfFormat : ℕ → ℕ → Position
+  OfTypeSets : Position
+
+-- the rules for an instruction and for a format, in order
+abbrev pub name_rule : ℕ
+name_rule = 1
+
+abbrev pub duplicate_rule : ℕ
+duplicate_rule = 2
+
+abbrev pub format_rule : ℕ
+format_rule = 3
+
+abbrev pub control_rule : ℕ
+control_rule = 4
+
+abbrev pub count_rule : ℕ
+count_rule = 5
+
+abbrev pub clash_rule : ℕ
+clash_rule = 2
+
+-- the place, and at one place the rule, comes before the other
+abbrev pub IsEarlier : ℕ → ℕ → ℕ → ℕ → Type 0
+IsEarlier i rule j other = (i < j) ⊎ ((i ≡ j) × (rule < other))
+
+-- p is looked at before q: first the count of opcodes, then instruction by instruction, then format by format in the order
+-- of their first uses, and the sets last
+abbrev pub Before : Position → Position → Type 0
+Before OfOpcodes OfOpcodes = ⊥
+Before OfOpcodes (OfInstruction j r) = Unit {0}
+Before OfOpcodes (OfFormat j r) = Unit {0}
+Before OfOpcodes OfTypeSets = Unit {0}
+Before (OfInstruction i r) OfOpcodes = ⊥
+Before (OfInstruction i r) (OfInstruction j s) = IsEarlier i r j s
+Before (OfInstruction i r) (OfFormat j s) = Unit {0}
+Before (OfInstruction i r) OfTypeSets = Unit {0}
+Before (OfFormat i r) OfOpcodes = ⊥
+Before (OfFormat i r) (OfInstruction j s) = ⊥
+Before (OfFormat i r) (OfFormat j s) = IsEarlier i r j s
+Before (OfFormat i r) OfTypeSets = Unit {0}
+Before OfTypeSets q = ⊥
+
+-- the instruction with the number n shows what P says, and p is where that rule looks
+pub record InstructionShows (d : InstructionSet) (n rule : ℕ) (p : Position) (P : ℕ → Builder → Type 0) : Type 0 where
+  pub place : ℕ
+  pub builder : Builder
+  pub at : IsAt d place builder
+  pub number : n ≡ place + 1
+  pub position : p ≡ OfInstruction place rule
+  pub shows : P place builder
+
+-- the format in use with the number f shows what P says, and p is where that rule looks
+pub record FormatShows (d : InstructionSet) (f rule : ℕ) (p : Position) (P : ℕ → Type 0) : Type 0 where
+  pub place : ℕ
+  pub first_use : IsFirstUse d f place
+  pub position : p ≡ OfFormat place rule
+  pub shows : P place
+
+-- the declarations show the fault, with its numbers, at the position
+abbrev pub ShowsAt : InstructionSet → DefinitionError → Position → Type 0
+ShowsAt d (TooManyOpcodes count) p = (p ≡ OfOpcodes) × (count ≡ length d.instructions) × HasTooManyOpcodes d
+ShowsAt d (BadName (AtInstruction n)) p = InstructionShows d n name_rule p (λ k b. HasBadName b)
+ShowsAt d (BadName (AtFormat f)) p = FormatShows d f name_rule p (λ k. HasBadFormatName d f)
+ShowsAt d (DuplicateName (AtInstruction n) m) p = InstructionShows d n duplicate_rule p (λ k b. (j : ℕ) × (m ≡ j + 1) × IsDuplicate (names_of d) k j)
+ShowsAt d (DuplicateName (AtFormat f) m) p = ⊥
+ShowsAt d (FormatMismatch n) p = InstructionShows d n format_rule p (λ k b. HasFormatMismatch d b)
+ShowsAt d (NoControl n) p = InstructionShows d n control_rule p (λ k b. LacksControl d b)
+ShowsAt d (TooManyOperands n count) p = InstructionShows d n count_rule p (λ k b. HasTooManyOperands b count)
+ShowsAt d (FormatClash f g) p = FormatShows d f clash_rule p (λ k. IsFirstClash d f k g)
+ShowsAt d (TooManyTypeSets count) p = (p ≡ OfTypeSets) × HasTooManyTypeSets d count
+ShowsAt d OutOfMemory p = ⊥
+
+-- e is the first fault: the declarations show it, and none at an earlier position
+pub record IsFirstFault (d : InstructionSet) (e : DefinitionError) : Type 0 where
+  pub position : Position
+  pub shows : ShowsAt d e position
+  pub first : (p : Position) (f : DefinitionError) → Before p position → ShowsAt d f p → ⊥
+
+-- no fault is shown
+abbrev pub IsValid : InstructionSet → Type 0
+IsValid d = (p : Position) (e : DefinitionError) → ShowsAt d e p → ⊥

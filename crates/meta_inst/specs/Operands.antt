@@ -1,0 +1,67 @@
+-- The value operands of an instruction, as the checks of its declaration see them.
+use Rattle.std.specs.Prelude.{◌≡◌, ◌<◌, ◌≤◌, ◌⊎◌, ℕ, Bool, List, length, map, take, drop, Option, slice_get, None, Some, option_and_then, if◌then◌else◌}
+use Rattle.meta_typevar.specs.Variable.{Variable}
+use Rattle.meta_typevar.specs.Registry.{variable_at, sets_of}
+use Rattle.meta_typevar.specs.FourSets.{HasOne}
+use Rattle.meta_typevar.specs.declared.typevar.TypeVarContent.{TypeVarContent}
+use Rattle.meta_inst.specs.Instruction.{Instruction}
+
+-- the numbers of the variables of the results and then of the values, and how many are results; the designated place among
+-- the values; and whether the first output is a value
+pub record OperandList : Type 0 where
+  pub variables : List ℕ
+  pub result_count : ℕ
+  pub designated : Option ℕ
+  pub begins_with_value : Bool
+
+-- the variables with these numbers
+abbrev pub variables_at : List TypeVarContent → List ℕ → List Variable
+variables_at vars numbers = map (variable_at vars) numbers
+
+-- the instruction with these operands
+abbrev pub instruction_with : List TypeVarContent → OperandList → Instruction
+instruction_with vars o = record {
+  results = variables_at vars (take o.result_count o.variables);
+  values = variables_at vars (drop o.result_count o.variables);
+  designated = o.designated;
+  begins_with_value = o.begins_with_value;
+}
+
+-- each variable is of the registry
+abbrev pub AreOf : List TypeVarContent → List ℕ → Type 0
+AreOf vars numbers = (k n : ℕ) → slice_get numbers k ≡ Some n → n < length vars
+
+-- the variable at this place stands at no other place from `from` on, and its place is one of these
+pub record IsAlone (numbers : List ℕ) (from place : ℕ) : Type 0 where
+  pub is_input : from ≤ place
+  pub alone : (j n : ℕ) → from ≤ j → slice_get numbers j ≡ Some n → slice_get numbers place ≡ Some n → j ≡ place
+
+-- the root of a variable has exactly one type
+abbrev pub HasOneType : List TypeVarContent → ℕ → Type 0
+HasOneType vars n = HasOne (sets_of vars (variable_at vars n).root)
+
+-- some variable's root hasn't exactly one type
+pub record HasSeveralTypes (vars : List TypeVarContent) (numbers : List ℕ) : Type 0 where
+  pub place : ℕ
+  pub variable : ℕ
+  pub at : slice_get numbers place ≡ Some variable
+  pub several : HasOneType vars variable → ⊥
+
+-- each variable's root has exactly one type
+abbrev pub AllHaveOneType : List TypeVarContent → List ℕ → Type 0
+AllHaveOneType vars numbers = (place n : ℕ) → slice_get numbers place ≡ Some n → HasOneType vars n
+
+-- the variable n at this place lets v control
+abbrev pub LetsControl : List TypeVarContent → List ℕ → ℕ → ℕ → ℕ → ℕ → Type 0
+LetsControl vars numbers from v place n = (n ≡ v) ⊎ HasOneType vars n ⊎ IsAlone numbers from place
+
+-- each variable lets v control
+abbrev pub AllLetControl : List TypeVarContent → List ℕ → ℕ → ℕ → Type 0
+AllLetControl vars numbers from v = (place n : ℕ) → slice_get numbers place ≡ Some n → LetsControl vars numbers from v place n
+
+-- the number of the designated operand's variable, and of the first output's, where that output is a value
+abbrev pub designated_number : OperandList → Option ℕ
+designated_number o = option_and_then (λ place. slice_get (drop o.result_count o.variables) place) o.designated
+
+abbrev pub first_number : OperandList → Option ℕ
+first_number o = if o.begins_with_value then slice_get (take o.result_count o.variables) 0 else None
