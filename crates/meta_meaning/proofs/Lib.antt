@@ -1,0 +1,23 @@
+-- of types alone
+pub mod AllTypes
+pub mod Decided
+pub mod Numbers
+pub mod Names
+-- of sets, masks and chains alone
+pub mod Marks
+pub mod Members
+pub mod Chains
+pub mod Fixedness
+-- one test an operand is one joint choice
+pub mod Places
+pub mod Family
+pub mod Candidates
+pub mod Choice
+pub mod OneChoice
+pub mod ControlFamily
+pub mod Constrained
+pub mod Only
+-- the tables mean the instruction
+pub mod Listed
+pub mod Passing
+pub mod Decoding

@@ -1,0 +1,3 @@
+pub mod Acceptance
+pub mod Constraint
+pub mod Tables
