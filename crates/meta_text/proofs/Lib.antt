@@ -1,0 +1,3 @@
+mod Any
+mod Given
+mod Taken

@@ -1,0 +1,15 @@
+-- The clauses on the bytes left say nothing of a source that tells none.
+use Rattle.std.proofs.Common.{refl}
+use Rattle.meta_text.proofs.Any.{any_got, any_end, any_read_failed}
+use Rattle.meta_text.proofs.std_source.StdSourceSource.TheImpl.Goals as goal
+
+pub read-tells : goal.read-tells
+read-tells g c = record {
+  in_range = c.ensures.in_range;
+  got = any_got _ _ (λ n. refl);
+  end = any_end _ _ tt;
+  end_keeps = any_end _ _ refl;
+  failed_keeps = any_read_failed _ _ refl;
+  fault = c.ensures.fault;
+  counted = c.ensures.counted;
+}

@@ -1,0 +1,4 @@
+pub mod Adapters
+pub mod InMemory
+pub mod Outcomes
+pub mod Outside

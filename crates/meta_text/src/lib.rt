@@ -1,0 +1,20 @@
+//! Where bytes come from and where they go: sources and sinks with a count of their faults, and
+//! the two calls that read a whole input and write a whole output.
+#![tactic(auto)]
+
+mod calls;
+mod memory_sink;
+mod memory_source;
+mod outside;
+mod std_sink;
+mod std_source;
+#[cfg(test)]
+mod tests;
+mod whole;
+
+pub use memory_sink::MemorySink;
+pub use memory_source::MemorySource;
+pub use outside::{ReadOutcome, Sink, Source, WriteOutcome};
+pub use std_sink::StdSink;
+pub use std_source::StdSource;
+pub use whole::{READ_LIMIT, ReadError, WriteError, read_whole, write_whole};

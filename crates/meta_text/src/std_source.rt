@@ -1,0 +1,57 @@
+ghost use Rattle.std.specs.Prelude.{◌≡◌, ℕ, ◌<◌, ◌≤◌, List, length, take, Option, None};
+ghost use Rattle.std.specs.Io.KnownBytes.{Consumes, IsAtEnd, Keeps};
+ghost use Rattle.meta_text.specs.Adapters.{reader_of, read_faults};
+ghost use Rattle.meta_text.specs.Outside.{Rose};
+ghost use Rattle.meta_text.specs.Outcomes.{IfGot, OnEnd, OnReadFailed, faults_after_read};
+
+use crate::outside::{ReadOutcome, Source};
+use std::io::Read;
+
+/// A source over any reader, as the standard input (this project's own). It tells no content.
+#[derive(Drop)]
+pub struct StdSource<R> {
+    inner: R,
+    faults: u64,
+}
+
+impl<R: Read> StdSource<R> {
+    /// A source over this reader, with no fault counted.
+    pub fn new(inner: R) -> Self
+        ensures reader { reader_of result ≡ inner }
+        ensures count { read_faults result ≡ 0 }
+    {
+        StdSource { inner, faults: 0 }
+    }
+}
+
+impl<R: Read> Source for StdSource<R> {
+    ghost left = { λ _. None };
+
+    ghost faults = { read_faults };
+
+    /// Reads once. An `Err` of the reader is a fault, which raises the count by one until it
+    /// stands at 2^64 - 1.
+    fn read(&mut self, buf: &mut [u8]) -> ReadOutcome
+        requires { 0 < length buf.old }
+
+        // What the reader gave, where the bytes that it has left are known.
+        ensures got { IfGot result (λ n. Consumes (R.remaining (reader_of self.old)) (R.remaining (reader_of self.new)) (take n buf.new)) }
+        ensures end { OnEnd result (IsAtEnd (R.remaining (reader_of self.new))) }
+        ensures failed { OnReadFailed result (Keeps (R.remaining (reader_of self.old)) (R.remaining (reader_of self.new))) }
+        ensures count { read_faults self.new ≡ faults_after_read (read_faults self.old) result }
+
+        // What each source promises.
+        ensures in_range { IfGot result (λ n. (1 ≤ n) × (n ≤ length buf.new)) }
+        ensures fault { OnReadFailed result (Rose (read_faults self.old) (read_faults self.new)) }
+        ensures counted { read_faults self.old ≤ read_faults self.new }
+    {
+        match self.inner.read(buf) {
+            Ok(0) => ReadOutcome::End,
+            Ok(count) => ReadOutcome::Got(count),
+            Err(_) => {
+                self.faults = self.faults.saturating_add(1);
+                ReadOutcome::Failed
+            }
+        }
+    }
+}
