@@ -1,0 +1,148 @@
+-- The first fault of all declarations, from the parts of the search.
+use Rattle.std.proofs.Common.{◌≡◌, ◌<◌, ◌≤◌, ◌+◌, inl, inr, ⊎_elim, ℕ, List, length, Option, None, Some, Result, Ok, Err, IfOk, IfSome, IfNone, MatchOption, refl, arith}
+use Rattle.std.specs.declared.alloc.AllocError.{AllocError}
+use Rattle.std.proofs.lemmas.Option.{slice_get_within}
+use Rattle.std.proofs.lemmas.Bool.{cases_lt}
+use Rattle.meta_types.specs.declared.fault.Place.TheVariants.{Instruction as AtInstruction, Format as AtFormat}
+use Rattle.meta_types.specs.declared.fault.DefinitionError.{DefinitionError}
+use Rattle.meta_types.specs.declared.fault.DefinitionError.TheVariants.{BadName, DuplicateName, TooManyOpcodes, FormatMismatch, NoControl, TooManyOperands, FormatClash, TooManyTypeSets, OutOfMemory}
+use Rattle.meta_typevar.specs.FourSets.{FourSets}
+use Rattle.meta_inst.specs.Builder.{Builder}
+use Rattle.meta_inst.specs.InstructionSet.{InstructionSet}
+use Rattle.meta_inst.specs.Faults.{HasTooManyOpcodes, HasTooManyTypeSets, AreNeededSets, Position, OfOpcodes, OfInstruction, OfFormat, OfTypeSets, Before, IsEarlier, InstructionShows, FormatShows, ShowsAt, IsFirstFault, IsValid}
+use Rattle.meta_gen.specs.Searched.{ShowsNoInstructionFault, IsFirstOfInstructions, ShowsNoFormatFault, IsFirstFormatFault, ShowsNoEarlyFault}
+use Rattle.meta_gen.specs.Needed.{AllControlled, AllSmall}
+use Rattle.meta_gen.proofs.Counted.{one_count}
+
+module _ (d : InstructionSet) where
+  -- what shows of all opcodes
+  at_opcodes : (e : DefinitionError) → ShowsAt d e OfOpcodes → HasTooManyOpcodes d
+  at_opcodes (TooManyOpcodes count) h = h.2
+  at_opcodes (BadName (AtInstruction n)) h = let e = h.position in absurd (cc)
+  at_opcodes (BadName (AtFormat f)) h = let e = h.position in absurd (cc)
+  at_opcodes (DuplicateName (AtInstruction n) m) h = let e = h.position in absurd (cc)
+  at_opcodes (DuplicateName (AtFormat f) m) h = absurd h
+  at_opcodes (FormatMismatch n) h = let e = h.position in absurd (cc)
+  at_opcodes (NoControl n) h = let e = h.position in absurd (cc)
+  at_opcodes (TooManyOperands n count) h = let e = h.position in absurd (cc)
+  at_opcodes (FormatClash f g) h = let e = h.position in absurd (cc)
+  at_opcodes (TooManyTypeSets count) h = let e = h.0 in absurd (cc)
+  at_opcodes OutOfMemory h = absurd h
+
+  -- what shows of all type sets
+  at_type_sets : (e : DefinitionError) → ShowsAt d e OfTypeSets → (count : ℕ) × HasTooManyTypeSets d count
+  at_type_sets (TooManyTypeSets count) h = (count, h.1)
+  at_type_sets (TooManyOpcodes count) h = let e = h.0 in absurd (cc)
+  at_type_sets (BadName (AtInstruction n)) h = let e = h.position in absurd (cc)
+  at_type_sets (BadName (AtFormat f)) h = let e = h.position in absurd (cc)
+  at_type_sets (DuplicateName (AtInstruction n) m) h = let e = h.position in absurd (cc)
+  at_type_sets (DuplicateName (AtFormat f) m) h = absurd h
+  at_type_sets (FormatMismatch n) h = let e = h.position in absurd (cc)
+  at_type_sets (NoControl n) h = let e = h.position in absurd (cc)
+  at_type_sets (TooManyOperands n count) h = let e = h.position in absurd (cc)
+  at_type_sets (FormatClash f g) h = let e = h.position in absurd (cc)
+  at_type_sets OutOfMemory h = absurd h
+
+  -- what shows at an instruction is of one that there is
+  within : (n own k rule : ℕ) (P : ℕ → Builder → Type 0) → InstructionShows d n own (OfInstruction k rule) P → k < length d.instructions
+  within n own k rule P h =
+      let e = h.position in
+      let place : h.place ≡ k = cc in
+      let l = slice_get_within d.instructions h.place h.builder h.at in
+      omega arith
+
+  no_format : (f own k rule : ℕ) (P : ℕ → Type 0) → FormatShows d f own (OfInstruction k rule) P → ⊥
+  no_format f own k rule P h = let e = h.position in cc
+
+  at_instruction : (k rule : ℕ) (e : DefinitionError) → ShowsAt d e (OfInstruction k rule) → k < length d.instructions
+  at_instruction k rule (TooManyOpcodes count) h = let e = h.0 in absurd (cc)
+  at_instruction k rule (BadName (AtInstruction n)) h = within n _ k rule _ h
+  at_instruction k rule (BadName (AtFormat f)) h = absurd (no_format f _ k rule _ h)
+  at_instruction k rule (DuplicateName (AtInstruction n) m) h = within n _ k rule _ h
+  at_instruction k rule (DuplicateName (AtFormat f) m) h = absurd h
+  at_instruction k rule (FormatMismatch n) h = within n _ k rule _ h
+  at_instruction k rule (NoControl n) h = within n _ k rule _ h
+  at_instruction k rule (TooManyOperands n count) h = within n _ k rule _ h
+  at_instruction k rule (FormatClash f g) h = absurd (no_format f _ k rule _ h)
+  at_instruction k rule (TooManyTypeSets count) h = let e = h.0 in absurd (cc)
+  at_instruction k rule OutOfMemory h = absurd h
+
+  -- too many opcodes are the first fault of all
+  pub first_of_opcodes : HasTooManyOpcodes d → IsFirstFault d (TooManyOpcodes (length d.instructions))
+  first_of_opcodes many = record { position = OfOpcodes; shows = (refl, refl, many); first = none }
+    where
+      none : (p : Position) (f : DefinitionError) → Before p OfOpcodes → ShowsAt d f p → ⊥
+      none OfOpcodes f before h = before
+      none (OfInstruction i r) f before h = before
+      none (OfFormat i r) f before h = before
+      none OfTypeSets f before h = before
+
+  module _ (few : length d.instructions ≤ 255) where
+    no_opcodes : (f : DefinitionError) → ShowsAt d f OfOpcodes → ⊥
+    no_opcodes f h = let many = at_opcodes f h in omega arith
+
+    -- the first fault of the instructions is the first of all
+    pub first_of_instructions : (e : DefinitionError) → IsFirstOfInstructions d e → IsFirstFault d e
+    first_of_instructions e h = record { position = OfInstruction h.place h.here.rule; shows = h.here.shows; first = none }
+      where
+        earlier : (i r : ℕ) (f : DefinitionError) → IsEarlier i r h.place h.here.rule → ShowsAt d f (OfInstruction i r) → ⊥
+        earlier i r f (inl l) s = h.earlier i l r f s
+        earlier i r f (inr same) s = h.here.first r f same.1 (rw same.0 at s)
+
+        none : (p : Position) (f : DefinitionError) → Before p (OfInstruction h.place h.here.rule) → ShowsAt d f p → ⊥
+        none OfOpcodes f before s = no_opcodes f s
+        none (OfInstruction i r) f before s = earlier i r f before s
+        none (OfFormat i r) f before s = before
+        none OfTypeSets f before s = before
+
+    module _ (clean : (k : ℕ) → k < length d.instructions → ShowsNoInstructionFault d k) where
+      no_instruction : (i r : ℕ) (f : DefinitionError) → ShowsAt d f (OfInstruction i r) → ⊥
+      no_instruction i r f s = clean i (at_instruction i r f s) r f s
+
+      -- so is the first of the formats, where the instructions show none
+      pub first_of_formats : (e : DefinitionError) → IsFirstFormatFault d e → IsFirstFault d e
+      first_of_formats e h = record { position = OfFormat h.place h.rule; shows = h.shows; first = none }
+        where
+          none : (p : Position) (f : DefinitionError) → Before p (OfFormat h.place h.rule) → ShowsAt d f p → ⊥
+          none OfOpcodes f before s = no_opcodes f s
+          none (OfInstruction i r) f before s = no_instruction i r f s
+          none (OfFormat i r) f before s = h.first i r f before s
+          none OfTypeSets f before s = before
+
+      -- and where the formats show none either, there is none but that of the type sets
+      pub no_early : ShowsNoFormatFault d → ShowsNoEarlyFault d
+      no_early formats OfOpcodes e before s = no_opcodes e s
+      no_early formats (OfInstruction i r) e before s = no_instruction i r e s
+      no_early formats (OfFormat i r) e before s = formats i r e s
+      no_early formats OfTypeSets e before s = before
+
+  module _ (early : ShowsNoEarlyFault d) where
+    -- so each instruction has a control, and few operands
+    pub controlled : AllControlled d
+    controlled k b at lack = early (OfInstruction k 4) (NoControl (k + 1)) tt (record { place = k; builder = b; at = at; number = refl; position = refl; shows = lack })
+
+    pub small : AllSmall d
+    small k b count at many = early (OfInstruction k 5) (TooManyOperands (k + 1) count) tt (record { place = k; builder = b; at = at; number = refl; position = refl; shows = many })
+
+    pub few_opcodes : length d.instructions ≤ 255
+    few_opcodes = ⊎_elim (λ l. absurd (early OfOpcodes (TooManyOpcodes (length d.instructions)) tt (refl, refl, l))) (λ l. l) (cases_lt 255 (length d.instructions))
+
+    -- too many type sets are the first fault then
+    pub first_of_type_sets : (sets : List FourSets) → AreNeededSets d sets → 255 < length sets → IsFirstFault d (TooManyTypeSets (length sets))
+    first_of_type_sets sets needed many = record { position = OfTypeSets; shows = (refl, (sets, needed, refl, many)); first = λ p f before s. early p f before s }
+
+    -- and the declarations are valid where there are few
+    pub valid : (sets : List FourSets) → AreNeededSets d sets → length sets ≤ 255 → IsValid d
+    valid sets needed few OfOpcodes e s = early OfOpcodes e tt s
+    valid sets needed few (OfInstruction i r) e s = early (OfInstruction i r) e tt s
+    valid sets needed few (OfFormat i r) e s = early (OfFormat i r) e tt s
+    valid sets needed few OfTypeSets e s =
+        let (count, (others, others_needed, is, many)) = at_type_sets e s in
+        let same = one_count d others sets others_needed needed in
+        omega arith
+
+-- what the search among the formats tells of all
+pub told_by_formats : (d : InstructionSet) (r : Result (Option DefinitionError) AllocError) → length d.instructions ≤ 255 → ((k : ℕ) → k < length d.instructions → ShowsNoInstructionFault d k) → IfOk r (λ o. IfNone o (ShowsNoFormatFault d)) → IfOk r (λ o. IfSome o (IsFirstFormatFault d)) → IfOk r (λ o. MatchOption o (ShowsNoEarlyFault d) (IsFirstFault d))
+told_by_formats d (Err e) few clean none some = tt
+told_by_formats d (Ok None) few clean none some = no_early d few clean none
+told_by_formats d (Ok (Some e)) few clean none some = first_of_formats d few clean e some

@@ -1,0 +1,26 @@
+-- tables and how they are read
+pub mod Opcodes
+pub mod Declared
+pub mod Decoded
+pub mod Reading
+pub mod Naming
+-- the search for the first fault
+mod OperandsOf
+mod Rules
+mod NamesSoFar
+pub mod EarlierNames
+pub mod FormatSearch
+pub mod Pushed
+mod Counted
+mod FirstFault
+-- the needed type sets
+pub mod Interning
+pub mod Wholes
+pub mod Needing
+-- the entries of the tables
+mod Appended
+mod Describing
+mod Flags
+mod Held
+mod Made
+pub mod OneFault

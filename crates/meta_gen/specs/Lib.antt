@@ -1,0 +1,10 @@
+pub mod TablesOf
+pub mod Constraint
+pub mod Contents
+pub mod Found
+pub mod Searched
+pub mod FormatsUsed
+pub mod OperandFaults
+pub mod Needed
+pub mod Interned
+pub mod Entries

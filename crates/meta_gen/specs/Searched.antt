@@ -1,0 +1,49 @@
+-- What the parts of the search for the first fault find.
+use Rattle.std.specs.Prelude.{◌≡◌, ◌==◌, ◌<◌, ℕ, List, Option}
+use Rattle.std.specs.List.{position}
+use Rattle.std.specs.Cmp.Lexicographic.{slice_cmp, pointwise}
+use Rattle.std.specs.Ordering.{nat_cmp}
+use Rattle.std.specs.BTreeMap.{BTreeMap, get}
+use Rattle.meta_types.specs.CamelCase.{camel_case_of}
+use Rattle.meta_types.specs.declared.fault.DefinitionError.{DefinitionError}
+use Rattle.meta_inst.specs.InstructionSet.{InstructionSet}
+use Rattle.meta_inst.specs.Faults.{Position, OfFormat, OfInstruction, OfTypeSets, Before, ShowsAt, IsEarlier}
+
+-- the place of the first of the names that has this camel case
+abbrev pub place_of : List ℕ → List (List ℕ) → Option ℕ
+place_of camel names = position (λ name. pointwise ◌==◌ (camel_case_of name) camel) names
+
+-- the map leads from a camel case to the place of the first of the names that has it
+abbrev pub Keeps : BTreeMap (List ℕ) ℕ → List (List ℕ) → Type 0
+Keeps places names = (camel : List ℕ) → get (slice_cmp nat_cmp) places camel ≡ place_of camel names
+
+-- no format in use shows a fault
+abbrev pub ShowsNoFormatFault : InstructionSet → Type 0
+ShowsNoFormatFault d = (k rule : ℕ) (e : DefinitionError) → ShowsAt d e (OfFormat k rule) → ⊥
+
+-- e is the first fault that the formats in use show
+pub record IsFirstFormatFault (d : InstructionSet) (e : DefinitionError) : Type 0 where
+  pub place : ℕ
+  pub rule : ℕ
+  pub shows : ShowsAt d e (OfFormat place rule)
+  pub first : (k other : ℕ) (f : DefinitionError) → IsEarlier k other place rule → ShowsAt d f (OfFormat k other) → ⊥
+
+-- the instruction at place k shows no fault
+abbrev pub ShowsNoInstructionFault : InstructionSet → ℕ → Type 0
+ShowsNoInstructionFault d k = (rule : ℕ) (e : DefinitionError) → ShowsAt d e (OfInstruction k rule) → ⊥
+
+-- e is the first fault that the instruction at place k shows
+pub record IsFirstInstructionFault (d : InstructionSet) (k : ℕ) (e : DefinitionError) : Type 0 where
+  pub rule : ℕ
+  pub shows : ShowsAt d e (OfInstruction k rule)
+  pub first : (other : ℕ) (f : DefinitionError) → other < rule → ShowsAt d f (OfInstruction k other) → ⊥
+
+-- e is the first fault that the instructions show
+pub record IsFirstOfInstructions (d : InstructionSet) (e : DefinitionError) : Type 0 where
+  pub place : ℕ
+  pub earlier : (k : ℕ) → k < place → ShowsNoInstructionFault d k
+  pub here : IsFirstInstructionFault d place e
+
+-- the declarations show no fault that is looked for before the type sets
+abbrev pub ShowsNoEarlyFault : InstructionSet → Type 0
+ShowsNoEarlyFault d = (p : Position) (e : DefinitionError) → Before p OfTypeSets → ShowsAt d e p → ⊥
