@@ -1,0 +1,144 @@
+-- What tables answer is what the declarations mean that they were made for.
+use Rattle.std.proofs.Common.{◌≡◌, ◌≢◌, ◌↔◌, ◌+◌, ℕ, zero, suc, List, [], ◌∷◌, ◌++◌, map, slice_get, Option, None, Some, IfSome, All, refl, sym, ap, ◌∙◌, subst, add-one, arith}
+use Rattle.std.specs.Option.{option_map}
+use Rattle.std.proofs.lemmas.Option.{slice_get-map, slice_get_within, slice_get-get_or, get_or_from_slice_get}
+use Rattle.meta_types.specs.Shape.{Shape, IsType, number_of}
+use Rattle.meta_typevar.specs.Variable.{Variable, Sets}
+use Rattle.meta_inst.specs.Builder.{Builder}
+use Rattle.meta_inst.specs.Instruction.{Instruction}
+use Rattle.meta_inst.specs.InstructionSet.{InstructionSet, root_sets, instruction_of}
+use Rattle.meta_inst.specs.Faults.{IsAt, names_of}
+use Rattle.meta_meaning.specs.Acceptance.{Accepts, AcceptsNumbers, AreNumbersOf, IsNumberOf}
+use Rattle.meta_meaning.specs.Tables.{TableContents, at_opcode, Allows}
+use Rattle.meta_meaning.proofs.Numbers.{one_number}
+use Rattle.meta_gen.specs.TablesOf.{AreTablesOf, AcceptsOpcode}
+use Rattle.meta_gen.specs.Contents.{IsFirstNamed}
+use Rattle.meta_query.specs.Question.{Question, IsNamed, IsQuestion}
+use Rattle.meta_query.specs.Answer.{AllowsAsked, AsksOpcode, IsTableReply, AcceptsAsked, AsksInstruction, IsReply, IsAnswered, AreAnswers}
+use Rattle.meta_query.specs.declared.reply.Reply.{Reply}
+use Rattle.meta_query.specs.declared.reply.Reply.TheVariants.{Accept, Refuse, Unknown, Bad}
+
+-- each is a type
+abbrev AreTypes : List Shape → Type 0
+AreTypes ts = (k : ℕ) (t : Shape) → slice_get ts k ≡ Some t → IsType t
+
+-- lists of types with the same numbers are the same
+same_types : (ts us : List Shape) → AreTypes ts → AreTypes us → map number_of ts ≡ map number_of us → ts ≡ us
+same_types [] [] a b e = refl
+same_types [] (u ∷ us) a b e = absurd (cc)
+same_types (t ∷ ts) [] a b e = absurd (cc)
+same_types (t ∷ ts) (u ∷ us) a b e =
+    let head : number_of t ≡ number_of u = cc in
+    let tail : map number_of ts ≡ map number_of us = cc in
+    let first : t ≡ u = one_number t u (a 0 t refl) (b 0 u refl) head in
+    let rest : ts ≡ us = same_types ts us (λ k x e. a (suc k) x e) (λ k x e. b (suc k) x e) tail in
+    λ i. first i ∷ rest i
+
+-- so is a type or none
+same_type : (t u : Option Shape) → IfSome t IsType → IsNumberOf u (option_map number_of t) → t ≡ u
+same_type None None a e = refl
+same_type None (Some u) a e = let h = e.1 in absurd (cc)
+same_type (Some t) None a e = absurd (cc)
+same_type (Some t) (Some u) a e =
+    let h = e.1 in
+    let same : number_of t ≡ number_of u = cc in
+    ap (λ x. Some x) (one_number t u a e.0 same)
+
+number_is : (t : Option Shape) → IfSome t IsType → IsNumberOf t (option_map number_of t)
+number_is None a = refl
+number_is (Some t) a = (a, refl)
+
+-- the numbers of types that can be named are accepted exactly where the types are
+module _ (sets : Sets) (i : Instruction) (control : Option Variable) (c : Option Shape) (rs vs : List Shape) (ct : IfSome c IsType) (rt : AreTypes rs) (vt : AreTypes vs) where
+  types_from_numbers : AcceptsNumbers sets i control (option_map number_of c) (map number_of rs) (map number_of vs) → Accepts sets i control c rs vs
+  types_from_numbers h =
+      let ec = same_type c h.control_type ct h.control_number in
+      let er = same_types rs h.result_types rt h.result_numbers.types h.result_numbers.numbers in
+      let ev = same_types vs h.value_types vt h.value_numbers.types h.value_numbers.numbers in
+      subst (λ c. Accepts sets i control c rs vs) (sym ec) (subst (λ rs. Accepts sets i control h.control_type rs vs) (sym er) (subst (λ vs. Accepts sets i control h.control_type h.result_types vs) (sym ev) h.accepts))
+
+  numbers_from_types : Accepts sets i control c rs vs → AcceptsNumbers sets i control (option_map number_of c) (map number_of rs) (map number_of vs)
+  numbers_from_types h = record {
+    control_type = c;
+    result_types = rs;
+    value_types = vs;
+    control_number = number_is c ct;
+    result_numbers = record { types = rt; numbers = refl };
+    value_numbers = record { types = vt; numbers = refl };
+    accepts = h;
+  }
+
+-- a type that can be named is a type
+named_types : (ts : List Shape) → All IsNamed ts → AreTypes ts
+named_types ts all k t at = (subst IsNamed (get_or_from_slice_get ts k t t at) (all k t (slice_get_within ts k t at))).is_type
+
+named_type : (c : Option Shape) → IfSome c IsNamed → IfSome c IsType
+named_type None h = tt
+named_type (Some t) h = h.is_type
+
+module _ (d : InstructionSet) (tables : TableContents) (made : AreTablesOf d tables) (means : (op : ℕ) (c : Option ℕ) (rs vs : List ℕ) → (Allows tables op c rs vs ↔ AcceptsOpcode d op c rs vs)) where
+  -- each instruction is an opcode, under its name
+  opcode_named : (k : ℕ) (b : Builder) → IsAt d k b → at_opcode tables.names (k + 1) ≡ Some b.name
+  opcode_named k b at =
+      ap (λ ns. at_opcode ns (k + 1)) made.names ∙ ap (at_opcode (names_of d)) (add-one k)
+      ∙ slice_get-map (λ (b : Builder). b.name) d.instructions k ∙ ap (option_map (λ (b : Builder). b.name)) at
+
+  -- and an opcode with a name is an instruction with that name
+  opcode_is : (op : ℕ) (name : List ℕ) → at_opcode tables.names op ≡ Some name → (k : ℕ) × (b : Builder) × (op ≡ k + 1) × IsAt d k b × (b.name ≡ name)
+  opcode_is zero name e = absurd (cc)
+  opcode_is (suc k) name e =
+      let (b, at, is) = mapped d.instructions k name (sym (ap (λ ns. slice_get ns k) made.names) ∙ e) in
+      (k, b, sym (add-one k), at, is)
+    where
+      mapped : (bs : List Builder) (k : ℕ) (name : List ℕ) → slice_get (map (λ (b : Builder). b.name) bs) k ≡ Some name → (b : Builder) × (slice_get bs k ≡ Some b) × (b.name ≡ name)
+      mapped [] k name e = absurd (cc)
+      mapped (b ∷ bs) zero name e = (b, refl, (cc))
+      mapped (b ∷ bs) (suc k) name e = mapped bs k name e
+
+  -- what is accepted by numbers is accepted by types, and the other way round
+  module _ (line : List ℕ) (q : Question) (asks : IsQuestion line q) (k : ℕ) (b : Builder) (at : IsAt d k b) (op : ℕ) (number : op ≡ k + 1) where
+    accepts_asked : AllowsAsked tables op q → AcceptsAsked d b q
+    accepts_asked allows =
+        let h = (means op (option_map number_of q.control) (map number_of q.results) (map number_of q.values)).0 allows in
+        let place : h.place ≡ k = (let e = h.number in omega arith) in
+        let same : h.builder ≡ b = builders_same (sym h.at ∙ ap (slice_get d.instructions) place ∙ at) in
+        subst (λ b. AcceptsAsked d b q) same (record {
+          control = h.control;
+          is_control = h.is_control;
+          accepts = types_from_numbers (root_sets d) (instruction_of d h.builder) h.control q.control q.results q.values (named_type q.control asks.control) (named_types q.results asks.results) (named_types q.values asks.values) h.accepts;
+        })
+      where
+        builders_same : {x y : Builder} → Some x ≡ Some y → x ≡ y
+        builders_same e = cc
+
+    allows_asked : AcceptsAsked d b q → AllowsAsked tables op q
+    allows_asked h =
+        (means op (option_map number_of q.control) (map number_of q.results) (map number_of q.values)).1 (record {
+          place = k;
+          builder = b;
+          at = at;
+          number = number;
+          control = h.control;
+          is_control = h.is_control;
+          accepts = numbers_from_types (root_sets d) (instruction_of d b) h.control q.control q.results q.values (named_type q.control asks.control) (named_types q.results asks.results) (named_types q.values asks.values) h.accepts;
+        })
+
+  -- the reply of the tables is that of the declarations
+  reply_means : (line : List ℕ) (reply : Reply) → IsTableReply tables line reply → IsReply d line reply
+  reply_means line Accept (q, op, asked, allows) =
+      let (k, b, number, at, is) = opcode_is op q.name asked.named.named in
+      (q, b, record { asks = asked.asks; place = k; at = at; named = is }, accepts_asked line q asked.asks k b at op number allows)
+  reply_means line Refuse (q, op, asked, never) =
+      let (k, b, number, at, is) = opcode_is op q.name asked.named.named in
+      (q, b, record { asks = asked.asks; place = k; at = at; named = is }, λ h. never (allows_asked line q asked.asks k b at op number h))
+  reply_means line Unknown (q, asks, never) = (q, asks, λ k b at e. never (k + 1) (opcode_named k b at ∙ ap (λ n. Some n) e))
+  reply_means line Bad h = h
+
+  answer_means : (line text : List ℕ) → IsAnswered (IsTableReply tables) line text → IsAnswered (IsReply d) line text
+  answer_means [] text h = h
+  answer_means (c ∷ cs) text (reply, is, e) = (reply, reply_means (c ∷ cs) reply is, e)
+
+  -- what the tables answer to lines is what the declarations mean
+  pub answers_mean : (lines : List (List ℕ)) (out : List ℕ) → AreAnswers (IsTableReply tables) lines out → AreAnswers (IsReply d) lines out
+  answers_mean [] out h = h
+  answers_mean (line ∷ lines) out (first, rest, is, others, e) = (first, rest, answer_means line first is, answers_mean lines rest others, e)

@@ -1,0 +1,187 @@
+-- What a line asks.
+use Rattle.std.proofs.Common.{◌≡◌, ◌≢◌, ℕ, ◌<◌, ◌==◌, List, [], ◌∷◌, ◌++◌, map, length, All, Contains, codes, Option, Some, None, IfSome, refl, sym, ap, ap₂, ◌∙◌, arith, append-nil, eq-eqb, false}
+use Rattle.std.specs.List.{join_with_byte}
+use Rattle.std.proofs.lemmas.List.Elements.{All-nil, All-cons, All-head, All-tail, All-same, All-weaker, All-map}
+use Rattle.std.proofs.lemmas.Bool.{false≢true}
+use Rattle.std.specs.Option.{option_map}
+use Rattle.std.proofs.lemmas.List.Splits.{join_with_byte-slice_split}
+use Rattle.meta_types.specs.Shape.{Kind, IntKind, FloatKind, Shape, widths, scalar, name_of, number_of}
+use Rattle.meta_types.specs.ValueTypes.{shape_of}
+use Rattle.meta_types.specs.declared.value_type.ValueType.{ValueType}
+use Rattle.meta_types.specs.declared.value_type.ValueType.TheVariants.{Lane}
+use Rattle.meta_types.specs.declared.lane.LaneType.TheVariants.{Int as IntLane, Float as FloatLane}
+use Rattle.meta_types.specs.declared.lane.Int.TheVariants.{I8, I16, I32, I64, I128}
+use Rattle.meta_types.specs.declared.lane.Float.TheVariants.{F16, F32, F64, F128}
+use Rattle.meta_query.specs.Words.{IsWord, AreWords, pieces_of}
+use Rattle.meta_query.specs.Question.{Question, IsNamed, IsQuestion, control_text, types_text, words_of}
+use Rattle.meta_query.proofs.PieceLemmas.{slice_split_cons, All-slice_split, pieces_of-join}
+use Rattle.meta_query.proofs.NameLemmas.{same_name, has_no_comma, no_dash}
+
+-- the words of a line are its pieces between spaces
+pub pieces_of-words : (line word : List ℕ) (words : List (List ℕ)) → AreWords line (word ∷ words) → pieces_of 32 line ≡ word ∷ words
+pieces_of-words line word words h =
+    ap (pieces_of 32) h.parted
+    ∙ pieces_of-join 32 word words (All-weaker IsWord (λ w. All (λ b. b ≢ 32) w) (λ w is. is.has_no_space) (word ∷ words) h.each)
+
+-- ---- lists of types
+
+-- the texts that commas part in a list are the names
+names_parted : (t : Shape) (ts : List Shape) → All IsNamed (t ∷ ts) → pieces_of 44 (types_text (t ∷ ts)) ≡ map name_of (t ∷ ts)
+names_parted t ts h =
+    pieces_of-join 44 (name_of t) (map name_of ts) (All-map (λ w. All (λ b. b ≢ 44) w) name_of (t ∷ ts) (All-weaker IsNamed (λ u. All (λ b. b ≢ 44) (name_of u)) has_no_comma (t ∷ ts) h))
+
+same_names : (ts us : List Shape) → All IsNamed ts → All IsNamed us → map name_of ts ≡ map name_of us → ts ≡ us
+same_names [] [] h k e = refl
+same_names [] (u ∷ us) h k e = absurd (cc)
+same_names (t ∷ ts) [] h k e = absurd (cc)
+same_names (t ∷ ts) (u ∷ us) h k e =
+    let first : name_of t ≡ name_of u = cc in
+    let others : map name_of ts ≡ map name_of us = cc in
+    ap₂ ◌∷◌ (same_name t u (All-head IsNamed t ts h) (All-head IsNamed u us k) first) (same_names ts us (All-tail IsNamed t ts h) (All-tail IsNamed u us k) others)
+
+-- a list of types begins with the first one's name
+begins : (t : Shape) (ts : List Shape) → codes "-" ≡ types_text (t ∷ ts) → ⊥
+begins t [] e = no_dash t [] (e ∙ sym (append-nil (name_of t)))
+begins t (u ∷ us) e = no_dash t (44 ∷ join_with_byte 44 (map name_of (u ∷ us))) e
+
+same_types : (ts us : List Shape) → All IsNamed ts → All IsNamed us → types_text ts ≡ types_text us → ts ≡ us
+same_types [] [] h k e = refl
+same_types [] (u ∷ us) h k e = absurd (begins u us e)
+same_types (t ∷ ts) [] h k e = absurd (begins t ts (sym e))
+same_types (t ∷ ts) (u ∷ us) h k e = same_names (t ∷ ts) (u ∷ us) h k (sym (names_parted t ts h) ∙ ap (pieces_of 44) e ∙ names_parted u us k)
+
+same_control : (c d : Option Shape) → IfSome c IsNamed → IfSome d IsNamed → control_text c ≡ control_text d → c ≡ d
+same_control None None h k e = refl
+same_control None (Some u) h k e = absurd (no_dash u [] (e ∙ sym (append-nil (name_of u))))
+same_control (Some t) None h k e = absurd (no_dash t [] (sym e ∙ sym (append-nil (name_of t))))
+same_control (Some t) (Some u) h k e = ap Some (same_name t u h k e)
+
+-- a line asks one question at most
+pub one_question : (line : List ℕ) (q p : Question) → IsQuestion line q → IsQuestion line p → q ≡ p
+one_question line q p h k =
+    let words : words_of q ≡ words_of p = sym (pieces_of-words line _ _ h.words) ∙ pieces_of-words line _ _ k.words in
+    let names : q.name ≡ p.name = cc in
+    let controls : control_text q.control ≡ control_text p.control = cc in
+    let results : types_text q.results ≡ types_text p.results = cc in
+    let values : types_text q.values ≡ types_text p.values = cc in
+    let c = same_control q.control p.control h.control k.control controls in
+    let r = same_types q.results p.results h.results k.results results in
+    let v = same_types q.values p.values h.values k.values values in
+    λ i. record { name = names i; control = c i; results = r i; values = v i }
+
+-- ---- from words to types
+
+lane_named : (kind : Kind) (width : ℕ) → Contains (widths kind) width → IsNamed (scalar kind width)
+lane_named kind width h = record { is_type = record { width = h; lanes = (0, omega arith, refl) }; one_lane = refl }
+
+-- every type of the program has a name
+is_named : (t : ValueType) → IsNamed (shape_of t)
+is_named (Lane (IntLane I8)) = lane_named IntKind 8 (0, omega arith, refl)
+is_named (Lane (IntLane I16)) = lane_named IntKind 16 (1, omega arith, refl)
+is_named (Lane (IntLane I32)) = lane_named IntKind 32 (2, omega arith, refl)
+is_named (Lane (IntLane I64)) = lane_named IntKind 64 (3, omega arith, refl)
+is_named (Lane (IntLane I128)) = lane_named IntKind 128 (4, omega arith, refl)
+is_named (Lane (FloatLane F16)) = lane_named FloatKind 16 (0, omega arith, refl)
+is_named (Lane (FloatLane F32)) = lane_named FloatKind 32 (1, omega arith, refl)
+is_named (Lane (FloatLane F64)) = lane_named FloatKind 64 (2, omega arith, refl)
+is_named (Lane (FloatLane F128)) = lane_named FloatKind 128 (3, omega arith, refl)
+
+pub all_named : (ts : List ValueType) → All IsNamed (map shape_of ts)
+all_named [] = All-nil IsNamed
+all_named (t ∷ ts) = All-cons IsNamed (shape_of t) (map shape_of ts) (is_named t) (all_named ts)
+
+-- names that stand in a list are those of types
+refused_names : (xs ts : List Shape) (name : List ℕ) (rest : List (List ℕ)) → All IsNamed ts → map name_of xs ++ name ∷ rest ≡ map name_of ts → ((u : Shape) → IsNamed u → name_of u ≢ name) → ⊥
+refused_names [] [] name rest h e none = absurd (cc)
+refused_names [] (t ∷ ts) name rest h e none = none t (All-head IsNamed t ts h) (cc)
+refused_names (x ∷ xs) [] name rest h e none = absurd (cc)
+refused_names (x ∷ xs) (t ∷ ts) name rest h e none = refused_names xs ts name rest (All-tail IsNamed t ts h) (cc) none
+
+-- a word with a piece that names no type lists no types
+pub refused : (xs ts : List Shape) (name word : List ℕ) (left rest : List (List ℕ)) → word ≢ codes "-" → map name_of xs ++ left ≡ pieces_of 44 word → left ≡ name ∷ rest → ((u : Shape) → IsNamed u → name_of u ≢ name) → All IsNamed ts → types_text ts ≢ word
+refused xs [] name word left rest dash h l none named e = dash (sym e)
+refused xs (t ∷ ts) name word left rest dash h l none named e =
+    refused_names xs (t ∷ ts) name rest named (ap (λ ns. map name_of xs ++ ns) (sym l) ∙ h ∙ ap (pieces_of 44) (sym e) ∙ names_parted t ts named) none
+
+-- a word whose pieces are the names lists these types
+pub listed : (ts : List Shape) (word : List ℕ) (left : List (List ℕ)) → map name_of ts ++ left ≡ pieces_of 44 word → left ≡ [] → types_text ts ≡ word
+listed [] word left h l =
+    let more = slice_split_cons (λ b. b == 44) word in
+    let none : [] ≡ more.first ∷ more.others = sym l ∙ h ∙ more.is in
+    absurd (cc)
+listed (t ∷ ts) word left h l =
+    let names : map name_of (t ∷ ts) ≡ pieces_of 44 word = sym (append-nil (map name_of (t ∷ ts))) ∙ ap (λ ns. map name_of (t ∷ ts) ++ ns) (sym l) ∙ h in
+    ap (join_with_byte 44) names ∙ join_with_byte-slice_split 44 word
+
+pub shown_numbers : (ts : List ValueType) → map (λ t. number_of (shape_of t)) ts ≡ map number_of (map shape_of ts)
+shown_numbers [] = refl
+shown_numbers (t ∷ ts) = ap (λ ns. number_of (shape_of t) ∷ ns) (shown_numbers ts)
+
+-- ---- from a line to its question
+
+name_has_bytes : (line : List ℕ) (q : Question) → IsQuestion line q → 0 < length q.name
+name_has_bytes line q h =
+    let behind : List (List ℕ) = control_text q.control ∷ types_text q.results ∷ types_text q.values ∷ [] in
+    (All-head IsWord q.name behind (All-tail IsWord (codes "accept") (q.name ∷ behind) h.words.each)).has_bytes
+
+-- pieces between spaces that have bytes are words
+words_from : (words : List (List ℕ)) → All (λ w. 0 < length w) words → All (λ w. All (λ b. (b == 32) ≡ false) w) words → All IsWord words
+words_from words some lack = λ k d l. record { has_bytes = some k d l; has_no_space = λ i e m s. false≢true (sym (lack k d l i e m) ∙ eq-eqb _ 32 s) }
+
+-- a line of other words asks nothing
+pub no_words : (line : List ℕ) → ((name control results values : List ℕ) → 0 < length name → pieces_of 32 line ≢ codes "accept" ∷ name ∷ control ∷ results ∷ values ∷ []) → (q : Question) → IsQuestion line q → ⊥
+no_words line none q h = none q.name (control_text q.control) (types_text q.results) (types_text q.values) (name_has_bytes line q h) (pieces_of-words line _ _ h.words)
+
+-- where a line asks, its pieces are the words of the question
+module _ (line name control results values : List ℕ) (pieces : pieces_of 32 line ≡ codes "accept" ∷ name ∷ control ∷ results ∷ values ∷ []) (q : Question) (h : IsQuestion line q) where
+  same_words : words_of q ≡ codes "accept" ∷ name ∷ control ∷ results ∷ values ∷ []
+  same_words = sym (pieces_of-words line _ _ h.words) ∙ pieces
+
+  pub no_control : ((c : Option Shape) → IfSome c IsNamed → control_text c ≢ control) → ⊥
+  no_control none = let e = same_words in none q.control h.control (cc)
+
+  pub no_results : ((ts : List Shape) → All IsNamed ts → types_text ts ≢ results) → ⊥
+  no_results none = let e = same_words in none q.results h.results (cc)
+
+  pub no_values : ((ts : List Shape) → All IsNamed ts → types_text ts ≢ values) → ⊥
+  no_values none = let e = same_words in none q.values h.values (cc)
+
+control_has_bytes : (c : Option Shape) → 0 < length (control_text c)
+control_has_bytes None = omega arith
+control_has_bytes (Some t) = omega arith
+
+types_have_bytes : (ts : List Shape) → 0 < length (types_text ts)
+types_have_bytes [] = omega arith
+types_have_bytes (t ∷ []) = omega arith
+types_have_bytes (t ∷ u ∷ ts) = omega arith
+
+control_named : (c : Option ValueType) → IfSome (option_map shape_of c) IsNamed
+control_named None = tt
+control_named (Some t) = is_named t
+
+-- the line whose pieces are the words of q asks q
+pub asks : (line name control results values : List ℕ) (c : Option ValueType) (rs vs : List ValueType) → pieces_of 32 line ≡ codes "accept" ∷ name ∷ control ∷ results ∷ values ∷ [] → 0 < length name
+    → control_text (option_map shape_of c) ≡ control → types_text (map shape_of rs) ≡ results → types_text (map shape_of vs) ≡ values
+    → IsQuestion line (record { name = name; control = option_map shape_of c; results = map shape_of rs; values = map shape_of vs })
+asks line name control results values c rs vs h n ce re ve =
+    let P : List ℕ → Type 0 = λ w. 0 < length w in
+    let cw = control_text (option_map shape_of c) in
+    let rw' = types_text (map shape_of rs) in
+    let vw = types_text (map shape_of vs) in
+    let words : List (List ℕ) = codes "accept" ∷ name ∷ cw ∷ rw' ∷ vw ∷ [] in
+    let pieces : pieces_of 32 line ≡ words = cc in
+    let some : All P words =
+    All-cons P (codes "accept") (name ∷ cw ∷ rw' ∷ vw ∷ []) (omega arith)
+    (All-cons P name (cw ∷ rw' ∷ vw ∷ []) n
+    (All-cons P cw (rw' ∷ vw ∷ []) (control_has_bytes (option_map shape_of c))
+    (All-cons P rw' (vw ∷ []) (types_have_bytes (map shape_of rs))
+    (All-cons P vw [] (types_have_bytes (map shape_of vs)) (All-nil P))))) in
+    record {
+      words = record {
+        parted = sym (join_with_byte-slice_split 32 line) ∙ ap (join_with_byte 32) pieces;
+        each = words_from words some (All-same (λ w. All (λ b. (b == 32) ≡ false) w) words (pieces_of 32 line) (sym pieces) (All-slice_split (λ b. b == 32) line));
+      };
+      control = control_named c;
+      results = all_named rs;
+      values = all_named vs;
+    }

@@ -1,0 +1,79 @@
+-- From the parts of a run to the whole.
+use Rattle.std.proofs.Common.{◌≡◌, ◌≢◌, ◌↔◌, ◌<◌, ◌≤◌, ◌+◌, ◌⊎◌, inl, inr, ⊎_elim, ℕ, List, [], ◌∷◌, ◌++◌, length, length-append, Option, None, Some, IfSome, refl, sym, ap, ◌∙◌, subst, arith}
+use Rattle.std.proofs.lemmas.List.{append-nil}
+use Rattle.meta_types.specs.declared.fault.DefinitionError.{DefinitionError}
+use Rattle.meta_inst.specs.InstructionSet.{InstructionSet}
+use Rattle.meta_inst.specs.Faults.{IsFirstFault, IsValid}
+use Rattle.meta_meaning.specs.Tables.{TableContents, Allows}
+use Rattle.meta_gen.specs.TablesOf.{AreTablesOf, AcceptsOpcode}
+use Rattle.meta_text.specs.Outside.{Rose, with_front, with_more, NothingLeft, longest_input, GaveMore, GaveAtMost, TookPart}
+use Rattle.meta_query.specs.Lines.{lines_of}
+use Rattle.meta_query.specs.Answer.{IsOutput, refusal}
+use Rattle.meta_query.specs.Run.{IsCommand, IsAnsweredWhole, IsRefusedWhole, IsRefusedInPart, IsAnsweredInPart, IsWritten, IsWrittenInPart, Answers, Refuses}
+use Rattle.meta_query.specs.declared.status.Status.{Status}
+use Rattle.meta_query.specs.declared.status.Status.TheVariants.{Done, Refused, Usage, ReadFault, WriteFault, OutOfMemory, TooLong}
+use Rattle.meta_gen.proofs.OneFault.{one_fault}
+use Rattle.meta_query.proofs.Meant.{answers_mean}
+
+-- what tables of the declarations answered is their output
+module _ (d : InstructionSet) (tables : TableContents) (made : AreTablesOf d tables) (means : (op : ℕ) (c : Option ℕ) (rs vs : List ℕ) → (Allows tables op c rs vs ↔ AcceptsOpcode d op c rs vs)) (valid : IsValid d) (left left' taken taken' : Option (List ℕ)) where
+  pub answered : IsWritten tables left left' taken taken' → IsAnsweredWhole d left left' taken taken'
+  answered h = record { valid = valid; input = h.input; output = h.output; read = h.read; end = h.end; within = h.within; answers = answers_mean d tables made means (lines_of h.input) h.output h.answers; took = h.took }
+
+  pub answered_in_part : IsWrittenInPart tables left left' taken taken' → IsAnsweredInPart d left left' taken taken'
+  answered_in_part h = record { valid = valid; input = h.input; output = h.output; read = h.read; answers = answers_mean d tables made means (lines_of h.input) h.output h.answers; took = h.took }
+
+-- what wasn't read gave nothing
+pub gave_nothing : (n : ℕ) (left : Option (List ℕ)) → GaveAtMost n left left
+gave_nothing n None = record { bytes = []; given = refl; within = omega arith }
+gave_nothing n (Some bytes) = record { bytes = []; given = refl; within = omega arith }
+
+-- what was read is all that was left, where that was told and nothing is left now
+read_all : (input bytes : List ℕ) (left' : Option (List ℕ)) → Some input ≡ with_front bytes left' → NothingLeft left' → bytes ≡ input
+read_all input bytes None e end = absurd (cc)
+read_all input bytes (Some rest) e end =
+    let whole : input ≡ bytes ++ rest = cc in
+    sym (whole ∙ ap (λ r. bytes ++ r) end ∙ append-nil bytes)
+
+-- a source doesn't give more than it had
+gave_within : (input : List ℕ) (left' : Option (List ℕ)) → length input ≤ longest_input → GaveMore longest_input (Some input) left' → ⊥
+gave_within input left' few h = within left' h.given
+  where
+    more : longest_input < length h.bytes
+    more = h.more
+
+    within : (left : Option (List ℕ)) → Some input ≡ with_front h.bytes left → ⊥
+    within None e = cc
+    within (Some rest) e =
+        let whole : input ≡ h.bytes ++ rest = cc in
+        let m = more in
+        omega (arith, ap length whole, length-append h.bytes rest)
+
+module _ (d : InstructionSet) (words : List (List ℕ)) (left left' taken taken' : Option (List ℕ)) (reads reads' writes writes' : ℕ) where
+  -- from the causes of each ending, that valid declarations are answered
+  pub headline : (status : Status) → (status ≡ Usage → IsCommand words → ⊥) → (status ≡ Done → IsCommand words × IsAnsweredWhole d left left' taken taken') → (status ≡ Refused → IsCommand words × IsRefusedWhole d taken taken') → (status ≡ ReadFault → IsCommand words × IsValid d × Rose reads reads') → (status ≡ WriteFault → IsCommand words × Rose writes writes') → (status ≡ TooLong → IsCommand words × IsValid d × GaveMore longest_input left left') → Answers d words left reads reads' taken taken' writes writes' status
+  headline Done usage done refused read write long command valid memory input before told few no_read taken_is no_write =
+      let h = (done refl).1 in
+      let all = read_all input h.input left' (sym told ∙ h.read) h.end in
+      (refl, h.output, subst (λ i. IsOutput d i h.output) all h.answers, h.took ∙ ap (λ t. with_more t h.output) taken_is)
+  headline Refused usage done refused read write long command valid memory input before told few no_read taken_is no_write =
+      let h = (refused refl).1 in
+      absurd (valid h.first.position h.fault h.first.shows)
+  headline Usage usage done refused read write long command valid memory input before told few no_read taken_is no_write = absurd (usage refl command)
+  headline ReadFault usage done refused read write long command valid memory input before told few no_read taken_is no_write = absurd (no_read (read refl).2)
+  headline WriteFault usage done refused read write long command valid memory input before told few no_read taken_is no_write = absurd (no_write (write refl).1)
+  headline OutOfMemory usage done refused read write long command valid memory input before told few no_read taken_is no_write = absurd (memory refl)
+  headline TooLong usage done refused read write long command valid memory input before told few no_read taken_is no_write =
+      absurd (gave_within input left' few (subst (λ l. GaveMore longest_input l left') told (long refl).2))
+
+  -- and that others are refused
+  pub refuses : (status : Status) → (status ≡ Usage → IsCommand words → ⊥) → (status ≡ Done → IsCommand words × IsAnsweredWhole d left left' taken taken') → (status ≡ Refused → IsCommand words × IsRefusedWhole d taken taken') → (status ≡ ReadFault → IsCommand words × IsValid d × Rose reads reads') → (status ≡ WriteFault → IsCommand words × Rose writes writes') → (status ≡ TooLong → IsCommand words × IsValid d × GaveMore longest_input left left') → Refuses d words taken taken' writes writes' status
+  refuses Done usage done refused read write long command e first memory before taken_is no_write = absurd ((done refl).1.valid first.position e first.shows)
+  refuses Refused usage done refused read write long command e first memory before taken_is no_write =
+      let h = (refused refl).1 in
+      (refl, h.took ∙ ap (λ t. with_more t (refusal h.fault)) taken_is ∙ ap (λ f. Some (before ++ refusal f)) (one_fault d h.fault e h.first first))
+  refuses Usage usage done refused read write long command e first memory before taken_is no_write = absurd (usage refl command)
+  refuses ReadFault usage done refused read write long command e first memory before taken_is no_write = absurd ((read refl).1 first.position e first.shows)
+  refuses WriteFault usage done refused read write long command e first memory before taken_is no_write = absurd (no_write (write refl).1)
+  refuses OutOfMemory usage done refused read write long command e first memory before taken_is no_write = absurd (memory refl)
+  refuses TooLong usage done refused read write long command e first memory before taken_is no_write = absurd ((long refl).1 first.position e first.shows)

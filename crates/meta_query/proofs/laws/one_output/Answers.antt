@@ -1,0 +1,5 @@
+use Rattle.meta_query.proofs.OneOutput.{same_output}
+use Rattle.meta_query.proofs.laws.one_output.Goals as goal
+
+pub returns : goal.returns
+returns c = same_output

@@ -1,0 +1,11 @@
+-- The replies to a question.
+use Rattle.std.specs.Prelude.{ℕ, List, codes}
+use Rattle.meta_query.specs.declared.reply.Reply.{Reply}
+use Rattle.meta_query.specs.declared.reply.Reply.TheVariants.{Accept, Refuse, Unknown, Bad}
+
+-- a reply as it is written
+abbrev pub reply_text : Reply → List ℕ
+reply_text Accept = codes "accept"
+reply_text Refuse = codes "refuse"
+reply_text Unknown = codes "unknown"
+reply_text Bad = codes "bad"

@@ -1,0 +1,14 @@
+-- How a run ended.
+use Rattle.std.specs.Prelude.{ℕ}
+use Rattle.meta_query.specs.declared.status.Status.{Status}
+use Rattle.meta_query.specs.declared.status.Status.TheVariants.{Done, Refused, Usage, ReadFault, WriteFault, OutOfMemory, TooLong}
+
+-- the exit status of the process
+abbrev pub code_of : Status → ℕ
+code_of Done = 0
+code_of Refused = 1
+code_of Usage = 2
+code_of ReadFault = 3
+code_of WriteFault = 4
+code_of OutOfMemory = 5
+code_of TooLong = 6

@@ -1,0 +1,25 @@
+//! Query lines: the lines of an input, the question that a line asks, and the replies.
+#![tactic(auto)]
+
+mod answer;
+mod laws;
+mod lines;
+mod pieces;
+mod question;
+mod reply;
+#[cfg(test)]
+mod run_tests;
+mod running;
+mod start;
+mod status;
+#[cfg(test)]
+mod tests;
+
+pub use answer::answer_line;
+pub use laws::one_output;
+pub use lines::Lines;
+pub use question::{Question, asks_one_question};
+pub use reply::Reply;
+pub use running::run;
+pub use start::starter;
+pub use status::Status;

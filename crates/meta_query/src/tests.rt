@@ -1,0 +1,225 @@
+ghost use Rattle.std.specs.Prelude.{◌≡◌, [], ◌∷◌, ◌++◌, IfOk};
+ghost use Rattle.std.specs.List.{flat_map};
+ghost use Rattle.meta_query.specs.Lines.{lines_of};
+
+use super::{Lines, Question, Reply, Status};
+use std::alloc::{AllocError, Global};
+use std::test::Fail;
+
+/// Each line with one LF behind it.
+fn with_line_ends(alloc: Global, input: &[u8]) -> Result<Vec<u8>, AllocError>
+    ensures { IfOk result (λ out. out.items ≡ flat_map (λ line. line ++ 10 ∷ []) (lines_of input.now)) }
+{
+    let mut out = Vec::new(alloc);
+    for line in Lines::new(input) {
+        out.extend_from_slice(line)?;
+        out.push(b'\n')?;
+    }
+    Ok(out)
+}
+
+#[test]
+fn cuts_lines(rt: HostRuntime) -> Result<(), Fail> {
+    let rows = [
+        (b"".as_slice(), b"".as_slice()),
+        (b"a".as_slice(), b"a\n".as_slice()),
+        (b"a\n".as_slice(), b"a\n".as_slice()),
+        (b"a\nb".as_slice(), b"a\nb\n".as_slice()),
+        (b"\n".as_slice(), b"\n".as_slice()),
+        (b"\n\n".as_slice(), b"\n\n".as_slice()),
+        (b"\r".as_slice(), b"\n".as_slice()),
+        (b"\n\r".as_slice(), b"\n\n".as_slice()),
+        (b"\r\n".as_slice(), b"\n".as_slice()),
+        (b"\r\r\n".as_slice(), b"\r\n".as_slice()),
+        (b"a\r".as_slice(), b"a\n".as_slice()),
+        (b"a\rb\r\nc ".as_slice(), b"a\rb\nc \n".as_slice()),
+        (b"\0\xff\r\n\x80".as_slice(), b"\0\xff\n\x80\n".as_slice()),
+    ];
+    for (input, lines) in rows {
+        let out = with_line_ends(rt.alloc(), input)?;
+        assert_eq!(rt; out.as_slice(), lines);
+    }
+    Ok(())
+}
+
+/// As many bytes of this value as `n` says.
+fn repeated(alloc: Global, byte: u8, n: usize) -> Result<Vec<u8>, AllocError> {
+    let mut out = Vec::with_capacity(alloc, n)?;
+    for _ in 0..n {
+        out.push(byte)?;
+    }
+    Ok(out)
+}
+
+/// The texts, one after another.
+fn joined(alloc: Global, front: &[u8], middle: &[u8], back: &[u8]) -> Result<Vec<u8>, AllocError> {
+    let mut out = Vec::new(alloc);
+    out.extend_from_slice(front)?;
+    out.extend_from_slice(middle)?;
+    out.extend_from_slice(back)?;
+    Ok(out)
+}
+
+/// How many lines the input has.
+fn line_count(input: &[u8]) -> usize {
+    let mut count: usize = 0;
+    for _ in Lines::new(input) {
+        count = count.saturating_add(1);
+    }
+    count
+}
+
+#[test]
+fn takes_long_inputs(rt: HostRuntime) -> Result<(), Fail> {
+    const MEBIBYTE: usize = 1_048_576;
+    let ends = repeated(rt.alloc(), b'\n', MEBIBYTE)?;
+    assert_eq!(rt; line_count(ends.as_slice()), MEBIBYTE);
+    let long = repeated(rt.alloc(), b'a', MEBIBYTE)?;
+    assert_eq!(rt; line_count(long.as_slice()), 1);
+    assert!(rt; Question::parse(rt.alloc(), long.as_slice())?.is_none());
+    let spaces = repeated(rt.alloc(), b' ', MEBIBYTE)?;
+    assert!(rt; Question::parse(rt.alloc(), spaces.as_slice())?.is_none());
+    let commas = repeated(rt.alloc(), b',', MEBIBYTE)?;
+    let listed = joined(rt.alloc(), b"accept f - - i8", commas.as_slice(), b"i8")?;
+    assert!(rt; Question::parse(rt.alloc(), listed.as_slice())?.is_none());
+    let named = joined(rt.alloc(), b"accept ", long.as_slice(), b" - - -")?;
+    let question = Question::parse(rt.alloc(), named.as_slice())?.ok_or("no question")?;
+    assert!(rt; question.name() == long.as_slice());
+    Ok(())
+}
+
+#[test]
+fn reads_questions(rt: HostRuntime) -> Result<(), Fail> {
+    let rows = [
+        (
+            b"accept iadd i32 i32 i32,i32".as_slice(),
+            b"iadd".as_slice(),
+            Some(0x76),
+            [0x76].as_slice(),
+            [0x76, 0x76].as_slice(),
+        ),
+        (
+            b"accept nop - - -".as_slice(),
+            b"nop".as_slice(),
+            None,
+            [].as_slice(),
+            [].as_slice(),
+        ),
+        (
+            b"accept - - - -".as_slice(),
+            b"-".as_slice(),
+            None,
+            [].as_slice(),
+            [].as_slice(),
+        ),
+        (
+            b"accept accept f16 - i8".as_slice(),
+            b"accept".as_slice(),
+            Some(0x79),
+            [].as_slice(),
+            [0x74].as_slice(),
+        ),
+        (
+            b"accept i\tadd i8 - -".as_slice(),
+            b"i\tadd".as_slice(),
+            Some(0x74),
+            [].as_slice(),
+            [].as_slice(),
+        ),
+        (
+            b"accept \0\xff - - -".as_slice(),
+            b"\0\xff".as_slice(),
+            None,
+            [].as_slice(),
+            [].as_slice(),
+        ),
+        (
+            b"accept all f128 i8,i16,i32,i64,i128,f16,f32,f64,f128 f16,i8".as_slice(),
+            b"all".as_slice(),
+            Some(0x7c),
+            [0x74, 0x75, 0x76, 0x77, 0x78, 0x79, 0x7a, 0x7b, 0x7c].as_slice(),
+            [0x79, 0x74].as_slice(),
+        ),
+    ];
+    for (line, name, control, results, values) in rows {
+        let question = Question::parse(rt.alloc(), line)?.ok_or("no question")?;
+        assert_eq!(rt; question.name(), name);
+        assert_eq!(rt; question.control_number(), control);
+        assert_eq!(rt; question.result_numbers(rt.alloc())?.as_slice(), results);
+        assert_eq!(rt; question.value_numbers(rt.alloc())?.as_slice(), values);
+    }
+    Ok(())
+}
+
+#[test]
+fn refuses_other_lines(rt: HostRuntime) -> Result<(), Fail> {
+    let lines = [
+        b"".as_slice(),
+        b" ".as_slice(),
+        b"-".as_slice(),
+        b"accept".as_slice(),
+        b"accept iadd i32 i32".as_slice(),
+        b"accept iadd i32 i32 i32,i32 -".as_slice(),
+        b"Accept iadd i32 i32 i32,i32".as_slice(),
+        b"accepts iadd i32 i32 i32,i32".as_slice(),
+        b"setting iadd i32 i32 i32,i32".as_slice(),
+        b" accept iadd i32 i32 i32,i32".as_slice(),
+        b"accept iadd i32 i32 i32,i32 ".as_slice(),
+        b"accept  iadd i32 i32 i32,i32".as_slice(),
+        b"accept iadd i32  i32 i32,i32".as_slice(),
+        b"accept  i32 i32 i32".as_slice(),
+        b"accept iadd  i32 i32".as_slice(),
+        b"accept iadd i32  i32".as_slice(),
+        b"accept iadd i32 i32 ".as_slice(),
+        b"accept\tiadd i32 i32 i32,i32".as_slice(),
+        b"accept iadd i32 i32 i32,\ti32".as_slice(),
+        b"accept iadd i32\ti32 i32,i32".as_slice(),
+        b"accept iadd i32 i32 i32,i32\r".as_slice(),
+        b"accept iadd i32 i32 i32, i32".as_slice(),
+        b"accept iadd i32 i32 ,".as_slice(),
+        b"accept iadd i32 i32 i32,".as_slice(),
+        b"accept iadd i32 i32 ,i32".as_slice(),
+        b"accept iadd i32 i32 i32,,i32".as_slice(),
+        b"accept iadd i32 -,- i32".as_slice(),
+        b"accept iadd i32 -,i32 i32".as_slice(),
+        b"accept iadd i32 i32,- i32".as_slice(),
+        b"accept iadd i32,i32 i32 i32".as_slice(),
+        b"accept iadd , i32 i32".as_slice(),
+        b"accept iadd -- i32 i32".as_slice(),
+        b"accept iadd i33 i32 i32".as_slice(),
+        b"accept iadd I32 i32 i32".as_slice(),
+        b"accept iadd i i32 i32".as_slice(),
+        b"accept iadd i032 i32 i32".as_slice(),
+        b"accept iadd i32\0 i32 i32".as_slice(),
+        b"accept iadd i32 \xff i32".as_slice(),
+        b"accept iadd i32 i32 \xc3\xa9".as_slice(),
+        b"accept iadd\0i32\0i32\0i32".as_slice(),
+    ];
+    for line in lines {
+        assert!(rt; Question::parse(rt.alloc(), line)?.is_none());
+    }
+    Ok(())
+}
+
+#[test]
+fn writes_replies(rt: HostRuntime) {
+    assert_eq!(rt; Reply::Accept.text(), "accept");
+    assert_eq!(rt; Reply::Refuse.text(), "refuse");
+    assert_eq!(rt; Reply::Unknown.text(), "unknown");
+    assert_eq!(rt; Reply::Bad.text(), "bad");
+    let statuses = [
+        Status::Done,
+        Status::Refused,
+        Status::Usage,
+        Status::ReadFault,
+        Status::WriteFault,
+        Status::OutOfMemory,
+        Status::TooLong,
+    ];
+    let mut code = 0;
+    for status in statuses {
+        assert_eq!(rt; status.code(), code);
+        assert!(rt; code < 7);
+        code += 1;
+    }
+}
