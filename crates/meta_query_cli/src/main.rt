@@ -1,0 +1,79 @@
+// Answers the query lines of the standard input over the declarations of `starter`.
+#![tactic(auto)]
+
+mod command;
+
+use command::{Command, about};
+use meta_query::{Status, run, starter};
+use meta_text::{StdSink, StdSource};
+use meta_types::Text;
+use std::io;
+use std::process::ExitCode;
+
+const HELP: &str = "\
+Answers questions about the instructions of a set, one a line, from standard input to standard output.
+
+Usage: meta_query_cli query < FILE
+
+A line is `accept NAME CONTROL RESULTS VALUES`: whether the instruction takes these types, with `-` where there is none.
+The answers are accept, refuse, unknown and bad.
+
+Options:
+  --help     prints this
+  --version  prints the version
+
+Status: 0 done, 1 declarations refused, 2 usage, 3 read fault, 4 write fault, 5 out of memory, 6 input too long";
+
+const VERSION: &str = "meta_query_cli 0.1.0";
+
+/// The words after the program's name.
+fn words(rt: &HostRuntime) -> Result<Vec<Text>, Status> {
+    let alloc = rt.alloc();
+    let args = std::env::args(rt).map_err(|_| Status::Usage)?;
+    let mut words = Vec::new(alloc);
+    for arg in args.skip(1) {
+        let word = Text::new(alloc, arg.as_str()).map_err(|_| Status::OutOfMemory)?;
+        words.push(word).map_err(|_| Status::OutOfMemory)?;
+    }
+    Ok(words)
+}
+
+/// Runs the words over the declarations of `starter`.
+fn query(rt: &HostRuntime, words: &[Text]) -> Status {
+    let alloc = rt.alloc();
+    let Ok(declarations) = starter(alloc) else {
+        return Status::OutOfMemory;
+    };
+    let mut source = StdSource::new(rt.reader());
+    let mut sink = StdSink::new(io::writer(rt));
+    run(alloc, words, &declarations, &mut source, &mut sink)
+}
+
+/// Prints one of the program's own texts.
+fn print(rt: &HostRuntime, text: &str) -> Status {
+    match println!(rt; "{text}") {
+        Ok(()) => Status::Done,
+        Err(_) => Status::WriteFault,
+    }
+}
+
+/// Does what the words ask.
+fn answer(rt: &HostRuntime) -> Status {
+    match words(rt) {
+        Ok(words) => match Command::of(&words) {
+            Command::Help => print(rt, HELP),
+            Command::Version => print(rt, VERSION),
+            Command::Run => query(rt, &words),
+        },
+        Err(status) => status,
+    }
+}
+
+fn main(rt: HostRuntime) -> ExitCode {
+    let status = answer(&rt);
+    if let Some(text) = about(status) {
+        // Where standard error fails too, the status still tells.
+        let _ = eprintln!(rt; "meta_query_cli: {text}");
+    }
+    ExitCode::from(status.code())
+}
