@@ -7,7 +7,7 @@ use command::{Command, about};
 use meta_query::{Status, run, starter};
 use meta_text::{StdSink, StdSource};
 use meta_types::Text;
-use std::io;
+use std::io::{self, ErrorKind};
 use std::process::ExitCode;
 
 const HELP: &str = "\
@@ -26,10 +26,18 @@ Status: 0 done, 1 declarations refused, 2 usage, 3 read fault, 4 write fault, 5 
 
 const VERSION: &str = "meta_query_cli 0.1.0";
 
+/// What it means that the words of the program can't be had.
+fn no_words(error: &io::Error) -> Status {
+    match error.kind() {
+        ErrorKind::OutOfMemory => Status::OutOfMemory,
+        _ => Status::Usage,
+    }
+}
+
 /// The words after the program's name.
 fn words(rt: &HostRuntime) -> Result<Vec<Text>, Status> {
     let alloc = rt.alloc();
-    let args = std::env::args(rt).map_err(|_| Status::Usage)?;
+    let args = std::env::args(rt).map_err(|error| no_words(&error))?;
     let mut words = Vec::new(alloc);
     for arg in args.skip(1) {
         let word = Text::new(alloc, arg.as_str()).map_err(|_| Status::OutOfMemory)?;
