@@ -21,7 +21,7 @@ module _ (d : InstructionSet) (tables : TableContents) (made : AreTablesOf d tab
   answered h = record { valid = valid; input = h.input; output = h.output; read = h.read; end = h.end; within = h.within; answers = answers_mean d tables made means (lines_of h.input) h.output h.answers; took = h.took }
 
   pub answered_in_part : IsWrittenInPart tables left left' taken taken' → IsAnsweredInPart d left left' taken taken'
-  answered_in_part h = record { valid = valid; input = h.input; output = h.output; read = h.read; answers = answers_mean d tables made means (lines_of h.input) h.output h.answers; took = h.took }
+  answered_in_part h = record { valid = valid; input = h.input; output = h.output; read = h.read; end = h.end; answers = answers_mean d tables made means (lines_of h.input) h.output h.answers; took = h.took }
 
 -- what wasn't read gave nothing
 pub gave_nothing : (n : ℕ) (left : Option (List ℕ)) → GaveAtMost n left left

@@ -38,12 +38,13 @@ pub record IsRefusedInPart (d : InstructionSet) (taken taken' : Option (List ℕ
   pub first : IsFirstFault d fault
   pub took : TookPart (refusal fault) taken taken'
 
--- the whole input was read, and the sink took a part of its output, and not all
+-- the whole input was read, up to its end, and the sink took a part of its output, and not all
 pub record IsAnsweredInPart (d : InstructionSet) (left left' taken taken' : Option (List ℕ)) : Type 0 where
   pub valid : IsValid d
   pub input : List ℕ
   pub output : List ℕ
   pub read : left ≡ with_front input left'
+  pub end : NothingLeft left'
   pub answers : IsOutput d input output
   pub took : TookPart output taken taken'
 
@@ -61,11 +62,12 @@ pub record IsWritten (tables : TableContents) (left left' taken taken' : Option 
   pub answers : AreAnswers (IsTableReply tables) (lines_of input) output
   pub took : taken' ≡ with_more taken output
 
--- the whole input was read, and the sink took a part of the answers of the tables to its lines, and not all
+-- the whole input was read, up to its end, and the sink took a part of the answers of the tables to its lines, and not all
 pub record IsWrittenInPart (tables : TableContents) (left left' taken taken' : Option (List ℕ)) : Type 0 where
   pub input : List ℕ
   pub output : List ℕ
   pub read : left ≡ with_front input left'
+  pub end : NothingLeft left'
   pub answers : AreAnswers (IsTableReply tables) (lines_of input) output
   pub took : TookPart output taken taken'
 
