@@ -1,0 +1,97 @@
+-- A look-up of indexes, beside a list of entries that gains one.
+use Rattle.std.proofs.Common.{◌≡◌, ℕ, ◌-◌, refl, sym, ap, ◌∙◌, subst, inl, inr, arith, Bool, true, false, cond, List, [], ◌∷◌, ◌++◌, length, take, Some, None, Option, Bor, length-append}
+use Rattle.std.proofs.lemmas.List.{map-append, length-map}
+use Rattle.std.proofs.Math.Seq.{take-append_seam}
+use Rattle.std.specs.Prelude.{slice_get}
+use Rattle.std.specs.Cmp.{IsEquivalence}
+use Rattle.meta_unique.specs.Interning.{pointed_to, IsIndexOf, IsNew, IsIndexed}
+use Rattle.meta_unique.proofs.Places.{slice_get-push, slice_get-push_old, slice_get-push_new}
+
+module _ {X : Type 0} (eq : X → X → Bool) (entries shown : List X) (look_up : Bor X → Option ℕ) (same : entries ≡ shown) (indexed : IsIndexed eq entries look_up) where
+  shown_index : (x : X) (i : ℕ) → IsIndexOf eq shown x i → IsIndexOf eq entries x i
+  shown_index x i h = subst (λ (es : List X). IsIndexOf eq es x i) (sym same) h
+
+  -- what a look-up finds is the only index
+  pub found_index : (r : Bor X) (i j : ℕ) → Some j ≡ look_up r → IsIndexOf eq shown r.now i → j ≡ i
+  found_index r i j e h = let f = indexed.complete r i (shown_index r.now i h) in (cc)
+
+  -- what a look-up doesn't find is new
+  pub found_none : (r : Bor X) → None ≡ look_up r → IsNew eq shown r.now
+  found_none r e i h = let f = indexed.complete r i (shown_index r.now i h) in (cc)
+
+  pub found_some : (r : Bor X) (j : ℕ) → Some j ≡ look_up r → IsIndexOf eq shown r.now j
+  found_some r j e = subst (λ (es : List X). IsIndexOf eq es r.now j) same (indexed.sound r j (sym e))
+
+-- a look-up that gained a new entry's index
+module _ {X : Type 0} (eq : X → X → Bool) (laws : IsEquivalence eq) (entries : List X) (look_up look_up' : Bor X → Option ℕ) (r : Bor X) (indexed : IsIndexed eq entries look_up) (new : None ≡ look_up r)
+    (gains : (q : Bor X) → look_up' q ≡ cond (eq r.now q.now) (Some (length entries)) (look_up q)) where
+  is_new : IsNew eq entries r.now
+  is_new i h = let f = indexed.complete r i h in (cc)
+
+  different_more : (i j : ℕ) (x y : X) → slice_get (entries ++ r.now ∷ []) i ≡ Some x → slice_get (entries ++ r.now ∷ []) j ≡ Some y → eq x y ≡ true → i ≡ j
+  different_more i j x y e f h = elim (slice_get-push entries r.now i x e) [
+    | inl a ↦ elim (slice_get-push entries r.now j y f) [
+      | inl b ↦ indexed.different i j x y a.1 b.1 h
+      | inr b ↦ absurd (is_new i (record { entry = x; there = a.1; equal = ap (λ w. eq w x) b.1 ∙ laws.symm y x ∙ h }))
+    ]
+    | inr a ↦ elim (slice_get-push entries r.now j y f) [
+      | inl b ↦ absurd (is_new j (record { entry = y; there = b.1; equal = ap (λ w. eq w y) a.1 ∙ h }))
+      | inr b ↦ a.0 ∙ sym b.0
+    ]
+  ]
+
+  sound_more : (q : Bor X) (i : ℕ) → look_up' q ≡ Some i → IsIndexOf eq (entries ++ r.now ∷ []) q.now i
+  sound_more q i e = go (eq r.now q.now) refl
+    where
+      go : (b : Bool) → eq r.now q.now ≡ b → IsIndexOf eq (entries ++ r.now ∷ []) q.now i
+      go true h =
+          let f : Some (length entries) ≡ Some i = sym (gains q ∙ ap (λ b. cond b (Some (length entries)) (look_up q)) h) ∙ e in
+          let at : length entries ≡ i = (cc) in
+          record { entry = r.now; there = subst (λ k. slice_get (entries ++ r.now ∷ []) k ≡ Some r.now) at (slice_get-push_new entries r.now); equal = laws.symm q.now r.now ∙ h }
+      go false h =
+          let old = indexed.sound q i (sym (gains q ∙ ap (λ b. cond b (Some (length entries)) (look_up q)) h) ∙ e) in
+          record { entry = old.entry; there = slice_get-push_old entries r.now i old.entry old.there; equal = old.equal }
+
+  complete_more : (q : Bor X) (i : ℕ) → IsIndexOf eq (entries ++ r.now ∷ []) q.now i → look_up' q ≡ Some i
+  complete_more q i h = elim (slice_get-push entries r.now i h.entry h.there) [
+    | inl a ↦ go (eq r.now q.now) refl a.1
+    | inr a ↦ gains q ∙ ap (λ b. cond b (Some (length entries)) (look_up q)) (laws.symm r.now q.now ∙ ap (eq q.now) a.1 ∙ h.equal) ∙ ap Some (sym a.0)
+  ]
+    where
+      go : (b : Bool) → eq r.now q.now ≡ b → slice_get entries i ≡ Some h.entry → look_up' q ≡ Some i
+      go true e there = absurd (is_new i (record { entry = h.entry; there = there; equal = laws.congr r.now q.now h.entry e ∙ h.equal }))
+      go false e there = gains q ∙ ap (λ b. cond b (Some (length entries)) (look_up q)) e ∙ indexed.complete q i (record { entry = h.entry; there = there; equal = h.equal })
+
+  indexed_more : IsIndexed eq (entries ++ r.now ∷ []) look_up'
+  indexed_more = record { different = different_more; sound = sound_more; complete = complete_more }
+
+-- the same look-up, of the same entries
+pub indexed_same : {X : Type 0} (eq : X → X → Bool) (entries entries' : List X) (look_up look_up' : Bor X → Option ℕ) → entries' ≡ entries → ((q : Bor X) → look_up' q ≡ look_up q) → IsIndexed eq entries look_up → IsIndexed eq entries' look_up'
+indexed_same {X} eq entries entries' look_up look_up' e f indexed = subst (λ (es : List X). IsIndexed eq es look_up') (sym e) (record {
+  different = indexed.different;
+  sound = λ r i h. indexed.sound r i (sym (f r) ∙ h);
+  complete = λ r i h. f r ∙ indexed.complete r i h;
+})
+
+pushed : {X : Type 0} (raw raw' : List (Bor X)) (r : Bor X) → raw' ≡ raw ++ r ∷ [] → pointed_to raw' ≡ pointed_to raw ++ r.now ∷ []
+pushed raw raw' r e = ap pointed_to e ∙ map-append (λ q. q.now) raw (r ∷ [])
+
+-- the look-up and the index after a reference to a new entry is added
+module _ {X : Type 0} (eq : X → X → Bool) (laws : IsEquivalence eq) (raw raw' : List (Bor X)) (r : Bor X) (e : raw' ≡ raw ++ r ∷ []) (n : ℕ) (len : n ≡ length raw) where
+  pub indexed_push : (look_up look_up' : Bor X → Option ℕ) → IsIndexed eq (pointed_to raw) look_up → None ≡ look_up r → ((q : Bor X) → look_up' q ≡ cond (eq r.now q.now) (Some n) (look_up q)) → IsIndexed eq (pointed_to raw') look_up'
+  indexed_push look_up look_up' indexed new gains = subst (λ (es : List X). IsIndexed eq es look_up') (sym (pushed raw raw' r e))
+      (indexed_more eq laws (pointed_to raw) look_up look_up' r indexed new (λ q. gains q ∙ ap (λ k. cond (eq r.now q.now) (Some k) (look_up q)) (len ∙ sym (length-map raw (λ p. p.now)))))
+
+  pub index_push : IsIndexOf eq (pointed_to raw') r.now n
+  index_push = record {
+    entry = r.now;
+    there = subst (λ (es : List X). slice_get es n ≡ Some r.now) (sym (pushed raw raw' r e))
+        (subst (λ k. slice_get (pointed_to raw ++ r.now ∷ []) k ≡ Some r.now) (length-map raw (λ p. p.now) ∙ sym len) (slice_get-push_new (pointed_to raw) r.now));
+    equal = laws.refl r.now;
+  }
+
+-- the list as it was before a push, from a pop
+pub popped : {X : Type 0} (raw raw' raw'' : List X) (x : X) (n : ℕ) → raw' ≡ raw ++ x ∷ [] → n ≡ length raw' → raw'' ≡ take (n - 1) raw' → raw'' ≡ raw
+popped {X} raw raw' raw'' x n e len f =
+    let at : n - 1 ≡ length raw = omega (arith, len, ap length e, length-append raw (x ∷ [])) in
+    f ∙ ap (λ k. take k raw') at ∙ ap (take (length raw)) e ∙ take-append_seam raw (x ∷ [])

@@ -1,0 +1,8 @@
+mod ProbeOrder
+mod Walks
+mod Sizes
+mod Places
+mod Filling
+mod Indexes
+mod Selecting
+mod Overlaps

@@ -1,0 +1,5 @@
+pub mod Probing
+pub mod Slots
+pub mod SimpleHash
+pub mod Interning
+pub mod Overlap

@@ -1,0 +1,4 @@
+mod interning;
+mod overlap;
+mod probing;
+mod slots;

@@ -1,0 +1,80 @@
+ghost use Rattle.std.specs.Prelude.{◌≡◌, ℕ, [], ◌∷◌, ◌++◌, length, Ok, IfOk, OnOk, OnErr};
+ghost use Rattle.std.specs.Slice.Iter.{iter_rest};
+ghost use Rattle.meta_unique.specs.Interning.{pointed_to, IsIndexOf, IsNew, AreDifferent};
+
+use std::alloc::{AllocError, Global};
+use std::collections::HashMap;
+use std::hash::Hash;
+use std::marker::Model;
+use std::slice;
+
+/// A list of entries that are borrowed, no two of which are equal (`unique_table.rs`). Each keeps its index, from 0 in the
+/// order in which they came.
+#[derive(Drop)]
+pub struct UniqueTable<'e, T: Eq + Hash> {
+    entries: Vec<&'e T>,
+    // The index of each entry.
+    indexes: HashMap<&'e T, usize>,
+}
+
+impl<'e, T: Eq + Hash> Model for UniqueTable<'e, T> {
+    ghost use Rattle.std.specs.Prelude.{List};
+    ghost use Rattle.std.specs.HashMap.{get};
+    ghost use Rattle.meta_unique.specs.Interning.{pointed_to, IsIndexed};
+
+    ghost Value = { List T };
+
+    ghost view = { λ t. pointed_to t.entries.items };
+
+    ghost invariant = { λ t. IsIndexed T.eq (pointed_to t.entries.items) (get (λ a b. T.eq a.now b.now) t.indexes) };
+}
+
+impl<'e, T: Eq + Hash> UniqueTable<'e, T> {
+    /// A table without an entry.
+    pub fn new(alloc: Global) -> Self
+        ensures { result ≡ [] }
+    {
+        UniqueTable {
+            entries: Vec::new(alloc),
+            indexes: HashMap::new(alloc),
+        }
+    }
+
+    /// The index of the entry that equals this one, which is added at the end where there is none. The only error is want of
+    /// memory, for a new entry, and it leaves the table as it was.
+    pub fn add(&mut self, entry: &'e T) -> Result<usize, AllocError>
+        ensures index { IfOk result (IsIndexOf T.eq self.new entry.now) }
+        ensures known { (i : ℕ) → IsIndexOf T.eq self.old entry.now i → (result ≡ Ok i) × (self.new ≡ self.old) }
+        ensures added { IsNew T.eq self.old entry.now → OnOk result (self.new ≡ self.old ++ entry.now ∷ []) }
+        ensures different { AreDifferent T.eq self.new }
+        ensures err { OnErr result (self.new ≡ self.old) }
+    {
+        if let Some(&index) = self.indexes.get(&entry) {
+            return Ok(index);
+        }
+        let index = self.entries.len();
+        self.entries.push(entry)?;
+        match self.indexes.insert(entry, index) {
+            Ok(_) => Ok(index),
+            Err(_) => {
+                self.entries.pop();
+                Err(AllocError)
+            }
+        }
+    }
+
+    /// How many entries there are.
+    pub fn len(&self) -> usize
+        ensures count { result ≡ length self.now }
+        ensures different { AreDifferent T.eq self.now }
+    {
+        self.entries.len()
+    }
+
+    /// The entries in the order of their indexes.
+    pub fn iter(&self) -> slice::Iter<'_, &'e T>
+        ensures { pointed_to (iter_rest result) ≡ self.now }
+    {
+        self.entries.iter()
+    }
+}
