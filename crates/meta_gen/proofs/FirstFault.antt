@@ -3,9 +3,9 @@ use Rattle.std.proofs.Common.{◌≡◌, ◌<◌, ◌≤◌, ◌+◌, inl, inr, 
 use Rattle.std.specs.declared.alloc.AllocError.{AllocError}
 use Rattle.std.proofs.lemmas.Option.{slice_get_within}
 use Rattle.std.proofs.lemmas.Bool.{cases_lt}
-use Rattle.meta_types.specs.declared.fault.Place.TheVariants.{Instruction as AtInstruction, Format as AtFormat}
+use Rattle.meta_types.specs.declared.fault.Place.TheVariants.{Instruction as AtInstruction, Format as AtFormat, Group as AtGroup, Entry as AtEntry}
 use Rattle.meta_types.specs.declared.fault.DefinitionError.{DefinitionError}
-use Rattle.meta_types.specs.declared.fault.DefinitionError.TheVariants.{BadName, DuplicateName, TooManyOpcodes, FormatMismatch, NoControl, TooManyOperands, FormatClash, TooManyTypeSets, OutOfMemory}
+use Rattle.meta_types.specs.declared.fault.DefinitionError.TheVariants.{BadName, DuplicateName, TooManyOpcodes, FormatMismatch, NoControl, TooManyOperands, FormatClash, TooManyTypeSets, BadOutput, BadDerivation, BadImmMethod, BadFormat, BadEnum, BadPreset, TooManySettings, OutOfMemory}
 use Rattle.meta_typevar.specs.FourSets.{FourSets}
 use Rattle.meta_inst.specs.Builder.{Builder}
 use Rattle.meta_inst.specs.InstructionSet.{InstructionSet}
@@ -27,6 +27,17 @@ module _ (d : InstructionSet) where
   at_opcodes (TooManyOperands n count) h = let e = h.position in absurd (cc)
   at_opcodes (FormatClash f g) h = let e = h.position in absurd (cc)
   at_opcodes (TooManyTypeSets count) h = let e = h.0 in absurd (cc)
+  at_opcodes (BadName (AtGroup u)) h = absurd h
+  at_opcodes (BadName (AtEntry u v)) h = absurd h
+  at_opcodes (DuplicateName (AtGroup u) w) h = absurd h
+  at_opcodes (DuplicateName (AtEntry u v) w) h = absurd h
+  at_opcodes (BadOutput u v) h = absurd h
+  at_opcodes (BadDerivation u v) h = absurd h
+  at_opcodes (BadImmMethod u) h = absurd h
+  at_opcodes (BadFormat u) h = absurd h
+  at_opcodes (BadEnum u v) h = absurd h
+  at_opcodes (BadPreset u v) h = absurd h
+  at_opcodes (TooManySettings u v w x) h = absurd h
   at_opcodes OutOfMemory h = absurd h
 
   -- what shows of all type sets
@@ -41,6 +52,17 @@ module _ (d : InstructionSet) where
   at_type_sets (NoControl n) h = let e = h.position in absurd (cc)
   at_type_sets (TooManyOperands n count) h = let e = h.position in absurd (cc)
   at_type_sets (FormatClash f g) h = let e = h.position in absurd (cc)
+  at_type_sets (BadName (AtGroup u)) h = absurd h
+  at_type_sets (BadName (AtEntry u v)) h = absurd h
+  at_type_sets (DuplicateName (AtGroup u) w) h = absurd h
+  at_type_sets (DuplicateName (AtEntry u v) w) h = absurd h
+  at_type_sets (BadOutput u v) h = absurd h
+  at_type_sets (BadDerivation u v) h = absurd h
+  at_type_sets (BadImmMethod u) h = absurd h
+  at_type_sets (BadFormat u) h = absurd h
+  at_type_sets (BadEnum u v) h = absurd h
+  at_type_sets (BadPreset u v) h = absurd h
+  at_type_sets (TooManySettings u v w x) h = absurd h
   at_type_sets OutOfMemory h = absurd h
 
   -- what shows at an instruction is of one that there is
@@ -65,6 +87,17 @@ module _ (d : InstructionSet) where
   at_instruction k rule (TooManyOperands n count) h = within n _ k rule _ h
   at_instruction k rule (FormatClash f g) h = absurd (no_format f _ k rule _ h)
   at_instruction k rule (TooManyTypeSets count) h = let e = h.0 in absurd (cc)
+  at_instruction k rule (BadName (AtGroup u)) h = absurd h
+  at_instruction k rule (BadName (AtEntry u v)) h = absurd h
+  at_instruction k rule (DuplicateName (AtGroup u) w) h = absurd h
+  at_instruction k rule (DuplicateName (AtEntry u v) w) h = absurd h
+  at_instruction k rule (BadOutput u v) h = absurd h
+  at_instruction k rule (BadDerivation u v) h = absurd h
+  at_instruction k rule (BadImmMethod u) h = absurd h
+  at_instruction k rule (BadFormat u) h = absurd h
+  at_instruction k rule (BadEnum u v) h = absurd h
+  at_instruction k rule (BadPreset u v) h = absurd h
+  at_instruction k rule (TooManySettings u v w x) h = absurd h
   at_instruction k rule OutOfMemory h = absurd h
 
   -- too many opcodes are the first fault of all

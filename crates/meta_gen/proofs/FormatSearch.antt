@@ -5,9 +5,9 @@ use Rattle.std.specs.List.{slice_get}
 use Rattle.std.proofs.lemmas.Bool.{cases_lt}
 use Rattle.std.proofs.lemmas.Option.{slice_get_within, same_Some}
 use Rattle.meta_types.specs.Name.{IsName}
-use Rattle.meta_types.specs.declared.fault.Place.TheVariants.{Instruction as AtInstruction, Format as AtFormat}
+use Rattle.meta_types.specs.declared.fault.Place.TheVariants.{Instruction as AtInstruction, Format as AtFormat, Group as AtGroup, Entry as AtEntry}
 use Rattle.meta_types.specs.declared.fault.DefinitionError.{DefinitionError}
-use Rattle.meta_types.specs.declared.fault.DefinitionError.TheVariants.{BadName, DuplicateName, TooManyOpcodes, FormatMismatch, NoControl, TooManyOperands, FormatClash, TooManyTypeSets, OutOfMemory}
+use Rattle.meta_types.specs.declared.fault.DefinitionError.TheVariants.{BadName, DuplicateName, TooManyOpcodes, FormatMismatch, NoControl, TooManyOperands, FormatClash, TooManyTypeSets, BadOutput, BadDerivation, BadImmMethod, BadFormat, BadEnum, BadPreset, TooManySettings, OutOfMemory}
 use Rattle.meta_typevar.specs.declared.typevar.TypeVarContent.{TypeVarContent}
 use Rattle.meta_operands.specs.declared.format.InstructionFormat.{InstructionFormat}
 use Rattle.meta_inst.specs.Builder.{Builder}
@@ -47,6 +47,17 @@ shown d (FormatClash f g) k rule s =
     let (same, is) = inside k rule _ _ s.position in
     AClash f g (subst (IsFirstUse d f) (sym same) s.first_use) is (subst (λ (z : ℕ). IsFirstClash d f z g) (sym same) s.shows)
 shown d (TooManyTypeSets count) k rule s = let e : OfFormat k rule ≡ OfTypeSets = s.0 in absurd (cc)
+shown d (BadName (AtGroup u)) k rule s = absurd s
+shown d (BadName (AtEntry u v)) k rule s = absurd s
+shown d (DuplicateName (AtGroup u) w) k rule s = absurd s
+shown d (DuplicateName (AtEntry u v) w) k rule s = absurd s
+shown d (BadOutput u v) k rule s = absurd s
+shown d (BadDerivation u v) k rule s = absurd s
+shown d (BadImmMethod u) k rule s = absurd s
+shown d (BadFormat u) k rule s = absurd s
+shown d (BadEnum u v) k rule s = absurd s
+shown d (BadPreset u v) k rule s = absurd s
+shown d (TooManySettings u v w x) k rule s = absurd s
 shown d OutOfMemory k rule s = absurd s
 
 -- the format f is used before place k

@@ -2,9 +2,9 @@
 use Rattle.std.proofs.Common.{◌≡◌, ◌<◌, ◌+◌, ◌⊎◌, inl, inr, ⊎_elim, ℕ, List, length, refl, sym, ap, ◌∙◌, subst, arith}
 use Rattle.std.proofs.lemmas.Option.{same_Some}
 use Rattle.std.proofs.lemmas.Bool.{cases_lt}
-use Rattle.meta_types.specs.declared.fault.Place.TheVariants.{Instruction as AtInstruction, Format as AtFormat}
+use Rattle.meta_types.specs.declared.fault.Place.TheVariants.{Instruction as AtInstruction, Format as AtFormat, Group as AtGroup, Entry as AtEntry}
 use Rattle.meta_types.specs.declared.fault.DefinitionError.{DefinitionError}
-use Rattle.meta_types.specs.declared.fault.DefinitionError.TheVariants.{BadName, DuplicateName, TooManyOpcodes, FormatMismatch, NoControl, TooManyOperands, FormatClash, TooManyTypeSets, OutOfMemory}
+use Rattle.meta_types.specs.declared.fault.DefinitionError.TheVariants.{BadName, DuplicateName, TooManyOpcodes, FormatMismatch, NoControl, TooManyOperands, FormatClash, TooManyTypeSets, BadOutput, BadDerivation, BadImmMethod, BadFormat, BadEnum, BadPreset, TooManySettings, OutOfMemory}
 use Rattle.meta_inst.specs.Builder.{Builder}
 use Rattle.meta_inst.specs.InstructionSet.{InstructionSet}
 use Rattle.meta_inst.specs.Faults.{IsAt, SharesName, names_of, IsDuplicate, HasBadName, HasFormatMismatch, LacksControl, HasTooManyOperands, IsFirstUse, HasBadFormatName, IsFirstClash, HasTooManyTypeSets, Position, OfOpcodes, OfInstruction, OfFormat, OfTypeSets, Before, IsEarlier, InstructionShows, FormatShows, ShowsAt, IsFirstFault, IsValid}
@@ -137,6 +137,17 @@ module _ (d : InstructionSet) where
       inr (inr (inr (inr (r.0, (b, count, at, many, ap (λ n. TooManyOperands n count) r.1)))))
   at_instruction k rule (FormatClash f g) h = absurd (not_format f _ k rule _ h)
   at_instruction k rule (TooManyTypeSets count) h = let e = h.0 in absurd (cc)
+  at_instruction k rule (BadName (AtGroup u)) h = absurd h
+  at_instruction k rule (BadName (AtEntry u v)) h = absurd h
+  at_instruction k rule (DuplicateName (AtGroup u) w) h = absurd h
+  at_instruction k rule (DuplicateName (AtEntry u v) w) h = absurd h
+  at_instruction k rule (BadOutput u v) h = absurd h
+  at_instruction k rule (BadDerivation u v) h = absurd h
+  at_instruction k rule (BadImmMethod u) h = absurd h
+  at_instruction k rule (BadFormat u) h = absurd h
+  at_instruction k rule (BadEnum u v) h = absurd h
+  at_instruction k rule (BadPreset u v) h = absurd h
+  at_instruction k rule (TooManySettings u v w x) h = absurd h
   at_instruction k rule OutOfMemory h = absurd h
 
   one_at_instruction : (k rule : ℕ) (e f : DefinitionError) → ShownAtInstruction k rule e → ShownAtInstruction k rule f → e ≡ f
@@ -196,6 +207,17 @@ module _ (d : InstructionSet) where
   at_format k rule (TooManyOperands n count) h = absurd (not_instruction n _ k rule _ h)
   at_format k rule (FormatClash f g) h = let r = first_used f 2 k rule (λ k. IsFirstClash d f k g) h in inr (r.0, (f, g, r.1, r.2, refl))
   at_format k rule (TooManyTypeSets count) h = let e = h.0 in absurd (cc)
+  at_format k rule (BadName (AtGroup u)) h = absurd h
+  at_format k rule (BadName (AtEntry u v)) h = absurd h
+  at_format k rule (DuplicateName (AtGroup u) w) h = absurd h
+  at_format k rule (DuplicateName (AtEntry u v) w) h = absurd h
+  at_format k rule (BadOutput u v) h = absurd h
+  at_format k rule (BadDerivation u v) h = absurd h
+  at_format k rule (BadImmMethod u) h = absurd h
+  at_format k rule (BadFormat u) h = absurd h
+  at_format k rule (BadEnum u v) h = absurd h
+  at_format k rule (BadPreset u v) h = absurd h
+  at_format k rule (TooManySettings u v w x) h = absurd h
   at_format k rule OutOfMemory h = absurd h
 
   one_at_format : (k rule : ℕ) (e f : DefinitionError) → ShownAtFormat k rule e → ShownAtFormat k rule f → e ≡ f
@@ -217,6 +239,17 @@ module _ (d : InstructionSet) where
   at_opcodes (TooManyOperands n count) h = let e = h.position in absurd (cc)
   at_opcodes (FormatClash f g) h = let e = h.position in absurd (cc)
   at_opcodes (TooManyTypeSets count) h = let e = h.0 in absurd (cc)
+  at_opcodes (BadName (AtGroup u)) h = absurd h
+  at_opcodes (BadName (AtEntry u v)) h = absurd h
+  at_opcodes (DuplicateName (AtGroup u) w) h = absurd h
+  at_opcodes (DuplicateName (AtEntry u v) w) h = absurd h
+  at_opcodes (BadOutput u v) h = absurd h
+  at_opcodes (BadDerivation u v) h = absurd h
+  at_opcodes (BadImmMethod u) h = absurd h
+  at_opcodes (BadFormat u) h = absurd h
+  at_opcodes (BadEnum u v) h = absurd h
+  at_opcodes (BadPreset u v) h = absurd h
+  at_opcodes (TooManySettings u v w x) h = absurd h
   at_opcodes OutOfMemory h = absurd h
 
   at_type_sets : (e : DefinitionError) → ShowsAt d e OfTypeSets → (count : ℕ) × HasTooManyTypeSets d count × (e ≡ TooManyTypeSets count)
@@ -230,6 +263,17 @@ module _ (d : InstructionSet) where
   at_type_sets (NoControl n) h = let e = h.position in absurd (cc)
   at_type_sets (TooManyOperands n count) h = let e = h.position in absurd (cc)
   at_type_sets (FormatClash f g) h = let e = h.position in absurd (cc)
+  at_type_sets (BadName (AtGroup u)) h = absurd h
+  at_type_sets (BadName (AtEntry u v)) h = absurd h
+  at_type_sets (DuplicateName (AtGroup u) w) h = absurd h
+  at_type_sets (DuplicateName (AtEntry u v) w) h = absurd h
+  at_type_sets (BadOutput u v) h = absurd h
+  at_type_sets (BadDerivation u v) h = absurd h
+  at_type_sets (BadImmMethod u) h = absurd h
+  at_type_sets (BadFormat u) h = absurd h
+  at_type_sets (BadEnum u v) h = absurd h
+  at_type_sets (BadPreset u v) h = absurd h
+  at_type_sets (TooManySettings u v w x) h = absurd h
   at_type_sets OutOfMemory h = absurd h
 
   -- at one position one fault shows

@@ -1,9 +1,9 @@
 -- The rules for one instruction: what shows at it, and which fault is first.
 use Rattle.std.proofs.Common.{◌≡◌, ◌≢◌, ◌+◌, ◌⊎◌, inl, inr, ⊎_elim, ℕ, ◌++◌, length, length-append, slice_get, Option, None, Some, MatchOption, refl, sym, ap, ◌∙◌, subst, arith}
 use Rattle.meta_types.specs.Name.{IsName}
-use Rattle.meta_types.specs.declared.fault.Place.TheVariants.{Instruction as AtInstruction, Format as AtFormat}
+use Rattle.meta_types.specs.declared.fault.Place.TheVariants.{Instruction as AtInstruction, Format as AtFormat, Group as AtGroup, Entry as AtEntry}
 use Rattle.meta_types.specs.declared.fault.DefinitionError.{DefinitionError}
-use Rattle.meta_types.specs.declared.fault.DefinitionError.TheVariants.{BadName, DuplicateName, TooManyOpcodes, FormatMismatch, NoControl, TooManyOperands, FormatClash, TooManyTypeSets, OutOfMemory}
+use Rattle.meta_types.specs.declared.fault.DefinitionError.TheVariants.{BadName, DuplicateName, TooManyOpcodes, FormatMismatch, NoControl, TooManyOperands, FormatClash, TooManyTypeSets, BadOutput, BadDerivation, BadImmMethod, BadFormat, BadEnum, BadPreset, TooManySettings, OutOfMemory}
 use Rattle.meta_typevar.specs.Registry.{sets_of}
 use Rattle.meta_operands.specs.Operand.{variables_of}
 use Rattle.meta_operands.specs.declared.format.InstructionFormat.{InstructionFormat}
@@ -51,6 +51,17 @@ module _ (d : InstructionSet) (k : ℕ) (b : Builder) (at : IsAt d k b) where
   shows rule (TooManyOperands n count) h = let r = here n 5 rule (λ k b. HasTooManyOperands b count) h in inr (inr (inr (inr (r.0, (count, r.1)))))
   shows rule (FormatClash f g) h = absurd (not_format f _ rule _ h)
   shows rule (TooManyTypeSets count) h = let e = h.0 in absurd (cc)
+  shows rule (BadName (AtGroup u)) h = absurd h
+  shows rule (BadName (AtEntry u v)) h = absurd h
+  shows rule (DuplicateName (AtGroup u) w) h = absurd h
+  shows rule (DuplicateName (AtEntry u v) w) h = absurd h
+  shows rule (BadOutput u v) h = absurd h
+  shows rule (BadDerivation u v) h = absurd h
+  shows rule (BadImmMethod u) h = absurd h
+  shows rule (BadFormat u) h = absurd h
+  shows rule (BadEnum u v) h = absurd h
+  shows rule (BadPreset u v) h = absurd h
+  shows rule (TooManySettings u v w x) h = absurd h
   shows rule OutOfMemory h = absurd h
 
   -- nothing shows where no rule shows anything
@@ -128,4 +139,11 @@ module _ (d : InstructionSet) (k : ℕ) (b : Builder) (at : IsAt d k b) where
     operands_told (Some (TooManyOpcodes count)) h = absurd h
     operands_told (Some (FormatClash f g)) h = absurd h
     operands_told (Some (TooManyTypeSets count)) h = absurd h
+    operands_told (Some (BadOutput u v)) h = absurd h
+    operands_told (Some (BadDerivation u v)) h = absurd h
+    operands_told (Some (BadImmMethod u)) h = absurd h
+    operands_told (Some (BadFormat u)) h = absurd h
+    operands_told (Some (BadEnum u v)) h = absurd h
+    operands_told (Some (BadPreset u v)) h = absurd h
+    operands_told (Some (TooManySettings u v w x)) h = absurd h
     operands_told (Some OutOfMemory) h = absurd h

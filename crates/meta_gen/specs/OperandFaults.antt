@@ -1,7 +1,7 @@
 -- The faults of one instruction's value operands, as they are looked for.
 use Rattle.std.specs.Prelude.{◌≡◌, ◌≢◌, ◌<◌, ◌≤◌, ◌-◌, ◌⊎◌, ℕ, List, length}
 use Rattle.meta_types.specs.declared.fault.DefinitionError.{DefinitionError}
-use Rattle.meta_types.specs.declared.fault.DefinitionError.TheVariants.{BadName, DuplicateName, TooManyOpcodes, FormatMismatch, NoControl, TooManyOperands, FormatClash, TooManyTypeSets, OutOfMemory}
+use Rattle.meta_types.specs.declared.fault.DefinitionError.TheVariants.{BadName, DuplicateName, TooManyOpcodes, FormatMismatch, NoControl, TooManyOperands, FormatClash, TooManyTypeSets, BadOutput, BadDerivation, BadImmMethod, BadFormat, BadEnum, BadPreset, TooManySettings, OutOfMemory}
 use Rattle.meta_typevar.specs.Registry.{sets_of}
 use Rattle.meta_typevar.specs.declared.typevar.TypeVarContent.{TypeVarContent}
 use Rattle.meta_operands.specs.declared.format.InstructionFormat.{InstructionFormat}
@@ -49,4 +49,11 @@ IsOperandFault vars format o number (DuplicateName p m) = ⊥
 IsOperandFault vars format o number (TooManyOpcodes count) = ⊥
 IsOperandFault vars format o number (FormatClash f g) = ⊥
 IsOperandFault vars format o number (TooManyTypeSets count) = ⊥
+IsOperandFault vars format o number (BadOutput u v) = ⊥
+IsOperandFault vars format o number (BadDerivation u v) = ⊥
+IsOperandFault vars format o number (BadImmMethod u) = ⊥
+IsOperandFault vars format o number (BadFormat u) = ⊥
+IsOperandFault vars format o number (BadEnum u v) = ⊥
+IsOperandFault vars format o number (BadPreset u v) = ⊥
+IsOperandFault vars format o number (TooManySettings u v w x) = ⊥
 IsOperandFault vars format o number OutOfMemory = ⊥

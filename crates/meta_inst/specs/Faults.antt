@@ -5,9 +5,9 @@
 use Rattle.std.specs.Prelude.{◌≡◌, ◌≢◌, ◌<◌, ◌≤◌, ◌+◌, ◌⊎◌, ℕ, List, [], length, map, slice_get, Option, Some}
 use Rattle.meta_types.specs.CamelCase.{camel_case_of}
 use Rattle.meta_types.specs.Name.{IsName}
-use Rattle.meta_types.specs.declared.fault.Place.TheVariants.{Instruction as AtInstruction, Format as AtFormat}
+use Rattle.meta_types.specs.declared.fault.Place.TheVariants.{Instruction as AtInstruction, Format as AtFormat, Group as AtGroup, Entry as AtEntry}
 use Rattle.meta_types.specs.declared.fault.DefinitionError.{DefinitionError}
-use Rattle.meta_types.specs.declared.fault.DefinitionError.TheVariants.{BadName, DuplicateName, TooManyOpcodes, FormatMismatch, NoControl, TooManyOperands, FormatClash, TooManyTypeSets, OutOfMemory}
+use Rattle.meta_types.specs.declared.fault.DefinitionError.TheVariants.{BadName, DuplicateName, TooManyOpcodes, FormatMismatch, NoControl, TooManyOperands, FormatClash, TooManyTypeSets, BadOutput, BadDerivation, BadImmMethod, BadFormat, BadEnum, BadPreset, TooManySettings, OutOfMemory}
 use Rattle.meta_typevar.specs.FourSets.{FourSets, HasOne}
 use Rattle.meta_typevar.specs.Variable.{Variable, Sets}
 use Rattle.meta_operands.specs.Operand.{variables_of}
@@ -189,7 +189,8 @@ pub record FormatShows (d : InstructionSet) (f rule : ℕ) (p : Position) (P : �
   pub position : p ≡ OfFormat place rule
   pub shows : P place
 
--- the declarations show the fault, with its numbers, at the position
+-- The declarations show the fault, with its numbers, at the position. They have no groups, derived variables or operands other
+-- than values yet, so nothing shows the faults of these.
 abbrev pub ShowsAt : InstructionSet → DefinitionError → Position → Type 0
 ShowsAt d (TooManyOpcodes count) p = (p ≡ OfOpcodes) × (count ≡ length d.instructions) × HasTooManyOpcodes d
 ShowsAt d (BadName (AtInstruction n)) p = InstructionShows d n name_rule p (λ k b. HasBadName b)
@@ -201,6 +202,17 @@ ShowsAt d (NoControl n) p = InstructionShows d n control_rule p (λ k b. LacksCo
 ShowsAt d (TooManyOperands n count) p = InstructionShows d n count_rule p (λ k b. HasTooManyOperands b count)
 ShowsAt d (FormatClash f g) p = FormatShows d f clash_rule p (λ k. IsFirstClash d f k g)
 ShowsAt d (TooManyTypeSets count) p = (p ≡ OfTypeSets) × HasTooManyTypeSets d count
+ShowsAt d (BadName (AtGroup u)) p = ⊥
+ShowsAt d (BadName (AtEntry u v)) p = ⊥
+ShowsAt d (DuplicateName (AtGroup u) w) p = ⊥
+ShowsAt d (DuplicateName (AtEntry u v) w) p = ⊥
+ShowsAt d (BadOutput u v) p = ⊥
+ShowsAt d (BadDerivation u v) p = ⊥
+ShowsAt d (BadImmMethod u) p = ⊥
+ShowsAt d (BadFormat u) p = ⊥
+ShowsAt d (BadEnum u v) p = ⊥
+ShowsAt d (BadPreset u v) p = ⊥
+ShowsAt d (TooManySettings u v w x) p = ⊥
 ShowsAt d OutOfMemory p = ⊥
 
 -- e is the first fault: the declarations show it, and none at an earlier position

@@ -13,7 +13,7 @@ use Rattle.meta_meaning.specs.Tables.{TableContents, at_opcode, Allows}
 use Rattle.meta_meaning.proofs.Numbers.{one_number}
 use Rattle.meta_gen.specs.TablesOf.{AreTablesOf, AcceptsOpcode}
 use Rattle.meta_gen.specs.Contents.{IsFirstNamed}
-use Rattle.meta_query.specs.Question.{Question, IsNamed, IsQuestion}
+use Rattle.meta_query.specs.Question.{Question, IsQuestion}
 use Rattle.meta_query.specs.Answer.{AllowsAsked, AsksOpcode, IsTableReply, AcceptsAsked, AsksInstruction, IsReply, IsAnswered, AreAnswers}
 use Rattle.meta_query.specs.declared.reply.Reply.{Reply}
 use Rattle.meta_query.specs.declared.reply.Reply.TheVariants.{Accept, Refuse, Unknown, Bad}
@@ -68,13 +68,9 @@ module _ (sets : Sets) (i : Instruction) (control : Option Variable) (c : Option
     accepts = h;
   }
 
--- a type that can be named is a type
-named_types : (ts : List Shape) → All IsNamed ts → AreTypes ts
-named_types ts all k t at = (subst IsNamed (get_or_from_slice_get ts k t t at) (all k t (slice_get_within ts k t at))).is_type
-
-named_type : (c : Option Shape) → IfSome c IsNamed → IfSome c IsType
-named_type None h = tt
-named_type (Some t) h = h.is_type
+-- each that stands in a list of types is a type
+named_types : (ts : List Shape) → All IsType ts → AreTypes ts
+named_types ts all k t at = subst IsType (get_or_from_slice_get ts k t t at) (all k t (slice_get_within ts k t at))
 
 module _ (d : InstructionSet) (tables : TableContents) (made : AreTablesOf d tables) (means : (op : ℕ) (c : Option ℕ) (rs vs : List ℕ) → (Allows tables op c rs vs ↔ AcceptsOpcode d op c rs vs)) where
   -- each instruction is an opcode, under its name
@@ -105,7 +101,7 @@ module _ (d : InstructionSet) (tables : TableContents) (made : AreTablesOf d tab
         subst (λ b. AcceptsAsked d b q) same (record {
           control = h.control;
           is_control = h.is_control;
-          accepts = types_from_numbers (root_sets d) (instruction_of d h.builder) h.control q.control q.results q.values (named_type q.control asks.control) (named_types q.results asks.results) (named_types q.values asks.values) h.accepts;
+          accepts = types_from_numbers (root_sets d) (instruction_of d h.builder) h.control q.control q.results q.values asks.control (named_types q.results asks.results) (named_types q.values asks.values) h.accepts;
         })
       where
         builders_same : {x y : Builder} → Some x ≡ Some y → x ≡ y
@@ -120,7 +116,7 @@ module _ (d : InstructionSet) (tables : TableContents) (made : AreTablesOf d tab
           number = number;
           control = h.control;
           is_control = h.is_control;
-          accepts = numbers_from_types (root_sets d) (instruction_of d b) h.control q.control q.results q.values (named_type q.control asks.control) (named_types q.results asks.results) (named_types q.values asks.values) h.accepts;
+          accepts = numbers_from_types (root_sets d) (instruction_of d b) h.control q.control q.results q.values asks.control (named_types q.results asks.results) (named_types q.values asks.values) h.accepts;
         })
 
   -- the reply of the tables is that of the declarations

@@ -5,13 +5,6 @@ use Rattle.std.proofs.lemmas.Bool.{cases_Bool, cond-true, cond-false}
 use Rattle.std.proofs.lemmas.Fmt.{decimal_by_steps, decimal_injective}
 use Rattle.std.proofs.lemmas.List.Elements.{All-nil, All-cons, All-push, All-append, All-same, All-weaker, All-contains, All-from_recursion}
 use Rattle.meta_types.specs.Shape.{Kind, IntKind, FloatKind, Shape, IsType, widths, lane_counts, letter, lane_name, lanes_name, name_of}
-use Rattle.meta_query.specs.Words.{pieces_of}
-use Rattle.meta_query.specs.Question.{IsNamed}
-use Rattle.meta_query.proofs.PieceLemmas.{whole_piece, first_piece}
-
--- a type that has a name is a type
-is_type : (t : Shape) → IsNamed t → IsType t
-is_type t h = h.is_type
 
 -- an ASCII digit
 record IsDigit (b : ℕ) : Type 0 where
@@ -39,9 +32,6 @@ counts_small : (is_dynamic : Bool) → All (λ n. n ≤ 256) (lane_counts is_dyn
 counts_small false = All-from_recursion (λ n. n ≤ 256) (lane_counts false) (search rules)
 counts_small true = All-from_recursion (λ n. n ≤ 256) (lane_counts true) (search rules)
 
-two_lanes : (lanes : ℕ) → Contains (lane_counts true) lanes → 2 ≤ lanes
-two_lanes lanes h = All-contains (λ n. 2 ≤ n) (lane_counts true) lanes (All-from_recursion (λ n. 2 ≤ n) (lane_counts true) (search rules)) h
-
 small_width : (kind : Kind) (width : ℕ) → Contains (widths kind) width → width < 2 ^ 64
 small_width kind width h = let small : width ≤ 128 = All-contains (λ w. w ≤ 128) (widths kind) width (widths_small kind) h in omega arith
 
@@ -59,14 +49,8 @@ letter_is FloatKind byte i f e = f (sym e)
 lane_lacks : (kind : Kind) (width byte : ℕ) → width < 2 ^ 64 → byte ≢ 105 → byte ≢ 102 → (IsDigit byte → ⊥) → All (λ b. b ≢ byte) (lane_name kind width)
 lane_lacks kind width byte h i f other = All-cons (λ b. b ≢ byte) (letter kind) (decimal width) (letter_is kind byte i f) (lacks byte width h other)
 
-not_x : IsDigit 120 → ⊥
-not_x h = let high : 120 ≤ 57 = h.high in omega arith
-
 not_comma : IsDigit 44 → ⊥
 not_comma h = let low : 48 ≤ 44 = h.low in omega arith
-
-not_space : IsDigit 32 → ⊥
-not_space h = let low : 48 ≤ 32 = h.low in omega arith
 
 lanes_one : (lanes : ℕ) (is_dynamic : Bool) → (lanes == 1) ≡ true → lanes_name lanes is_dynamic ≡ []
 lanes_one lanes is_dynamic e = cond-true (lanes == 1) _ _ e
@@ -76,72 +60,6 @@ lanes_fixed lanes e = cond-false (lanes == 1) _ _ e ∙ ap (λ ds. 120 ∷ ds) (
 
 lanes_dynamic : (lanes : ℕ) → (lanes == 1) ≡ false → lanes_name lanes true ≡ 120 ∷ (decimal lanes ++ 120 ∷ 78 ∷ [])
 lanes_dynamic lanes e = cond-false (lanes == 1) _ _ e
-
--- how a name is made: of one lane, of a vector, or of a dynamic vector
-data Form (kind : Kind) (width lanes : ℕ) (is_dynamic : Bool) (pieces : List (List ℕ)) : Type 0 where
-  Scalar : lanes ≡ 1 → is_dynamic ≡ false → pieces ≡ lane_name kind width ∷ [] → Form kind width lanes is_dynamic pieces
-  Vector : is_dynamic ≡ false → pieces ≡ lane_name kind width ∷ decimal lanes ∷ [] → Form kind width lanes is_dynamic pieces
-  Dynamic : is_dynamic ≡ true → pieces ≡ lane_name kind width ∷ decimal lanes ∷ (78 ∷ []) ∷ [] → Form kind width lanes is_dynamic pieces
-
--- the pieces of a name between its `x`
-form : (kind : Kind) (width lanes : ℕ) (is_dynamic : Bool) → width < 2 ^ 64 → lanes < 2 ^ 64 → Contains (lane_counts is_dynamic) lanes
-    → Form kind width lanes is_dynamic (pieces_of 120 (lane_name kind width ++ lanes_name lanes is_dynamic))
-form kind width lanes false w l h =
-    let front = lane_lacks kind width 120 w (omega arith) (omega arith) not_x in
-    elim (cases_Bool (lanes == 1)) [
-      | inl one ↦ Scalar (eqb-true lanes 1 one) refl
-          (ap (λ s. pieces_of 120 (lane_name kind width ++ s)) (lanes_one lanes false one) ∙ ap (pieces_of 120) (append-nil (lane_name kind width)) ∙ whole_piece 120 (lane_name kind width) front)
-      | inr more ↦ Vector refl
-          (ap (λ s. pieces_of 120 (lane_name kind width ++ s)) (lanes_fixed lanes more) ∙ first_piece 120 (lane_name kind width) (decimal lanes) front
-          ∙ ap (λ ps. lane_name kind width ∷ ps) (whole_piece 120 (decimal lanes) (lacks 120 lanes l not_x)))
-    ]
-form kind width lanes true w l h =
-    let front = lane_lacks kind width 120 w (omega arith) (omega arith) not_x in
-    let two = two_lanes lanes h in
-    let more : (lanes == 1) ≡ false = search (rules, tests) in
-    Dynamic refl
-    (ap (λ s. pieces_of 120 (lane_name kind width ++ s)) (lanes_dynamic lanes more) ∙ first_piece 120 (lane_name kind width) (decimal lanes ++ 120 ∷ 78 ∷ []) front
-    ∙ ap (λ ps. lane_name kind width ∷ ps) (first_piece 120 (decimal lanes) (78 ∷ []) (lacks 120 lanes l not_x)))
-
-same_letter : (k j : Kind) → letter k ≡ letter j → k ≡ j
-same_letter IntKind IntKind e = refl
-same_letter IntKind FloatKind e = absurd (omega arith)
-same_letter FloatKind IntKind e = absurd (omega arith)
-same_letter FloatKind FloatKind e = refl
-
--- the lane's name gives the lane
-same_lane : (k j : Kind) (w v : ℕ) → w < 2 ^ 64 → v < 2 ^ 64 → lane_name k w ≡ lane_name j v → (k ≡ j) × (w ≡ v)
-same_lane k j w v a b e =
-    let digits : decimal w ≡ decimal v = cc in
-    let letters : letter k ≡ letter j = cc in
-    (same_letter k j letters, decimal_injective w v a b digits)
-
-same_shape : (t u : Shape) → (t.kind ≡ u.kind) × (t.width ≡ u.width) → t.lanes ≡ u.lanes → t.is_dynamic ≡ u.is_dynamic → t ≡ u
-same_shape t u p l d = λ i. record { kind = p.0 i; width = p.1 i; lanes = l i; is_dynamic = d i }
-
-by_form : (t u : Shape) (pieces : List (List ℕ)) → t.width < 2 ^ 64 → u.width < 2 ^ 64 → t.lanes < 2 ^ 64 → u.lanes < 2 ^ 64
-    → Form t.kind t.width t.lanes t.is_dynamic pieces → Form u.kind u.width u.lanes u.is_dynamic pieces → t ≡ u
-by_form t u pieces a b l m (Scalar n d e) (Scalar o f g) = same_shape t u (same_lane t.kind u.kind t.width u.width a b (cc)) (n ∙ sym o) (d ∙ sym f)
-by_form t u pieces a b l m (Scalar n d e) (Vector f g) = absurd (cc)
-by_form t u pieces a b l m (Scalar n d e) (Dynamic f g) = absurd (cc)
-by_form t u pieces a b l m (Vector d e) (Scalar o f g) = absurd (cc)
-by_form t u pieces a b l m (Vector d e) (Vector f g) = same_shape t u (same_lane t.kind u.kind t.width u.width a b (cc)) (decimal_injective t.lanes u.lanes l m (cc)) (d ∙ sym f)
-by_form t u pieces a b l m (Vector d e) (Dynamic f g) = absurd (cc)
-by_form t u pieces a b l m (Dynamic d e) (Scalar o f g) = absurd (cc)
-by_form t u pieces a b l m (Dynamic d e) (Vector f g) = absurd (cc)
-by_form t u pieces a b l m (Dynamic d e) (Dynamic f g) = same_shape t u (same_lane t.kind u.kind t.width u.width a b (cc)) (decimal_injective t.lanes u.lanes l m (cc)) (d ∙ sym f)
-
-form_of : (t : Shape) → IsType t → Form t.kind t.width t.lanes t.is_dynamic (pieces_of 120 (name_of t))
-form_of t h = form t.kind t.width t.lanes t.is_dynamic (small_width t.kind t.width h.width) (small_count t.is_dynamic t.lanes h.lanes) h.lanes
-
--- types that differ have names that differ
-pub same_name : (t u : Shape) → IsNamed t → IsNamed u → name_of t ≡ name_of u → t ≡ u
-same_name t u h k e =
-    let a = is_type t h in
-    let b = is_type u k in
-    by_form t u (pieces_of 120 (name_of t)) (small_width t.kind t.width a.width) (small_width u.kind u.width b.width)
-    (small_count t.is_dynamic t.lanes a.lanes) (small_count u.is_dynamic u.lanes b.lanes)
-    (form_of t a) (subst (λ name. Form u.kind u.width u.lanes u.is_dynamic (pieces_of 120 name)) (sym e) (form_of u b))
 
 lanes_lack : (lanes byte : ℕ) (is_dynamic : Bool) → lanes < 2 ^ 64 → byte ≢ 120 → byte ≢ 78 → (IsDigit byte → ⊥) → All (λ b. b ≢ byte) (lanes_name lanes is_dynamic)
 lanes_lack lanes byte false l x n other =
@@ -159,12 +77,11 @@ lanes_lack lanes byte true l x n other =
     ]
 
 -- a name has no comma
-pub has_no_comma : (t : Shape) → IsNamed t → All (λ b. b ≢ 44) (name_of t)
+pub has_no_comma : (t : Shape) → IsType t → All (λ b. b ≢ 44) (name_of t)
 has_no_comma t h =
-    let a = is_type t h in
     All-append (λ b. b ≢ 44) (lane_name t.kind t.width) (lanes_name t.lanes t.is_dynamic)
-    (lane_lacks t.kind t.width 44 (small_width t.kind t.width a.width) (omega arith) (omega arith) not_comma)
-    (lanes_lack t.lanes 44 t.is_dynamic (small_count t.is_dynamic t.lanes a.lanes) (omega arith) (omega arith) not_comma)
+    (lane_lacks t.kind t.width 44 (small_width t.kind t.width h.width) (omega arith) (omega arith) not_comma)
+    (lanes_lack t.lanes 44 t.is_dynamic (small_count t.is_dynamic t.lanes h.lanes) (omega arith) (omega arith) not_comma)
 
 -- a name isn't `-`, nor does it begin so
 pub no_dash : (t : Shape) (rest : List ℕ) → codes "-" ≡ name_of t ++ rest → ⊥

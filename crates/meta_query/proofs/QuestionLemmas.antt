@@ -5,17 +5,15 @@ use Rattle.std.proofs.lemmas.List.Elements.{All-nil, All-cons, All-head, All-tai
 use Rattle.std.proofs.lemmas.Bool.{false≢true}
 use Rattle.std.specs.Option.{option_map}
 use Rattle.std.proofs.lemmas.List.Splits.{join_with_byte-slice_split}
-use Rattle.meta_types.specs.Shape.{Kind, IntKind, FloatKind, Shape, widths, scalar, name_of, number_of}
+use Rattle.meta_types.specs.Shape.{Shape, IsType, name_of, number_of}
 use Rattle.meta_types.specs.ValueTypes.{shape_of}
 use Rattle.meta_types.specs.declared.value_type.ValueType.{ValueType}
-use Rattle.meta_types.specs.declared.value_type.ValueType.TheVariants.{Lane}
-use Rattle.meta_types.specs.declared.lane.LaneType.TheVariants.{Int as IntLane, Float as FloatLane}
-use Rattle.meta_types.specs.declared.lane.Int.TheVariants.{I8, I16, I32, I64, I128}
-use Rattle.meta_types.specs.declared.lane.Float.TheVariants.{F16, F32, F64, F128}
 use Rattle.meta_query.specs.Words.{IsWord, AreWords, pieces_of}
-use Rattle.meta_query.specs.Question.{Question, IsNamed, IsQuestion, control_text, types_text, words_of}
+use Rattle.meta_query.specs.Question.{Question, IsQuestion, control_text, types_text, words_of}
 use Rattle.meta_query.proofs.PieceLemmas.{slice_split_cons, All-slice_split, pieces_of-join}
-use Rattle.meta_query.proofs.NameLemmas.{same_name, has_no_comma, no_dash}
+use Rattle.meta_types.proofs.Names.{one_name}
+use Rattle.meta_types.proofs.Typed.{typed}
+use Rattle.meta_query.proofs.NameLemmas.{has_no_comma, no_dash}
 
 -- the words of a line are its pieces between spaces
 pub pieces_of-words : (line word : List ℕ) (words : List (List ℕ)) → AreWords line (word ∷ words) → pieces_of 32 line ≡ word ∷ words
@@ -26,35 +24,35 @@ pieces_of-words line word words h =
 -- ---- lists of types
 
 -- the texts that commas part in a list are the names
-names_parted : (t : Shape) (ts : List Shape) → All IsNamed (t ∷ ts) → pieces_of 44 (types_text (t ∷ ts)) ≡ map name_of (t ∷ ts)
+names_parted : (t : Shape) (ts : List Shape) → All IsType (t ∷ ts) → pieces_of 44 (types_text (t ∷ ts)) ≡ map name_of (t ∷ ts)
 names_parted t ts h =
-    pieces_of-join 44 (name_of t) (map name_of ts) (All-map (λ w. All (λ b. b ≢ 44) w) name_of (t ∷ ts) (All-weaker IsNamed (λ u. All (λ b. b ≢ 44) (name_of u)) has_no_comma (t ∷ ts) h))
+    pieces_of-join 44 (name_of t) (map name_of ts) (All-map (λ w. All (λ b. b ≢ 44) w) name_of (t ∷ ts) (All-weaker IsType (λ u. All (λ b. b ≢ 44) (name_of u)) has_no_comma (t ∷ ts) h))
 
-same_names : (ts us : List Shape) → All IsNamed ts → All IsNamed us → map name_of ts ≡ map name_of us → ts ≡ us
+same_names : (ts us : List Shape) → All IsType ts → All IsType us → map name_of ts ≡ map name_of us → ts ≡ us
 same_names [] [] h k e = refl
 same_names [] (u ∷ us) h k e = absurd (cc)
 same_names (t ∷ ts) [] h k e = absurd (cc)
 same_names (t ∷ ts) (u ∷ us) h k e =
     let first : name_of t ≡ name_of u = cc in
     let others : map name_of ts ≡ map name_of us = cc in
-    ap₂ ◌∷◌ (same_name t u (All-head IsNamed t ts h) (All-head IsNamed u us k) first) (same_names ts us (All-tail IsNamed t ts h) (All-tail IsNamed u us k) others)
+    ap₂ ◌∷◌ (one_name t u (All-head IsType t ts h) (All-head IsType u us k) first) (same_names ts us (All-tail IsType t ts h) (All-tail IsType u us k) others)
 
 -- a list of types begins with the first one's name
 begins : (t : Shape) (ts : List Shape) → codes "-" ≡ types_text (t ∷ ts) → ⊥
 begins t [] e = no_dash t [] (e ∙ sym (append-nil (name_of t)))
 begins t (u ∷ us) e = no_dash t (44 ∷ join_with_byte 44 (map name_of (u ∷ us))) e
 
-same_types : (ts us : List Shape) → All IsNamed ts → All IsNamed us → types_text ts ≡ types_text us → ts ≡ us
+same_types : (ts us : List Shape) → All IsType ts → All IsType us → types_text ts ≡ types_text us → ts ≡ us
 same_types [] [] h k e = refl
 same_types [] (u ∷ us) h k e = absurd (begins u us e)
 same_types (t ∷ ts) [] h k e = absurd (begins t ts (sym e))
 same_types (t ∷ ts) (u ∷ us) h k e = same_names (t ∷ ts) (u ∷ us) h k (sym (names_parted t ts h) ∙ ap (pieces_of 44) e ∙ names_parted u us k)
 
-same_control : (c d : Option Shape) → IfSome c IsNamed → IfSome d IsNamed → control_text c ≡ control_text d → c ≡ d
+same_control : (c d : Option Shape) → IfSome c IsType → IfSome d IsType → control_text c ≡ control_text d → c ≡ d
 same_control None None h k e = refl
 same_control None (Some u) h k e = absurd (no_dash u [] (e ∙ sym (append-nil (name_of u))))
 same_control (Some t) None h k e = absurd (no_dash t [] (sym e ∙ sym (append-nil (name_of t))))
-same_control (Some t) (Some u) h k e = ap Some (same_name t u h k e)
+same_control (Some t) (Some u) h k e = ap Some (one_name t u h k e)
 
 -- a line asks one question at most
 pub one_question : (line : List ℕ) (q p : Question) → IsQuestion line q → IsQuestion line p → q ≡ p
@@ -71,34 +69,19 @@ one_question line q p h k =
 
 -- ---- from words to types
 
-lane_named : (kind : Kind) (width : ℕ) → Contains (widths kind) width → IsNamed (scalar kind width)
-lane_named kind width h = record { is_type = record { width = h; lanes = (0, omega arith, refl) }; one_lane = refl }
-
--- every type of the program has a name
-is_named : (t : ValueType) → IsNamed (shape_of t)
-is_named (Lane (IntLane I8)) = lane_named IntKind 8 (0, omega arith, refl)
-is_named (Lane (IntLane I16)) = lane_named IntKind 16 (1, omega arith, refl)
-is_named (Lane (IntLane I32)) = lane_named IntKind 32 (2, omega arith, refl)
-is_named (Lane (IntLane I64)) = lane_named IntKind 64 (3, omega arith, refl)
-is_named (Lane (IntLane I128)) = lane_named IntKind 128 (4, omega arith, refl)
-is_named (Lane (FloatLane F16)) = lane_named FloatKind 16 (0, omega arith, refl)
-is_named (Lane (FloatLane F32)) = lane_named FloatKind 32 (1, omega arith, refl)
-is_named (Lane (FloatLane F64)) = lane_named FloatKind 64 (2, omega arith, refl)
-is_named (Lane (FloatLane F128)) = lane_named FloatKind 128 (3, omega arith, refl)
-
-pub all_named : (ts : List ValueType) → All IsNamed (map shape_of ts)
-all_named [] = All-nil IsNamed
-all_named (t ∷ ts) = All-cons IsNamed (shape_of t) (map shape_of ts) (is_named t) (all_named ts)
+pub all_named : (ts : List ValueType) → All IsType (map shape_of ts)
+all_named [] = All-nil IsType
+all_named (t ∷ ts) = All-cons IsType (shape_of t) (map shape_of ts) (typed t) (all_named ts)
 
 -- names that stand in a list are those of types
-refused_names : (xs ts : List Shape) (name : List ℕ) (rest : List (List ℕ)) → All IsNamed ts → map name_of xs ++ name ∷ rest ≡ map name_of ts → ((u : Shape) → IsNamed u → name_of u ≢ name) → ⊥
+refused_names : (xs ts : List Shape) (name : List ℕ) (rest : List (List ℕ)) → All IsType ts → map name_of xs ++ name ∷ rest ≡ map name_of ts → ((u : Shape) → IsType u → name_of u ≢ name) → ⊥
 refused_names [] [] name rest h e none = absurd (cc)
-refused_names [] (t ∷ ts) name rest h e none = none t (All-head IsNamed t ts h) (cc)
+refused_names [] (t ∷ ts) name rest h e none = none t (All-head IsType t ts h) (cc)
 refused_names (x ∷ xs) [] name rest h e none = absurd (cc)
-refused_names (x ∷ xs) (t ∷ ts) name rest h e none = refused_names xs ts name rest (All-tail IsNamed t ts h) (cc) none
+refused_names (x ∷ xs) (t ∷ ts) name rest h e none = refused_names xs ts name rest (All-tail IsType t ts h) (cc) none
 
 -- a word with a piece that names no type lists no types
-pub refused : (xs ts : List Shape) (name word : List ℕ) (left rest : List (List ℕ)) → word ≢ codes "-" → map name_of xs ++ left ≡ pieces_of 44 word → left ≡ name ∷ rest → ((u : Shape) → IsNamed u → name_of u ≢ name) → All IsNamed ts → types_text ts ≢ word
+pub refused : (xs ts : List Shape) (name word : List ℕ) (left rest : List (List ℕ)) → word ≢ codes "-" → map name_of xs ++ left ≡ pieces_of 44 word → left ≡ name ∷ rest → ((u : Shape) → IsType u → name_of u ≢ name) → All IsType ts → types_text ts ≢ word
 refused xs [] name word left rest dash h l none named e = dash (sym e)
 refused xs (t ∷ ts) name word left rest dash h l none named e =
     refused_names xs (t ∷ ts) name rest named (ap (λ ns. map name_of xs ++ ns) (sym l) ∙ h ∙ ap (pieces_of 44) (sym e) ∙ names_parted t ts named) none
@@ -137,13 +120,13 @@ module _ (line name control results values : List ℕ) (pieces : pieces_of 32 li
   same_words : words_of q ≡ codes "accept" ∷ name ∷ control ∷ results ∷ values ∷ []
   same_words = sym (pieces_of-words line _ _ h.words) ∙ pieces
 
-  pub no_control : ((c : Option Shape) → IfSome c IsNamed → control_text c ≢ control) → ⊥
+  pub no_control : ((c : Option Shape) → IfSome c IsType → control_text c ≢ control) → ⊥
   no_control none = let e = same_words in none q.control h.control (cc)
 
-  pub no_results : ((ts : List Shape) → All IsNamed ts → types_text ts ≢ results) → ⊥
+  pub no_results : ((ts : List Shape) → All IsType ts → types_text ts ≢ results) → ⊥
   no_results none = let e = same_words in none q.results h.results (cc)
 
-  pub no_values : ((ts : List Shape) → All IsNamed ts → types_text ts ≢ values) → ⊥
+  pub no_values : ((ts : List Shape) → All IsType ts → types_text ts ≢ values) → ⊥
   no_values none = let e = same_words in none q.values h.values (cc)
 
 control_has_bytes : (c : Option Shape) → 0 < length (control_text c)
@@ -155,9 +138,9 @@ types_have_bytes [] = omega arith
 types_have_bytes (t ∷ []) = omega arith
 types_have_bytes (t ∷ u ∷ ts) = omega arith
 
-control_named : (c : Option ValueType) → IfSome (option_map shape_of c) IsNamed
+control_named : (c : Option ValueType) → IfSome (option_map shape_of c) IsType
 control_named None = tt
-control_named (Some t) = is_named t
+control_named (Some t) = typed t
 
 -- the line whose pieces are the words of q asks q
 pub asks : (line name control results values : List ℕ) (c : Option ValueType) (rs vs : List ValueType) → pieces_of 32 line ≡ codes "accept" ∷ name ∷ control ∷ results ∷ values ∷ [] → 0 < length name

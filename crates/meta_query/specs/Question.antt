@@ -1,12 +1,8 @@
 -- The line that asks whether an instruction accepts types.
 use Rattle.std.specs.Prelude.{ℕ, List, [], ◌∷◌, map, All, Option, Some, None, IfSome, codes}
 use Rattle.std.specs.List.{join_with_byte}
-use Rattle.meta_types.specs.Shape.{Shape, IsLane, name_of}
+use Rattle.meta_types.specs.Shape.{Shape, IsType, name_of}
 use Rattle.meta_query.specs.Words.{AreWords}
-
--- a type that a query can name
-abbrev pub IsNamed : Shape → Type 0
-IsNamed t = IsLane t
 
 -- whether the instruction of this name accepts these types: of its control, of its results and of its value operands
 pub record Question : Type 0 where
@@ -32,6 +28,6 @@ words_of q = codes "accept" ∷ q.name ∷ control_text q.control ∷ types_text
 -- the line asks q: it is the words of q, and each type of q can be named
 pub record IsQuestion (line : List ℕ) (q : Question) : Type 0 where
   pub words : AreWords line (words_of q)
-  pub control : IfSome q.control IsNamed
-  pub results : All IsNamed q.results
-  pub values : All IsNamed q.values
+  pub control : IfSome q.control IsType
+  pub results : All IsType q.results
+  pub values : All IsType q.values

@@ -1,9 +1,9 @@
 ghost use Rattle.std.specs.Prelude.{◌≡◌, ◌≢◌, ℕ, ◌<◌, List, [], ◌∷◌, length, map, All, Option, IfOk, IfSome, IfNone, codes};
 ghost use Rattle.std.specs.Option.{option_map};
-ghost use Rattle.meta_types.specs.Shape.{Shape, number_of};
+ghost use Rattle.meta_types.specs.Shape.{Shape, IsType, number_of};
 ghost use Rattle.meta_types.specs.ValueTypes.{shape_of};
 ghost use Rattle.meta_query.specs.Words.{pieces_of};
-ghost use Rattle.meta_query.specs.Question.{Question, IsNamed, IsQuestion, control_text, types_text};
+ghost use Rattle.meta_query.specs.Question.{Question, IsQuestion, control_text, types_text};
 
 use super::pieces::Pieces;
 use meta_types::ValueType;
@@ -53,7 +53,7 @@ fn accept_words(line: &[u8]) -> Option<AcceptWords<'_>>
 /// The control that the word means, and `None` where it means none.
 fn parse_control(word: &[u8]) -> Option<Option<ValueType>>
     ensures found { IfSome result (λ c. control_text (option_map shape_of c) ≡ word.now) }
-    ensures none { IfNone result ((c : Option Shape) → IfSome c IsNamed → control_text c ≢ word.now) }
+    ensures none { IfNone result ((c : Option Shape) → IfSome c IsType → control_text c ≢ word.now) }
 {
     if word == b"-".as_slice() {
         return Some(None);
@@ -65,7 +65,7 @@ fn parse_control(word: &[u8]) -> Option<Option<ValueType>>
 /// The types that the word lists, and `None` where it is no list of types.
 fn parse_types(alloc: Global, word: &[u8]) -> Result<Option<Vec<ValueType>>, AllocError>
     ensures found { IfOk result (λ o. IfSome o (λ v. types_text (map shape_of v.items) ≡ word.now)) }
-    ensures none { IfOk result (λ o. IfNone o ((ts : List Shape) → All IsNamed ts → types_text ts ≢ word.now)) }
+    ensures none { IfOk result (λ o. IfNone o ((ts : List Shape) → All IsType ts → types_text ts ≢ word.now)) }
 {
     let mut types = Vec::new(alloc);
     if word == b"-".as_slice() {

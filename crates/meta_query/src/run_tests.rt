@@ -230,6 +230,15 @@ fn answers_lines(rt: HostRuntime) -> Result<(), Fail> {
             b"accept iadd f32 f32 f32,f32".as_slice(),
             b"refuse\n".as_slice(),
         ),
+        (
+            b"accept iadd i32x4 i32x4 i32x4,i32x4".as_slice(),
+            b"refuse\n".as_slice(),
+        ),
+        (
+            b"accept iadd i8x2xN i8x2xN i8x2xN,i8x2xN".as_slice(),
+            b"refuse\n".as_slice(),
+        ),
+        (b"accept iadd i32x1 - -".as_slice(), b"bad\n".as_slice()),
         (b"accept iadd i32 - -".as_slice(), b"refuse\n".as_slice()),
         (b"accept iadd - - -".as_slice(), b"refuse\n".as_slice()),
         (

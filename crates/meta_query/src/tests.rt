@@ -140,6 +140,13 @@ fn reads_questions(rt: HostRuntime) -> Result<(), Fail> {
             [0x74, 0x75, 0x76, 0x77, 0x78, 0x79, 0x7a, 0x7b, 0x7c].as_slice(),
             [0x79, 0x74].as_slice(),
         ),
+        (
+            b"accept v i32x4 i32x4xN,i8x256 f16x2".as_slice(),
+            b"v".as_slice(),
+            Some(0x96),
+            [0x116, 0xf4].as_slice(),
+            [0x89].as_slice(),
+        ),
     ];
     for (line, name, control, results, values) in rows {
         let question = Question::parse(rt.alloc(), line)?.ok_or("no question")?;
@@ -190,6 +197,9 @@ fn refuses_other_lines(rt: HostRuntime) -> Result<(), Fail> {
         b"accept iadd I32 i32 i32".as_slice(),
         b"accept iadd i i32 i32".as_slice(),
         b"accept iadd i032 i32 i32".as_slice(),
+        b"accept iadd i32x1 i32 i32".as_slice(),
+        b"accept iadd i32 i32x3 i32".as_slice(),
+        b"accept iadd i32 i32 i32x4xn".as_slice(),
         b"accept iadd i32\0 i32 i32".as_slice(),
         b"accept iadd i32 \xff i32".as_slice(),
         b"accept iadd i32 i32 \xc3\xa9".as_slice(),

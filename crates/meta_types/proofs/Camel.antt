@@ -1,5 +1,5 @@
 -- The camel case of a text, character by character.
-use Rattle.std.proofs.Common.{◌≡◌, ℕ, ◌+◌, ◌/◌, ◌<◌, ◌≤◌, ◌≢◌, Bool, true, false, cond, ltb, List, [], ◌∷◌, ◌++◌, ap, ◌∙◌, sym, refl, arith, lit<, ⊎_elim, append_assoc}
+use Rattle.std.proofs.Common.{◌≡◌, ℕ, ◌+◌, ◌/◌, ◌<◌, ◌≤◌, ◌≢◌, Bool, true, false, cond, ltb, List, [], ◌∷◌, ◌++◌, ap, ◌∙◌, sym, refl, arith, ⊎_elim, append_assoc}
 use Rattle.std.proofs.lemmas.Str.{encode_ascii}
 use Rattle.std.proofs.lemmas.Bool.Decides.{nat_tests}
 use Rattle.std.proofs.lemmas.Bool.{cases_lt}
@@ -45,10 +45,6 @@ capital_high : (up : Bool) (c : ℕ) → 128 ≤ c → capital_at up c ≡ c
 capital_high true c h = grind (arith, nat_tests)
 capital_high false c h = refl
 
--- `_` is dropped
-pub camel_from-underscore : (c : ℕ) (up : Bool) (rest : List ℕ) → c ≡ 95 → camel_from up (encode c ++ rest) ≡ camel_from true rest
-camel_from-underscore c up rest h = rw (h, encode_ascii 95 (lit< tt)) refl
-
 -- any other character stays, or becomes a capital
 pub camel_from-char : (c : ℕ) (up : Bool) (rest : List ℕ) → c ≢ 95 → camel_from up (encode c ++ rest) ≡ encode (capital_at up c) ++ camel_from false rest
 camel_from-char c up rest h = ⊎_elim (ascii c up rest h) (past c up rest) (cases_lt c 128)
@@ -67,8 +63,3 @@ camel_from-char c up rest h = ⊎_elim (ascii c up rest h) (past c up rest) (cas
 pub camel_more : (out more it rest all : List ℕ) (up : Bool) (c ch : ℕ) → more ≡ out ++ encode ch → ch ≡ capital_at up c → it ≡ encode c ++ rest → c ≢ 95 → out ++ camel_from up it ≡ all → more ++ camel_from false rest ≡ all
 camel_more out more it rest all up c ch pushed is next n before =
     rw (pushed, is, append_assoc) (ap (λ z. out ++ z) (sym (camel_from-char c up rest n) ∙ ap (camel_from up) (sym next)) ∙ before)
-
--- a `_` is dropped
-pub camel_past_underscore : (out it rest all : List ℕ) (up : Bool) (c : ℕ) → it ≡ encode c ++ rest → c ≡ 95 → out ++ camel_from up it ≡ all → out ++ camel_from true rest ≡ all
-camel_past_underscore out it rest all up c next e before =
-    ap (λ z. out ++ z) (sym (camel_from-underscore c up rest e) ∙ ap (camel_from up) (sym next)) ∙ before

@@ -1,4 +1,17 @@
 mod Decimal
 pub mod Among
-pub mod Lanes
+pub mod AllTypes
+pub mod Numbers
+pub mod Names
+pub mod Typed
+pub mod Values
+pub mod OneAnswer
+mod Relating
+mod ByNumber
+mod Listed
+mod Affixes
+mod Left
+mod Lanes
+mod Endings
+mod Docs
 mod Camel

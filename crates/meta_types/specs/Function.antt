@@ -1,6 +1,6 @@
 -- Derived functions: what leads from the type of a variable to the type of one that is derived from it.
-use Rattle.std.specs.Prelude.{◌*◌, ◌==◌, ◌&&◌, ◌||◌, not, nat_lt, Bool, true, false, IsTrue}
-use Rattle.meta_types.specs.Shape.{Kind, IntKind, FloatKind, Shape, IsType}
+use Rattle.std.specs.Prelude.{◌≡◌, ◌≢◌, ℕ, ◌*◌, ◌==◌, ◌&&◌, ◌||◌, not, nat_lt, Bool, true, false, IsTrue}
+use Rattle.meta_types.specs.Shape.{Kind, IntKind, FloatKind, Shape, IsType, number_of}
 
 -- seven functions, which answer one type at most, and two relations, Narrower and Wider
 pub data Function : Type 0 where
@@ -52,3 +52,25 @@ pub record Steps (f : Function) (u t : Shape) : Type 0 where
   pub from : IsType u
   pub to : IsType t
   pub relates : IsTrue (relates f u t)
+
+-- f is one of the seven functions, and no relation
+abbrev pub IsFunction : Function → Type 0
+IsFunction f = (f ≢ Narrower) × (f ≢ Wider)
+
+-- t is the answer of f at the type u: f is a function, and leads from u to t
+pub record Answers (f : Function) (u t : Shape) : Type 0 where
+  pub is_function : IsFunction f
+  pub steps : Steps f u t
+
+-- f leads from a type of number c to a type of number m
+pub record StepsNumbers (f : Function) (c m : ℕ) : Type 0 where
+  pub from : Shape
+  pub to : Shape
+  pub steps : Steps f from to
+  pub number_from : number_of from ≡ c
+  pub number_to : number_of to ≡ m
+
+-- m is the number of the answer of f at the type of number c
+pub record AnswersNumber (f : Function) (c m : ℕ) : Type 0 where
+  pub is_function : IsFunction f
+  pub steps : StepsNumbers f c m

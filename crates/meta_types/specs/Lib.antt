@@ -1,7 +1,13 @@
 pub mod Shape
 pub mod Function
 pub mod Lane
+pub mod LaneTypes
+pub mod Vector
 pub mod ValueTypes
+pub mod AllTypes
+pub mod TypeText
 pub mod CamelCase
 pub mod Name
 pub mod Fault
+pub mod DerivedFunc
+pub mod Parts

@@ -1,9 +1,9 @@
 -- Value types, as contracts see them.
 --     Shape                  a kind, a width in bits, a count of lanes and a dynamic mark
 --     IsType t               t is one of the 153 value types
---     IsLane t               t is one of the nine lane types
 --     number_of t, name_of t      the number and the name of a type
-use Rattle.std.specs.Prelude.{◌≡◌, ℕ, ◌+◌, ◌*◌, ◌==◌, Bool, true, false, List, [], ◌∷◌, ◌++◌, if◌then◌else◌, Contains}
+--     known_lanes t, bits_of t, bytes_of t      how many lanes are known to be there, and how much room these take
+use Rattle.std.specs.Prelude.{ℕ, ◌+◌, ◌*◌, ◌/◌, ◌==◌, Bool, true, false, List, [], ◌∷◌, ◌++◌, if◌then◌else◌, Contains}
 use Rattle.std.specs.Fmt.{decimal}
 
 pub data Kind : Type 0 where
@@ -31,11 +31,6 @@ lane_counts true = 2 ∷ 4 ∷ 8 ∷ 16 ∷ 32 ∷ 64 ∷ 128 ∷ 256 ∷ []
 pub record IsType (t : Shape) : Type 0 where
   pub width : Contains (widths t.kind) t.width
   pub lanes : Contains (lane_counts t.is_dynamic) t.lanes
-
--- t is one of the nine lane types, the types of one lane
-pub record IsLane (t : Shape) : Type 0 where
-  pub is_type : IsType t
-  pub one_lane : t.lanes ≡ 1
 
 -- the type of one lane of this kind and width
 abbrev pub scalar : Kind → ℕ → Shape
@@ -80,3 +75,14 @@ lanes_name lanes is_dynamic =
 -- the name of a type: `i32`, `i32x4`, `i32x4xN`
 abbrev pub name_of : Shape → List ℕ
 name_of t = lane_name t.kind t.width ++ lanes_name t.lanes t.is_dynamic
+
+-- how many lanes are known to be there: of a dynamic vector, whose lanes grow with the machine, one
+abbrev pub known_lanes : Shape → ℕ
+known_lanes t = if t.is_dynamic then 1 else t.lanes
+
+-- the bits, and the bytes in memory, of the lanes that are known to be there
+abbrev pub bits_of : Shape → ℕ
+bits_of t = known_lanes t * t.width
+
+abbrev pub bytes_of : Shape → ℕ
+bytes_of t = bits_of t / 8

@@ -1,7 +1,15 @@
-ghost use Rattle.std.specs.Prelude.{◌≡◌, ◌↔◌, ◌+◌, IsTrue, Contains};
-ghost use Rattle.meta_types.specs.Shape.{IntKind, FloatKind, widths, scalar, number_of, name_of};
+ghost use Rattle.std.specs.Prelude.{◌≡◌, ◌≢◌, ◌↔◌, ◌⊎◌, ℕ, IsTrue, IfOk, IfSome, IfNone, Contains, true};
+ghost use Rattle.meta_types.specs.Shape.{Kind, IntKind, FloatKind, widths, lane_counts, scalar, lane_code, number_of, name_of};
 ghost use Rattle.meta_types.specs.Lane.{lane_shape};
+ghost use Rattle.meta_types.specs.Vector.{lanes_of, least_lanes_of};
+ghost use Rattle.meta_types.specs.ValueTypes.{shape_of};
+ghost use Rattle.meta_types.specs.TypeText.{doc_of};
 
+use super::lane_iter::LaneTypeIterator;
+use super::text::Text;
+use super::value_type::ValueType;
+use super::vector::{DynamicVectorType, VectorType};
+use std::alloc::{AllocError, Global};
 use std::fmt;
 
 /// An integer lane, by its width.
@@ -35,13 +43,15 @@ pub enum Float {
 /// A type that can stand alone or as a lane of a vector (`cdsl/types.rs`).
 #[derive(Clone, Copy, PartialEq, Eq, Hash)]
 pub enum LaneType {
+    /// An integer.
     Int(Int),
+    /// A floating-point number.
     Float(Float),
 }
 
 /// The number from which the numbers of types count. It is this project's own profile of the numbers that a consumer of
 /// the tables reads.
-const LANE_BASE: u16 = 0x70;
+pub(crate) const LANE_BASE: u16 = 0x70;
 
 /// Whether an integer lane may be this wide: 8, 16, 32, 64 or 128 bits.
 pub fn is_int_width(num_bits: u16) -> bool
@@ -81,7 +91,7 @@ impl LaneType {
 
     /// The code of a lane, 4 to 12.
     fn code(self) -> u16
-        ensures { 0x70 + result ≡ number_of (lane_shape self) }
+        ensures { result ≡ lane_code (lane_shape self).kind (lane_shape self).width }
     {
         match self {
             LaneType::Int(Int::I8) => 4,
@@ -94,6 +104,19 @@ impl LaneType {
             LaneType::Float(Float::F64) => 11,
             LaneType::Float(Float::F128) => 12,
         }
+    }
+
+    /// The lane of this code, and `None` exactly where no lane has it.
+    pub(crate) fn from_code(code: u16) -> Option<LaneType>
+        ensures found { IfSome result (λ l. lane_code (lane_shape l).kind (lane_shape l).width ≡ code) }
+        ensures none { IfNone result ((kind : Kind) (width : ℕ) → Contains (widths kind) width → lane_code kind width ≢ code) }
+    {
+        for lane in LaneTypeIterator::new() {
+            if lane.code() == code {
+                return Some(lane);
+            }
+        }
+        None
     }
 
     /// The integer lane of this width, which `is_int_width` tells.
@@ -121,6 +144,39 @@ impl LaneType {
             64 => Float::F64,
             _ => Float::F128,
         })
+    }
+
+    /// The type of so many lanes of this type: the lane itself for one, else a vector. `is_lane_count` tells whether a
+    /// vector may have so many.
+    pub fn by(self, lanes: u16) -> ValueType
+        requires { (lanes ≡ 1) ⊎ Contains (lane_counts true) lanes }
+        ensures { shape_of result ≡ lanes_of (lane_shape self) lanes }
+    {
+        if lanes == 1 {
+            ValueType::Lane(self)
+        } else {
+            ValueType::Vector(VectorType::new(self, lanes.into()))
+        }
+    }
+
+    /// The dynamic vector of at least so many lanes of this type; `is_lane_count` tells whether there may be so many.
+    pub fn to_dynamic(self, lanes: u16) -> ValueType
+        requires { Contains (lane_counts true) lanes }
+        ensures { shape_of result ≡ least_lanes_of (lane_shape self) lanes }
+    {
+        ValueType::DynamicVector(DynamicVectorType::new(self, lanes.into()))
+    }
+
+    /// What the type is, in one line: `An integer type with 32 bits.`
+    pub fn doc(self, alloc: Global) -> Result<Text, AllocError>
+        ensures { IfOk result (λ t. t ≡ doc_of (lane_shape self)) }
+    {
+        let bits = self.lane_bits();
+        let doc = match self {
+            LaneType::Int(_) => format!(in alloc; "An integer type with {bits} bits.")?,
+            LaneType::Float(_) => format!(in alloc; "A {bits}-bit floating point type.")?,
+        };
+        Text::new(alloc, doc.as_str())
     }
 
     /// The name, as `i32`.
@@ -177,6 +233,12 @@ impl fmt::Display for LaneType {
 }
 
 impl fmt::Debug for LaneType {
+    ghost use Rattle.std.specs.Prelude.{Some};
+    ghost use Rattle.meta_types.specs.Lane.{lane_shape};
+    ghost use Rattle.meta_types.specs.TypeText.{debug_of};
+
+    ghost debug_output = { λ l. Some (debug_of (lane_shape l)) };
+
     fn fmt<W: fmt::Write>(&self, f: &mut fmt::Formatter<W>) -> fmt::Result {
         let bits = self.lane_bits();
         match self {

@@ -3,14 +3,28 @@
 //! A contract sees a value type as a `Shape` of `specs/`: a kind, a width, a count of lanes and a dynamic mark.
 #![tactic(auto)]
 
+mod derived_func;
 mod fault;
 mod lane;
+mod lane_count;
+mod lane_iter;
+mod laws;
 mod name;
+#[cfg(test)]
+mod tests;
 mod text;
+#[cfg(test)]
+mod type_rows;
 mod value_type;
+mod vector;
 
+pub use derived_func::{DerivedFunc, answers_are_one};
 pub use fault::{DefinitionError, Place};
 pub use lane::{Float, Int, LaneType, is_float_width, is_int_width};
+pub use lane_count::is_lane_count;
+pub use lane_iter::{FloatIterator, IntIterator, LaneTypeIterator};
+pub use laws::{each_type_is_one_value, names_differ, numbers_differ, there_are_153_types};
 pub use name::{camel_case, is_name};
 pub use text::Text;
 pub use value_type::ValueType;
+pub use vector::{DynamicVectorType, VectorType};

@@ -1,12 +1,14 @@
 ghost use Rattle.std.specs.Prelude.{◌≡◌, ◌==◌, IfOk};
 ghost use Rattle.std.proofs.Common.{rules};
 ghost use Rattle.std.specs.Cmp.{partial_order_from_own_ties};
-ghost use Rattle.std.specs.Cmp.Rules.{comparing};
+ghost use Rattle.std.specs.Cmp.Rules.{comparing, hashing};
 ghost use Rattle.std.specs.Cmp.Lexicographic.{slice_cmp, pointwise};
 ghost use Rattle.std.specs.Ordering.{nat_cmp, as_partial_cmp};
+ghost use Rattle.std.specs.Hash as fed;
 
 use std::alloc::{AllocError, Global};
 use std::cmp::Ordering;
+use std::hash::{Hash, Hasher};
 use std::marker::Model;
 
 /// An owned text. A contract sees its bytes (this project's own).
@@ -94,10 +96,41 @@ impl Ord for Text {
     }
 }
 
+/// By its bytes, as a `str`: equal texts hash equally.
+impl Hash for Text {
+    ghost hash_input = { λ t. fed.str t };
+
+    ghost respects_eq = { Prim.search (hashing, rules) };
+
+    fn hash<H: Hasher>(&self, state: &mut H) {
+        self.inner.hash(state);
+    }
+}
+
 #[cfg(test)]
 mod tests {
     use super::*;
+    use std::hash::DefaultHasher;
     use std::test::Fail;
+
+    fn hash_of<T: Hash>(value: &T) -> u64 {
+        let mut state = DefaultHasher::new();
+        value.hash(&mut state);
+        state.finish()
+    }
+
+    #[test]
+    fn hashes_by_bytes(rt: HostRuntime) -> Result<(), Fail> {
+        let alloc = rt.alloc();
+        let text = Text::new(alloc, "iadd")?;
+        let same = hash_of(&text) == hash_of(&text.copy(alloc)?);
+        assert!(rt; same, "equal texts hash equally");
+        let as_str = hash_of(&text) == hash_of(&"iadd");
+        assert!(rt; as_str, "a text hashes as its str");
+        let other = hash_of(&text) != hash_of(&Text::new(alloc, "isub")?);
+        assert!(rt; other);
+        Ok(())
+    }
 
     #[test]
     fn compares_by_bytes(rt: HostRuntime) -> Result<(), Fail> {

@@ -1,64 +1,156 @@
-ghost use Rattle.std.specs.Prelude.{◌≡◌, ◌≢◌, IfSome, IfNone};
-ghost use Rattle.meta_types.specs.Shape.{Shape, IsLane, number_of, name_of};
+ghost use Rattle.std.specs.Prelude.{◌≡◌, ◌≢◌, IfOk, IfSome, IfNone};
+ghost use Rattle.meta_types.specs.Shape.{Shape, IsType, known_lanes, bits_of, bytes_of, number_of, name_of};
+ghost use Rattle.meta_types.specs.Lane.{lane_shape};
+ghost use Rattle.meta_types.specs.LaneTypes.{lane_types, lane_types_left};
 ghost use Rattle.meta_types.specs.ValueTypes.{shape_of};
+ghost use Rattle.meta_types.specs.TypeText.{doc_of, rust_name_of};
 
-use super::lane::{Float, Int, LaneType};
+use super::lane::{LANE_BASE, LaneType};
+use super::lane_count::LaneCount;
+use super::lane_iter::LaneTypeIterator;
+use super::text::Text;
+use super::vector::{DynamicVectorType, VectorType};
+use std::alloc::{AllocError, Global};
 use std::fmt;
-
-/// The nine lane types, integers first and each kind in rising width.
-const LANES: [LaneType; 9] = [
-    LaneType::Int(Int::I8),
-    LaneType::Int(Int::I16),
-    LaneType::Int(Int::I32),
-    LaneType::Int(Int::I64),
-    LaneType::Int(Int::I128),
-    LaneType::Float(Float::F16),
-    LaneType::Float(Float::F32),
-    LaneType::Float(Float::F64),
-    LaneType::Float(Float::F128),
-];
 
 /// The type of a value (`cdsl/types.rs`).
 #[derive(Clone, Copy, Debug, PartialEq, Eq, Hash)]
 pub enum ValueType {
     /// A scalar.
     Lane(LaneType),
+    /// A vector of 2 to 256 lanes.
+    Vector(VectorType),
+    /// A vector of at least 2 to 256 lanes.
+    DynamicVector(DynamicVectorType),
 }
 
 impl ValueType {
-    /// The number of the type, by which tables name it (this project's own).
+    /// The nine lane types, integers first and each kind in rising width.
+    pub fn all_lane_types() -> LaneTypeIterator
+        ensures { lane_types_left result ≡ lane_types }
+    {
+        LaneTypeIterator::new()
+    }
+
+    /// The width of a lane in bits, 8 to 128.
+    pub fn lane_bits(&self) -> u64
+        ensures { result ≡ (shape_of self.now).width }
+    {
+        match self {
+            ValueType::Lane(lane) => lane.lane_bits(),
+            ValueType::Vector(vector) => vector.lane_bits(),
+            ValueType::DynamicVector(vector) => vector.lane_bits(),
+        }
+    }
+
+    /// How many lanes are known to be there, 1 to 256: one of a scalar and of a dynamic vector.
+    pub fn lane_count(&self) -> u64
+        ensures { result ≡ known_lanes (shape_of self.now) }
+    {
+        match self {
+            ValueType::Vector(vector) => vector.lane_count(),
+            _ => 1,
+        }
+    }
+
+    /// The bits of the lanes that are known to be there, 8 to 32768; of a dynamic vector those of one lane.
+    pub fn width(&self) -> u64
+        ensures { result ≡ bits_of (shape_of self.now) }
+    {
+        self.lane_count() * self.lane_bits()
+    }
+
+    /// The bytes in memory of the lanes that are known to be there, 1 to 4096; of a dynamic vector those of one lane.
+    pub fn membytes(&self) -> u64
+        ensures { result ≡ bytes_of (shape_of self.now) }
+    {
+        self.width() / 8
+    }
+
+    /// The number of the type, by which tables name it, 0x74 to 0x17c.
     pub fn number(&self) -> u16
         ensures { result ≡ number_of (shape_of self.now) }
     {
         match self {
             ValueType::Lane(lane) => lane.number(),
+            ValueType::Vector(vector) => vector.number(),
+            ValueType::DynamicVector(vector) => vector.number(),
         }
     }
 
-    /// The type that has the number, and `None` exactly where no lane type has it (this project's own).
+    /// What the type is, in one line.
+    pub fn doc(&self, alloc: Global) -> Result<Text, AllocError>
+        ensures { IfOk result (λ t. t ≡ doc_of (shape_of self.now)) }
+    {
+        match self {
+            ValueType::Lane(lane) => lane.doc(alloc),
+            ValueType::Vector(vector) => vector.doc(alloc),
+            ValueType::DynamicVector(vector) => vector.doc(alloc),
+        }
+    }
+
+    /// The name of the type in Rust source: `ir::types::` and the name in capitals, as `ir::types::I32X4`.
+    pub fn rust_name(&self, alloc: Global) -> Result<Text, AllocError>
+        ensures { IfOk result (λ t. t ≡ rust_name_of (shape_of self.now)) }
+    {
+        let name = self.to_string(alloc)?;
+        let capitals = name.to_ascii_uppercase(alloc)?;
+        let rust_name = format!(in alloc; "ir::types::{capitals}")?;
+        Text::new(alloc, rust_name.as_str())
+    }
+
+    /// The type that has the number, and `None` exactly where no type has it (this project's own).
     pub fn from_number(n: u16) -> Option<ValueType>
         ensures found { IfSome result (λ t. number_of (shape_of t) ≡ n) }
-        ensures none { IfNone result ((t : Shape) → IsLane t → number_of t ≢ n) }
+        ensures none { IfNone result ((t : Shape) → IsType t → number_of t ≢ n) }
     {
-        for &lane in LANES.iter() {
-            if lane.number() == n {
-                return Some(ValueType::Lane(lane));
+        let above = n.checked_sub(LANE_BASE)?;
+        let lane = LaneType::from_code(above % 16)?;
+        let row = above / 16;
+        if row == 0 {
+            return Some(ValueType::Lane(lane));
+        }
+        if row <= 8 {
+            let lanes = LaneCount::from_log2(row)?;
+            return Some(ValueType::Vector(VectorType::of(lane, lanes)));
+        }
+        let least = LaneCount::from_log2(row - 8)?;
+        Some(ValueType::DynamicVector(DynamicVectorType::of(lane, least)))
+    }
+
+    /// The type that has the name, and `None` exactly where the bytes are no type's name (this project's own).
+    pub fn parse(text: &[u8]) -> Option<ValueType>
+        ensures found { IfSome result (λ t. name_of (shape_of t) ≡ text.now) }
+        ensures none { IfNone result ((t : Shape) → IsType t → name_of t ≢ text.now) }
+    {
+        for lane in ValueType::all_lane_types() {
+            if let Some(found) = ValueType::parse_of(lane, text) {
+                return Some(found);
             }
         }
         None
     }
 
-    /// The type that has the name, and `None` exactly where the bytes are no lane type's name (this project's own).
-    pub fn parse(text: &[u8]) -> Option<ValueType>
+    /// The type of lanes of this type that has the name, and `None` exactly where there is none.
+    fn parse_of(lane: LaneType, text: &[u8]) -> Option<ValueType>
         ensures found { IfSome result (λ t. name_of (shape_of t) ≡ text.now) }
-        ensures none { IfNone result ((t : Shape) → IsLane t → name_of t ≢ text.now) }
+        ensures none { IfNone result ((t : Shape) → IsType t → t.kind ≡ (lane_shape lane).kind → t.width ≡ (lane_shape lane).width → name_of t ≢ text.now) }
     {
-        for &lane in LANES.iter() {
-            if lane.name().as_bytes() == text {
-                return Some(ValueType::Lane(lane));
+        let ending = text.strip_prefix(lane.name().as_bytes())?;
+        if ending.is_empty() {
+            return Some(ValueType::Lane(lane));
+        }
+        let lanes = ending.strip_prefix(b"x".as_slice())?;
+        match lanes.strip_suffix(b"xN".as_slice()) {
+            Some(least) => {
+                let least = LaneCount::parse(least)?;
+                Some(ValueType::DynamicVector(DynamicVectorType::of(lane, least)))
+            }
+            None => {
+                let lanes = LaneCount::parse(lanes)?;
+                Some(ValueType::Vector(VectorType::of(lane, lanes)))
             }
         }
-        None
     }
 }
 
@@ -73,6 +165,28 @@ impl From<LaneType> for ValueType {
     }
 }
 
+impl From<VectorType> for ValueType {
+    ghost use Rattle.std.specs.Prelude.{◌≡◌};
+    ghost use Rattle.meta_types.specs.declared.value_type.ValueType.TheVariants.{Vector};
+
+    ghost from_gives = { λ x r. r ≡ Vector x };
+
+    fn from(vector: VectorType) -> ValueType {
+        ValueType::Vector(vector)
+    }
+}
+
+impl From<DynamicVectorType> for ValueType {
+    ghost use Rattle.std.specs.Prelude.{◌≡◌};
+    ghost use Rattle.meta_types.specs.declared.value_type.ValueType.TheVariants.{DynamicVector};
+
+    ghost from_gives = { λ x r. r ≡ DynamicVector x };
+
+    fn from(vector: DynamicVectorType) -> ValueType {
+        ValueType::DynamicVector(vector)
+    }
+}
+
 impl fmt::Display for ValueType {
     ghost use Rattle.std.specs.Prelude.{Some};
     ghost use Rattle.meta_types.specs.Shape.{name_of};
@@ -82,42 +196,9 @@ impl fmt::Display for ValueType {
 
     fn fmt<W: fmt::Write>(&self, f: &mut fmt::Formatter<W>) -> fmt::Result {
         match self {
-            ValueType::Lane(lane) => f.write_str(lane.name()),
+            ValueType::Lane(lane) => write!(f, "{lane}"),
+            ValueType::Vector(vector) => write!(f, "{vector}"),
+            ValueType::DynamicVector(vector) => write!(f, "{vector}"),
         }
-    }
-}
-
-#[cfg(test)]
-mod tests {
-    use super::*;
-    use std::test::Fail;
-
-    #[test]
-    fn numbers_and_names(rt: HostRuntime) -> Result<(), Fail> {
-        let alloc = rt.alloc();
-        for (name, number) in [
-            ("i8", 0x74),
-            ("i16", 0x75),
-            ("i32", 0x76),
-            ("i64", 0x77),
-            ("i128", 0x78),
-            ("f16", 0x79),
-            ("f32", 0x7a),
-            ("f64", 0x7b),
-            ("f128", 0x7c),
-        ] {
-            let found = ValueType::parse(name.as_bytes());
-            assert_eq!(rt; found, ValueType::from_number(number), "{name}");
-            let found = found.ok_or("no type")?;
-            assert_eq!(rt; found.number(), number);
-            assert_eq!(rt; found.to_string(alloc)?.as_str(), name);
-        }
-        for name in ["i33", "i", "i32 ", "I32", "", "i32x1", "f8"] {
-            assert_eq!(rt; ValueType::parse(name.as_bytes()), None, "{name}");
-        }
-        for number in [0, 0x70, 0x73, 0x7d, 0x84, 0xffff] {
-            assert_eq!(rt; ValueType::from_number(number), None, "{number}");
-        }
-        Ok(())
     }
 }

@@ -7,10 +7,7 @@ use Rattle.meta_types.specs.Shape.{Kind, IntKind, FloatKind, Shape, IsType, widt
 use Rattle.meta_types.specs.Function.{same_kind, same_mark}
 use Rattle.meta_types.specs.ValueTypes.{shape_of}
 use Rattle.meta_types.specs.declared.value_type.ValueType.{ValueType}
-use Rattle.meta_types.specs.declared.value_type.ValueType.TheVariants.{Lane}
-use Rattle.meta_types.specs.declared.lane.LaneType.TheVariants.{Int as IntLane, Float as FloatLane}
-use Rattle.meta_types.specs.declared.lane.Int.TheVariants.{I8, I16, I32, I64, I128}
-use Rattle.meta_types.specs.declared.lane.Float.TheVariants.{F16, F32, F64, F128}
+use Rattle.meta_types.proofs.Typed.{typed}
 use Rattle.meta_types.proofs.Among.{among, contains}
 use Rattle.meta_typevar.specs.FourSets.{FourSets, widths_in, lanes_in, IsMember}
 use Rattle.meta_typevar.specs.Masks.{Holds, width_mask, lane_mask, ContainsType, ContainsNumber}
@@ -195,20 +192,8 @@ member_contained m t h = (
   },
 )
 
--- a type of the program is a type
-pub shape_is_type : (t : ValueType) → IsType (shape_of t)
-shape_is_type (Lane (IntLane I8)) = record { width = (0, omega arith, refl); lanes = (0, omega arith, refl) }
-shape_is_type (Lane (IntLane I16)) = record { width = (1, omega arith, refl); lanes = (0, omega arith, refl) }
-shape_is_type (Lane (IntLane I32)) = record { width = (2, omega arith, refl); lanes = (0, omega arith, refl) }
-shape_is_type (Lane (IntLane I64)) = record { width = (3, omega arith, refl); lanes = (0, omega arith, refl) }
-shape_is_type (Lane (IntLane I128)) = record { width = (4, omega arith, refl); lanes = (0, omega arith, refl) }
-shape_is_type (Lane (FloatLane F16)) = record { width = (0, omega arith, refl); lanes = (0, omega arith, refl) }
-shape_is_type (Lane (FloatLane F32)) = record { width = (1, omega arith, refl); lanes = (0, omega arith, refl) }
-shape_is_type (Lane (FloatLane F64)) = record { width = (2, omega arith, refl); lanes = (0, omega arith, refl) }
-shape_is_type (Lane (FloatLane F128)) = record { width = (3, omega arith, refl); lanes = (0, omega arith, refl) }
-
 -- what the masks answer to the number of a type of the program
 pub contained : (m : Masks) (s : FourSets) (t : ValueType) (n : ℕ) (answer : Bool) → n ≡ number_of (shape_of t) → sets_in m ≡ s → (IsTrue answer ↔ ContainsNumber m n) → (IsTrue answer ↔ IsMember s (shape_of t))
 contained m s t n answer e is told =
     let at_t : IsTrue answer ↔ ContainsNumber m (number_of (shape_of t)) = subst (λ (n : ℕ). IsTrue answer ↔ ContainsNumber m n) e told in
-    subst (λ (s : FourSets). IsTrue answer ↔ IsMember s (shape_of t)) is (both_ways at_t (member_contained m (shape_of t) (shape_is_type t)))
+    subst (λ (s : FourSets). IsTrue answer ↔ IsMember s (shape_of t)) is (both_ways at_t (member_contained m (shape_of t) (typed t)))

@@ -1,12 +1,10 @@
-use Rattle.std.proofs.Common.{◌≡◌, ◌≢◌, ℕ, ◌<◌}
-use Rattle.std.specs.List.{slice_get}
-use Rattle.std.specs.Prelude.{Some}
-use Rattle.meta_types.specs.Shape.{name_of}
+use Rattle.std.proofs.Common.{◌≡◌, Contains}
+use Rattle.meta_types.specs.Shape.{Shape, IsType, name_of}
 use Rattle.meta_types.specs.Lane.{lane_shape}
+use Rattle.meta_types.specs.LaneTypes.{lane_types_left}
 use Rattle.meta_types.specs.declared.lane.LaneType.{LaneType}
-use Rattle.meta_types.specs.declared.value_type.TheConstants.{LANES}
 use Rattle.meta_types.proofs.value_type.ValueType.parse.Given as goal
 
--- none of the lanes so far has the name
+-- the lane of a type of the name is still to come
 abbrev pub invariant-loop-lane : goal.invariant-loop-lane
-invariant-loop-lane l = (k : ℕ) (x : LaneType) → k < l.lane-index → slice_get LANES k ≡ Some x → name_of (lane_shape x) ≢ l.text
+invariant-loop-lane l = (x : LaneType) (t : Shape) → IsType t → t.kind ≡ (lane_shape x).kind → t.width ≡ (lane_shape x).width → name_of t ≡ l.text → Contains (lane_types_left l.lane-iterator) x

@@ -1,0 +1,97 @@
+-- A Bool test at all 153 types. Of types alone: nothing here speaks of sets, variables or instructions.
+--     at_all p               p passes at each of them
+--     at_all_types           what passes at each of them passes at each type
+use Rattle.std.proofs.Common.{◌≡◌, ℕ, zero, suc, ◌==◌, Bool, true, false, ◌&&◌, List, [], ◌∷◌, Contains, refl, subst, le_of_suc-le-suc, arith, inl, inr, ◌⊎◌}
+use Rattle.std.proofs.lemmas.Bool.{and_parts, and_from, eqb-true, eq-eqb}
+use Rattle.meta_types.specs.Shape.{Kind, IntKind, FloatKind, Shape, IsType, widths, lane_counts}
+use Rattle.meta_types.specs.Function.{same_kind, same_mark}
+
+-- p passes at each number of the list
+abbrev pub at_each : (ℕ → Bool) → List ℕ → Bool
+at_each p [] = true
+at_each p (x ∷ xs) = p x && at_each p xs
+
+-- p passes at each type of this kind and mark
+abbrev pub at_kind_and_mark : (Shape → Bool) → Kind → Bool → Bool
+at_kind_and_mark p kind mark = at_each (λ w. at_each (λ l. p (record { kind = kind; width = w; lanes = l; is_dynamic = mark })) (lane_counts mark)) (widths kind)
+
+-- p passes at each type
+abbrev pub at_all : (Shape → Bool) → Bool
+at_all p = (at_kind_and_mark p IntKind false && at_kind_and_mark p IntKind true) && (at_kind_and_mark p FloatKind false && at_kind_and_mark p FloatKind true)
+
+-- what a list with one more in front contains is that one, or the list contains it
+pub Contains-cases : (x : ℕ) (xs : List ℕ) (n : ℕ) → Contains (x ∷ xs) n → (x ≡ n) ⊎ Contains xs n
+Contains-cases x xs n (zero, l, e) = inl e
+Contains-cases x xs n (suc k, l, e) = inr (k, le_of_suc-le-suc l, e)
+
+-- what passes at each number of a list passes at what the list contains
+pub at_each_contained : (p : ℕ → Bool) (xs : List ℕ) (n : ℕ) → at_each p xs ≡ true → Contains xs n → p n ≡ true
+at_each_contained p [] n all (k, l, e) = absurd (omega arith)
+at_each_contained p (x ∷ xs) n all c = by_case (and_parts (p x) (at_each p xs) all) (Contains-cases x xs n c) (at_each_contained p xs n)
+  where
+    -- it is the first, or one of the rest
+    by_case : (p x ≡ true) × (at_each p xs ≡ true) → (x ≡ n) ⊎ Contains xs n → (at_each p xs ≡ true → Contains xs n → p n ≡ true) → p n ≡ true
+    by_case (first, rest) (inl e) below = subst (λ y. p y ≡ true) e first
+    by_case (first, rest) (inr c) below = below rest c
+
+-- what passes at each type of a kind and mark passes at those of its widths and lane counts
+at_kind_and_mark_parts : (p : Shape → Bool) (kind : Kind) (mark : Bool) (w l : ℕ) → at_kind_and_mark p kind mark ≡ true → Contains (widths kind) w → Contains (lane_counts mark) l → p (record { kind = kind; width = w; lanes = l; is_dynamic = mark }) ≡ true
+at_kind_and_mark_parts p kind mark w l all c d =
+    at_each_contained (λ m. p (record { kind = kind; width = w; lanes = m; is_dynamic = mark })) (lane_counts mark) l
+    (at_each_contained (λ n. at_each (λ m. p (record { kind = kind; width = n; lanes = m; is_dynamic = mark })) (lane_counts mark)) (widths kind) w all c) d
+
+-- the tests of all kinds and marks give that of each
+at_all_parts : (p : Shape → Bool) → at_all p ≡ true → (kind : Kind) (mark : Bool) → at_kind_and_mark p kind mark ≡ true
+at_all_parts p all IntKind false = (and_parts _ _ (and_parts _ _ all).0).0
+at_all_parts p all IntKind true = (and_parts _ _ (and_parts _ _ all).0).1
+at_all_parts p all FloatKind false = (and_parts _ _ (and_parts _ _ all).1).0
+at_all_parts p all FloatKind true = (and_parts _ _ (and_parts _ _ all).1).1
+
+-- what passes at each of them passes at each type
+pub at_all_types : (p : Shape → Bool) → at_all p ≡ true → (t : Shape) → IsType t → p t ≡ true
+at_all_types p all t h = at_kind_and_mark_parts p t.kind t.is_dynamic t.width t.lanes (at_all_parts p all t.kind t.is_dynamic) h.width h.lanes
+
+-- the two types are one
+abbrev pub same_shape : Shape → Shape → Bool
+same_shape a b = (same_kind a.kind b.kind && a.width == b.width) && (a.lanes == b.lanes && same_mark a.is_dynamic b.is_dynamic)
+
+-- kinds that pass their test are one
+pub same_kind_true : (a b : Kind) → same_kind a b ≡ true → a ≡ b
+same_kind_true IntKind IntKind e = refl
+same_kind_true IntKind FloatKind e = absurd (cc)
+same_kind_true FloatKind IntKind e = absurd (cc)
+same_kind_true FloatKind FloatKind e = refl
+
+-- marks that pass their test are one
+pub same_mark_true : (a b : Bool) → same_mark a b ≡ true → a ≡ b
+same_mark_true true true e = refl
+same_mark_true true false e = absurd (cc)
+same_mark_true false true e = absurd (cc)
+same_mark_true false false e = refl
+
+-- types that pass their test are one
+pub same_shape_true : (a b : Shape) → same_shape a b ≡ true → a ≡ b
+same_shape_true a b e =
+    let front = and_parts _ _ e in
+    let (kind, width) = and_parts (same_kind a.kind b.kind) (a.width == b.width) front.0 in
+    let (lanes, mark) = and_parts (a.lanes == b.lanes) (same_mark a.is_dynamic b.is_dynamic) front.1 in
+    let k = same_kind_true a.kind b.kind kind in
+    let w = eqb-true a.width b.width width in
+    let l = eqb-true a.lanes b.lanes lanes in
+    let m = same_mark_true a.is_dynamic b.is_dynamic mark in
+    λ i. record { kind = k i; width = w i; lanes = l i; is_dynamic = m i }
+
+-- a kind passes its test beside itself
+same_kind_self : (k : Kind) → same_kind k k ≡ true
+same_kind_self IntKind = refl
+same_kind_self FloatKind = refl
+
+-- so does a mark
+same_mark_self : (m : Bool) → same_mark m m ≡ true
+same_mark_self true = refl
+same_mark_self false = refl
+
+-- so does a type
+pub same_shape_self : (t : Shape) → same_shape t t ≡ true
+same_shape_self t =
+    and_from _ _ (and_from _ _ (same_kind_self t.kind) (eq-eqb t.width t.width refl)) (and_from _ _ (eq-eqb t.lanes t.lanes refl) (same_mark_self t.is_dynamic))

@@ -1,0 +1,37 @@
+-- The vectors of the program as contracts see them.
+--     lane_count n           a count of lanes as a number
+--     vector_shape v, dynamic_shape v      a vector, and one of which only the least count of lanes is known
+use Rattle.std.specs.Prelude.{ℕ, true, false}
+use Rattle.meta_types.specs.Shape.{Shape}
+use Rattle.meta_types.specs.Lane.{lane_shape}
+use Rattle.meta_types.specs.declared.lane_count.LaneCount.{LaneCount}
+use Rattle.meta_types.specs.declared.lane_count.LaneCount.TheVariants.{X2, X4, X8, X16, X32, X64, X128, X256}
+use Rattle.meta_types.specs.declared.vector.VectorType.{VectorType}
+use Rattle.meta_types.specs.declared.vector.DynamicVectorType.{DynamicVectorType}
+
+-- how many lanes are meant
+abbrev pub lane_count : LaneCount → ℕ
+lane_count X2 = 2
+lane_count X4 = 4
+lane_count X8 = 8
+lane_count X16 = 16
+lane_count X32 = 32
+lane_count X64 = 64
+lane_count X128 = 128
+lane_count X256 = 256
+
+-- the shape of so many lanes of the shape of one
+abbrev pub lanes_of : Shape → ℕ → Shape
+lanes_of lane lanes = record { kind = lane.kind; width = lane.width; lanes = lanes; is_dynamic = false }
+
+-- the same, with the count as the least one
+abbrev pub least_lanes_of : Shape → ℕ → Shape
+least_lanes_of lane lanes = record { kind = lane.kind; width = lane.width; lanes = lanes; is_dynamic = true }
+
+-- the shape of a fixed vector
+abbrev pub vector_shape : VectorType → Shape
+vector_shape v = lanes_of (lane_shape v.base) (lane_count v.lanes)
+
+-- the shape of a dynamic vector
+abbrev pub dynamic_shape : DynamicVectorType → Shape
+dynamic_shape v = least_lanes_of (lane_shape v.base) (lane_count v.unscaled_lanes)

@@ -1,0 +1,253 @@
+ghost use Rattle.std.specs.Prelude.{◌≡◌, ◌↔◌, ℕ, IfSome, IfNone, IsTrue, Contains, ◌&&◌, nat_lt};
+ghost use Rattle.meta_types.specs.Shape.{Shape, IsType, widths, scalar};
+ghost use Rattle.meta_types.specs.Lane.{lane_shape};
+ghost use Rattle.meta_types.specs.Function.{Function, Narrower, is_scalar, relates, Steps, Answers, StepsNumbers, AnswersNumber};
+ghost use Rattle.meta_types.specs.ValueTypes.{shape_of};
+ghost use Rattle.meta_types.specs.DerivedFunc.{function_of, function_name};
+ghost use Rattle.meta_types.specs.Parts.{parts_shape};
+
+use super::lane::{LaneType, is_float_width, is_int_width};
+use super::lane_count::is_lane_count;
+use super::value_type::ValueType;
+use super::vector::{DynamicVectorType, VectorType};
+
+/// How one type variable is derived from another (`cdsl/typevar.rs`): by one of seven functions, which give at most one type,
+/// or by one of the two relations `Narrower` and `Wider`.
+#[derive(Clone, Copy, Debug, PartialEq, Eq, Hash)]
+pub enum DerivedFunc {
+    /// The lane of a type.
+    LaneOf,
+    /// `i8` for a scalar, and for a vector the integer vector of its lanes' width and count.
+    AsTruthy,
+    /// The type with lanes of half the width.
+    HalfWidth,
+    /// The type with lanes of twice the width.
+    DoubleWidth,
+    /// The type with twice the lanes, each of half the width.
+    SplitLanes,
+    /// The type with half the lanes, each of twice the width.
+    MergeLanes,
+    /// The fixed vector of the least lanes of a dynamic one, which are less than 256.
+    DynamicToVector,
+    /// The scalars of the same kind with fewer bits.
+    Narrower,
+    /// The scalars of the same kind with more bits.
+    Wider,
+}
+
+/// What the lanes of a type hold.
+#[derive(Clone, Copy, PartialEq, Eq)]
+enum LaneKind {
+    Int,
+    Float,
+}
+
+/// The parts of a type: what a lane holds, its width in bits, how many lanes there are, and whether that is the least count.
+/// Not all parts are those of a type.
+#[derive(Clone, Copy, PartialEq, Eq)]
+struct Parts {
+    kind: LaneKind,
+    width: u64,
+    lanes: u64,
+    is_dynamic: bool,
+}
+
+impl DerivedFunc {
+    /// The name of the function in snake case, as `lane_of`.
+    pub fn name(self) -> &'static str
+        ensures { result.now ≡ function_name (function_of self) }
+    {
+        match self {
+            DerivedFunc::LaneOf => "lane_of",
+            DerivedFunc::AsTruthy => "as_truthy",
+            DerivedFunc::HalfWidth => "half_width",
+            DerivedFunc::DoubleWidth => "double_width",
+            DerivedFunc::SplitLanes => "split_lanes",
+            DerivedFunc::MergeLanes => "merge_lanes",
+            DerivedFunc::DynamicToVector => "dynamic_to_vector",
+            DerivedFunc::Narrower => "narrower",
+            DerivedFunc::Wider => "wider",
+        }
+    }
+
+    /// The type to which the function leads from `c`, and `None` exactly where that would be no type, or for a relation
+    /// (this project's own).
+    pub fn apply(self, c: ValueType) -> Option<ValueType>
+        ensures found { IfSome result (λ t. Answers (function_of self) (shape_of c) (shape_of t)) }
+        ensures none { IfNone result ((t : Shape) → ¬ Answers (function_of self) (shape_of c) t) }
+    {
+        self.apply_parts(Parts::of(c))?.value_type()
+    }
+
+    /// Whether the function leads from `c` to `t`, or `t` stands in the relation to `c` (this project's own).
+    pub fn relates(self, c: ValueType, t: ValueType) -> bool
+        ensures { IsTrue result ↔ Steps (function_of self) (shape_of c) (shape_of t) }
+    {
+        match self {
+            DerivedFunc::Narrower => Parts::of(t).is_narrower(Parts::of(c)),
+            DerivedFunc::Wider => Parts::of(c).is_narrower(Parts::of(t)),
+            _ => self.apply_parts(Parts::of(c)) == Some(Parts::of(t)),
+        }
+    }
+
+    /// The number of the type to which the function leads from the type of number `c`, and `None` exactly where no type has
+    /// the number, the answer would be no type, or for a relation (this project's own).
+    pub fn apply_number(self, c: u16) -> Option<u16>
+        ensures found { IfSome result (λ m. AnswersNumber (function_of self) c m) }
+        ensures none { IfNone result ((m : ℕ) → ¬ AnswersNumber (function_of self) c m) }
+    {
+        let t = self.apply(ValueType::from_number(c)?)?;
+        Some(t.number())
+    }
+
+    /// Whether there are types of the numbers `c` and `t`, and the function leads from the one to the other, or they stand in
+    /// the relation (this project's own).
+    pub fn relates_number(self, c: u16, t: u16) -> bool
+        ensures { IsTrue result ↔ StepsNumbers (function_of self) c t }
+    {
+        match (ValueType::from_number(c), ValueType::from_number(t)) {
+            (Some(c), Some(t)) => self.relates(c, t),
+            _ => false,
+        }
+    }
+
+    /// The parts to which a function leads from those of a type, if they are a type's. A relation has none.
+    fn apply_parts(self, c: Parts) -> Option<Parts>
+        requires { IsType (parts_shape c) }
+        ensures found { IfSome result (λ t. IsType (parts_shape t) → Answers (function_of self) (parts_shape c) (parts_shape t)) }
+        ensures only { IfSome result (λ p. (t : Shape) → Answers (function_of self) (parts_shape c) t → t ≡ parts_shape p) }
+        ensures none { IfNone result ((t : Shape) → ¬ Answers (function_of self) (parts_shape c) t) }
+    {
+        match self {
+            DerivedFunc::LaneOf => Some(Parts {
+                lanes: 1,
+                is_dynamic: false,
+                ..c
+            }),
+            DerivedFunc::AsTruthy => Some(Parts {
+                kind: LaneKind::Int,
+                width: if c.is_scalar() { 8 } else { c.width },
+                ..c
+            }),
+            DerivedFunc::HalfWidth => Some(Parts {
+                width: c.width / 2,
+                ..c
+            }),
+            DerivedFunc::DoubleWidth => Some(Parts {
+                width: 2 * c.width,
+                ..c
+            }),
+            DerivedFunc::SplitLanes => Some(Parts {
+                width: c.width / 2,
+                lanes: 2 * c.lanes,
+                ..c
+            }),
+            DerivedFunc::MergeLanes => Some(Parts {
+                width: 2 * c.width,
+                lanes: c.lanes / 2,
+                ..c
+            }),
+            DerivedFunc::DynamicToVector if c.has_fixed_form() => Some(Parts {
+                is_dynamic: false,
+                ..c
+            }),
+            DerivedFunc::DynamicToVector => None,
+            DerivedFunc::Narrower | DerivedFunc::Wider => None,
+        }
+    }
+}
+
+impl Parts {
+    /// The parts of a type.
+    fn of(t: ValueType) -> Parts
+        ensures { parts_shape result ≡ shape_of t }
+    {
+        match t {
+            ValueType::Lane(lane) => Parts::of_lanes(lane, 1, false),
+            ValueType::Vector(v) => Parts::of_lanes(v.lane_type(), v.lane_count(), false),
+            ValueType::DynamicVector(v) => {
+                Parts::of_lanes(v.lane_type(), v.minimum_lane_count(), true)
+            }
+        }
+    }
+
+    /// The parts of so many lanes.
+    fn of_lanes(lane: LaneType, lanes: u64, is_dynamic: bool) -> Parts
+        ensures { parts_shape result ≡ record { kind = (lane_shape lane).kind; width = (lane_shape lane).width; lanes = lanes; is_dynamic = is_dynamic } }
+    {
+        let kind = match lane {
+            LaneType::Int(_) => LaneKind::Int,
+            LaneType::Float(_) => LaneKind::Float,
+        };
+        Parts {
+            kind,
+            width: lane.lane_bits(),
+            lanes,
+            is_dynamic,
+        }
+    }
+
+    /// The lane type, if there is one of the kind and width.
+    fn lane(self) -> Option<LaneType>
+        ensures found { IfSome result (λ lane. lane_shape lane ≡ scalar (parts_shape self).kind self.width) }
+        ensures none { IfNone result (¬ Contains (widths (parts_shape self).kind) self.width) }
+    {
+        let width = u16::try_from(self.width).ok()?;
+        match self.kind {
+            LaneKind::Int if is_int_width(width) => Some(LaneType::int_from_bits(width)),
+            LaneKind::Float if is_float_width(width) => Some(LaneType::float_from_bits(width)),
+            _ => None,
+        }
+    }
+
+    /// The type that has the parts, if there is one.
+    fn value_type(self) -> Option<ValueType>
+        ensures found { IfSome result (λ t. shape_of t ≡ parts_shape self) }
+        ensures none { IfNone result (¬ IsType (parts_shape self)) }
+    {
+        let lane = self.lane()?;
+        if self.lanes == 1 && !self.is_dynamic {
+            return Some(ValueType::Lane(lane));
+        }
+        if !is_lane_count(self.lanes) {
+            return None;
+        }
+        Some(if self.is_dynamic {
+            ValueType::DynamicVector(DynamicVectorType::new(lane, self.lanes))
+        } else {
+            ValueType::Vector(VectorType::new(lane, self.lanes))
+        })
+    }
+
+    /// Whether there is one lane.
+    fn is_scalar(self) -> bool
+        ensures { result ≡ is_scalar (parts_shape self) }
+    {
+        self.lanes == 1
+    }
+
+    /// Whether it is a dynamic vector that `dynamic_to_vector` takes to a fixed one.
+    fn has_fixed_form(self) -> bool
+        ensures { result ≡ (self.is_dynamic && nat_lt self.lanes 256) }
+    {
+        self.is_dynamic && self.lanes < 256
+    }
+
+    /// Whether both are scalars of one kind, and this one has fewer bits than the other.
+    fn is_narrower(self, other: Parts) -> bool
+        ensures { result ≡ relates Narrower (parts_shape other) (parts_shape self) }
+    {
+        self.kind == other.kind
+            && (other.is_scalar() && (self.is_scalar() && self.width < other.width))
+    }
+}
+
+/// A function leads from one type to at most one type (this project's own).
+pub fn answers_are_one()
+    ensures { (f : Function) (u s t : Shape) → Answers f u s → Answers f u t → s ≡ t }
+{}
+
+#[cfg(test)]
+mod tables;
+#[cfg(test)]
+mod tests;

@@ -1,0 +1,130 @@
+ghost use Rattle.std.specs.Prelude.{◌≡◌, ◌≢◌, ◌↔◌, ℕ, IsTrue, IfSome, IfNone, Contains, true};
+ghost use Rattle.std.specs.Fmt.{decimal};
+ghost use Rattle.meta_types.specs.Shape.{lane_counts, log2};
+ghost use Rattle.meta_types.specs.Vector.{lane_count};
+
+/// How many lanes a vector has: a power of two from 2 to 256.
+#[derive(Clone, Copy, PartialEq, Eq, Hash)]
+pub(crate) enum LaneCount {
+    X2,
+    X4,
+    X8,
+    X16,
+    X32,
+    X64,
+    X128,
+    X256,
+}
+
+/// Whether a vector may have so many lanes: a power of two from 2 to 256 (this project's own; the crate takes any count).
+pub fn is_lane_count(lanes: u64) -> bool
+    ensures { IsTrue result ↔ Contains (lane_counts true) lanes }
+{
+    [2, 4, 8, 16, 32, 64, 128, 256].contains(&lanes)
+}
+
+/// The eight counts, in rising order.
+const LANE_COUNTS: [LaneCount; 8] = [
+    LaneCount::X2,
+    LaneCount::X4,
+    LaneCount::X8,
+    LaneCount::X16,
+    LaneCount::X32,
+    LaneCount::X64,
+    LaneCount::X128,
+    LaneCount::X256,
+];
+
+impl LaneCount {
+    /// The count of this number, which `is_lane_count` tells.
+    pub(crate) fn new(lanes: u64) -> LaneCount
+        requires { Contains (lane_counts true) lanes }
+        ensures { lane_count result ≡ lanes }
+    {
+        match lanes {
+            2 => LaneCount::X2,
+            4 => LaneCount::X4,
+            8 => LaneCount::X8,
+            16 => LaneCount::X16,
+            32 => LaneCount::X32,
+            64 => LaneCount::X64,
+            128 => LaneCount::X128,
+            _ => LaneCount::X256,
+        }
+    }
+
+    /// The number of lanes, 2 to 256.
+    pub(crate) fn get(self) -> u64
+        ensures { result ≡ lane_count self }
+    {
+        match self {
+            LaneCount::X2 => 2,
+            LaneCount::X4 => 4,
+            LaneCount::X8 => 8,
+            LaneCount::X16 => 16,
+            LaneCount::X32 => 32,
+            LaneCount::X64 => 64,
+            LaneCount::X128 => 128,
+            LaneCount::X256 => 256,
+        }
+    }
+
+    /// The exponent of the power of two, 1 to 8.
+    pub(crate) fn log2(self) -> u16
+        ensures { result ≡ log2 (lane_count self) }
+    {
+        match self {
+            LaneCount::X2 => 1,
+            LaneCount::X4 => 2,
+            LaneCount::X8 => 3,
+            LaneCount::X16 => 4,
+            LaneCount::X32 => 5,
+            LaneCount::X64 => 6,
+            LaneCount::X128 => 7,
+            LaneCount::X256 => 8,
+        }
+    }
+
+    /// The count of this exponent, and `None` exactly where there is none.
+    pub(crate) fn from_log2(exponent: u16) -> Option<LaneCount>
+        ensures found { IfSome result (λ n. log2 (lane_count n) ≡ exponent) }
+        ensures none { IfNone result ((n : ℕ) → Contains (lane_counts true) n → log2 n ≢ exponent) }
+    {
+        for &count in LANE_COUNTS.iter() {
+            if count.log2() == exponent {
+                return Some(count);
+            }
+        }
+        None
+    }
+
+    /// The count that is written so, and `None` exactly where none is.
+    pub(crate) fn parse(text: &[u8]) -> Option<LaneCount>
+        ensures found { IfSome result (λ n. decimal (lane_count n) ≡ text.now) }
+        ensures none { IfNone result ((n : ℕ) → Contains (lane_counts true) n → decimal n ≢ text.now) }
+    {
+        for &count in LANE_COUNTS.iter() {
+            if count.digits().as_bytes() == text {
+                return Some(count);
+            }
+        }
+        None
+    }
+
+    /// The number of lanes as it is written.
+    #[tactic(auto, using(crate::proofs::Decimal::decimals))]
+    fn digits(self) -> &'static str
+        ensures { result.now ≡ decimal (lane_count self) }
+    {
+        match self {
+            LaneCount::X2 => "2",
+            LaneCount::X4 => "4",
+            LaneCount::X8 => "8",
+            LaneCount::X16 => "16",
+            LaneCount::X32 => "32",
+            LaneCount::X64 => "64",
+            LaneCount::X128 => "128",
+            LaneCount::X256 => "256",
+        }
+    }
+}

@@ -1,0 +1,199 @@
+ghost use Rattle.std.specs.Prelude.{◌≡◌, IfOk, Contains, true};
+ghost use Rattle.meta_types.specs.Shape.{lane_counts, number_of};
+ghost use Rattle.meta_types.specs.Lane.{lane_shape};
+ghost use Rattle.meta_types.specs.Vector.{lane_count, lanes_of, least_lanes_of, vector_shape, dynamic_shape};
+ghost use Rattle.meta_types.specs.TypeText.{doc_of};
+
+use super::lane::LaneType;
+use super::lane_count::LaneCount;
+use super::text::Text;
+use std::alloc::{AllocError, Global};
+use std::fmt;
+
+/// A vector of lanes of one type (`cdsl/types.rs`).
+#[derive(Clone, Copy, PartialEq, Eq, Hash)]
+pub struct VectorType {
+    base: LaneType,
+    lanes: LaneCount,
+}
+
+/// A vector of lanes of one type, of which only the least count of lanes is known (`cdsl/types.rs`).
+#[derive(Clone, Copy, PartialEq, Eq, Hash)]
+pub struct DynamicVectorType {
+    base: LaneType,
+    unscaled_lanes: LaneCount,
+}
+
+impl VectorType {
+    /// The vector of so many lanes of this type; `is_lane_count` tells whether there may be so many.
+    pub fn new(base: LaneType, lanes: u64) -> VectorType
+        requires { Contains (lane_counts true) lanes }
+        ensures { vector_shape result ≡ lanes_of (lane_shape base) lanes }
+    {
+        VectorType::of(base, LaneCount::new(lanes))
+    }
+
+    /// The vector of so many lanes of this type.
+    pub(crate) fn of(base: LaneType, lanes: LaneCount) -> VectorType
+        ensures { vector_shape result ≡ lanes_of (lane_shape base) (lane_count lanes) }
+    {
+        VectorType { base, lanes }
+    }
+
+    /// The width of a lane in bits, 8 to 128.
+    pub fn lane_bits(&self) -> u64
+        ensures { result ≡ (vector_shape self.now).width }
+    {
+        self.base.lane_bits()
+    }
+
+    /// How many lanes there are: a power of two from 2 to 256.
+    pub fn lane_count(&self) -> u64
+        ensures { result ≡ (vector_shape self.now).lanes }
+    {
+        self.lanes.get()
+    }
+
+    /// The type of a lane.
+    pub fn lane_type(&self) -> LaneType
+        ensures { lanes_of (lane_shape result) (vector_shape self.now).lanes ≡ vector_shape self.now }
+    {
+        self.base
+    }
+
+    /// The number of the type: that of its lane, and 16 more for each doubling of the lanes, 0x84 to 0xfc.
+    pub fn number(&self) -> u16
+        ensures { result ≡ number_of (vector_shape self.now) }
+    {
+        self.base.number() + 16 * self.lanes.log2()
+    }
+
+    /// What the type is, in one line: ``A SIMD vector with 4 lanes containing a `i32` each.``
+    pub fn doc(&self, alloc: Global) -> Result<Text, AllocError>
+        ensures { IfOk result (λ t. t ≡ doc_of (vector_shape self.now)) }
+    {
+        let base = self.base;
+        let lanes = self.lane_count();
+        let doc = format!(in alloc;
+            "A SIMD vector with {lanes} lanes containing a `{base}` each."
+        )?;
+        Text::new(alloc, doc.as_str())
+    }
+}
+
+impl DynamicVectorType {
+    /// The vector of at least so many lanes of this type; `is_lane_count` tells whether there may be so many.
+    pub fn new(base: LaneType, unscaled_lanes: u64) -> DynamicVectorType
+        requires { Contains (lane_counts true) unscaled_lanes }
+        ensures { dynamic_shape result ≡ least_lanes_of (lane_shape base) unscaled_lanes }
+    {
+        DynamicVectorType::of(base, LaneCount::new(unscaled_lanes))
+    }
+
+    /// The vector of at least so many lanes of this type.
+    pub(crate) fn of(base: LaneType, unscaled_lanes: LaneCount) -> DynamicVectorType
+        ensures { dynamic_shape result ≡ least_lanes_of (lane_shape base) (lane_count unscaled_lanes) }
+    {
+        DynamicVectorType {
+            base,
+            unscaled_lanes,
+        }
+    }
+
+    /// The width of a lane in bits, 8 to 128.
+    pub fn lane_bits(&self) -> u64
+        ensures { result ≡ (dynamic_shape self.now).width }
+    {
+        self.base.lane_bits()
+    }
+
+    /// The least count of lanes: a power of two from 2 to 256.
+    pub fn minimum_lane_count(&self) -> u64
+        ensures { result ≡ (dynamic_shape self.now).lanes }
+    {
+        self.unscaled_lanes.get()
+    }
+
+    /// The type of a lane.
+    pub fn lane_type(&self) -> LaneType
+        ensures { least_lanes_of (lane_shape result) (dynamic_shape self.now).lanes ≡ dynamic_shape self.now }
+    {
+        self.base
+    }
+
+    /// The number of the type: that of the fixed vector of the least count of lanes, and 0x80 more, 0x104 to 0x17c.
+    pub fn number(&self) -> u16
+        ensures { result ≡ number_of (dynamic_shape self.now) }
+    {
+        0x80 + self.base.number() + 16 * self.unscaled_lanes.log2()
+    }
+
+    /// What the type is, in one line:
+    /// ``A dynamically-scaled SIMD vector with a minimum of 4 lanes containing `i32` bits each.``
+    pub fn doc(&self, alloc: Global) -> Result<Text, AllocError>
+        ensures { IfOk result (λ t. t ≡ doc_of (dynamic_shape self.now)) }
+    {
+        let base = self.base;
+        let lanes = self.minimum_lane_count();
+        let doc = format!(in alloc;
+            "A dynamically-scaled SIMD vector with a minimum of {lanes} lanes containing `{base}` bits each."
+        )?;
+        Text::new(alloc, doc.as_str())
+    }
+}
+
+impl fmt::Display for VectorType {
+    ghost use Rattle.std.specs.Prelude.{Some};
+    ghost use Rattle.meta_types.specs.Shape.{name_of};
+    ghost use Rattle.meta_types.specs.Vector.{vector_shape};
+
+    ghost output = { λ v. Some (name_of (vector_shape v)) };
+
+    fn fmt<W: fmt::Write>(&self, f: &mut fmt::Formatter<W>) -> fmt::Result {
+        let base = self.base;
+        let lanes = self.lane_count();
+        write!(f, "{base}x{lanes}")
+    }
+}
+
+impl fmt::Display for DynamicVectorType {
+    ghost use Rattle.std.specs.Prelude.{Some};
+    ghost use Rattle.meta_types.specs.Shape.{name_of};
+    ghost use Rattle.meta_types.specs.Vector.{dynamic_shape};
+
+    ghost output = { λ v. Some (name_of (dynamic_shape v)) };
+
+    fn fmt<W: fmt::Write>(&self, f: &mut fmt::Formatter<W>) -> fmt::Result {
+        let base = self.base;
+        let lanes = self.minimum_lane_count();
+        write!(f, "{base}x{lanes}xN")
+    }
+}
+
+impl fmt::Debug for VectorType {
+    ghost use Rattle.std.specs.Prelude.{Some};
+    ghost use Rattle.meta_types.specs.TypeText.{debug_of};
+    ghost use Rattle.meta_types.specs.Vector.{vector_shape};
+
+    ghost debug_output = { λ v. Some (debug_of (vector_shape v)) };
+
+    fn fmt<W: fmt::Write>(&self, f: &mut fmt::Formatter<W>) -> fmt::Result {
+        let base = self.base;
+        let lanes = self.lane_count();
+        write!(f, "VectorType(base={base}, lanes={lanes})")
+    }
+}
+
+impl fmt::Debug for DynamicVectorType {
+    ghost use Rattle.std.specs.Prelude.{Some};
+    ghost use Rattle.meta_types.specs.TypeText.{debug_of};
+    ghost use Rattle.meta_types.specs.Vector.{dynamic_shape};
+
+    ghost debug_output = { λ v. Some (debug_of (dynamic_shape v)) };
+
+    fn fmt<W: fmt::Write>(&self, f: &mut fmt::Formatter<W>) -> fmt::Result {
+        let base = self.base;
+        let lanes = self.minimum_lane_count();
+        write!(f, "DynamicVectorType(base={base}, lanes={lanes})")
+    }
+}
