@@ -1,0 +1,20 @@
+-- names
+mod Pushed
+mod EarlierNames
+mod NamesSoFar
+mod Told
+-- faults
+mod Rules
+mod FirstFault
+mod Valid
+mod OneFault
+-- counts and lists
+mod Counting
+mod Firsts
+mod Bits
+mod Placing
+mod Meaning
+mod Turning
+mod Once
+mod TurnedSets
+mod Places

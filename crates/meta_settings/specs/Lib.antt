@@ -1,0 +1,11 @@
+pub mod GroupDeclaration
+pub mod Declaring
+pub mod Names
+pub mod GroupFaults
+pub mod Searched
+pub mod Layout
+pub mod Marked
+pub mod TurnedOn
+pub mod LaidOut
+pub mod PresetLayout
+pub mod Laws

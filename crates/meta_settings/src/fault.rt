@@ -1,0 +1,185 @@
+ghost use Rattle.std.specs.Prelude.{◌≡◌, ◌↔◌, ◌<◌, ◌+◌, ◌-◌, ℕ, IsTrue, MatchOption, IfOk, IfNone, IfSome, All, length, take, unwrap_or, []};
+ghost use Rattle.meta_types.specs.Name.{IsName};
+ghost use Rattle.meta_settings.specs.GroupDeclaration.{boolean_count, byte_count, entry_count, names_of};
+ghost use Rattle.meta_settings.specs.Names.{Keeps, AreDistinct};
+ghost use Rattle.meta_settings.specs.GroupFaults.{IsPlainByte, IsWellNamed, IsGoodEnum, IsMet, AreMet, HasTooMany, IsFirstGroupFault, IsValidGroup};
+ghost use Rattle.meta_settings.specs.Searched.{KeepsRules, IsFirstEntryFault, IsFirstOfEntries};
+
+use super::builder::SettingGroupBuilder;
+use super::entry::Entry;
+use super::index::PresetType;
+use super::names::{add_name, no_names};
+use meta_types::{DefinitionError, Place, Text, is_name};
+use std::alloc::{AllocError, Global};
+use std::collections::BTreeMap;
+
+/// The most booleans that a group may have.
+const MAX_BOOLEANS: u64 = 248;
+/// The most bytes that its settings may take.
+const MAX_BYTES: u64 = 255;
+/// The most settings and presets that it may have together.
+const MAX_ENTRIES: u64 = 65_535;
+/// The most values that an enum may have.
+const MAX_VALUES: usize = 256;
+
+/// Whether a description may have this byte.
+fn is_plain_byte(c: u8) -> bool
+    ensures { IsTrue result ↔ IsPlainByte c }
+{
+    (0x20..=0x7e).contains(&c) && c != b'"' && c != b'\\'
+}
+
+/// Whether a description needs no escape.
+fn is_plain(text: &Text) -> bool
+    ensures { IsTrue result ↔ All IsPlainByte text.now }
+{
+    text.as_bytes().iter().all(|c| is_plain_byte(*c))
+}
+
+/// Whether all of these are names.
+fn are_names(texts: &[Text]) -> bool
+    ensures { IsTrue result ↔ All IsName texts.now }
+{
+    texts.iter().all(|text| is_name(text))
+}
+
+/// Whether an entry and its enumerators have names, and its description needs no escape.
+fn is_well_named(entry: &Entry<'_>) -> bool
+    ensures { IsTrue result ↔ IsWellNamed entry.now }
+{
+    if !is_name(entry.name()) {
+        return false;
+    }
+    if !is_plain(entry.description()) {
+        return false;
+    }
+    match entry.values() {
+        Some(values) => are_names(values.as_slice()),
+        None => true,
+    }
+}
+
+/// Whether no two of the names are the same or have the same camel case.
+fn are_distinct(alloc: Global, names: &[Text]) -> Result<bool, AllocError>
+    ensures { IfOk result (λ b. IsTrue b ↔ AreDistinct names.now) }
+{
+    let mut places = no_names(alloc);
+    for place in 0..names.len() {
+        if add_name(alloc, &mut places, &names[place], place as u64)?.is_some() {
+            return Ok(false);
+        }
+    }
+    Ok(true)
+}
+
+/// Whether an enum may have these values.
+fn is_good_enum(alloc: Global, values: &[Text]) -> Result<bool, AllocError>
+    ensures { IfOk result (λ b. IsTrue b ↔ IsGoodEnum values.now) }
+{
+    if values.is_empty() {
+        return Ok(false);
+    }
+    if values.len() > MAX_VALUES {
+        return Ok(false);
+    }
+    are_distinct(alloc, values)
+}
+
+/// Whether an entry is no enum, or one that may have its values.
+fn has_good_values(alloc: Global, entry: &Entry<'_>) -> Result<bool, AllocError>
+    ensures { IfOk result (λ b. IsTrue b ↔ IfSome entry.now.values IsGoodEnum) }
+{
+    match entry.values() {
+        Some(values) => is_good_enum(alloc, values.as_slice()),
+        None => Ok(true),
+    }
+}
+
+/// Whether a name in a preset means something, where there are so many booleans and so many earlier presets.
+fn is_met(booleans: u32, earlier: usize, arg: &PresetType) -> bool
+    ensures { IsTrue result ↔ IsMet booleans earlier arg.now }
+{
+    match arg {
+        PresetType::BoolSetting(index) => index.number() < booleans,
+        PresetType::OtherPreset(index) => (index.number() as usize) < earlier,
+    }
+}
+
+/// Whether all names in a preset mean something.
+fn are_met(booleans: u32, earlier: usize, args: &[PresetType]) -> bool
+    ensures { IsTrue result ↔ AreMet booleans earlier args.now }
+{
+    args.iter().all(|arg| is_met(booleans, earlier, arg))
+}
+
+/// The first fault of the entry at this place, where `places` keeps the names of the earlier ones. Where there is none its
+/// name is kept too.
+fn entry_fault(
+    alloc: Global,
+    builder: &SettingGroupBuilder,
+    group: u64,
+    place: usize,
+    places: &mut BTreeMap<Text, u64>,
+) -> Result<Option<DefinitionError>, AllocError>
+    requires within { place < entry_count builder.now }
+    requires kept { Keeps places.old (take place (names_of builder.now)) }
+    ensures kept { IfOk result (λ o. IfNone o (Keeps places.new (take (place + 1) (names_of builder.now)))) }
+    ensures fault { IfOk result (λ o. MatchOption o (KeepsRules builder.now place) (IsFirstEntryFault builder.now group place)) }
+{
+    let entry = builder.entry(place);
+    let number = place as u64;
+    if !is_well_named(&entry) {
+        return Ok(Some(DefinitionError::BadName(Place::Entry(group, number))));
+    }
+    if let Some(earlier) = add_name(alloc, places, entry.name(), number)? {
+        return Ok(Some(DefinitionError::DuplicateName(Place::Entry(group, number), earlier)));
+    }
+    if !has_good_values(alloc, &entry)? {
+        return Ok(Some(DefinitionError::BadEnum(group, number)));
+    }
+    let earlier = place.saturating_sub(builder.settings().len());
+    if !are_met(builder.boolean_count(), earlier, entry.args()) {
+        return Ok(Some(DefinitionError::BadPreset(group, number)));
+    }
+    Ok(None)
+}
+
+/// The first fault of the entries, in their order.
+fn entries_fault(
+    alloc: Global,
+    builder: &SettingGroupBuilder,
+    group: u64,
+) -> Result<Option<DefinitionError>, AllocError>
+    ensures { IfOk result (λ o. MatchOption o ((k : ℕ) → k < entry_count builder.now → KeepsRules builder.now k) (IsFirstOfEntries builder.now group)) }
+{
+    let mut places = no_names(alloc);
+    for place in 0..builder.entry_count() {
+        if let Some(fault) = entry_fault(alloc, builder, group, place, &mut places)? {
+            return Ok(Some(fault));
+        }
+    }
+    Ok(None)
+}
+
+/// The first fault of the group.
+pub(crate) fn group_fault(
+    alloc: Global,
+    builder: &SettingGroupBuilder,
+    group: u64,
+) -> Result<Option<DefinitionError>, AllocError>
+    ensures { IfOk result (λ o. MatchOption o (IsValidGroup builder.now) (IsFirstGroupFault builder.now group)) }
+{
+    if !is_name(builder.name()) {
+        return Ok(Some(DefinitionError::BadName(Place::Group(group))));
+    }
+    if let Some(fault) = entries_fault(alloc, builder, group)? {
+        return Ok(Some(fault));
+    }
+    let booleans = u64::from(builder.boolean_count());
+    let bytes = builder.byte_count();
+    let entries = builder.entry_count() as u64;
+    if booleans > MAX_BOOLEANS || bytes > MAX_BYTES || entries > MAX_ENTRIES {
+        return Ok(Some(DefinitionError::TooManySettings(group, booleans, bytes, entries)));
+    }
+    Ok(None)
+}

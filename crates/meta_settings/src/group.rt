@@ -1,0 +1,114 @@
+ghost use Rattle.std.specs.Prelude.{◌≡◌, ◌↔◌, ◌<◌, IsTrue, length};
+ghost use Rattle.meta_settings.specs.Layout.{booleans_in, IsSized};
+ghost use Rattle.meta_settings.specs.PresetLayout.{HasAll};
+
+use super::preset::Preset;
+use super::setting::Setting;
+use meta_types::Text;
+use std::marker::Model;
+
+/// A group of settings with its layout. `SettingGroupBuilder::build` alone makes it.
+#[derive(Debug, Drop)]
+pub struct SettingGroup {
+    name: Text,
+    settings: Vec<Setting>,
+    bool_start_byte_offset: u8,
+    settings_size: u8,
+    presets: Vec<Preset>,
+}
+
+impl Model for SettingGroup {
+    ghost use Rattle.meta_settings.specs.Layout.{Layout, IsSized};
+
+    ghost Value = { Layout };
+
+    ghost view = { λ g. record { name = g.name; settings = g.settings.items; bool_start_byte_offset = g.bool_start_byte_offset; settings_size = g.settings_size; presets = g.presets.items } };
+
+    ghost invariant = { λ g. IsSized g.settings.items g.bool_start_byte_offset g.settings_size };
+}
+
+impl SettingGroup {
+    pub(crate) fn new(
+        name: Text,
+        settings: Vec<Setting>,
+        bool_start_byte_offset: u8,
+        settings_size: u8,
+        presets: Vec<Preset>,
+    ) -> SettingGroup
+        requires { IsSized settings.items bool_start_byte_offset settings_size }
+        ensures { result ≡ record { name = name; settings = settings.items; bool_start_byte_offset = bool_start_byte_offset; settings_size = settings_size; presets = presets.items } }
+    {
+        SettingGroup {
+            name,
+            settings,
+            bool_start_byte_offset,
+            settings_size,
+            presets,
+        }
+    }
+
+    /// Its name.
+    pub fn name(&self) -> &Text
+        ensures { result.now ≡ self.now.name }
+    {
+        &self.name
+    }
+
+    /// Its settings: the enums and numbers, then the booleans, each in order of declaration.
+    pub fn settings(&self) -> &[Setting]
+        ensures { result.now ≡ self.now.settings }
+    {
+        self.settings.as_slice()
+    }
+
+    /// The byte of its first booleans, which is the count of its enums and numbers.
+    pub fn bool_start_byte_offset(&self) -> u8
+        ensures { result ≡ self.now.bool_start_byte_offset }
+    {
+        self.bool_start_byte_offset
+    }
+
+    /// How many bytes its settings take.
+    pub fn settings_size(&self) -> u8
+        ensures size { result ≡ self.now.settings_size }
+        ensures sized { IsSized self.now.settings self.now.bool_start_byte_offset self.now.settings_size }
+    {
+        self.settings_size
+    }
+
+    /// How many bytes its settings take: `settings_size`.
+    pub fn byte_size(&self) -> u8
+        ensures { result ≡ self.now.settings_size }
+    {
+        self.settings_size
+    }
+
+    /// Its presets, in order of declaration.
+    pub fn presets(&self) -> &[Preset]
+        ensures { result.now ≡ self.now.presets }
+    {
+        self.presets.as_slice()
+    }
+
+    /// Whether the number of each boolean that the preset turns on is below the group's count of booleans (this project's
+    /// own).
+    pub fn has(&self, preset: &Preset) -> bool
+        ensures { IsTrue result ↔ HasAll self.now preset.now }
+    {
+        let count = self.booleans().len();
+        preset
+            .booleans()
+            .iter()
+            .all(|number| (*number as usize) < count)
+    }
+
+    /// Its booleans, in order of their numbers.
+    pub(crate) fn booleans(&self) -> &[Setting]
+        ensures booleans { result.now ≡ booleans_in self.now }
+        ensures sized { IsSized self.now.settings self.now.bool_start_byte_offset self.now.settings_size }
+    {
+        self.settings
+            .split_at(self.bool_start_byte_offset as usize)
+            .1
+    }
+}

@@ -1,0 +1,103 @@
+ghost use Rattle.std.specs.Prelude.{◌≡◌};
+ghost use Rattle.meta_settings.specs.declared.index.PresetType.TheVariants.{BoolSetting, OtherPreset};
+
+use std::marker::Model;
+
+/// The number of a boolean among the booleans of its group, from 0 and below 2^32.
+#[derive(Clone, Copy, Debug, PartialEq, Eq, Hash)]
+pub struct BoolSettingIndex {
+    number: u32,
+}
+
+impl Model for BoolSettingIndex {
+    ghost use Rattle.std.specs.Prelude.{ℕ};
+
+    ghost Value = { ℕ };
+
+    ghost view = { λ i. i.number };
+
+    ghost inverse = { λ n. record { number = n } };
+}
+
+impl BoolSettingIndex {
+    pub(crate) fn new(number: u32) -> BoolSettingIndex
+        ensures { result ≡ number }
+    {
+        BoolSettingIndex { number }
+    }
+
+    /// The number, from 0.
+    pub fn number(self) -> u32
+        ensures { result ≡ self }
+    {
+        self.number
+    }
+}
+
+/// The number of a preset among the presets of its group, from 0 and below 2^32.
+#[derive(Clone, Copy, Debug, PartialEq, Eq, Hash)]
+pub struct PresetIndex {
+    number: u32,
+}
+
+impl Model for PresetIndex {
+    ghost use Rattle.std.specs.Prelude.{ℕ};
+
+    ghost Value = { ℕ };
+
+    ghost view = { λ i. i.number };
+
+    ghost inverse = { λ n. record { number = n } };
+}
+
+impl PresetIndex {
+    pub(crate) fn new(number: u32) -> PresetIndex
+        ensures { result ≡ number }
+    {
+        PresetIndex { number }
+    }
+
+    /// The number, from 0.
+    pub fn number(self) -> u32
+        ensures { result ≡ self }
+    {
+        self.number
+    }
+}
+
+/// What a preset names: a boolean, or an earlier preset.
+#[derive(Debug, Drop, PartialEq, Eq, Hash)]
+pub enum PresetType {
+    BoolSetting(BoolSettingIndex),
+    OtherPreset(PresetIndex),
+}
+
+impl From<BoolSettingIndex> for PresetType {
+    ghost from_gives = { λ index named. named ≡ BoolSetting index };
+
+    fn from(index: BoolSettingIndex) -> PresetType {
+        PresetType::BoolSetting(index)
+    }
+}
+
+impl From<PresetIndex> for PresetType {
+    ghost from_gives = { λ index named. named ≡ OtherPreset index };
+
+    fn from(index: PresetIndex) -> PresetType {
+        PresetType::OtherPreset(index)
+    }
+}
+
+/// What a preset names, as `preset!(alloc; a && b)`: a `Vec<PresetType>` of the names, each by `PresetType::from`. It is used
+/// in a body that answers a `Result`, since the list may find no memory. `preset!(alloc;)` names nothing.
+#[macro_export]
+macro_rules! preset {
+    ($alloc:expr;) => {
+        Vec::<$crate::PresetType>::new($alloc)
+    };
+    ($alloc:expr; $($name:tt)&&+) => {{
+        let mut named = Vec::<$crate::PresetType>::new($alloc);
+        $(named.push($crate::PresetType::from($name))?;)+
+        named
+    }};
+}

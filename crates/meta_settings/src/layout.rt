@@ -1,0 +1,84 @@
+ghost use Rattle.std.specs.Prelude.{◌≡◌, ◌≤◌, ◌+◌, ◌/◌, ◌++◌, IfOk, length};
+ghost use Rattle.meta_settings.specs.GroupDeclaration.{booleans_among, others_among};
+ghost use Rattle.meta_settings.specs.TurnedOn.{built_presets};
+ghost use Rattle.meta_settings.specs.GroupFaults.{IsValidGroup};
+ghost use Rattle.meta_settings.specs.Searched.{AreAllMet};
+ghost use Rattle.meta_settings.specs.LaidOut.{in_bytes, in_bits, built_of};
+
+use super::builder::SettingGroupBuilder;
+use super::group::SettingGroup;
+use super::preset::Preset;
+use super::proto::{ProtoPreset, ProtoSetting};
+use super::setting::Setting;
+use std::alloc::{AllocError, Global};
+
+/// The enums and numbers among these settings, each in a byte of its own.
+fn in_bytes(alloc: Global, settings: &[ProtoSetting]) -> Result<Vec<Setting>, AllocError>
+    requires { length (others_among settings.now) ≤ 255 }
+    ensures { IfOk result (λ v. v.items ≡ in_bytes 0 (others_among settings.now)) }
+{
+    let mut placed = Vec::new(alloc);
+    for setting in settings {
+        if setting.is_bool() {
+            continue;
+        }
+        placed.push(Setting::at(alloc, setting, placed.len() as u8, 0)?)?;
+    }
+    Ok(placed)
+}
+
+/// The booleans among these settings, eight to a byte from this byte on.
+fn in_bits(alloc: Global, settings: &[ProtoSetting], start: u8) -> Result<Vec<Setting>, AllocError>
+    requires few { length (booleans_among settings.now) ≤ 248 }
+    requires bytes { start + (length (booleans_among settings.now) + 7) / 8 ≤ 255 }
+    ensures { IfOk result (λ v. v.items ≡ in_bits start 0 (booleans_among settings.now)) }
+{
+    let mut placed = Vec::new(alloc);
+    for setting in settings {
+        if !setting.is_bool() {
+            continue;
+        }
+        let number = placed.len() as u8;
+        placed.push(Setting::at(alloc, setting, start + number / 8, number)?)?;
+    }
+    Ok(placed)
+}
+
+/// Settings, and others behind them.
+fn joined(mut first: Vec<Setting>, mut second: Vec<Setting>) -> Result<Vec<Setting>, AllocError>
+    ensures { IfOk result (λ v. v.items ≡ first.items ++ second.items) }
+{
+    first.append(&mut second)?;
+    Ok(first)
+}
+
+/// The presets with what they turn on, in order.
+fn with_booleans(alloc: Global, declared: &[ProtoPreset]) -> Result<Vec<Preset>, AllocError>
+    requires { AreAllMet 256 declared.now }
+    ensures { IfOk result (λ v. v.items ≡ built_presets declared.now) }
+{
+    let mut presets = Vec::new(alloc);
+    for preset in declared {
+        let built = Preset::of(alloc, preset, &presets)?;
+        presets.push(built)?;
+    }
+    Ok(presets)
+}
+
+/// The group with its layout, where it has no fault.
+pub(crate) fn laid_out_group(
+    alloc: Global,
+    builder: &SettingGroupBuilder,
+) -> Result<SettingGroup, AllocError>
+    requires { IsValidGroup builder.now }
+    ensures { IfOk result (λ g. g ≡ built_of builder.now) }
+{
+    let settings = builder.settings();
+    let numbers = in_bytes(alloc, settings)?;
+    let start = numbers.len() as u8;
+    let booleans = in_bits(alloc, settings, start)?;
+    let placed = joined(numbers, booleans)?;
+    let presets = with_booleans(alloc, builder.presets())?;
+    let size = builder.byte_count() as u8;
+    Ok(SettingGroup::new(builder.name().copy(alloc)?, placed, start, size, presets))
+}
