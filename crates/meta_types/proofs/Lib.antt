@@ -1,5 +1,6 @@
 mod Decimal
 pub mod Among
+pub mod Answering
 pub mod AllTypes
 pub mod Numbers
 pub mod Names
@@ -13,5 +14,6 @@ mod Affixes
 mod Left
 mod Lanes
 mod Endings
+mod EqualTypes
 mod Docs
 mod Camel

@@ -1,6 +1,6 @@
 -- A derived function leads from a type to one type at most.
 use Rattle.std.proofs.Common.{rules, Bool, Contains, subst, ◌&&◌, nat_lt, ◌≡◌, ℕ, ◌*◌, ◌/◌, false, true, if◌then◌else◌, refl, sym, ◌∙◌}
-use Rattle.meta_types.specs.Shape.{IntKind, Shape, IsType, lane_counts, scalar}
+use Rattle.meta_types.specs.Shape.{IntKind, Shape, lane_counts, scalar}
 use Rattle.meta_types.specs.Function.{Function, LaneOf, AsTruthy, HalfWidth, DoubleWidth, SplitLanes, MergeLanes, DynamicToVector, Narrower, Wider, Answers, is_scalar}
 
 -- the one shape to which f may lead from u
@@ -16,7 +16,7 @@ candidate Narrower u = u
 candidate Wider u = u
 
 -- an answer is that shape
-only : (f : Function) (u t : Shape) → Answers f u t → t ≡ candidate f u
+pub only : (f : Function) (u t : Shape) → Answers f u t → t ≡ candidate f u
 only LaneOf u t h = search rules
 only AsTruthy u t h = search rules
 only HalfWidth u t h = search rules
@@ -32,20 +32,11 @@ pub one : (f : Function) (u s t : Shape) → Answers f u s → Answers f u t →
 one f u s t h k = only f u s h ∙ sym (only f u t k)
 
 -- half of a lane count that is one itself
-even : (d e : Bool) (n : ℕ) → Contains (lane_counts d) n → Contains (lane_counts e) (n / 2) → 2 * (n / 2) ≡ n
+pub even : (d e : Bool) (n : ℕ) → Contains (lane_counts d) n → Contains (lane_counts e) (n / 2) → 2 * (n / 2) ≡ n
 even true true n h k = search rules
 even true false n h k = search rules
 even false true n h k = search rules
 even false false n h k = search rules
-
--- half the lanes of twice the width, where they are those of a type
-pub merged : (f : Function) (u : Shape) → f ≡ MergeLanes → IsType u → IsType (candidate MergeLanes u) → Answers f u (candidate MergeLanes u)
-merged f u is from to =
-    let halves : 2 * (u.lanes / 2) ≡ u.lanes = even u.is_dynamic u.is_dynamic u.lanes from.lanes to.lanes in
-    subst (λ g. Answers g u (candidate MergeLanes u)) (sym is) (leads halves)
-  where
-    leads : 2 * (u.lanes / 2) ≡ u.lanes → Answers MergeLanes u (candidate MergeLanes u)
-    leads halves = search rules
 
 -- nothing comes of a vector that isn't dynamic or has 256 lanes
 pub not_fixed : (f : Function) (u t : Shape) → f ≡ DynamicToVector → false ≡ (u.is_dynamic && nat_lt u.lanes 256) → ¬ Answers f u t

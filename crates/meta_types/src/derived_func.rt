@@ -44,7 +44,7 @@ enum LaneKind {
 
 /// The parts of a type: what a lane holds, its width in bits, how many lanes there are, and whether that is the least count.
 /// Not all parts are those of a type.
-#[derive(Clone, Copy, PartialEq, Eq)]
+#[derive(Clone, Copy)]
 struct Parts {
     kind: LaneKind,
     width: u64,
@@ -76,7 +76,49 @@ impl DerivedFunc {
         ensures found { IfSome result (λ t. Answers (function_of self) (shape_of c) (shape_of t)) }
         ensures none { IfNone result ((t : Shape) → ¬ Answers (function_of self) (shape_of c) t) }
     {
-        self.apply_parts(Parts::of(c))?.value_type()
+        let from = Parts::of(c);
+        match self {
+            DerivedFunc::LaneOf => Parts {
+                lanes: 1,
+                is_dynamic: false,
+                ..from
+            }
+            .value_type(),
+            DerivedFunc::AsTruthy => Parts {
+                kind: LaneKind::Int,
+                width: if from.is_scalar() { 8 } else { from.width },
+                ..from
+            }
+            .value_type(),
+            DerivedFunc::HalfWidth => Parts {
+                width: from.width / 2,
+                ..from
+            }
+            .value_type(),
+            DerivedFunc::DoubleWidth => Parts {
+                width: 2 * from.width,
+                ..from
+            }
+            .value_type(),
+            DerivedFunc::SplitLanes => Parts {
+                width: from.width / 2,
+                lanes: 2 * from.lanes,
+                ..from
+            }
+            .value_type(),
+            DerivedFunc::MergeLanes => Parts {
+                width: 2 * from.width,
+                lanes: from.lanes / 2,
+                ..from
+            }
+            .value_type(),
+            DerivedFunc::DynamicToVector if from.has_fixed_form() => Parts {
+                is_dynamic: false,
+                ..from
+            }
+            .value_type(),
+            DerivedFunc::DynamicToVector | DerivedFunc::Narrower | DerivedFunc::Wider => None,
+        }
     }
 
     /// Whether the function leads from `c` to `t`, or `t` stands in the relation to `c` (this project's own).
@@ -86,7 +128,7 @@ impl DerivedFunc {
         match self {
             DerivedFunc::Narrower => Parts::of(t).is_narrower(Parts::of(c)),
             DerivedFunc::Wider => Parts::of(c).is_narrower(Parts::of(t)),
-            _ => self.apply_parts(Parts::of(c)) == Some(Parts::of(t)),
+            _ => self.apply(c) == Some(t),
         }
     }
 
@@ -108,51 +150,6 @@ impl DerivedFunc {
         match (ValueType::from_number(c), ValueType::from_number(t)) {
             (Some(c), Some(t)) => self.relates(c, t),
             _ => false,
-        }
-    }
-
-    /// The parts to which a function leads from those of a type, if they are a type's. A relation has none.
-    fn apply_parts(self, c: Parts) -> Option<Parts>
-        requires { IsType (parts_shape c) }
-        ensures found { IfSome result (λ t. IsType (parts_shape t) → Answers (function_of self) (parts_shape c) (parts_shape t)) }
-        ensures only { IfSome result (λ p. (t : Shape) → Answers (function_of self) (parts_shape c) t → t ≡ parts_shape p) }
-        ensures none { IfNone result ((t : Shape) → ¬ Answers (function_of self) (parts_shape c) t) }
-    {
-        match self {
-            DerivedFunc::LaneOf => Some(Parts {
-                lanes: 1,
-                is_dynamic: false,
-                ..c
-            }),
-            DerivedFunc::AsTruthy => Some(Parts {
-                kind: LaneKind::Int,
-                width: if c.is_scalar() { 8 } else { c.width },
-                ..c
-            }),
-            DerivedFunc::HalfWidth => Some(Parts {
-                width: c.width / 2,
-                ..c
-            }),
-            DerivedFunc::DoubleWidth => Some(Parts {
-                width: 2 * c.width,
-                ..c
-            }),
-            DerivedFunc::SplitLanes => Some(Parts {
-                width: c.width / 2,
-                lanes: 2 * c.lanes,
-                ..c
-            }),
-            DerivedFunc::MergeLanes => Some(Parts {
-                width: 2 * c.width,
-                lanes: c.lanes / 2,
-                ..c
-            }),
-            DerivedFunc::DynamicToVector if c.has_fixed_form() => Some(Parts {
-                is_dynamic: false,
-                ..c
-            }),
-            DerivedFunc::DynamicToVector => None,
-            DerivedFunc::Narrower | DerivedFunc::Wider => None,
         }
     }
 }
