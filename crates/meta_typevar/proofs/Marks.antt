@@ -21,12 +21,12 @@ marked [] xs = []
 marked (m ∷ ms) [] = []
 marked (m ∷ ms) (x ∷ xs) = cond m (x ∷ marked ms xs) (marked ms xs)
 
-at_each : (p : List Bool → Bool) (ms : List Bool) → at_marks (length ms) p ≡ true → p ms ≡ true
+pub at_each : (p : List Bool → Bool) (ms : List Bool) → at_marks (length ms) p ≡ true → p ms ≡ true
 at_each p [] e = e
 at_each p (true ∷ ms) e = at_each (λ ms. p (true ∷ ms)) ms (both _ _ e).0
 at_each p (false ∷ ms) e = at_each (λ ms. p (false ∷ ms)) ms (both _ _ e).1
 
-filter_marked : (p : ℕ → Bool) (xs : List ℕ) → filter p xs ≡ marked (map p xs) xs
+pub filter_marked : (p : ℕ → Bool) (xs : List ℕ) → filter p xs ≡ marked (map p xs) xs
 filter_marked p [] = refl
 filter_marked p (x ∷ xs) = ap (λ ys. cond (p x) (x ∷ ys) ys) (filter_marked p xs)
 

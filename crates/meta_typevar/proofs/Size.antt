@@ -71,7 +71,7 @@ mark_cases : (b : Bool) → (b ≡ false) ⊎ (b ≡ true)
 mark_cases false = inl refl
 mark_cases true = inr refl
 
-kinds_differ : IntKind ≡ FloatKind → ⊥
+pub kinds_differ : IntKind ≡ FloatKind → ⊥
 kinds_differ e = cc
 
 pub product_one : (x y : ℕ) → x * y ≡ 1 → (x ≡ 1) × (y ≡ 1)

@@ -29,6 +29,11 @@ pub record IsMember (s : FourSets) (t : Shape) : Type 0 where
   pub width : Contains (widths_in s t.kind) t.width
   pub lanes : Contains (lanes_in s t.is_dynamic) t.lanes
 
+-- t is the only member
+pub record IsOnlyMember (s : FourSets) (t : Shape) : Type 0 where
+  pub member : IsMember s t
+  pub only : (u : Shape) → IsMember s u → u ≡ t
+
 -- exactly one type is a member
 pub record HasOne (s : FourSets) : Type 0 where
   pub one : Shape

@@ -1,8 +1,16 @@
 pub mod FourSets
 pub mod Masks
 pub mod Chain
+pub mod Reaching
 pub mod Variable
 pub mod Intervals
 pub mod MaskSets
+pub mod Image
+pub mod MaskImage
 pub mod Decoding
+pub mod Chained
 pub mod Registry
+pub mod Children
+pub mod Derivation
+pub mod Concrete
+pub mod Compared

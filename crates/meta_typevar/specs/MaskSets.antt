@@ -1,5 +1,5 @@
 -- The sets that masks stand for.
-use Rattle.std.specs.Prelude.{◌≡◌, ℕ, ◌==◌, Bool, true, false, bit_and}
+use Rattle.std.specs.Prelude.{ℕ, ◌==◌, Bool, true, false, bit_and}
 use Rattle.std.specs.List.{filter}
 use Rattle.meta_types.specs.Shape.{IntKind, FloatKind, widths, lane_counts}
 use Rattle.meta_typevar.specs.FourSets.{FourSets}
@@ -14,8 +14,6 @@ holds mask n = bit_and mask n == n
 abbrev pub sets_in : Masks → FourSets
 sets_in m = record { lanes = filter (holds m.lanes) (lane_counts false); dynamic_lanes = filter (holds m.dynamic_lanes) (lane_counts true); ints = filter (holds m.ints) (widths IntKind); floats = filter (holds m.floats) (widths FloatKind) }
 
--- each mask is the sum of allowed numbers, and scalars alone are held: no call makes vectors yet
-pub record AreScalarMasks (m : Masks) : Type 0 where
-  pub whole : AreMasksOf (sets_in m) m
-  pub lanes : m.lanes ≡ 1
-  pub dynamic_lanes : m.dynamic_lanes ≡ 0
+-- each mask is the sum of numbers that its set may have
+abbrev pub AreMasks : Masks → Type 0
+AreMasks m = AreMasksOf (sets_in m) m

@@ -1,5 +1,5 @@
 -- Type variables.
-use Rattle.std.specs.Prelude.{◌≡◌, ℕ, List, [], ◌∷◌}
+use Rattle.std.specs.Prelude.{◌≡◌, ℕ, List, [], ◌∷◌, ◌++◌}
 use Rattle.meta_types.specs.Function.{Function}
 use Rattle.meta_typevar.specs.FourSets.{FourSets}
 use Rattle.meta_typevar.specs.Chain.{IsFixedNowhere}
@@ -13,10 +13,14 @@ pub record Variable : Type 0 where
 abbrev pub underived : ℕ → Variable
 underived n = record { root = n; chain = [] }
 
+-- what is derived from v by f
+abbrev pub longer : Variable → Function → Variable
+longer v f = record { root = v.root; chain = v.chain ++ (f ∷ []) }
+
 -- w is derived from v by f alone
 pub record IsDerivedBy (v w : Variable) (f : Function) : Type 0 where
   pub root : w.root ≡ v.root
-  pub chain : w.chain ≡ f ∷ v.chain
+  pub chain : w.chain ≡ v.chain ++ (f ∷ [])
 
 -- the set of each root, by its number
 abbrev pub Sets : Type 0

@@ -17,8 +17,14 @@ pub enum Interval {
 /// A part of a type set builder (this project's own).
 #[derive(Clone, Copy, Debug, PartialEq, Eq)]
 pub enum Part {
+    /// The int widths.
     Ints,
+    /// The float widths.
     Floats,
+    /// The lane counts of scalars and fixed vectors.
+    SimdLanes,
+    /// The least lane counts of dynamic vectors.
+    DynamicSimdLanes,
 }
 
 impl From<Range<u16>> for Interval {

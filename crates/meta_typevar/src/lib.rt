@@ -5,15 +5,28 @@
 #![tactic(auto)]
 
 mod builder;
+mod chain;
+mod children;
+mod content;
+mod fixed;
 mod interval;
+mod laws;
+mod listing;
 mod masks;
+mod part_numbers;
+mod registry;
 #[cfg(test)]
 mod tests;
 mod type_set;
+#[cfg(test)]
+mod type_set_tests;
 mod typevar;
 
 pub use builder::TypeSetBuilder;
+pub use content::{TypeVarContent, TypeVarParent};
 pub use interval::{Interval, Part};
+pub use laws::{equal_sets, equal_variables};
 pub use masks::Masks;
+pub use registry::TypeVars;
 pub use type_set::TypeSet;
-pub use typevar::{TypeVar, TypeVarContent, TypeVars};
+pub use typevar::TypeVar;

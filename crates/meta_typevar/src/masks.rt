@@ -1,6 +1,14 @@
-ghost use Rattle.std.specs.Prelude.{◌↔◌, IsTrue};
+ghost use Rattle.std.specs.Prelude.{◌≡◌, ◌↔◌, ◌&&◌, IsTrue, nat_lt};
+ghost use Rattle.std.specs.List.{list_all};
 ghost use Rattle.meta_typevar.specs.Masks.{ContainsNumber, Holds};
 ghost use Rattle.meta_typevar.specs.Decoding.{HoldsLane, HoldsLanes};
+ghost use Rattle.meta_typevar.specs.Image.{can_derive, can_halve, can_double, has_some, has_scalars_alone};
+ghost use Rattle.meta_typevar.specs.MaskSets.{sets_in, AreMasks};
+ghost use Rattle.meta_typevar.specs.MaskImage.{IsMaskImage};
+ghost use Rattle.meta_types.specs.DerivedFunc.{function_of};
+ghost use Rattle.meta_types.specs.Function.{LaneOf, AsTruthy, HalfWidth, DoubleWidth, SplitLanes, MergeLanes, DynamicToVector};
+
+use meta_types::DerivedFunc;
 
 /// A set of types as four masks. Bit `k` of a mask stands for the power of two `2^k`: a lane count or a width in bits.
 #[derive(Clone, Copy, Debug, PartialEq, Eq, Hash)]
@@ -51,6 +59,173 @@ impl Masks {
             9..=16 => holds(self.dynamic_lanes, 1 << (row - 8)),
             _ => false,
         }
+    }
+}
+
+/// All int widths, and all float widths.
+const ALL_INTS: u8 = 248;
+
+const ALL_FLOATS: u8 = 240;
+
+/// All lane counts of scalars and fixed vectors, and those below 256.
+const ALL_LANES: u16 = 511;
+
+const LANES_BELOW_256: u16 = 255;
+
+impl Masks {
+    /// The coded image under a derived function. The relations leave the masks as they are.
+    pub(crate) fn image(self, derived_func: DerivedFunc) -> Masks
+        requires { AreMasks self }
+        ensures { IsMaskImage (function_of derived_func) self result }
+    {
+        match derived_func {
+            DerivedFunc::LaneOf => self.lane_of(),
+            DerivedFunc::AsTruthy => self.as_truthy(),
+            DerivedFunc::HalfWidth => self.half_width(),
+            DerivedFunc::DoubleWidth => self.double_width(),
+            DerivedFunc::SplitLanes => self.split_lanes(),
+            DerivedFunc::MergeLanes => self.merge_lanes(),
+            DerivedFunc::DynamicToVector => self.dynamic_to_vector(),
+            DerivedFunc::Narrower | DerivedFunc::Wider => self,
+        }
+    }
+
+    /// Whether a variable with this coded set may be derived from by the function.
+    pub(crate) fn can_derive(self, derived_func: DerivedFunc) -> bool
+        requires { AreMasks self }
+        ensures { result ≡ can_derive (function_of derived_func) (sets_in self) }
+    {
+        match derived_func {
+            DerivedFunc::HalfWidth => self.can_halve(),
+            DerivedFunc::DoubleWidth => self.can_double(),
+            DerivedFunc::SplitLanes => self.can_halve() && self.has_lanes_to_double(),
+            DerivedFunc::MergeLanes => self.can_double() && self.has_lanes_to_halve(),
+            DerivedFunc::Narrower | DerivedFunc::Wider => self.has_scalars_alone(),
+            DerivedFunc::LaneOf | DerivedFunc::AsTruthy | DerivedFunc::DynamicToVector => true,
+        }
+    }
+
+    /// One lane in place of the lanes.
+    fn lane_of(self) -> Masks
+        requires { AreMasks self }
+        ensures { IsMaskImage LaneOf self result }
+    {
+        Masks { lanes: 1, ..self }
+    }
+
+    /// Integers of 8 bits where there are scalars alone, and else integers of all the widths.
+    fn as_truthy(self) -> Masks
+        requires { AreMasks self }
+        ensures { IsMaskImage AsTruthy self result }
+    {
+        let ints = if self.lanes == 1 {
+            8
+        } else {
+            self.ints | self.floats
+        };
+        Masks {
+            ints,
+            floats: 0,
+            ..self
+        }
+    }
+
+    /// Half the widths, where they can be halved.
+    fn half_width(self) -> Masks
+        requires { AreMasks self }
+        ensures { IsMaskImage HalfWidth self result }
+    {
+        Masks {
+            ints: (self.ints >> 1) & ALL_INTS,
+            floats: (self.floats >> 1) & ALL_FLOATS,
+            ..self
+        }
+    }
+
+    /// Twice the widths, where they can be doubled.
+    fn double_width(self) -> Masks
+        requires { AreMasks self }
+        ensures { IsMaskImage DoubleWidth self result }
+    {
+        Masks {
+            ints: self.ints << 1,
+            floats: self.floats << 1,
+            ..self
+        }
+    }
+
+    /// Half the widths and twice the lanes, where they can be halved and doubled.
+    fn split_lanes(self) -> Masks
+        requires { AreMasks self }
+        ensures { IsMaskImage SplitLanes self result }
+    {
+        Masks {
+            lanes: (self.lanes << 1) & ALL_LANES,
+            ..self.half_width()
+        }
+    }
+
+    /// Twice the widths and half the lanes, where they can be doubled and halved.
+    fn merge_lanes(self) -> Masks
+        requires { AreMasks self }
+        ensures { IsMaskImage MergeLanes self result }
+    {
+        Masks {
+            lanes: self.lanes >> 1,
+            ..self.double_width()
+        }
+    }
+
+    /// The dynamic lanes below 256 as lanes, and no dynamic lanes.
+    fn dynamic_to_vector(self) -> Masks
+        requires { AreMasks self }
+        ensures { IsMaskImage DynamicToVector self result }
+    {
+        Masks {
+            lanes: self.dynamic_lanes & LANES_BELOW_256,
+            dynamic_lanes: 0,
+            ..self
+        }
+    }
+
+    /// Whether each width is above the least one of its kind.
+    fn can_halve(self) -> bool
+        requires { AreMasks self }
+        ensures { result ≡ can_halve (sets_in self) }
+    {
+        self.ints & 8 == 0 && self.floats & 16 == 0
+    }
+
+    /// Whether each width is below 128.
+    fn can_double(self) -> bool
+        requires { AreMasks self }
+        ensures { result ≡ can_double (sets_in self) }
+    {
+        self.ints & 128 == 0 && self.floats & 128 == 0
+    }
+
+    /// Whether there are lanes, each of them below 256.
+    fn has_lanes_to_double(self) -> bool
+        requires { AreMasks self }
+        ensures { result ≡ (has_some (sets_in self).lanes && list_all (λ n. nat_lt n 256) (sets_in self).lanes) }
+    {
+        self.lanes != 0 && self.lanes & 256 == 0
+    }
+
+    /// Whether there are lanes, each of them above 1.
+    fn has_lanes_to_halve(self) -> bool
+        requires { AreMasks self }
+        ensures { result ≡ (has_some (sets_in self).lanes && list_all (nat_lt 1) (sets_in self).lanes) }
+    {
+        self.lanes != 0 && self.lanes & 1 == 0
+    }
+
+    /// Whether there are scalars alone, of some width.
+    fn has_scalars_alone(self) -> bool
+        requires { AreMasks self }
+        ensures { result ≡ has_scalars_alone (sets_in self) }
+    {
+        self.lanes == 1 && self.dynamic_lanes == 0 && (self.ints != 0 || self.floats != 0)
     }
 }
 

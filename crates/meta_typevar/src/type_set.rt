@@ -1,38 +1,52 @@
-ghost use Rattle.std.specs.Prelude.{◌≡◌, ◌+◌, ◌*◌, ◌↔◌, length, [], IsTrue, IsOkAnd, IfSome, IfNone};
+ghost use Rattle.std.specs.Prelude.{◌≡◌, ◌≤◌, sum, ◌+◌, ◌*◌, ◌↔◌, ℕ, length, [], map, slice_get, Some, Contains, IsTrue, IsOkAnd, IfSome, IfNone, IfOk};
+ghost use Rattle.meta_types.specs.DerivedFunc.{function_of};
+ghost use Rattle.meta_types.specs.Lane.{lane_shape};
+ghost use Rattle.meta_types.specs.Shape.{Shape};
 ghost use Rattle.meta_types.specs.ValueTypes.{shape_of};
-ghost use Rattle.meta_typevar.specs.FourSets.{IsMember, HasOne, IsTypeSet};
+ghost use Rattle.meta_typevar.specs.Concrete.{types_in};
+ghost use Rattle.meta_typevar.specs.Derivation.{singleton_sets, vector_lanes, int_width_of, float_width_of};
+ghost use Rattle.meta_typevar.specs.FourSets.{IsMember, IsOnlyMember, HasOne, IsTypeSet};
+ghost use Rattle.meta_typevar.specs.Image.{image_of, can_derive};
 ghost use Rattle.meta_typevar.specs.Masks.{AreMasksOf};
-ghost use Rattle.meta_typevar.specs.MaskSets.{sets_in, AreScalarMasks};
-ghost use Rattle.meta_typevar.specs.Chain.{IsFixed, IsFixedNowhere};
+ghost use Rattle.meta_typevar.specs.MaskSets.{sets_in, AreMasks};
 
+use super::fixed::fixed_along;
 use super::masks::Masks;
-use meta_types::{LaneType, ValueType};
+use super::part_numbers::PartText;
+use meta_types::{DerivedFunc, LaneType, ValueType};
 use std::alloc::{AllocError, Global};
+use std::fmt;
 use std::marker::Model;
 
 /// A set of types: those whose width is one of the widths of their kind, and whose lane count is one of the lane counts
 /// (`cdsl/typevar.rs`, which holds four ordered sets where this holds four masks).
-#[derive(Drop)]
+#[derive(Drop, PartialEq, Eq, Hash)]
 pub struct TypeSet {
     masks: Masks,
 }
 
 impl Model for TypeSet {
+    ghost use Rattle.std.specs.Prelude.{sum};
+    ghost use Rattle.std.proofs.Common.{sym};
     ghost use Rattle.meta_typevar.specs.FourSets.{FourSets};
 
     ghost Value = { FourSets };
 
-    ghost use Rattle.meta_typevar.specs.MaskSets.{sets_in, AreScalarMasks};
+    ghost use Rattle.meta_typevar.specs.MaskSets.{sets_in, AreMasks};
 
     ghost view = { λ s. sets_in s.masks };
 
-    ghost invariant = { λ s. AreScalarMasks s.masks };
+    ghost invariant = { λ s. AreMasks s.masks };
+
+    ghost inverse = { λ s. record { masks = record { lanes = sum s.lanes; dynamic_lanes = sum s.dynamic_lanes; ints = sum s.ints; floats = sum s.floats } } };
+
+    ghost inverse_ok = { λ a h i. record { masks = record { lanes = sym h.lanes i; dynamic_lanes = sym h.dynamic_lanes i; ints = sym h.ints i; floats = sym h.floats i } } };
 }
 
 impl TypeSet {
     /// The set that the masks stand for.
     pub(crate) fn from_masks(masks: Masks) -> TypeSet
-        requires { AreScalarMasks masks }
+        requires { AreMasks masks }
         ensures { result ≡ sets_in masks }
     {
         TypeSet { masks }
@@ -40,7 +54,7 @@ impl TypeSet {
 
     /// How many types are members.
     pub fn size(&self) -> usize
-        ensures product { result ≡ (length self.now.lanes + length self.now.dynamic_lanes) * (length self.now.ints + length self.now.floats) }
+        ensures count { result ≡ length (types_in self.now) }
         ensures one { (result ≡ 1) ↔ HasOne self.now }
     {
         let lanes = self.masks.lanes.count_ones() + self.masks.dynamic_lanes.count_ones();
@@ -53,6 +67,16 @@ impl TypeSet {
         ensures { IsTrue result ↔ IsMember self.now (shape_of t) }
     {
         self.masks.contains(t.number())
+    }
+
+    /// The members: for each lane count rising, the ints in rising width and then the floats; after that the same for the
+    /// dynamic lane counts.
+    pub fn concrete_types(&self, alloc: Global) -> Result<Vec<ValueType>, AllocError>
+        ensures listed { IfOk result (λ v. map shape_of v.items ≡ types_in self.now) }
+        ensures members { (t : Shape) → (Contains (types_in self.now) t ↔ IsMember self.now t) }
+        ensures once { (j k : ℕ) (t : Shape) → slice_get (types_in self.now) j ≡ Some t → slice_get (types_in self.now) k ≡ Some t → j ≡ k }
+    {
+        self.masks.concrete_types(alloc)
     }
 
     /// The set as four masks, each the sum of the members of one of the four sets (this project's own).
@@ -70,19 +94,126 @@ impl TypeSet {
         Ok(TypeSet { masks: self.masks })
     }
 
+    /// The coded image of the set under a derived function. Memory never runs out here.
+    pub fn image(&self, _alloc: Global, derived_func: DerivedFunc) -> Result<TypeSet, AllocError>
+        ensures { IsOkAnd result (λ s. s ≡ image_of (function_of derived_func) self.now) }
+    {
+        Ok(TypeSet::from_masks(self.masks.image(derived_func)))
+    }
+
+    /// Whether a variable with this coded set may be derived from by the function.
+    pub(crate) fn can_derive(&self, derived_func: DerivedFunc) -> bool
+        ensures { result ≡ can_derive (function_of derived_func) self.now }
+    {
+        self.masks.can_derive(derived_func)
+    }
+
+    /// The set of a variable that stands for the type: the type alone, or, where it has more than one lane, the fixed and the
+    /// dynamic vector of these lanes.
+    pub(crate) fn singleton(value_type: ValueType) -> TypeSet
+        ensures { result ≡ singleton_sets (shape_of value_type) }
+    {
+        let lane = lane_of(value_type);
+        let lanes = least_lanes(value_type);
+        TypeSet::from_masks(Masks {
+            lanes: lanes as u16,
+            dynamic_lanes: dynamic_mask(lanes as u16),
+            ints: int_mask(lane),
+            floats: float_mask(lane),
+        })
+    }
+
     /// The only member, where there is exactly one.
     pub(crate) fn only_type(&self) -> Option<ValueType>
-        ensures found { IfSome result (λ t. IsFixed self.now [] (shape_of t)) }
-        ensures none { IfNone result (IsFixedNowhere self.now []) }
+        ensures found { IfSome result (λ t. IsOnlyMember self.now (shape_of t)) }
+        ensures none { IfNone result (¬ HasOne self.now) }
     {
-        if self.size() != 1 {
-            return None;
-        }
-        let lane = if self.masks.floats == 0 {
-            LaneType::int_from_bits(self.masks.ints as u16)
-        } else {
-            LaneType::float_from_bits(self.masks.floats as u16)
+        fixed_along(self, [].as_slice())
+    }
+}
+
+/// The type of a lane.
+fn lane_of(value_type: ValueType) -> LaneType
+    ensures kind { (lane_shape result).kind ≡ (shape_of value_type).kind }
+    ensures width { (lane_shape result).width ≡ (shape_of value_type).width }
+{
+    match value_type {
+        ValueType::Lane(lane) => lane,
+        ValueType::Vector(vector) => vector.lane_type(),
+        ValueType::DynamicVector(vector) => vector.lane_type(),
+    }
+}
+
+/// How many lanes there are, or at least are.
+fn least_lanes(value_type: ValueType) -> u64
+    ensures lanes { result ≡ (shape_of value_type).lanes }
+    ensures few { result ≤ 256 }
+{
+    match value_type {
+        ValueType::Lane(_) => 1,
+        ValueType::Vector(vector) => vector.lane_count(),
+        ValueType::DynamicVector(vector) => vector.minimum_lane_count(),
+    }
+}
+
+/// The lane count as a mask of dynamic lanes, which has none for one lane.
+fn dynamic_mask(lanes: u16) -> u16
+    ensures { result ≡ sum (vector_lanes lanes) }
+{
+    if lanes == 1 { 0 } else { lanes }
+}
+
+/// The width of an integer lane as a mask.
+fn int_mask(lane: LaneType) -> u8
+    ensures { result ≡ sum (int_width_of (lane_shape lane).kind (lane_shape lane).width) }
+{
+    match lane {
+        LaneType::Int(_) => lane.lane_bits() as u8,
+        LaneType::Float(_) => 0,
+    }
+}
+
+/// The width of a floating-point lane as a mask.
+fn float_mask(lane: LaneType) -> u8
+    ensures { result ≡ sum (float_width_of (lane_shape lane).kind (lane_shape lane).width) }
+{
+    match lane {
+        LaneType::Int(_) => 0,
+        LaneType::Float(_) => lane.lane_bits() as u8,
+    }
+}
+
+impl fmt::Debug for TypeSet {
+    ghost use Rattle.std.specs.Prelude.{Some};
+    ghost use Rattle.meta_typevar.specs.Concrete.{set_text};
+
+    ghost debug_output = { λ s. Some (set_text s) };
+
+    fn fmt<W: fmt::Write>(&self, f: &mut fmt::Formatter<W>) -> fmt::Result {
+        let masks = self.masks;
+        let has_lanes = masks.lane_numbers().has_some();
+        let has_counts = has_lanes | masks.dynamic_lane_numbers().has_some();
+        let has_some = has_counts | masks.int_numbers().has_some();
+        let lanes = PartText {
+            name: "lanes",
+            numbers: masks.lane_numbers(),
+            follows: false,
         };
-        Some(ValueType::Lane(lane))
+        let dynamic_lanes = PartText {
+            name: "dynamic_lanes",
+            numbers: masks.dynamic_lane_numbers(),
+            follows: has_lanes,
+        };
+        let ints = PartText {
+            name: "ints",
+            numbers: masks.int_numbers(),
+            follows: has_counts,
+        };
+        let floats = PartText {
+            name: "floats",
+            numbers: masks.float_numbers(),
+            follows: has_some,
+        };
+        write!(f, "TypeSet({lanes}{dynamic_lanes}{ints}{floats})")
     }
 }

@@ -1,91 +1,23 @@
-ghost use Rattle.std.specs.Prelude.{◌≡◌, ◌+◌, ◌-◌, ◌^◌, ◌<◌, ◌↔◌, [], ◌∷◌, ◌++◌, length, IsTrue, IfOk, OnOk, OnErr, IfSome, IfNone, slice_get};
+ghost use Rattle.std.specs.Prelude.{◌≡◌, ◌+◌, ◌-◌, ◌^◌, ◌<◌, ◌↔◌, [], ◌∷◌, ◌++◌, length, IsTrue, IfOk, IsOkAnd, OnOk, OnErr, IfSome, IfNone};
+ghost use Rattle.meta_types.specs.Shape.{name_of};
+ghost use Rattle.meta_types.specs.TypeText.{doc_of};
+ghost use Rattle.meta_types.specs.Function.{LaneOf, AsTruthy, HalfWidth, DoubleWidth, SplitLanes, MergeLanes, DynamicToVector, Narrower, Wider};
+ghost use Rattle.meta_types.specs.DerivedFunc.{function_of};
 ghost use Rattle.meta_types.specs.ValueTypes.{shape_of};
+ghost use Rattle.meta_typevar.specs.FourSets.{IsOnlyMember, HasOne};
 ghost use Rattle.meta_typevar.specs.Chain.{IsFixed};
-ghost use Rattle.meta_typevar.specs.Variable.{IsOpen};
-ghost use Rattle.meta_typevar.specs.Registry.{content_of, sets_of, variable_at, HoldTypeSets};
+ghost use Rattle.meta_typevar.specs.Chained.{functions_of};
+ghost use Rattle.meta_typevar.specs.Image.{can_derive};
+ghost use Rattle.meta_typevar.specs.Variable.{IsOpen, underived};
+ghost use Rattle.meta_typevar.specs.Registry.{root_content, sets_of, variable_at, coded_at, IsRaw};
+ghost use Rattle.meta_typevar.specs.Derivation.{singleton_sets, Derives};
 
+use super::fixed::fixed_along;
+use super::registry::TypeVars;
 use super::type_set::TypeSet;
-use meta_types::{Text, ValueType};
+use meta_types::{DerivedFunc, Text, ValueType};
 use std::alloc::{AllocError, Global};
 use std::marker::Model;
-
-/// What is kept of a type variable (`cdsl/typevar.rs`).
-#[derive(Drop)]
-pub struct TypeVarContent {
-    /// Its short name, which descriptions of instructions use.
-    pub name: Text,
-    /// Its documentation.
-    pub doc: Text,
-    type_set: TypeSet,
-}
-
-/// A registry of type variables, which are numbered from 0 in the order in which they were added (this project's own).
-#[derive(Drop)]
-pub struct TypeVars {
-    contents: Vec<TypeVarContent>,
-}
-
-impl Model for TypeVars {
-    ghost use Rattle.std.specs.Prelude.{List};
-    ghost use Rattle.meta_typevar.specs.declared.typevar.TypeVarContent.{TypeVarContent};
-
-    ghost Value = { List TypeVarContent };
-
-    ghost use Rattle.meta_typevar.specs.Registry.{IsRegistry};
-
-    ghost view = { λ v. v.contents.items };
-
-    ghost invariant = { λ v. IsRegistry v.contents.items };
-}
-
-impl TypeVars {
-    /// A registry without a variable.
-    pub fn new(alloc: Global) -> TypeVars
-        ensures { result ≡ [] }
-    {
-        TypeVars {
-            contents: Vec::new(alloc),
-        }
-    }
-
-    /// How many variables there are: below 2^32.
-    pub fn len(&self) -> usize
-        ensures count { result ≡ length self.now }
-        ensures below { result < 2 ^ 32 }
-        ensures sets { HoldTypeSets self.now }
-    {
-        self.contents.len()
-    }
-
-    /// How many of them have no parent: all, since no call derives one yet (this project's own).
-    pub fn root_count(&self) -> usize
-        ensures { result ≡ length self.now }
-    {
-        self.contents.len()
-    }
-
-    /// Whether one more fits: there are less than 2^32 - 1 (this project's own).
-    pub fn has_room(&self) -> bool
-        ensures { IsTrue result ↔ (length self.now < 2 ^ 32 - 1) }
-    {
-        self.contents.len() < u32::MAX as usize
-    }
-
-    /// Whether the variable is of this registry: its number is below `len` (this project's own).
-    pub fn is_of(&self, tv: TypeVar) -> bool
-        ensures { IsTrue result ↔ (tv < length self.now) }
-    {
-        (tv.number as usize) < self.contents.len()
-    }
-
-    /// What is kept of a variable of this registry.
-    pub fn content(&self, tv: TypeVar) -> &TypeVarContent
-        requires { tv < length self.now }
-        ensures { slice_get self.now tv ≡ Some result.now }
-    {
-        &self.contents[tv.number as usize]
-    }
-}
 
 /// A type variable, as its number in a registry (`cdsl/typevar.rs`, where it is a pointer).
 #[derive(Clone, Copy, Debug, PartialEq, Eq, Hash)]
@@ -114,8 +46,8 @@ impl From<&TypeVar> for TypeVar {
 }
 
 impl TypeVar {
-    /// Adds a fresh variable with this name, documentation and type set to a registry that has room. After an error the
-    /// registry is as it was.
+    /// Adds a fresh root with this name, documentation and type set to a registry that has room. After an error the registry
+    /// is as it was.
     pub fn new(
         vars: &mut TypeVars,
         name: Text,
@@ -124,35 +56,274 @@ impl TypeVar {
     ) -> Result<TypeVar, AllocError>
         requires { length vars.old < 2 ^ 32 - 1 }
         ensures number { IfOk result (λ v. v ≡ length vars.old) }
-        ensures added { OnOk result (vars.new ≡ vars.old ++ content_of name doc type_set ∷ []) }
+        ensures added { OnOk result (vars.new ≡ vars.old ++ root_content name doc type_set (length vars.old) ∷ []) }
         ensures err { OnErr result (vars.new ≡ vars.old) }
     {
-        // Its clause says that the set is one of types, which the registry keeps.
-        let _masks = type_set.masks();
-        let number = vars.contents.len() as u32;
-        vars.contents.push(TypeVarContent {
-            name,
-            doc,
-            type_set,
-        })?;
-        Ok(TypeVar { number })
+        vars.add_root(name, doc, type_set)
     }
 
-    /// The type set of a variable of this registry.
-    pub fn get_raw_typeset(self, vars: &TypeVars) -> &TypeSet
+    /// Adds a fresh root that stands for a type to a registry that has room: it has the type's name and documentation, and
+    /// its set has the type alone, or, where it has more than one lane, the fixed and the dynamic vector of these lanes. After
+    /// an error the registry is as it was.
+    pub fn new_singleton(vars: &mut TypeVars, value_type: ValueType) -> Result<TypeVar, AllocError>
+        requires { length vars.old < 2 ^ 32 - 1 }
+        ensures number { IfOk result (λ v. v ≡ length vars.old) }
+        ensures added { let t = shape_of value_type in OnOk result (vars.new ≡ vars.old ++ root_content (name_of t) (doc_of t) (singleton_sets t) (length vars.old) ∷ []) }
+        ensures err { OnErr result (vars.new ≡ vars.old) }
+    {
+        let alloc = vars.allocator();
+        let name = value_type.to_string(alloc)?;
+        let name = Text::new(alloc, name.as_str())?;
+        let doc = value_type.doc(alloc)?;
+        vars.add_root(name, doc, TypeSet::singleton(value_type))
+    }
+
+    /// Adds a fresh root with this name, no documentation, and the type set of a root of this registry, which has room. After
+    /// an error the registry is as it was.
+    pub fn copy_from(vars: &mut TypeVars, other: TypeVar, name: Text) -> Result<TypeVar, AllocError>
+        requires room { length vars.old < 2 ^ 32 - 1 }
+        requires of { other < length vars.old }
+        requires underived { (variable_at vars.old other).chain ≡ [] }
+        ensures number { IfOk result (λ v. v ≡ length vars.old) }
+        ensures added { OnOk result (vars.new ≡ vars.old ++ root_content name [] (sets_of vars.old other) (length vars.old) ∷ []) }
+        ensures err { OnErr result (vars.new ≡ vars.old) }
+    {
+        let alloc = vars.allocator();
+        let type_set = vars.content(other).type_set.copy(alloc)?;
+        let doc = Text::new(alloc, "")?;
+        vars.add_root(name, doc, type_set)
+    }
+
+    /// The variable that is derived from this one by a function. It is added to the registry, which has room, exactly where it
+    /// isn't there. `can_derive` tells whether it may be called. After an error the registry is as it was.
+    pub fn derived(
+        self,
+        vars: &mut TypeVars,
+        derived_func: DerivedFunc,
+    ) -> Result<TypeVar, AllocError>
+        requires room { length vars.old < 2 ^ 32 - 1 }
+        requires of { self < length vars.old }
+        requires can { IsTrue (can_derive (function_of derived_func) (coded_at vars.old self)) }
+        ensures { Derives vars.old self derived_func result vars.new }
+    {
+        if let Some(known) = vars.find(self, derived_func) {
+            return Ok(known);
+        }
+        let alloc = vars.allocator();
+        let type_set = self.get_typeset(alloc, vars)?;
+        let content = vars.derive(self, derived_func, type_set)?;
+        vars.add_derived(self, derived_func, content)
+    }
+
+    /// The lane of this variable. It is `derived` by `DerivedFunc::LaneOf`.
+    pub fn lane_of(self, vars: &mut TypeVars) -> Result<TypeVar, AllocError>
+        requires room { length vars.old < 2 ^ 32 - 1 }
+        requires of { self < length vars.old }
+        ensures { Derives vars.old self DerivedFunc.LaneOf result vars.new }
+    {
+        self.derived(vars, DerivedFunc::LaneOf)
+    }
+
+    /// What a comparison of values of this variable gives. It is `derived` by `DerivedFunc::AsTruthy`.
+    pub fn as_truthy(self, vars: &mut TypeVars) -> Result<TypeVar, AllocError>
+        requires room { length vars.old < 2 ^ 32 - 1 }
+        requires of { self < length vars.old }
+        ensures { Derives vars.old self DerivedFunc.AsTruthy result vars.new }
+    {
+        self.derived(vars, DerivedFunc::AsTruthy)
+    }
+
+    /// This variable with lanes of half the width. It is `derived` by `DerivedFunc::HalfWidth`.
+    pub fn half_width(self, vars: &mut TypeVars) -> Result<TypeVar, AllocError>
+        requires room { length vars.old < 2 ^ 32 - 1 }
+        requires of { self < length vars.old }
+        requires can { IsTrue (can_derive HalfWidth (coded_at vars.old self)) }
+        ensures { Derives vars.old self DerivedFunc.HalfWidth result vars.new }
+    {
+        self.derived(vars, DerivedFunc::HalfWidth)
+    }
+
+    /// This variable with lanes of twice the width. It is `derived` by `DerivedFunc::DoubleWidth`.
+    pub fn double_width(self, vars: &mut TypeVars) -> Result<TypeVar, AllocError>
+        requires room { length vars.old < 2 ^ 32 - 1 }
+        requires of { self < length vars.old }
+        requires can { IsTrue (can_derive DoubleWidth (coded_at vars.old self)) }
+        ensures { Derives vars.old self DerivedFunc.DoubleWidth result vars.new }
+    {
+        self.derived(vars, DerivedFunc::DoubleWidth)
+    }
+
+    /// This variable with twice the lanes, each of half the width. It is `derived` by `DerivedFunc::SplitLanes`.
+    pub fn split_lanes(self, vars: &mut TypeVars) -> Result<TypeVar, AllocError>
+        requires room { length vars.old < 2 ^ 32 - 1 }
+        requires of { self < length vars.old }
+        requires can { IsTrue (can_derive SplitLanes (coded_at vars.old self)) }
+        ensures { Derives vars.old self DerivedFunc.SplitLanes result vars.new }
+    {
+        self.derived(vars, DerivedFunc::SplitLanes)
+    }
+
+    /// This variable with half the lanes, each of twice the width. It is `derived` by `DerivedFunc::MergeLanes`.
+    pub fn merge_lanes(self, vars: &mut TypeVars) -> Result<TypeVar, AllocError>
+        requires room { length vars.old < 2 ^ 32 - 1 }
+        requires of { self < length vars.old }
+        requires can { IsTrue (can_derive MergeLanes (coded_at vars.old self)) }
+        ensures { Derives vars.old self DerivedFunc.MergeLanes result vars.new }
+    {
+        self.derived(vars, DerivedFunc::MergeLanes)
+    }
+
+    /// The fixed vector of this variable. It is `derived` by `DerivedFunc::DynamicToVector`.
+    pub fn dynamic_to_vector(self, vars: &mut TypeVars) -> Result<TypeVar, AllocError>
+        requires room { length vars.old < 2 ^ 32 - 1 }
+        requires of { self < length vars.old }
+        ensures { Derives vars.old self DerivedFunc.DynamicToVector result vars.new }
+    {
+        self.derived(vars, DerivedFunc::DynamicToVector)
+    }
+
+    /// A variable for the types with fewer bits than this one. It is `derived` by `DerivedFunc::Narrower`.
+    pub fn narrower(self, vars: &mut TypeVars) -> Result<TypeVar, AllocError>
+        requires room { length vars.old < 2 ^ 32 - 1 }
+        requires of { self < length vars.old }
+        requires can { IsTrue (can_derive Narrower (coded_at vars.old self)) }
+        ensures { Derives vars.old self DerivedFunc.Narrower result vars.new }
+    {
+        self.derived(vars, DerivedFunc::Narrower)
+    }
+
+    /// A variable for the types with more bits than this one. It is `derived` by `DerivedFunc::Wider`.
+    pub fn wider(self, vars: &mut TypeVars) -> Result<TypeVar, AllocError>
+        requires room { length vars.old < 2 ^ 32 - 1 }
+        requires of { self < length vars.old }
+        requires can { IsTrue (can_derive Wider (coded_at vars.old self)) }
+        ensures { Derives vars.old self DerivedFunc.Wider result vars.new }
+    {
+        self.derived(vars, DerivedFunc::Wider)
+    }
+
+    /// Whether the coded image of the variable, of this registry, allows the function: each width that is halved is above the
+    /// least, each that is doubled below 128, and so on. Memory never runs out here (this project's own; the crate asserts it).
+    pub fn can_derive(
+        self,
+        alloc: Global,
+        vars: &TypeVars,
+        derived_func: DerivedFunc,
+    ) -> Result<bool, AllocError>
         requires { self < length vars.now }
-        ensures { result.now ≡ sets_of vars.now self }
+        ensures { IsOkAnd result (λ can. can ≡ can_derive (function_of derived_func) (coded_at vars.now self)) }
+    {
+        Ok(self.get_typeset(alloc, vars)?.can_derive(derived_func))
+    }
+
+    /// The coded image of the variable, of this registry: that of its root's set along its chain. Memory never runs out here.
+    pub fn get_typeset(self, alloc: Global, vars: &TypeVars) -> Result<TypeSet, AllocError>
+        requires { self < length vars.now }
+        ensures { IsOkAnd result (λ s. s ≡ coded_at vars.now self) }
+    {
+        vars.content(self).coded(alloc)
+    }
+
+    /// Whether what is kept as the set of the variable, of this registry, is its coded image, as it is for a root. Memory never
+    /// runs out here (this project's own; the crate asserts it).
+    pub fn is_raw(self, alloc: Global, vars: &TypeVars) -> Result<bool, AllocError>
+        requires { self < length vars.now }
+        ensures { IsOkAnd result (λ raw. IsTrue raw ↔ IsRaw vars.now self) }
+    {
+        let coded = self.get_typeset(alloc, vars)?.masks();
+        Ok(vars.content(self).type_set.masks() == coded)
+    }
+
+    /// What is kept as the set of a variable of this registry, where that is its coded image (`is_raw` tells).
+    pub fn get_raw_typeset(self, vars: &TypeVars) -> &TypeSet
+        requires of { self < length vars.now }
+        requires raw { IsRaw vars.now self }
+        ensures { result.now ≡ coded_at vars.now self }
     {
         &vars.content(self).type_set
     }
 
+    /// The only member of the coded image of the variable, of this registry; `None` exactly where it hasn't exactly one. Memory
+    /// never runs out here.
+    pub fn singleton_type(
+        self,
+        alloc: Global,
+        vars: &TypeVars,
+    ) -> Result<Option<ValueType>, AllocError>
+        requires { self < length vars.now }
+        ensures found { IsOkAnd result (λ o. IfSome o (λ t. IsOnlyMember (coded_at vars.now self) (shape_of t))) }
+        ensures none { IfOk result (λ o. IfNone o (¬ HasOne (coded_at vars.now self))) }
+    {
+        Ok(self.get_typeset(alloc, vars)?.only_type())
+    }
+
+    /// The root of the variable, of this registry; `None` exactly where its set has exactly one type. Memory never runs out
+    /// here.
+    pub fn free_typevar(
+        self,
+        _alloc: Global,
+        vars: &TypeVars,
+    ) -> Result<Option<TypeVar>, AllocError>
+        requires { self < length vars.now }
+        ensures found { IsOkAnd result (λ o. IfSome o (λ v. v ≡ (variable_at vars.now self).root)) }
+        ensures free { let v = variable_at vars.now self in IfOk result (λ o. IfSome o (λ _. ¬ HasOne (sets_of vars.now v.root))) }
+        ensures none { let v = variable_at vars.now self in IfOk result (λ o. IfNone o (HasOne (sets_of vars.now v.root))) }
+    {
+        let root = self.root(vars);
+        if vars.content(root).type_set.size() == 1 {
+            return Ok(None);
+        }
+        Ok(Some(root))
+    }
+
+    /// The root of the variable, of this registry: itself where it isn't derived (this project's own).
+    pub fn root(self, vars: &TypeVars) -> TypeVar
+        requires { self < length vars.now }
+        ensures root { result ≡ (variable_at vars.now self).root }
+        ensures underived { variable_at vars.now result ≡ underived result }
+        ensures of { result < length vars.now }
+    {
+        vars.content(self).root
+    }
+
+    /// The derived functions from the root of the variable, of this registry, to it, from the root outwards (this project's
+    /// own).
+    pub fn chain(self, alloc: Global, vars: &TypeVars) -> Result<Vec<DerivedFunc>, AllocError>
+        requires { self < length vars.now }
+        ensures { IfOk result (λ v. functions_of v.items ≡ (variable_at vars.now self).chain) }
+    {
+        vars.content(self).chain.as_slice().to_vec(alloc)
+    }
+
     /// The only type that the variable, of this registry, can have, whatever its root has; `None` exactly where there is no
-    /// such type (this project's own).
+    /// such type, and for a chain with a relation (this project's own).
     pub fn fixed_type(self, vars: &TypeVars) -> Option<ValueType>
         requires { self < length vars.now }
         ensures found { let v = variable_at vars.now self in IfSome result (λ t. IsFixed (sets_of vars.now v.root) v.chain (shape_of t)) }
         ensures none { let v = variable_at vars.now self in IfNone result (IsOpen (sets_of vars.now) v) }
     {
-        self.get_raw_typeset(vars).only_type()
+        let set = &vars.content(self.root(vars)).type_set;
+        fixed_along(set, vars.content(self).chain.as_slice())
+    }
+
+    /// The variable with this number.
+    pub(crate) fn of(number: u32) -> TypeVar
+        ensures { result ≡ number }
+    {
+        TypeVar { number }
+    }
+
+    /// Its number.
+    pub(crate) fn number(self) -> u32
+        ensures { result ≡ self }
+    {
+        self.number
+    }
+
+    /// The number as an index.
+    pub(crate) fn index(self) -> usize
+        ensures { result ≡ self }
+    {
+        self.number as usize
     }
 }

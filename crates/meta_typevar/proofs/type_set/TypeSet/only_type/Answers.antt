@@ -1,8 +1,10 @@
-use Rattle.meta_typevar.proofs.Fixed.{has_one_from_fixed, one_member, float_width}
+use Rattle.std.proofs.Common.{ap}
+use Rattle.meta_typevar.specs.Chained.{functions_of}
+use Rattle.meta_typevar.proofs.Fixing.{only_found, only_none}
 use Rattle.meta_typevar.proofs.type_set.TypeSet.only_type.Goals as goal
 
-pub returns-then-size-ne1-clause-none : goal.returns-then-size-ne1-clause-none
-returns-then-size-ne1-clause-none c = λ t h. c.if-size-ne1.true (c.size.ensures.one.1 (has_one_from_fixed _ t h))
+pub returns-clause-found : goal.returns-clause-found
+returns-clause-found c = only_found _ _ _ (ap functions_of c.as_slice.ensures) c.fixed_along.ensures.found
 
-pub float_from_bits-lane-requires : goal.float_from_bits-lane-requires
-float_from_bits-lane-requires c = float_width c.self.inside.masks c.self.invariant (one_member c.self.inside.masks _ _ c.self.view_is c.size.ensures.product c.if-size-ne1.false) c.if-self-eq0.false
+pub returns-clause-none : goal.returns-clause-none
+returns-clause-none c = only_none _ _ _ (ap functions_of c.as_slice.ensures) c.fixed_along.ensures.none

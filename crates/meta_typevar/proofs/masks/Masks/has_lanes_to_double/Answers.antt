@@ -1,0 +1,5 @@
+use Rattle.meta_typevar.proofs.ImageLemmas.{lanes_double_then}
+use Rattle.meta_typevar.proofs.masks.Masks.has_lanes_to_double.Goals as goal
+
+pub returns-then-self-ne0 : goal.returns-then-self-ne0
+returns-then-self-ne0 c = lanes_double_then c.args.self c.requires c.if-self-ne0.true

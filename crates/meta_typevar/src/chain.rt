@@ -1,0 +1,51 @@
+ghost use Rattle.std.specs.Prelude.{◌≡◌, [], ◌∷◌, ◌++◌, IfOk};
+ghost use Rattle.meta_types.specs.DerivedFunc.{function_of};
+ghost use Rattle.meta_typevar.specs.Chained.{functions_of};
+
+use meta_types::DerivedFunc;
+use std::alloc::{AllocError, Global};
+use std::marker::Model;
+
+/// The derived functions from a root to a variable, from the root outwards.
+#[derive(Drop)]
+pub(crate) struct Chain {
+    functions: Vec<DerivedFunc>,
+}
+
+impl Model for Chain {
+    ghost use Rattle.std.specs.Prelude.{List};
+    ghost use Rattle.meta_types.specs.Function.{Function};
+    ghost use Rattle.meta_typevar.specs.Chained.{functions_of};
+
+    ghost Value = { List Function };
+
+    ghost view = { λ c. functions_of c.functions.items };
+}
+
+impl Chain {
+    /// The chain of a root.
+    pub(crate) fn new(alloc: Global) -> Chain
+        ensures { result ≡ [] }
+    {
+        Chain {
+            functions: Vec::new(alloc),
+        }
+    }
+
+    /// The functions in order.
+    pub(crate) fn as_slice(&self) -> &[DerivedFunc]
+        ensures { functions_of result.now ≡ self.now }
+    {
+        self.functions.as_slice()
+    }
+
+    /// A chain of its own with one function more at the end.
+    pub(crate) fn with(&self, alloc: Global, derived_func: DerivedFunc) -> Result<Chain, AllocError>
+        ensures { IfOk result (λ c. c ≡ self.now ++ function_of derived_func ∷ []) }
+    {
+        let mut functions = Vec::new(alloc);
+        functions.extend_from_slice(self.functions.as_slice())?;
+        functions.push(derived_func)?;
+        Ok(Chain { functions })
+    }
+}

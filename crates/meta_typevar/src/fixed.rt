@@ -1,0 +1,96 @@
+ghost use Rattle.std.specs.Prelude.{◌≡◌, ◌↔◌, ◌≤◌, IsTrue, IfSome, IfNone};
+ghost use Rattle.meta_types.specs.Shape.{Shape, number_of};
+ghost use Rattle.meta_types.specs.ValueTypes.{shape_of};
+ghost use Rattle.meta_typevar.specs.FourSets.{IsMember};
+ghost use Rattle.meta_typevar.specs.Chain.{IsFixed, IsFixedNowhere};
+ghost use Rattle.meta_typevar.specs.Chained.{functions_of};
+ghost use Rattle.meta_typevar.specs.Reaching.{Reaches};
+
+use super::type_set::TypeSet;
+use meta_types::{DerivedFunc, ValueType};
+
+/// The numbers of types run from the first to below the last.
+const FIRST_NUMBER: u16 = 0x74;
+
+const END_OF_NUMBERS: u16 = 0x17d;
+
+/// The type that the chain fixes, whatever member of the set its root has; `None` exactly where there is no such type.
+pub(crate) fn fixed_along(set: &TypeSet, chain: &[DerivedFunc]) -> Option<ValueType>
+    ensures found { IfSome result (λ t. IsFixed set.now (functions_of chain.now) (shape_of t)) }
+    ensures none { IfNone result (IsFixedNowhere set.now (functions_of chain.now)) }
+{
+    let t = reached(chain, first_member(set)?)?;
+    if !all_reach(set, chain, t) {
+        return None;
+    }
+    Some(t)
+}
+
+/// The member with the least number.
+fn first_member(set: &TypeSet) -> Option<ValueType>
+    ensures found { IfSome result (λ r. IsMember set.now (shape_of r)) }
+    ensures none { IfNone result ((r : Shape) → IsMember set.now r → ⊥) }
+{
+    for number in FIRST_NUMBER..END_OF_NUMBERS {
+        if let Some(r) = member_with(set, number) {
+            return Some(r);
+        }
+    }
+    None
+}
+
+/// The member with the number.
+fn member_with(set: &TypeSet, number: u16) -> Option<ValueType>
+    ensures found { IfSome result (λ r. IsMember set.now (shape_of r) × (number_of (shape_of r) ≡ number)) }
+    ensures none { IfNone result ((r : Shape) → IsMember set.now r → number_of r ≡ number → ⊥) }
+{
+    let r = ValueType::from_number(number)?;
+    if !set.contains(r) {
+        return None;
+    }
+    Some(r)
+}
+
+/// Whether the functions lead from each member to the type.
+fn all_reach(set: &TypeSet, chain: &[DerivedFunc], t: ValueType) -> bool
+    ensures { IsTrue result ↔ ((r : Shape) → IsMember set.now r → Reaches (functions_of chain.now) r (shape_of t)) }
+{
+    for number in FIRST_NUMBER..END_OF_NUMBERS {
+        if !member_reaches(set, chain, number, t) {
+            return false;
+        }
+    }
+    true
+}
+
+/// Whether the functions lead from the member with the number, if there is one, to the type.
+fn member_reaches(set: &TypeSet, chain: &[DerivedFunc], number: u16, t: ValueType) -> bool
+    ensures { IsTrue result ↔ ((r : Shape) → IsMember set.now r → number_of r ≡ number → Reaches (functions_of chain.now) r (shape_of t)) }
+{
+    match member_with(set, number) {
+        Some(r) => reaches(chain, r, t),
+        None => true,
+    }
+}
+
+/// Whether the functions lead from one type to another.
+fn reaches(chain: &[DerivedFunc], r: ValueType, t: ValueType) -> bool
+    ensures { IsTrue result ↔ Reaches (functions_of chain.now) (shape_of r) (shape_of t) }
+{
+    match reached(chain, r) {
+        Some(x) => x.number() == t.number(),
+        None => false,
+    }
+}
+
+/// The type to which the functions lead, from the root outwards, if none of them is a relation and each gives a type.
+fn reached(chain: &[DerivedFunc], r: ValueType) -> Option<ValueType>
+    ensures found { IfSome result (λ t. Reaches (functions_of chain.now) (shape_of r) (shape_of t)) }
+    ensures none { IfNone result ((t : Shape) → Reaches (functions_of chain.now) (shape_of r) t → ⊥) }
+{
+    let mut t = r;
+    for &derived_func in chain {
+        t = derived_func.apply(t)?;
+    }
+    Some(t)
+}
