@@ -1,92 +1,114 @@
-ghost use Rattle.std.specs.Prelude.{◌≡◌, IfOk, codes};
-ghost use Rattle.meta_operands.specs.Operand.{variable_of};
+ghost use Rattle.std.specs.Prelude.{◌≡◌, ◌<◌, ℕ, IfOk, Some, None, length, is_some};
+ghost use Rattle.meta_operands.specs.Operand.{variable_of, is_varargs_operand, is_immediate_operand, is_immediate_or_entityref_operand, own_doc, doc_of};
 
+use super::kind::{OperandKind, OperandKindFields, copy_doc};
 use meta_types::Text;
-use meta_typevar::TypeVar;
+use meta_typevar::{TypeVar, TypeVars};
 use std::alloc::{AllocError, Global};
 
-/// What operands of a kind are.
-#[derive(Drop)]
-pub enum OperandKindFields {
-    /// Values, whose type is that of the variable.
-    TypeVar(TypeVar),
-}
-
-/// A kind of operands.
-#[derive(Drop)]
-pub struct OperandKind {
-    /// The name of the field that holds such an operand.
-    pub rust_field_name: Text,
-    /// The Rust type of that field.
-    pub rust_type: Text,
-    /// What the operands are.
-    pub fields: OperandKindFields,
-}
-
-impl OperandKind {
-    /// The kind of values whose type is that of the variable: the field `value` of the type `ir::Value` (in the crate
-    /// `From<&TypeVar>`).
-    pub fn of(alloc: Global, tv: TypeVar) -> Result<OperandKind, AllocError>
-        ensures field_name { IfOk result (λ k. k.rust_field_name ≡ codes "value") }
-        ensures field_type { IfOk result (λ k. k.rust_type ≡ codes "ir::Value") }
-        ensures fields { IfOk result (λ k. k.fields ≡ OperandKindFields.TypeVar tv) }
-    {
-        Ok(OperandKind {
-            rust_field_name: Text::new(alloc, "value")?,
-            rust_type: Text::new(alloc, "ir::Value")?,
-            fields: OperandKindFields::TypeVar(tv),
-        })
-    }
-}
-
-/// An operand of an instruction: its name and its kind.
+/// An operand of an instruction: its name and its kind (`cdsl/operands.rs`).
 #[derive(Drop)]
 pub struct Operand {
     /// The name by which the instruction's text shows it.
     pub name: Text,
     /// What it is.
     pub kind: OperandKind,
+    doc: Option<Text>,
 }
 
 impl Operand {
-    /// The operand of this name and kind.
+    /// The operand of this name and kind, without a documentation of its own.
     pub fn new(name: Text, kind: OperandKind) -> Operand
         ensures name { result.name ≡ name }
         ensures kind { result.kind ≡ kind }
+        ensures doc { own_doc result ≡ None }
     {
-        Operand { name, kind }
+        Operand {
+            name,
+            kind,
+            doc: None,
+        }
     }
 
-    /// The type variable of the operand, where it is a value.
+    /// The same operand with this documentation.
+    pub fn with_doc(mut self, doc: Text) -> Operand
+        ensures name { result.name ≡ self.name }
+        ensures kind { result.kind ≡ self.kind }
+        ensures doc { own_doc result ≡ Some doc }
+    {
+        self.doc = Some(doc);
+        self
+    }
+
+    /// An equal operand of its own (in the crate `Clone`).
+    pub fn copy(&self, alloc: Global) -> Result<Operand, AllocError>
+        ensures { IfOk result (λ o. o ≡ self.now) }
+    {
+        Ok(Operand {
+            name: self.name.copy(alloc)?,
+            kind: self.kind.copy(alloc)?,
+            doc: copy_doc(alloc, &self.doc)?,
+        })
+    }
+
+    /// The documentation: that which was given to the operand; else, of a value, that of its variable, which is of the
+    /// registry; else that of the kind, empty where the kind has none.
+    pub fn doc<'a>(&'a self, vars: &'a TypeVars) -> &'a str
+        requires { (tv : ℕ) → variable_of self.now ≡ Some tv → tv < length vars.now }
+        ensures { result.now ≡ doc_of vars.now self.now }
+    {
+        if let Some(doc) = &self.doc {
+            return doc.as_str();
+        }
+        match self.type_var() {
+            Some(tv) => vars.content(tv).doc.as_str(),
+            None => self.kind.doc(),
+        }
+    }
+
+    /// Whether the operand is a value.
+    pub fn is_value(&self) -> bool
+        ensures { result ≡ is_some (variable_of self.now) }
+    {
+        self.type_var().is_some()
+    }
+
+    /// The type variable of the operand; `None` exactly where it is no value.
     pub fn type_var(&self) -> Option<TypeVar>
         ensures { result ≡ variable_of self.now }
     {
         match self.kind.fields {
             OperandKindFields::TypeVar(tv) => Some(tv),
+            _ => None,
         }
     }
-}
 
-#[cfg(test)]
-mod tests {
-    use super::*;
-    use meta_typevar::{Interval, TypeSetBuilder, TypeVars};
-    use std::test::Fail;
+    /// Whether the operand is a variable number of values.
+    pub fn is_varargs(&self) -> bool
+        ensures { result ≡ is_varargs_operand self.now }
+    {
+        matches!(self.kind.fields, OperandKindFields::VariableArgs)
+    }
 
-    #[test]
-    fn makes_value_operands(rt: HostRuntime) -> Result<(), Fail> {
-        let alloc = rt.alloc();
-        let mut vars = TypeVars::new(alloc);
-        let ints = TypeSetBuilder::new().ints(Interval::All).build(alloc)?;
-        let name = Text::new(alloc, "Int")?;
-        let doc = Text::new(alloc, "")?;
-        let tv = TypeVar::new(&mut vars, name, doc, ints)?;
-        let kind = OperandKind::of(alloc, tv)?;
-        assert_eq!(rt; kind.rust_field_name.as_str(), "value");
-        assert_eq!(rt; kind.rust_type.as_str(), "ir::Value");
-        let operand = Operand::new(Text::new(alloc, "x")?, kind);
-        assert_eq!(rt; operand.name.as_str(), "x");
-        assert_eq!(rt; operand.type_var(), Some(tv));
-        Ok(())
+    /// Whether the operand is an immediate: an enum or a value that the instruction itself holds.
+    pub fn is_immediate(&self) -> bool
+        ensures { result ≡ is_immediate_operand self.now }
+    {
+        matches!(
+            self.kind.fields,
+            OperandKindFields::ImmEnum(_) | OperandKindFields::ImmValue
+        )
+    }
+
+    /// Whether the operand is an immediate or a reference to an entity, as a block.
+    pub fn is_immediate_or_entityref(&self) -> bool
+        ensures { result ≡ is_immediate_or_entityref_operand self.now }
+    {
+        matches!(
+            self.kind.fields,
+            OperandKindFields::ImmEnum(_)
+                | OperandKindFields::ImmValue
+                | OperandKindFields::EntityRef
+        )
     }
 }
