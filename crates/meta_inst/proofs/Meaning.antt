@@ -1,15 +1,16 @@
 -- The operands by the numbers of their variables, and the instruction that they make.
 use Rattle.std.proofs.Common.{◌≡◌, ◌<◌, ◌≤◌, inl, inr, ℕ, List, [], Bool, true, false, length, take, drop, Option, None, Some, slice_get, arith, refl, sym, ap, ◌∙◌, map, subst, ⊎_elim, ◌+◌, ◌∷◌, zero, suc, zero-add, suc-add}
-use Rattle.std.specs.Prelude.{option_map, option_and_then, if◌then◌else◌}
+use Rattle.std.specs.Prelude.{◌↔◌, IsTrue, IfSome, option_map, option_and_then, if◌then◌else◌}
 use Rattle.std.proofs.lemmas.Option.{slice_get-map}
 use Rattle.std.proofs.lemmas.List.{take-append-drop, map-append, length-map, length-take}
 use Rattle.meta_typevar.specs.FourSets.{HasOne}
-use Rattle.meta_typevar.specs.Variable.{Variable, underived}
-use Rattle.meta_typevar.specs.Registry.{sets_of, variable_at}
-use Rattle.meta_typevar.specs.declared.typevar.TypeVarContent.{TypeVarContent}
+use Rattle.meta_typevar.specs.Variable.{Variable}
+use Rattle.meta_typevar.specs.Registry.{sets_of, variable_at, IsRegistry}
+use Rattle.meta_typevar.proofs.Variables.{kept_at, underived_told, root_is, one_variable}
+use Rattle.meta_typevar.specs.declared.content.TypeVarContent.{TypeVarContent}
 use Rattle.meta_inst.specs.Instruction.{Instruction, operands, IsOperand, IsDesignated, IsFirstOutput}
 use Rattle.meta_inst.specs.Control.{IsLoneInput, IsRuled, MayControl, IsPolymorphic, HasOneEverywhere, IsControlledBy, DesignatesNone}
-use Rattle.meta_inst.specs.Operands.{OperandList, instruction_with, variables_at, IsAlone, LetsControl, AllLetControl, HasSeveralTypes, AllHaveOneType, designated_number, first_number, AreOf}
+use Rattle.meta_inst.specs.Operands.{OperandList, instruction_with, variables_at, IsLone, LetsControl, CanControl, HasSeveralTypes, AllHaveOneType, designated_number, first_number, AreOf}
 use Rattle.meta_inst.specs.FoundControl.{IsFound, IsFoundIn, MayNot, IsChosen}
 use Rattle.meta_inst.specs.declared.operands.Control.{Control}
 use Rattle.meta_inst.specs.declared.operands.Control.TheVariants.{NotPolymorphic, By, Missing}
@@ -42,16 +43,20 @@ slice_get-drop xs zero k = ap (slice_get xs) (sym (zero-add k))
 slice_get-drop [] (suc n) k = refl
 slice_get-drop (x ∷ xs) (suc n) k = slice_get-drop xs n k ∙ ap (slice_get (x ∷ xs)) (sym (suc-add n k))
 
-first_taken : (xs : List ℕ) (n x : ℕ) → slice_get (take n xs) 0 ≡ Some x → slice_get xs 0 ≡ Some x
+pub first_taken : (xs : List ℕ) (n x : ℕ) → slice_get (take n xs) 0 ≡ Some x → slice_get xs 0 ≡ Some x
 first_taken xs zero x e = absurd (cc)
 first_taken [] (suc n) x e = absurd (cc)
 first_taken (y ∷ ys) (suc n) x e = e
 
--- two roots are one number
-one_root : (m n : ℕ) → underived m ≡ underived n → m ≡ n
-one_root m n e = ap (λ (v : Variable). v.root) e
+-- a variable without a chain is its own root
+root_self : (vars : List TypeVarContent) (v : ℕ) → IsRegistry vars → v < length vars → (variable_at vars v).chain ≡ [] → (variable_at vars v).root ≡ v
+root_self vars v r l e =
+    let (c, k) = kept_at vars v l in
+    let base = (underived_told vars v c r k).1 e in
+    let is = root_is vars v r (record { content = c; kept = k; without_parent = base }) in
+    ap (λ (w : Variable). w.root) is
 
-module _ (vars : List TypeVarContent) (o : OperandList) (within : o.result_count ≤ length o.variables) where
+module _ (vars : List TypeVarContent) (o : OperandList) (within : o.result_count ≤ length o.variables) (registry : IsRegistry vars) (are : AreOf vars o.variables) where
   abbrev i : Instruction
   i = instruction_with vars o
 
@@ -74,45 +79,60 @@ module _ (vars : List TypeVarContent) (o : OperandList) (within : o.result_count
   results_length = length-map (take o.result_count o.variables) (variable_at vars) ∙ taken
 
   -- a variable that stands alone is a lone input
-  lone : (k n : ℕ) → slice_get o.variables k ≡ Some n → IsAlone o.variables o.result_count k → IsLoneInput i k (variable_at vars n)
-  lone k n at alone = record {
-    underived = refl;
-    is_input = omega (arith, results_length, alone.is_input);
+  lone : (k n : ℕ) → slice_get o.variables k ≡ Some n → IsLone vars o.variables o.result_count k n → IsLoneInput i k (variable_at vars n)
+  lone k n at h = record {
+    underived = h.underived;
+    is_input = omega (arith, results_length, h.alone.is_input);
     alone = λ j l op.
         let (m, found, e) = operand_from j (variable_at vars n) op in
-        alone.alone j n (omega (arith, results_length, l)) (found ∙ ap Some (sym (one_root n m e))) at;
+        let same : m ≡ n = one_variable vars registry m n (are j m found) (are k n at) (sym e) in
+        h.alone.alone j n (omega (arith, results_length, l)) (found ∙ ap Some same) at;
   }
 
-  alone_from : (k n : ℕ) → slice_get o.variables k ≡ Some n → IsLoneInput i k (variable_at vars n) → IsAlone o.variables o.result_count k
+  alone_from : (k n : ℕ) → slice_get o.variables k ≡ Some n → IsLoneInput i k (variable_at vars n) → IsLone vars o.variables o.result_count k n
   alone_from k n at lone = record {
-    is_input = omega (arith, results_length, lone.is_input);
-    alone = λ j m l found same.
-        let e : m ≡ n = some_same (sym same ∙ at) in
-        lone.alone j (omega (arith, results_length, l)) (operand_at j n (found ∙ ap Some e));
+    underived = lone.underived;
+    alone = record {
+      is_input = omega (arith, results_length, lone.is_input);
+      alone = λ j m l found same.
+          let e : m ≡ n = some_same (sym same ∙ at) in
+          lone.alone j (omega (arith, results_length, l)) (operand_at j n (found ∙ ap Some e));
+    };
   }
 
   -- what lets v control rules the operand
-  ruled : (v k n : ℕ) → slice_get o.variables k ≡ Some n → LetsControl vars o.variables o.result_count v k n → IsRuled (sets_of vars) i (variable_at vars v) k (variable_at vars n)
-  ruled v k n at (inl e) = inl e
-  ruled v k n at (inr (inl one)) = inr (inl one)
-  ruled v k n at (inr (inr alone)) = inr (inr (lone k n at alone))
+  ruled : (v k n : ℕ) → v < length vars → (variable_at vars v).chain ≡ [] → slice_get o.variables k ≡ Some n → LetsControl vars o.variables o.result_count v k n → IsRuled (sets_of vars) i (variable_at vars v) k (variable_at vars n)
+  ruled v k n l none at (inl e) = inl (e ∙ sym (root_self vars v registry l none))
+  ruled v k n l none at (inr (inl one)) = inr (inl one)
+  ruled v k n l none at (inr (inr alone)) = inr (inr (lone k n at alone))
 
-  ruled_from : (v k n : ℕ) → slice_get o.variables k ≡ Some n → IsRuled (sets_of vars) i (variable_at vars v) k (variable_at vars n) → LetsControl vars o.variables o.result_count v k n
-  ruled_from v k n at (inl e) = inl e
-  ruled_from v k n at (inr (inl one)) = inr (inl one)
-  ruled_from v k n at (inr (inr lone)) = inr (inr (alone_from k n at lone))
+  ruled_from : (v k n : ℕ) → v < length vars → (variable_at vars v).chain ≡ [] → slice_get o.variables k ≡ Some n → IsRuled (sets_of vars) i (variable_at vars v) k (variable_at vars n) → LetsControl vars o.variables o.result_count v k n
+  ruled_from v k n l none at (inl e) = inl (e ∙ root_self vars v registry l none)
+  ruled_from v k n l none at (inr (inl one)) = inr (inl one)
+  ruled_from v k n l none at (inr (inr lone)) = inr (inr (alone_from k n at lone))
 
   -- that all let v control is that it may control
-  may : (v : ℕ) → AllLetControl vars o.variables o.result_count v → MayControl (sets_of vars) i (variable_at vars v)
-  may v all = record {
-    underived = refl;
+  may : (v : ℕ) → v < length vars → CanControl vars o.variables o.result_count v → MayControl (sets_of vars) i (variable_at vars v)
+  may v l h = record {
+    underived = h.underived;
     others = λ k w op.
         let (n, at, e) = operand_from k w op in
-        subst (IsRuled (sets_of vars) i (variable_at vars v) k) (sym e) (ruled v k n at (all k n at));
+        subst (IsRuled (sets_of vars) i (variable_at vars v) k) (sym e) (ruled v k n l h.underived at (h.all k n at));
   }
 
-  may_from : (v : ℕ) → MayControl (sets_of vars) i (variable_at vars v) → AllLetControl vars o.variables o.result_count v
-  may_from v m k n at = ruled_from v k n at (m.others k (variable_at vars n) (operand_at k n at))
+  may_from : (v : ℕ) → v < length vars → MayControl (sets_of vars) i (variable_at vars v) → CanControl vars o.variables o.result_count v
+  may_from v l m = record { underived = m.underived; all = λ k n at. ruled_from v k n l m.underived at (m.others k (variable_at vars n) (operand_at k n at)) }
+
+  -- the designated variable and the first are of the registry
+  pub designated_of : (u : ℕ) → designated_number o ≡ Some u → u < length vars
+  designated_of u d =
+      let (place, is, at) = chained (λ place. slice_get (drop o.result_count o.variables) place) o.designated u d in
+      are (o.result_count + place) u (sym (slice_get-drop o.variables o.result_count place) ∙ at)
+
+  pub first_of : (u : ℕ) → first_number o ≡ Some u → u < length vars
+  first_of u f =
+      let (begins, at) = chosen o.begins_with_value (slice_get (take o.result_count o.variables) 0) u f in
+      are 0 u (first_taken o.variables o.result_count u at)
 
   -- the designated operand
   pub designated_is : (d : ℕ) → designated_number o ≡ Some d → IsDesignated i (variable_at vars d)
@@ -124,6 +144,13 @@ module _ (vars : List TypeVarContent) (o : OperandList) (within : o.result_count
   designated_from w h =
       let (d, at, e) = mapped (variable_at vars) (slice_get (drop o.result_count o.variables) h.place) w (sym (slice_get-map (variable_at vars) (drop o.result_count o.variables) h.place) ∙ h.is_value) in
       (d, ap (option_and_then (λ place. slice_get (drop o.result_count o.variables) place)) h.designates ∙ at, e)
+
+  -- so the number tells whether a variable is the designated operand's
+  pub designated_told : (v : ℕ) (r : Bool) → v < length vars → IsTrue r ↔ (designated_number o ≡ Some v) → IsTrue r ↔ IsDesignated i (variable_at vars v)
+  designated_told v r l told = (
+    (λ t. designated_is v (told.0 t)),
+    (λ h. let (d, at, e) = designated_from (variable_at vars v) h in told.1 (at ∙ ap Some (one_variable vars registry d v (designated_of d at) l (sym e)))),
+  )
 
   -- the first output
   first_is : (v : ℕ) → first_number o ≡ Some v → IsFirstOutput i (variable_at vars v)
@@ -148,17 +175,20 @@ module _ (vars : List TypeVarContent) (o : OperandList) (within : o.result_count
   designates_none : MayNot vars o.variables o.result_count (designated_number o) → DesignatesNone (sets_of vars) i
   designates_none never w is m =
       let (d, at, e) = designated_from w is in
-      never d at (may_from d (subst (MayControl (sets_of vars) i) e m))
+      never d at (may_from d (designated_of d at) (subst (MayControl (sets_of vars) i) e m))
 
   first_never : MayNot vars o.variables o.result_count (first_number o) → (w : Variable) → IsFirstOutput i w → MayControl (sets_of vars) i w → ⊥
   first_never never w is m =
       let (v, at, e) = first_from w is in
-      never v at (may_from v (subst (MayControl (sets_of vars) i) e m))
+      never v at (may_from v (first_of v at) (subst (MayControl (sets_of vars) i) e m))
+
+  chosen_of : (v : ℕ) → IsChosen vars o.variables o.result_count (designated_number o) (first_number o) v → v < length vars
+  chosen_of v h = ⊎_elim (λ d. designated_of v d) (λ f. first_of v f.1) h.chosen
 
   controlled : (v : ℕ) → IsChosen vars o.variables o.result_count (designated_number o) (first_number o) v → IsControlledBy (sets_of vars) i (variable_at vars v)
   controlled v h = record {
     polymorphic = polymorphic h.several;
-    may = may v h.may;
+    may = may v (chosen_of v h) h.may;
     chosen = ⊎_elim (λ d. inl (designated_is v d)) (λ f. inr (designates_none f.0, first_is v f.1)) h.chosen;
   }
 
@@ -169,19 +199,14 @@ module _ (vars : List TypeVarContent) (o : OperandList) (within : o.result_count
   found Missing h = record { polymorphic = polymorphic h.several; designated = designates_none h.designated_may_not; first = first_never h.first_may_not }
 
   -- the variable that controls is of the registry
-  pub of_registry : (c : Control) (v : ℕ) → AreOf vars o.variables → IsFoundIn vars o.variables o.result_count (designated_number o) (first_number o) c → c ≡ By v → v < length vars
-  of_registry NotPolymorphic v are h e = absurd (cc)
-  of_registry Missing v are h e = absurd (cc)
-  of_registry (By u) v are h e =
+  pub of_registry : (c : Control) (v : ℕ) → IsFoundIn vars o.variables o.result_count (designated_number o) (first_number o) c → c ≡ By v → v < length vars
+  of_registry NotPolymorphic v h e = absurd (cc)
+  of_registry Missing v h e = absurd (cc)
+  of_registry (By u) v h e =
       let same : u ≡ v = cc in
-      subst (λ n. n < length vars) same (⊎_elim (λ d. values_of u d) (λ f. results_of u f.1) h.chosen)
-    where
-      values_of : (u : ℕ) → designated_number o ≡ Some u → u < length vars
-      values_of u d =
-          let (place, is, at) = chained (λ place. slice_get (drop o.result_count o.variables) place) o.designated u d in
-          are (o.result_count + place) u (sym (slice_get-drop o.variables o.result_count place) ∙ at)
+      subst (λ n. n < length vars) same (chosen_of u h)
 
-      results_of : (u : ℕ) → first_number o ≡ Some u → u < length vars
-      results_of u f =
-          let (begins, at) = chosen o.begins_with_value (slice_get (take o.result_count o.variables) 0) u f in
-          are 0 u (first_taken o.variables o.result_count u at)
+-- a number that an option has, as the calls ask for it
+pub some_of : (o : Option ℕ) (P : ℕ → Type 0) → ((u : ℕ) → o ≡ Some u → P u) → IfSome o P
+some_of None P h = tt
+some_of (Some u) P h = h u refl

@@ -1,14 +1,16 @@
 -- Instructions as they are declared.
 use Rattle.std.specs.Prelude.{ℕ, List, [], Option, unwrap_or}
 use Rattle.meta_operands.specs.declared.operand.Operand.{Operand}
+use Rattle.meta_inst.specs.declared.marks.Marks.{Marks}
 
--- an instruction's name and doc, the number of its format, and its operands, where they were set
+-- an instruction's name and doc, the number of its format, its operands, where they were set, and its marks
 pub record Builder : Type 0 where
   pub name : List ℕ
   pub doc : List ℕ
   pub format : ℕ
   pub operands_in : Option (List Operand)
   pub operands_out : Option (List Operand)
+  pub marks : Marks
 
 -- the inputs and the outputs, none where they weren't set
 abbrev pub inputs_of : Builder → List Operand

@@ -4,7 +4,8 @@
 --     IsControl sets i v        v controls i, or, for None, i isn't polymorphic
 --     HasNoControl sets i       i is polymorphic and nothing controls it
 --     HasBadDerivation sets i control k      the operand at place k is derived in a way that no constraint says
-use Rattle.std.specs.Prelude.{◌≡◌, ◌≢◌, ℕ, ◌≤◌, ◌⊎◌, [], length, Option, None, Some}
+--     DerivesBadly sets i place              the first such operand, under the control of i, is the one at the place
+use Rattle.std.specs.Prelude.{◌≡◌, ◌≢◌, ℕ, ◌<◌, ◌≤◌, ◌⊎◌, [], length, Option, None, Some}
 use Rattle.meta_typevar.specs.FourSets.{HasOne}
 use Rattle.meta_types.specs.Function.{Function}
 use Rattle.meta_typevar.specs.Variable.{Variable, Sets, IsDerivedBy, IsOpen}
@@ -59,10 +60,25 @@ pub record HasNoControl (sets : Sets) (i : Instruction) : Type 0 where
   pub designated : DesignatesNone sets i
   pub first : (v : Variable) → IsFirstOutput i v → MayControl sets i v → ⊥
 
--- the operand at place k is derived, no type is fixed for it, and it isn't one step from the control
+-- w is derived, no type is fixed for it, and it isn't one step from the control
+pub record IsBadlyDerived (sets : Sets) (control : Option Variable) (w : Variable) : Type 0 where
+  pub derived : w.chain ≢ []
+  pub not_fixed : IsOpen sets w
+  pub no_step : (v : Variable) (f : Function) → control ≡ Some v → IsDerivedBy v w f → ⊥
+
+-- the operand at place k is such a variable
 pub record HasBadDerivation (sets : Sets) (i : Instruction) (control : Option Variable) (k : ℕ) : Type 0 where
   pub variable : Variable
   pub operand : IsOperand i k variable
-  pub derived : variable.chain ≢ []
-  pub not_fixed : IsOpen sets variable
-  pub no_step : (v : Variable) (f : Function) → control ≡ Some v → IsDerivedBy v variable f → ⊥
+  pub bad : IsBadlyDerived sets control variable
+
+-- and no operand before it is
+pub record IsFirstBadDerivation (sets : Sets) (i : Instruction) (control : Option Variable) (k : ℕ) : Type 0 where
+  pub bad : HasBadDerivation sets i control k
+  pub first : (j : ℕ) → j < k → HasBadDerivation sets i control j → ⊥
+
+-- under its control, the first operand that is badly derived stands at the place
+pub record DerivesBadly (sets : Sets) (i : Instruction) (place : ℕ) : Type 0 where
+  pub control : Option Variable
+  pub is_control : IsControl sets i control
+  pub first : IsFirstBadDerivation sets i control place

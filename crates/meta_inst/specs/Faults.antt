@@ -2,19 +2,19 @@
 --     ShowsAt d e p          the declarations show the fault e, which is looked for at the position p
 --     IsFirstFault d e       e is the first fault that they show
 --     IsValid d              they show none
-use Rattle.std.specs.Prelude.{◌≡◌, ◌≢◌, ◌<◌, ◌≤◌, ◌+◌, ◌⊎◌, ℕ, List, [], length, map, slice_get, Option, Some}
+use Rattle.std.specs.Prelude.{◌≡◌, ◌≢◌, ◌<◌, ◌+◌, ◌⊎◌, ℕ, List, [], length, map, slice_get, Option, Some}
 use Rattle.meta_types.specs.CamelCase.{camel_case_of}
 use Rattle.meta_types.specs.Name.{IsName}
 use Rattle.meta_types.specs.declared.fault.Place.TheVariants.{Instruction as AtInstruction, Format as AtFormat, Group as AtGroup, Entry as AtEntry}
 use Rattle.meta_types.specs.declared.fault.DefinitionError.{DefinitionError}
-use Rattle.meta_types.specs.declared.fault.DefinitionError.TheVariants.{BadName, DuplicateName, TooManyOpcodes, FormatMismatch, NoControl, TooManyOperands, FormatClash, TooManyTypeSets, BadOutput, BadDerivation, BadImmMethod, BadFormat, BadEnum, BadPreset, TooManySettings, OutOfMemory}
+use Rattle.meta_types.specs.declared.fault.DefinitionError.TheVariants.{BadName, DuplicateName, TooManyOpcodes, BadOutput, FormatMismatch, NoControl, BadDerivation, TooManyOperands, BadImmMethod, BadFormat, FormatClash, TooManyTypeSets, BadEnum, BadPreset, TooManySettings, OutOfMemory}
 use Rattle.meta_typevar.specs.FourSets.{FourSets, HasOne}
 use Rattle.meta_typevar.specs.Variable.{Variable, Sets}
-use Rattle.meta_operands.specs.Operand.{variables_of}
 use Rattle.meta_operands.specs.declared.format.InstructionFormat.{InstructionFormat}
-use Rattle.meta_inst.specs.Builder.{Builder, inputs_of, outputs_of}
+use Rattle.meta_inst.specs.Builder.{Builder}
 use Rattle.meta_inst.specs.Instruction.{Instruction, IsOperand}
-use Rattle.meta_inst.specs.Control.{IsControl, HasNoControl}
+use Rattle.meta_inst.specs.Control.{IsControl}
+use Rattle.meta_inst.specs.InstructionFaults.{duplicate_rule, LacksItsControl, IsDerivedBadlyAt, Breaks}
 use Rattle.meta_inst.specs.InstructionSet.{InstructionSet, root_sets, instruction_of}
 
 -- the instruction at place k, counted from 0, and the number that a fault has for it, counted from 1
@@ -42,23 +42,13 @@ pub record IsDuplicate (names : List (List ℕ)) (k j : ℕ) : Type 0 where
 abbrev pub HasTooManyOpcodes : InstructionSet → Type 0
 HasTooManyOpcodes d = 255 < length d.instructions
 
--- the name isn't a name
-abbrev pub HasBadName : Builder → Type 0
-HasBadName b = IsName b.name → ⊥
-
--- the instruction hasn't as many value inputs as its format
-abbrev pub HasFormatMismatch : InstructionSet → Builder → Type 0
-HasFormatMismatch d b = (format : InstructionFormat) × (slice_get d.formats b.format ≡ Some format) × (length (variables_of (inputs_of b)) ≢ format.num_value_operands)
-
 -- the instruction is polymorphic, and nothing controls it
 abbrev pub LacksControl : InstructionSet → Builder → Type 0
-LacksControl d b = HasNoControl (root_sets d) (instruction_of d b)
+LacksControl d b = LacksItsControl d.vars d.formats b
 
--- eight or more value results, and how many; or, with fewer results, eight or more value inputs, and how many
-abbrev pub HasTooManyOperands : Builder → ℕ → Type 0
-HasTooManyOperands b count =
-    ((7 < length (variables_of (outputs_of b))) × (count ≡ length (variables_of (outputs_of b))))
-    ⊎ ((length (variables_of (outputs_of b)) ≤ 7) × (7 < length (variables_of (inputs_of b))) × (count ≡ length (variables_of (inputs_of b))))
+-- under the instruction's control, the first operand that is badly derived is the one at this place, among results and then values
+abbrev pub HasBadDerivationAt : InstructionSet → Builder → ℕ → Type 0
+HasBadDerivationAt d b place = IsDerivedBadlyAt d.vars d.formats b place
 
 -- the format f is in use, and the instruction at place k is the first that uses it
 pub record IsFirstUse (d : InstructionSet) (f k : ℕ) : Type 0 where
@@ -133,21 +123,9 @@ pub data Position : Type 0 where
   OfFormat : ℕ → ℕ → Position
   OfTypeSets : Position
 
--- the rules for an instruction and for a format, in order
-abbrev pub name_rule : ℕ
-name_rule = 1
-
-abbrev pub duplicate_rule : ℕ
-duplicate_rule = 2
-
-abbrev pub format_rule : ℕ
-format_rule = 3
-
-abbrev pub control_rule : ℕ
-control_rule = 4
-
-abbrev pub count_rule : ℕ
-count_rule = 5
+-- the rules for a format, in order
+abbrev pub format_name_rule : ℕ
+format_name_rule = 1
 
 abbrev pub clash_rule : ℕ
 clash_rule = 2
@@ -173,14 +151,23 @@ Before (OfFormat i r) (OfFormat j s) = IsEarlier i r j s
 Before (OfFormat i r) OfTypeSets = Unit {0}
 Before OfTypeSets q = ⊥
 
--- the instruction with the number n shows what P says, and p is where that rule looks
-pub record InstructionShows (d : InstructionSet) (n rule : ℕ) (p : Position) (P : ℕ → Builder → Type 0) : Type 0 where
+-- an instruction breaks a rule by itself, e says so, and p is where that rule looks at it
+pub record BreaksAt (d : InstructionSet) (e : DefinitionError) (p : Position) : Type 0 where
   pub place : ℕ
   pub builder : Builder
+  pub rule : ℕ
   pub at : IsAt d place builder
-  pub number : n ≡ place + 1
   pub position : p ≡ OfInstruction place rule
-  pub shows : P place builder
+  pub breaks : Breaks d.vars d.formats builder (place + 1) rule e
+
+-- the instruction of the number n shares its name with that of the number m, the first such, and p is where that is looked for
+pub record SharesNameAt (d : InstructionSet) (n m : ℕ) (p : Position) : Type 0 where
+  pub place : ℕ
+  pub earlier : ℕ
+  pub number : n ≡ place + 1
+  pub earlier_number : m ≡ earlier + 1
+  pub position : p ≡ OfInstruction place duplicate_rule
+  pub duplicate : IsDuplicate (names_of d) place earlier
 
 -- the format in use with the number f shows what P says, and p is where that rule looks
 pub record FormatShows (d : InstructionSet) (f rule : ℕ) (p : Position) (P : ℕ → Type 0) : Type 0 where
@@ -189,30 +176,30 @@ pub record FormatShows (d : InstructionSet) (f rule : ℕ) (p : Position) (P : �
   pub position : p ≡ OfFormat place rule
   pub shows : P place
 
--- The declarations show the fault, with its numbers, at the position. They have no groups, derived variables or operands other
--- than values yet, so nothing shows the faults of these.
+-- The declarations show the fault, with its numbers, at the position. No rule looks yet for the faults of groups, nor for a bad
+-- format: nothing shows these.
 abbrev pub ShowsAt : InstructionSet → DefinitionError → Position → Type 0
 ShowsAt d (TooManyOpcodes count) p = (p ≡ OfOpcodes) × (count ≡ length d.instructions) × HasTooManyOpcodes d
-ShowsAt d (BadName (AtInstruction n)) p = InstructionShows d n name_rule p (λ k b. HasBadName b)
-ShowsAt d (BadName (AtFormat f)) p = FormatShows d f name_rule p (λ k. HasBadFormatName d f)
-ShowsAt d (DuplicateName (AtInstruction n) m) p = InstructionShows d n duplicate_rule p (λ k b. (j : ℕ) × (m ≡ j + 1) × IsDuplicate (names_of d) k j)
+ShowsAt d (BadName (AtInstruction n)) p = BreaksAt d (BadName (AtInstruction n)) p
+ShowsAt d (BadName (AtFormat f)) p = FormatShows d f format_name_rule p (λ k. HasBadFormatName d f)
+ShowsAt d (BadName (AtGroup g)) p = ⊥
+ShowsAt d (BadName (AtEntry g e)) p = ⊥
+ShowsAt d (DuplicateName (AtInstruction n) m) p = SharesNameAt d n m p
 ShowsAt d (DuplicateName (AtFormat f) m) p = ⊥
-ShowsAt d (FormatMismatch n) p = InstructionShows d n format_rule p (λ k b. HasFormatMismatch d b)
-ShowsAt d (NoControl n) p = InstructionShows d n control_rule p (λ k b. LacksControl d b)
-ShowsAt d (TooManyOperands n count) p = InstructionShows d n count_rule p (λ k b. HasTooManyOperands b count)
+ShowsAt d (DuplicateName (AtGroup g) m) p = ⊥
+ShowsAt d (DuplicateName (AtEntry g e) m) p = ⊥
+ShowsAt d (BadOutput n place) p = BreaksAt d (BadOutput n place) p
+ShowsAt d (FormatMismatch n) p = BreaksAt d (FormatMismatch n) p
+ShowsAt d (NoControl n) p = BreaksAt d (NoControl n) p
+ShowsAt d (BadDerivation n place) p = BreaksAt d (BadDerivation n place) p
+ShowsAt d (TooManyOperands n count) p = BreaksAt d (TooManyOperands n count) p
+ShowsAt d (BadImmMethod n) p = BreaksAt d (BadImmMethod n) p
+ShowsAt d (BadFormat f) p = ⊥
 ShowsAt d (FormatClash f g) p = FormatShows d f clash_rule p (λ k. IsFirstClash d f k g)
 ShowsAt d (TooManyTypeSets count) p = (p ≡ OfTypeSets) × HasTooManyTypeSets d count
-ShowsAt d (BadName (AtGroup u)) p = ⊥
-ShowsAt d (BadName (AtEntry u v)) p = ⊥
-ShowsAt d (DuplicateName (AtGroup u) w) p = ⊥
-ShowsAt d (DuplicateName (AtEntry u v) w) p = ⊥
-ShowsAt d (BadOutput u v) p = ⊥
-ShowsAt d (BadDerivation u v) p = ⊥
-ShowsAt d (BadImmMethod u) p = ⊥
-ShowsAt d (BadFormat u) p = ⊥
-ShowsAt d (BadEnum u v) p = ⊥
-ShowsAt d (BadPreset u v) p = ⊥
-ShowsAt d (TooManySettings u v w x) p = ⊥
+ShowsAt d (BadEnum g e) p = ⊥
+ShowsAt d (BadPreset g e) p = ⊥
+ShowsAt d (TooManySettings g booleans bytes entries) p = ⊥
 ShowsAt d OutOfMemory p = ⊥
 
 -- e is the first fault: the declarations show it, and none at an earlier position

@@ -1,12 +1,23 @@
 -- What was found of an instruction's control.
-use Rattle.std.specs.Prelude.{◌≡◌, ◌⊎◌, ℕ, List, Option, Some}
+use Rattle.std.specs.Prelude.{◌≡◌, ◌⊎◌, ℕ, ◌<◌, List, ◌++◌, length, Option, None, Some, slice_get}
+use Rattle.meta_typevar.specs.Variable.{Variable}
 use Rattle.meta_typevar.specs.Registry.{sets_of, variable_at}
-use Rattle.meta_typevar.specs.declared.typevar.TypeVarContent.{TypeVarContent}
+use Rattle.meta_typevar.specs.declared.content.TypeVarContent.{TypeVarContent}
 use Rattle.meta_inst.specs.Instruction.{Instruction}
-use Rattle.meta_inst.specs.Operands.{AllLetControl, HasSeveralTypes, AllHaveOneType}
-use Rattle.meta_inst.specs.Control.{HasOneEverywhere, IsControlledBy, HasNoControl}
+use Rattle.meta_operands.specs.Operand.{variables_of}
+use Rattle.meta_operands.specs.declared.format.InstructionFormat.{InstructionFormat}
+use Rattle.meta_inst.specs.Builder.{Builder, inputs_of, outputs_of}
+use Rattle.meta_inst.specs.InstructionSet.{instruction_in}
+use Rattle.meta_inst.specs.Operands.{OperandList, AreOf, instruction_with, CanControl, HasSeveralTypes, AllHaveOneType}
+use Rattle.meta_inst.specs.Control.{HasOneEverywhere, IsControlledBy, HasNoControl, IsBadlyDerived}
 use Rattle.meta_inst.specs.declared.operands.Control.{Control}
 use Rattle.meta_inst.specs.declared.operands.Control.TheVariants.{NotPolymorphic, By, Missing}
+
+-- the control that was found
+abbrev pub control_in : List TypeVarContent → Control → Option Variable
+control_in vars NotPolymorphic = None
+control_in vars (By v) = Some (variable_at vars v)
+control_in vars Missing = None
 
 -- the instruction isn't polymorphic, or this variable controls it, or nothing does and that is a fault
 abbrev pub IsFound : List TypeVarContent → Instruction → Control → Type 0
@@ -16,12 +27,12 @@ IsFound vars i Missing = HasNoControl (sets_of vars) i
 
 -- the candidate, if there is one, may not control
 abbrev pub MayNot : List TypeVarContent → List ℕ → ℕ → Option ℕ → Type 0
-MayNot vars numbers from candidate = (v : ℕ) → candidate ≡ Some v → AllLetControl vars numbers from v → ⊥
+MayNot vars numbers from candidate = (v : ℕ) → candidate ≡ Some v → CanControl vars numbers from v → ⊥
 
 -- the variable v may control, and it is the designated one, or that may not and it is the first
 pub record IsChosen (vars : List TypeVarContent) (numbers : List ℕ) (from : ℕ) (designated first : Option ℕ) (v : ℕ) : Type 0 where
   pub several : HasSeveralTypes vars numbers
-  pub may : AllLetControl vars numbers from v
+  pub may : CanControl vars numbers from v
   pub chosen : (designated ≡ Some v) ⊎ (MayNot vars numbers from designated × (first ≡ Some v))
 
 -- there are several types, and neither the designated variable nor the first may control
@@ -35,3 +46,25 @@ abbrev pub IsFoundIn : List TypeVarContent → List ℕ → ℕ → Option ℕ �
 IsFoundIn vars numbers from designated first NotPolymorphic = AllHaveOneType vars numbers
 IsFoundIn vars numbers from designated first (By v) = IsChosen vars numbers from designated first v
 IsFoundIn vars numbers from designated first Missing = IsMissing vars numbers from designated first
+
+-- the variable at the place is badly derived under the control
+pub record IsBadAt (vars : List TypeVarContent) (control : Control) (numbers : List ℕ) (place : ℕ) : Type 0 where
+  pub number : ℕ
+  pub at : slice_get numbers place ≡ Some number
+  pub bad : IsBadlyDerived (sets_of vars) (control_in vars control) (variable_at vars number)
+
+-- and none before it is
+pub record IsFirstBadAt (vars : List TypeVarContent) (control : Control) (numbers : List ℕ) (place : ℕ) : Type 0 where
+  pub bad : IsBadAt vars control numbers place
+  pub first : (j : ℕ) → j < place → IsBadAt vars control numbers j → ⊥
+
+-- the control, if a variable controls, is of the registry
+abbrev pub IsOf : List TypeVarContent → Control → Type 0
+IsOf vars control = (v : ℕ) → control ≡ By v → v < length vars
+
+-- o are the value operands of the declared instruction b
+pub record AreOperandsOf (vars : List TypeVarContent) (formats : List InstructionFormat) (b : Builder) (o : OperandList) : Type 0 where
+  pub meaning : instruction_with vars o ≡ instruction_in vars formats b
+  pub variables : o.variables ≡ variables_of (outputs_of b) ++ variables_of (inputs_of b)
+  pub result_count : o.result_count ≡ length (variables_of (outputs_of b))
+  pub of_registry : AreOf vars o.variables

@@ -2,7 +2,7 @@
 use Rattle.std.specs.Prelude.{◌≡◌, ◌<◌, ℕ, Bool, false, List, [], ◌∷◌, length, slice_get, Option, None, Some, is_some}
 use Rattle.meta_typevar.specs.Variable.{Sets}
 use Rattle.meta_typevar.specs.Registry.{sets_of}
-use Rattle.meta_typevar.specs.declared.typevar.TypeVarContent.{TypeVarContent}
+use Rattle.meta_typevar.specs.declared.content.TypeVarContent.{TypeVarContent}
 use Rattle.meta_operands.specs.Operand.{variable_of, variables_of}
 use Rattle.meta_operands.specs.declared.operand.Operand.{Operand}
 use Rattle.meta_operands.specs.declared.format.InstructionFormat.{InstructionFormat}

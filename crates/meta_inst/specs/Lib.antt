@@ -1,8 +1,13 @@
 pub mod Instruction
 pub mod Control
+pub mod Marks
 pub mod Builder
+pub mod Built
+pub mod FormatMatch
 pub mod Group
 pub mod Operands
 pub mod InstructionSet
+pub mod InstructionFaults
 pub mod Faults
 pub mod FoundControl
+pub mod Content

@@ -1,9 +1,9 @@
 -- The value operands of an instruction, as the checks of its declaration see them.
-use Rattle.std.specs.Prelude.{◌≡◌, ◌<◌, ◌≤◌, ◌⊎◌, ℕ, Bool, List, length, map, take, drop, Option, slice_get, None, Some, option_and_then, if◌then◌else◌}
+use Rattle.std.specs.Prelude.{◌≡◌, ◌<◌, ◌≤◌, ◌⊎◌, ℕ, Bool, List, [], length, map, take, drop, Option, slice_get, None, Some, option_and_then, if◌then◌else◌}
 use Rattle.meta_typevar.specs.Variable.{Variable}
 use Rattle.meta_typevar.specs.Registry.{variable_at, sets_of}
 use Rattle.meta_typevar.specs.FourSets.{HasOne}
-use Rattle.meta_typevar.specs.declared.typevar.TypeVarContent.{TypeVarContent}
+use Rattle.meta_typevar.specs.declared.content.TypeVarContent.{TypeVarContent}
 use Rattle.meta_inst.specs.Instruction.{Instruction}
 
 -- the numbers of the variables of the results and then of the values, and how many are results; the designated place among
@@ -51,13 +51,19 @@ pub record HasSeveralTypes (vars : List TypeVarContent) (numbers : List ℕ) : T
 abbrev pub AllHaveOneType : List TypeVarContent → List ℕ → Type 0
 AllHaveOneType vars numbers = (place n : ℕ) → slice_get numbers place ≡ Some n → HasOneType vars n
 
--- the variable n at this place lets v control
-abbrev pub LetsControl : List TypeVarContent → List ℕ → ℕ → ℕ → ℕ → ℕ → Type 0
-LetsControl vars numbers from v place n = (n ≡ v) ⊎ HasOneType vars n ⊎ IsAlone numbers from place
+-- the variable n at this place is an input, is underived, and stands at no other input
+pub record IsLone (vars : List TypeVarContent) (numbers : List ℕ) (from place n : ℕ) : Type 0 where
+  pub underived : (variable_at vars n).chain ≡ []
+  pub alone : IsAlone numbers from place
 
--- each variable lets v control
-abbrev pub AllLetControl : List TypeVarContent → List ℕ → ℕ → ℕ → Type 0
-AllLetControl vars numbers from v = (place n : ℕ) → slice_get numbers place ≡ Some n → LetsControl vars numbers from v place n
+-- the variable n at this place lets v control: v is its root, its root has one type, or it is a lone input
+abbrev pub LetsControl : List TypeVarContent → List ℕ → ℕ → ℕ → ℕ → ℕ → Type 0
+LetsControl vars numbers from v place n = ((variable_at vars n).root ≡ v) ⊎ HasOneType vars n ⊎ IsLone vars numbers from place n
+
+-- v is underived, and each variable lets it control
+pub record CanControl (vars : List TypeVarContent) (numbers : List ℕ) (from v : ℕ) : Type 0 where
+  pub underived : (variable_at vars v).chain ≡ []
+  pub all : (place n : ℕ) → slice_get numbers place ≡ Some n → LetsControl vars numbers from v place n
 
 -- the number of the designated operand's variable, and of the first output's, where that output is a value
 abbrev pub designated_number : OperandList → Option ℕ

@@ -1,9 +1,24 @@
-ghost use Rattle.std.specs.Prelude.{◌≡◌, ◌↔◌, IsTrue, IsSome, Some, None};
+ghost use Rattle.std.specs.Prelude.{◌≡◌, ◌≢◌, ◌↔◌, ◌∷◌, [], true, IsTrue, IsSome, IfSome, IfNone, IfOk, IfErr, OnOk, Some, None};
 ghost use Rattle.meta_inst.specs.Builder.{inputs_of, outputs_of};
+ghost use Rattle.meta_types.specs.declared.fault.DefinitionError.TheVariants.{OutOfMemory};
+ghost use Rattle.meta_operands.specs.Operand.{variables_of};
+ghost use Rattle.meta_inst.specs.Marks.{no_marks, terminator, branch, returning};
+ghost use Rattle.meta_inst.specs.Operands.{AreOf};
+ghost use Rattle.meta_inst.specs.InstructionSet.{FitsBuilder, instruction_in};
+ghost use Rattle.meta_inst.specs.FoundControl.{IsFound, IsOf, AreOperandsOf};
+ghost use Rattle.meta_inst.specs.InstructionFaults.{TakesNoImmediate, IsFirstOwnFault, IsWellMade};
+ghost use Rattle.meta_inst.specs.Content.{content_of, IsPolymorphicInfoOf};
 
-use meta_operands::{FormatId, Operand};
-use meta_types::Text;
-use std::alloc::Global;
+use super::checks::{bad_output, takes_no_immediate, too_many};
+use super::content::{InstructionContent, copied_operands, immediate_places, value_places};
+use super::format_match::matches_format;
+use super::marks::Marks;
+use super::operands::{Control, Operands};
+use super::polymorphic::PolymorphicInfo;
+use meta_operands::{FormatId, FormatTable, InstructionFormat, Operand};
+use meta_types::{DefinitionError, Place, Text, camel_case, is_name};
+use meta_typevar::TypeVars;
+use std::alloc::{AllocError, Global};
 use std::marker::Model;
 
 /// An instruction while it is declared.
@@ -14,6 +29,7 @@ pub struct InstructionBuilder {
     format: FormatId,
     operands_in: Option<Vec<Operand>>,
     operands_out: Option<Vec<Operand>>,
+    marks: Marks,
 }
 
 impl Model for InstructionBuilder {
@@ -22,13 +38,13 @@ impl Model for InstructionBuilder {
 
     ghost Value = { Builder };
 
-    ghost view = { λ b. record { name = b.name; doc = b.doc; format = b.format; operands_in = option_map (λ v. v.items) b.operands_in; operands_out = option_map (λ v. v.items) b.operands_out } };
+    ghost view = { λ b. record { name = b.name; doc = b.doc; format = b.format; operands_in = option_map (λ v. v.items) b.operands_in; operands_out = option_map (λ v. v.items) b.operands_out; marks = b.marks } };
 }
 
 impl InstructionBuilder {
     /// An instruction of this name, doc and format, without operands.
     pub fn new(_alloc: Global, name: Text, doc: Text, format: FormatId) -> Self
-        ensures { result ≡ record { name = name; doc = doc; format = format; operands_in = None; operands_out = None } }
+        ensures { result ≡ record { name = name; doc = doc; format = format; operands_in = None; operands_out = None; marks = no_marks } }
     {
         InstructionBuilder {
             name,
@@ -36,6 +52,7 @@ impl InstructionBuilder {
             format,
             operands_in: None,
             operands_out: None,
+            marks: Marks::none(),
         }
     }
 
@@ -104,4 +121,222 @@ impl InstructionBuilder {
         self.operands_out = Some(operands);
         self
     }
+    /// Marks it as one that ends a block.
+    pub fn terminates_block(mut self) -> Self
+        ensures { result ≡ record self { marks = terminator self.marks } }
+    {
+        self.marks.is_terminator = true;
+        self
+    }
+
+    /// Marks it as a branch, which ends a block too.
+    pub fn branches(mut self) -> Self
+        ensures { result ≡ record self { marks = branch self.marks } }
+    {
+        self.marks.is_branch = true;
+        self.marks.is_terminator = true;
+        self
+    }
+
+    /// Marks it as a call.
+    pub fn call(mut self) -> Self
+        ensures { result ≡ record self { marks = record self.marks { is_call = true } } }
+    {
+        self.marks.is_call = true;
+        self
+    }
+
+    /// Marks it as a return, which ends a block too.
+    pub fn returns(mut self) -> Self
+        ensures { result ≡ record self { marks = returning self.marks } }
+    {
+        self.marks.is_return = true;
+        self.marks.is_terminator = true;
+        self
+    }
+
+    /// Marks it as one that may read memory.
+    pub fn can_load(mut self) -> Self
+        ensures { result ≡ record self { marks = record self.marks { can_load = true } } }
+    {
+        self.marks.can_load = true;
+        self
+    }
+
+    /// Marks it as one that may write memory.
+    pub fn can_store(mut self) -> Self
+        ensures { result ≡ record self { marks = record self.marks { can_store = true } } }
+    {
+        self.marks.can_store = true;
+        self
+    }
+
+    /// Marks it as one that may trap.
+    pub fn can_trap(mut self) -> Self
+        ensures { result ≡ record self { marks = record self.marks { can_trap = true } } }
+    {
+        self.marks.can_trap = true;
+        self
+    }
+
+    /// Marks it as one with other effects.
+    pub fn other_side_effects(mut self) -> Self
+        ensures { result ≡ record self { marks = record self.marks { other_side_effects = true } } }
+    {
+        self.marks.other_side_effects = true;
+        self
+    }
+
+    /// Marks its effects as idempotent.
+    pub fn side_effects_idempotent(mut self) -> Self
+        ensures { result ≡ record self { marks = record self.marks { side_effects_idempotent = true } } }
+    {
+        self.marks.side_effects_idempotent = true;
+        self
+    }
+
+    /// Says whether the builder has a method for it that takes an immediate for the last value input.
+    pub fn inst_builder_imm_method(mut self, enabled: bool) -> Self
+        ensures { result ≡ record self { marks = record self.marks { inst_builder_imm_method = enabled } } }
+    {
+        self.marks.inst_builder_imm_method = enabled;
+        self
+    }
+    /// Whether the format is of the table, and the variable of each value operand of the registry.
+    pub fn fits(&self, vars: &TypeVars, formats: &FormatTable) -> bool
+        ensures { IsTrue result ↔ FitsBuilder vars.now formats.now self.now }
+    {
+        if !formats.is_of(self.format) {
+            return false;
+        }
+        if !are_operands_of(vars, self.outputs()) {
+            return false;
+        }
+        are_operands_of(vars, self.inputs())
+    }
+
+    /// Whether a method is asked for that takes an immediate, and none can.
+    fn has_bad_imm_method(&self, format: &InstructionFormat, results: usize, values: usize) -> bool
+        ensures { IsTrue result ↔ ((self.now.marks.inst_builder_imm_method ≡ true) × TakesNoImmediate format.now results values) }
+    {
+        if !self.marks.inst_builder_imm_method {
+            return false;
+        }
+        takes_no_immediate(format, results, values)
+    }
+
+    /// The first fault of the instruction, of those that it shows by itself. Its operands and what was found of its control
+    /// are at hand.
+    fn own_fault(
+        &self,
+        vars: &TypeVars,
+        formats: &FormatTable,
+        operands: &Operands,
+        control: &Control,
+        number: u64,
+    ) -> Option<DefinitionError>
+        requires fits { FitsBuilder vars.now formats.now self.now }
+        requires operands { AreOperandsOf vars.now formats.now self.now operands.now }
+        requires found { IsFound vars.now (instruction_in vars.now formats.now self.now) control.now }
+        requires control { IsOf vars.now control.now }
+        ensures none { IfNone result (IsWellMade vars.now formats.now self.now) }
+        ensures found { IfSome result (IsFirstOwnFault vars.now formats.now self.now number) }
+    {
+        if !is_name(self.name()) {
+            return Some(DefinitionError::BadName(Place::Instruction(number)));
+        }
+        if let Some(place) = bad_output(self.outputs()) {
+            return Some(DefinitionError::BadOutput(number, place as u64));
+        }
+        let format = formats.get(self.format());
+        if !matches_format(self.inputs(), format) {
+            return Some(DefinitionError::FormatMismatch(number));
+        }
+        if control.is_missing() {
+            return Some(DefinitionError::NoControl(number));
+        }
+        if let Some(place) = operands.bad_derivation(vars, control) {
+            return Some(DefinitionError::BadDerivation(number, place as u64));
+        }
+        let results = operands.result_count();
+        let values = operands.variables().len() - results;
+        if let Some(count) = too_many(results, values) {
+            return Some(DefinitionError::TooManyOperands(number, count as u64));
+        }
+        if self.has_bad_imm_method(format, results, values) {
+            return Some(DefinitionError::BadImmMethod(number));
+        }
+        None
+    }
+
+    /// What is built of the instruction, with what is kept of its control.
+    fn content(
+        &self,
+        alloc: Global,
+        polymorphic_info: Option<PolymorphicInfo>,
+    ) -> Result<InstructionContent, AllocError>
+        ensures { IfOk result (λ c. c ≡ content_of self.now polymorphic_info) }
+    {
+        Ok(InstructionContent {
+            name: self.name.copy(alloc)?,
+            camel_name: camel_case(alloc, &self.name)?,
+            doc: self.doc.copy(alloc)?,
+            operands_in: copied_operands(alloc, self.inputs())?,
+            operands_out: copied_operands(alloc, self.outputs())?,
+            format: self.format,
+            polymorphic_info,
+            value_opnums: value_places(alloc, self.inputs())?,
+            imm_opnums: immediate_places(alloc, self.inputs())?,
+            value_results: value_places(alloc, self.outputs())?,
+            marks: self.marks,
+        })
+    }
+
+    /// The instruction as it is built, or the first fault that it shows by itself, with this number: a bad name, a bad
+    /// output, another format, no control, a bad derivation, too many operands, or a bad immediate method. `OutOfMemory` may
+    /// come in any case. That the instruction is of the registries is told by `fits` (in the crate it is private, takes the
+    /// builder, and panics).
+    pub fn build(
+        &self,
+        alloc: Global,
+        vars: &TypeVars,
+        formats: &FormatTable,
+        number: u64,
+    ) -> Result<InstructionContent, DefinitionError>
+        requires { FitsBuilder vars.now formats.now self.now }
+        ensures refused { IfErr result (λ e. e ≢ OutOfMemory → IsFirstOwnFault vars.now formats.now self.now number e) }
+        ensures well_made { OnOk result (IsWellMade vars.now formats.now self.now) }
+        ensures content { IfOk result (λ c. c ≡ content_of self.now c.polymorphic_info) }
+        ensures control { IfOk result (λ c. IsPolymorphicInfoOf vars.now formats.now self.now c.polymorphic_info) }
+    {
+        let operands = Operands::of(alloc, self, formats)?;
+        let control = operands.control(vars);
+        if let Some(fault) = self.own_fault(vars, formats, &operands, &control, number) {
+            return Err(fault);
+        }
+        let polymorphic_info = operands.polymorphic_info(vars, &control);
+        Ok(self.content(alloc, polymorphic_info)?)
+    }
+}
+
+/// Whether the variable of the operand, if it is a value, is of the registry.
+fn is_operand_of(vars: &TypeVars, operand: &Operand) -> bool
+    ensures { IsTrue result ↔ AreOf vars.now (variables_of (operand.now ∷ [])) }
+{
+    match operand.type_var() {
+        Some(tv) => vars.is_of(tv),
+        None => true,
+    }
+}
+
+/// Whether the variable of each value operand is of the registry.
+fn are_operands_of(vars: &TypeVars, operands: &[Operand]) -> bool
+    ensures { IsTrue result ↔ AreOf vars.now (variables_of operands.now) }
+{
+    for operand in operands {
+        if !is_operand_of(vars, operand) {
+            return false;
+        }
+    }
+    true
 }

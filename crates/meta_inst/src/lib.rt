@@ -3,11 +3,23 @@
 
 mod all;
 mod builder;
+mod checks;
+mod content;
+mod format_match;
+mod laws;
+mod marks;
 mod operands;
+mod polymorphic;
 
 pub use all::{AllInstructions, InstructionGroupBuilder};
 pub use builder::InstructionBuilder;
+pub use content::{Instruction, InstructionContent};
+pub use laws::one_own_fault;
+pub use marks::Marks;
 pub use operands::{Control, Operands};
+pub use polymorphic::PolymorphicInfo;
 
+#[cfg(test)]
+mod build_tests;
 #[cfg(test)]
 mod tests;

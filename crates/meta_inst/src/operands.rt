@@ -1,12 +1,17 @@
 ghost use Rattle.std.specs.Prelude.{◌≡◌, ◌↔◌, ◌≤◌, List, ◌++◌, ◌∷◌, [], ◌<◌, ℕ, IsTrue, MatchBool, OnOk, IfOk, IfSome, IfNone, length, slice_get, take, Some};
-ghost use Rattle.meta_typevar.specs.declared.typevar.TypeVarContent.{TypeVarContent};
+ghost use Rattle.meta_typevar.specs.declared.content.TypeVarContent.{TypeVarContent};
+ghost use Rattle.meta_typevar.specs.Registry.{sets_of, variable_at};
 ghost use Rattle.meta_operands.specs.Operand.{variables_of};
 ghost use Rattle.meta_inst.specs.Builder.{inputs_of, outputs_of};
 ghost use Rattle.meta_inst.specs.InstructionSet.{instruction_in, designated_in, begins_with_value};
-ghost use Rattle.meta_inst.specs.FoundControl.{IsFoundIn};
-ghost use Rattle.meta_inst.specs.Operands.{AreOf, IsAlone, HasOneType, LetsControl, AllLetControl, HasSeveralTypes, AllHaveOneType, instruction_with, designated_number, first_number};
+ghost use Rattle.meta_inst.specs.Instruction.{IsDesignated};
+ghost use Rattle.meta_inst.specs.Content.{control_kept};
+ghost use Rattle.meta_inst.specs.Control.{IsBadlyDerived};
+ghost use Rattle.meta_inst.specs.FoundControl.{IsFoundIn, control_in, IsBadAt, IsFirstBadAt, IsOf};
+ghost use Rattle.meta_inst.specs.Operands.{AreOf, IsAlone, HasOneType, LetsControl, CanControl, HasSeveralTypes, AllHaveOneType, instruction_with, designated_number, first_number};
 
 use super::builder::InstructionBuilder;
+use super::polymorphic::PolymorphicInfo;
 use meta_operands::{FormatTable, Operand};
 use meta_typevar::{TypeVar, TypeVars};
 use std::alloc::{AllocError, Global};
@@ -47,7 +52,15 @@ fn has_one_type(vars: &TypeVars, tv: TypeVar) -> bool
     requires { tv < length vars.now }
     ensures { IsTrue result ↔ HasOneType vars.now tv }
 {
-    tv.fixed_type(vars).is_some()
+    tv.root(vars).fixed_type(vars).is_some()
+}
+
+/// Whether the variable has no parent.
+fn is_underived(vars: &TypeVars, tv: TypeVar) -> bool
+    requires { tv < length vars.now }
+    ensures { IsTrue result ↔ ((variable_at vars.now tv).chain ≡ []) }
+{
+    vars.content(tv).base.is_none()
 }
 
 /// Whether the variable at this place is an input, from `from` on, and stands at no other input.
@@ -79,14 +92,20 @@ fn lets_control(
     ensures { (n : ℕ) → slice_get variables.now place ≡ Some n → (IsTrue result ↔ LetsControl vars.now variables.now from v place n) }
 {
     let tv = variables[place];
-    tv == v || has_one_type(vars, tv) || is_alone(variables, from, place)
+    tv.root(vars) == v
+        || has_one_type(vars, tv)
+        || (is_underived(vars, tv) && is_alone(variables, from, place))
 }
 
-/// Whether `v` may control: each variable lets it.
+/// Whether `v` may control: it is underived, and each variable lets it.
 fn may_control(vars: &TypeVars, variables: &[TypeVar], from: usize, v: TypeVar) -> bool
-    requires { AreOf vars.now variables.now }
-    ensures { IsTrue result ↔ AllLetControl vars.now variables.now from v }
+    requires variables { AreOf vars.now variables.now }
+    requires of { v < length vars.now }
+    ensures { IsTrue result ↔ CanControl vars.now variables.now from v }
 {
+    if !is_underived(vars, v) {
+        return false;
+    }
     for place in 0..variables.len() {
         if !lets_control(vars, variables, from, v, place) {
             return false;
@@ -115,9 +134,10 @@ fn controlling(
     from: usize,
     candidate: Option<TypeVar>,
 ) -> Option<TypeVar>
-    requires { AreOf vars.now variables.now }
-    ensures some { IfSome result (λ v. (candidate ≡ Some v) × AllLetControl vars.now variables.now from v) }
-    ensures none { IfNone result ((v : ℕ) → candidate ≡ Some v → AllLetControl vars.now variables.now from v → ⊥) }
+    requires variables { AreOf vars.now variables.now }
+    requires of { IfSome candidate (λ v. v < length vars.now) }
+    ensures some { IfSome result (λ v. (candidate ≡ Some v) × CanControl vars.now variables.now from v) }
+    ensures none { IfNone result ((v : ℕ) → candidate ≡ Some v → CanControl vars.now variables.now from v → ⊥) }
 {
     let v = candidate?;
     if may_control(vars, variables, from, v) {
@@ -138,6 +158,18 @@ pub enum Control {
     Missing,
 }
 
+impl Control {
+    /// Whether a control is missing.
+    pub(crate) fn is_missing(&self) -> bool
+        ensures { IsTrue result ↔ (self.now ≡ Control.Missing) }
+    {
+        match self {
+            Control::NotPolymorphic | Control::By(_) => false,
+            Control::Missing => true,
+        }
+    }
+}
+
 /// What controls an instruction with these variables: the designated one, if it may control, and else the first.
 fn control_of(
     vars: &TypeVars,
@@ -146,7 +178,9 @@ fn control_of(
     designated: Option<TypeVar>,
     first: Option<TypeVar>,
 ) -> Control
-    requires { AreOf vars.now variables.now }
+    requires variables { AreOf vars.now variables.now }
+    requires designated { IfSome designated (λ v. v < length vars.now) }
+    requires first { IfSome first (λ v. v < length vars.now) }
     ensures { IsFoundIn vars.now variables.now from designated first result }
 {
     if !is_polymorphic(vars, variables) {
@@ -159,6 +193,46 @@ fn control_of(
         return Control::By(v);
     }
     Control::Missing
+}
+
+/// Whether the variable controls.
+fn is_by(control: &Control, tv: TypeVar) -> bool
+    ensures { IsTrue result ↔ (control.now ≡ Control.By tv) }
+{
+    match control {
+        Control::By(v) => *v == tv,
+        Control::NotPolymorphic | Control::Missing => false,
+    }
+}
+
+/// Whether the variable is derived, no type is fixed for it, and its parent isn't the control.
+fn is_badly_derived(vars: &TypeVars, control: &Control, tv: TypeVar) -> bool
+    requires of { tv < length vars.now }
+    requires control { IsOf vars.now control.now }
+    ensures { IsTrue result ↔ IsBadlyDerived (sets_of vars.now) (control_in vars.now control.now) (variable_at vars.now tv) }
+{
+    let Some(parent) = vars.content(tv).base else {
+        return false;
+    };
+    if is_by(control, parent.type_var) {
+        return false;
+    }
+    tv.fixed_type(vars).is_none()
+}
+
+/// The place of the first of the variables that is badly derived.
+fn first_bad(vars: &TypeVars, control: &Control, variables: &[TypeVar]) -> Option<usize>
+    requires variables { AreOf vars.now variables.now }
+    requires control { IsOf vars.now control.now }
+    ensures found { IfSome result (IsFirstBadAt vars.now control.now variables.now) }
+    ensures none { IfNone result ((k : ℕ) → IsBadAt vars.now control.now variables.now k → ⊥) }
+{
+    for place in 0..variables.len() {
+        if is_badly_derived(vars, control, variables[place]) {
+            return Some(place);
+        }
+    }
+    None
 }
 
 /// The value operands of an instruction, for the checks of its declaration: the variables of the results and then of the
@@ -183,6 +257,7 @@ impl Model for Operands {
 }
 
 impl Operands {
+    ghost use Rattle.meta_inst.specs.Control.{HasBadDerivation, IsFirstBadDerivation};
     ghost use Rattle.meta_inst.specs.FoundControl.{IsFound};
     ghost use Rattle.meta_inst.specs.InstructionSet.{instruction_in, FitsBuilder};
     ghost use Rattle.meta_inst.specs.Builder.{inputs_of, outputs_of};
@@ -259,8 +334,10 @@ impl Operands {
     pub fn control(&self, vars: &TypeVars) -> Control
         requires { AreOf vars.now self.now.variables }
         ensures found { IsFound vars.now (instruction_with vars.now self.now) result }
-        ensures of_registry { (v : ℕ) → result ≡ Control.By v → v < length vars.now }
+        ensures of_registry { IsOf vars.now result }
     {
+        // Its clause says what a registry keeps.
+        let _count = vars.len();
         control_of(
             vars,
             self.variables(),
@@ -268,5 +345,49 @@ impl Operands {
             self.designated(),
             self.first(),
         )
+    }
+
+    /// The place, among results and then values, of the first operand that is derived, has no fixed type, and whose parent
+    /// isn't the control, which is of the registry as the variables are; `None` exactly where there is none.
+    pub fn bad_derivation(&self, vars: &TypeVars, control: &Control) -> Option<usize>
+        requires variables { AreOf vars.now self.now.variables }
+        requires control { IsOf vars.now control.now }
+        ensures found { IfSome result (IsFirstBadDerivation (sets_of vars.now) (instruction_with vars.now self.now) (control_in vars.now control.now)) }
+        ensures none { IfNone result ((k : ℕ) → HasBadDerivation (sets_of vars.now) (instruction_with vars.now self.now) (control_in vars.now control.now) k → ⊥) }
+    {
+        // Their clauses say what a registry keeps, and that the results are among the variables.
+        let _count = vars.len();
+        let _results = self.result_count();
+        first_bad(vars, control, self.variables())
+    }
+    /// Whether the variable is that of the designated operand.
+    fn is_designated(&self, tv: TypeVar) -> bool
+        ensures { IsTrue result ↔ (designated_number self.now ≡ Some tv) }
+    {
+        self.designated() == Some(tv)
+    }
+
+    /// What is kept of the control, which was found for these operands.
+    pub(crate) fn polymorphic_info(
+        &self,
+        vars: &TypeVars,
+        control: &Control,
+    ) -> Option<PolymorphicInfo>
+        requires variables { AreOf vars.now self.now.variables }
+        requires control { IsOf vars.now control.now }
+        ensures kept { control_kept vars.now result ≡ control_in vars.now control.now }
+        ensures of_registry { IfSome result (λ p. p.ctrl_typevar < length vars.now) }
+        ensures designated { IfSome result (λ p. IsTrue p.use_typevar_operand ↔ IsDesignated (instruction_with vars.now self.now) (variable_at vars.now p.ctrl_typevar)) }
+    {
+        // Their clauses say what a registry keeps, and that the results are among the variables.
+        let _count = vars.len();
+        let _results = self.result_count();
+        match control {
+            Control::By(v) => Some(PolymorphicInfo {
+                use_typevar_operand: self.is_designated(*v),
+                ctrl_typevar: *v,
+            }),
+            Control::NotPolymorphic | Control::Missing => None,
+        }
     }
 }

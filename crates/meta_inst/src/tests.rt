@@ -1,5 +1,7 @@
 use super::{AllInstructions, InstructionBuilder, InstructionGroupBuilder, Operands};
-use meta_operands::{FormatTable, InstructionFormatBuilder, Operand, OperandKind};
+use meta_operands::{
+    FormatTable, InstructionFormatBuilder, Operand, OperandKind, OperandKindFields,
+};
 use meta_types::Text;
 use meta_typevar::{Interval, TypeSetBuilder, TypeVar, TypeVars};
 use std::alloc::{AllocError, Global};
@@ -61,5 +63,46 @@ fn keeps_what_was_given(rt: HostRuntime) -> Result<(), Fail> {
     let operands = Operands::of(alloc, builder, &formats)?;
     assert_eq!(rt; operands.result_count(), 2);
     assert_eq!(rt; operands.variables(), [int, int, int].as_slice());
+    Ok(())
+}
+
+/// An operand that is no value, whose kind has these fields.
+fn other(alloc: Global, fields: OperandKindFields) -> Result<Operand, AllocError> {
+    let field_name = Text::new(alloc, "imm")?;
+    let rust_type = Text::new(alloc, "ir::Immediate")?;
+    let kind = OperandKind::new(field_name, rust_type, fields, Text::new(alloc, "")?);
+    Ok(Operand::new(Text::new(alloc, "y")?, kind))
+}
+
+/// An immediate, a value of this variable, and an entity reference.
+fn mixed(alloc: Global, tv: TypeVar) -> Result<Vec<Operand>, AllocError> {
+    let mut all = Vec::new(alloc);
+    all.push(other(alloc, OperandKindFields::ImmValue)?)?;
+    all.push(Operand::new(Text::new(alloc, "x")?, OperandKind::of(alloc, tv)?))?;
+    all.push(other(alloc, OperandKindFields::EntityRef)?)?;
+    Ok(all)
+}
+
+#[test]
+fn passes_over_other_operands(rt: HostRuntime) -> Result<(), Fail> {
+    let alloc = rt.alloc();
+    let mut vars = TypeVars::new(alloc);
+    let int = ints(&rt, alloc, &mut vars, 8, 128)?;
+    let mut formats = FormatTable::new(alloc);
+    let format = InstructionFormatBuilder::new(alloc, Text::new(alloc, "F")?);
+    let format = format.value().varargs().build(&mut formats)?;
+    let name = Text::new(alloc, "f")?;
+    let builder = InstructionBuilder::new(alloc, name, Text::new(alloc, "")?, format);
+    let mut outputs = Vec::new(alloc);
+    outputs.push(other(alloc, OperandKindFields::VariableArgs)?)?;
+    let builder = builder
+        .operands_in(mixed(alloc, int)?)
+        .operands_out(outputs);
+    assert!(rt; formats.is_of(builder.format()));
+    let operands = Operands::of(alloc, &builder, &formats)?;
+    assert_eq!(rt; operands.result_count(), 0, "varargs are no result");
+    assert_eq!(rt; operands.variables(), [int].as_slice());
+    assert_eq!(rt; operands.designated(), Some(int));
+    assert_eq!(rt; operands.first_result(), None);
     Ok(())
 }

@@ -1,5 +1,5 @@
 -- At each place, the one type that its operand's root must have; and two places of one root ask for the same type.
-use Rattle.std.proofs.Common.{◌≡◌, ℕ, ◌⊎◌, List, [], ◌∷◌, Option, Some, slice_get, refl, sym, ap, ◌∙◌, subst, subst₂, inl, inr}
+use Rattle.std.proofs.Common.{◌≡◌, ℕ, ◌⊎◌, List, [], ◌∷◌, ◌++◌, Option, Some, slice_get, refl, sym, ap, ◌∙◌, subst, subst₂, inl, inr}
 use Rattle.std.proofs.lemmas.Option.{same_Some}
 use Rattle.meta_types.specs.Shape.{Shape}
 use Rattle.meta_types.specs.Function.{Function, Steps}
@@ -79,7 +79,7 @@ module _ (sets : Sets) (i : Instruction) (Which : Type 0) (controls : Which → 
       let (u, b_is, steps) = passes in
       let q : IsUnder Which controls w b = record { variable = r.variable; controls_is = r.controls_is; root = r.derived.root } in
       let same : u ≡ e = same_Some u e (sym b_is ∙ (sym (under_same w w a b p q refl) ∙ is)) in
-      let one : w.chain ≡ f ∷ [] = r.derived.chain ∙ ap (λ fs. f ∷ fs) (ruling.underived b r.variable r.controls_is) in
+      let one : w.chain ≡ f ∷ [] = r.derived.chain ∙ ap (λ (fs : List Function). fs ++ (f ∷ [])) (ruling.underived b r.variable r.controls_is) in
       agrees_step w.chain f e t one (subst (λ y. Steps f y t) same steps)
 
   -- where no control has w's root and that has one type, this type leads to each type that passes w's rule

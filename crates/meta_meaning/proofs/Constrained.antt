@@ -1,5 +1,5 @@
 -- Each operand that isn't badly derived has a constraint.
-use Rattle.std.proofs.Common.{◌≡◌, ◌≢◌, ℕ, ◌⊎◌, ◌↔◌, List, [], ◌∷◌, Option, None, Some, refl, sym, ap, ◌∙◌, subst, inl, inr}
+use Rattle.std.proofs.Common.{◌≡◌, ◌≢◌, ℕ, ◌⊎◌, ◌↔◌, List, [], ◌∷◌, ◌++◌, Option, None, Some, refl, sym, ap, ◌∙◌, subst, inl, inr}
 use Rattle.std.proofs.lemmas.Bool.{cases_eq}
 use Rattle.std.proofs.lemmas.Option.{same_Some, none-some}
 use Rattle.meta_types.specs.Shape.{Shape}
@@ -31,18 +31,18 @@ module _ (sets : Sets) (w : Variable) (open_ : IsOpen sets w) where
   module _ (i : Instruction) (k : ℕ) (at : IsOperand i k w) where
     -- an operand that is derived and no step from the control is badly derived
     bad : (control : Option Variable) → w.chain ≢ [] → ((v : Variable) (f : Function) → control ≡ Some v → IsDerivedBy v w f → ⊥) → HasBadDerivation sets i control k
-    bad control d none = record { variable = w; operand = at; derived = d; not_fixed = open_; no_step = none }
+    bad control d none = record { variable = w; operand = at; bad = record { derived = d; not_fixed = open_; no_step = none } }
 
     -- a derived operand is one step from the control, or badly derived
     derived : (v : Variable) (f : Function) (fs : List Function) → v.chain ≡ [] → w.chain ≡ f ∷ fs → (w.root ≡ v.root) ⊎ (w.root ≡ v.root → ⊥) → (HasBadDerivation sets i (Some v) k → ⊥) → HasConstraint sets (Some v) w
-    derived v f [] under d (inl r) good = (By f, record { not_fixed = open_; variable = v; controls = refl; derived = record { root = r; chain = d ∙ ap (λ gs. f ∷ gs) (sym under) } })
+    derived v f [] under d (inl r) good = (By f, record { not_fixed = open_; variable = v; controls = refl; derived = record { root = r; chain = d ∙ ap (λ (gs : List Function). gs ++ (f ∷ [])) (sym under) } })
     derived v f (g ∷ fs) under d (inl r) good = absurd (good (bad (Some v) (λ e. let h : f ∷ (g ∷ fs) ≡ [] = sym d ∙ e in cc) longer))
       where
         -- two steps are more than one
         longer : (x : Variable) (h : Function) → Some v ≡ Some x → IsDerivedBy x w h → ⊥
         longer x h e step =
             let none : x.chain ≡ [] = subst (λ (y : Variable). y.chain ≡ []) (same_Some v x e) under in
-            let both : f ∷ (g ∷ fs) ≡ h ∷ [] = sym d ∙ (step.chain ∙ ap (λ gs. h ∷ gs) none) in
+            let both : f ∷ (g ∷ fs) ≡ h ∷ [] = sym d ∙ (step.chain ∙ ap (λ (gs : List Function). gs ++ (h ∷ [])) none) in
             cc
     derived v f fs under d (inr other) good = absurd (good (bad (Some v) (λ e. let h : f ∷ fs ≡ [] = sym d ∙ e in cc) (λ x h e step. other (step.root ∙ ap (λ (y : Variable). y.root) (sym (same_Some v x e))))))
 
@@ -73,7 +73,7 @@ no_constraint sets i control k w (By f) d open_ none under h = none h.variable f
 pub constraint_not_bad : (sets : Sets) (i : Instruction) (control : Option Variable) (k : ℕ) (w : Variable) (x : Constraint) → IsControl sets i control → IsOperand i k w → IsConstraint sets control w x → HasBadDerivation sets i control k → ⊥
 constraint_not_bad sets i control k w x c at h bad =
     let same : bad.variable ≡ w = same_Some bad.variable w (sym bad.operand ∙ at) in
-    no_constraint sets i control k bad.variable x bad.derived bad.not_fixed bad.no_step (λ v e. (ruling_of sets i control c).underived the_one v e) (subst (λ (y : Variable). IsConstraint sets control y x) (sym same) h)
+    no_constraint sets i control k bad.variable x bad.bad.derived bad.bad.not_fixed bad.bad.no_step (λ v e. (ruling_of sets i control c).underived the_one v e) (subst (λ (y : Variable). IsConstraint sets control y x) (sym same) h)
 
 -- One test an operand is one joint choice.
 pub one_test : (sets : Sets) (i : Instruction) (control : Option Variable) (c : Option Shape) (rs vs : List Shape) → IsControl sets i control → ((k : ℕ) → HasBadDerivation sets i control k → ⊥) → (Admits sets i control c rs vs ↔ Accepts sets i control c rs vs)

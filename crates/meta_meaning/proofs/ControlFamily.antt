@@ -9,7 +9,7 @@ use Rattle.meta_inst.specs.Instruction.{Instruction, IsOperand, IsDesignated, Is
 use Rattle.meta_inst.specs.Control.{IsControl, DesignatesNone, IsRuled}
 use Rattle.meta_meaning.specs.Acceptance.{Accepts, Controls}
 use Rattle.meta_meaning.specs.Constraint.{Constraint, Concrete, Free, Same, By, IsConstraint, Passes, ControlFits, Admits}
-use Rattle.meta_meaning.proofs.Places.{slice_get-append_left, slice_get-append_right}
+use Rattle.meta_inst.proofs.Places.{slice_get-append_left, slice_get-append_right}
 use Rattle.meta_meaning.proofs.Family.{IsControlled, IsUsed, IsSettled, Ruling, Rule, OneType, AnyOf, SameAs, ByOf, IsRule, RulePasses, AllFit, IsChoice}
 use Rattle.meta_meaning.proofs.OneChoice.{AllPass, choice_from_tests, passes_from_choice, fits_from_choice}
 

@@ -3,7 +3,7 @@
 use Rattle.std.proofs.Common.{◌≡◌, ℕ, suc, ◌⊎◌, Bool, true, false, List, [], ◌∷◌, Contains, refl, sym, subst, inl, inr, ⊎_elim, zero-lt-suc, suc-le-suc, arith}
 use Rattle.std.proofs.lemmas.Bool.{cases_eq, false≢true}
 use Rattle.meta_types.specs.Shape.{Kind, IntKind, FloatKind, Shape, IsType, widths, lane_counts}
-use Rattle.meta_meaning.proofs.AllTypes.{Contains-cases, same_shape, same_shape_true, same_shape_self}
+use Rattle.meta_types.proofs.AllTypes.{Contains-cases, same_shape, same_shape_true, same_shape_self}
 
 -- the fact holds, or it doesn't
 abbrev pub Decided : Type 0 → Type 0

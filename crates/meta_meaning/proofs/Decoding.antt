@@ -9,7 +9,7 @@ use Rattle.meta_inst.specs.Control.{IsControl}
 use Rattle.meta_meaning.specs.Acceptance.{AcceptsNumbers, IsNumberOf, AreNumbersOf}
 use Rattle.meta_meaning.specs.Constraint.{Constraint, IsConstraint, Passes, ControlFits, Admits}
 use Rattle.meta_meaning.specs.Tables.{TableContents, Entry, NumberPasses, PassesAt, ControlNumberFits, Allows, IsEntry, at_opcode, result_count, value_count}
-use Rattle.meta_meaning.proofs.Places.{at_same_place, slice_get-append_left, slice_get-append_right}
+use Rattle.meta_inst.proofs.Places.{at_same_place, slice_get-append_left, slice_get-append_right}
 use Rattle.meta_meaning.proofs.Family.{IsUsed}
 use Rattle.meta_meaning.proofs.ControlFamily.{the_one, ruling_of, as_long, accepts_from_admits, admits_from_accepts}
 use Rattle.meta_meaning.proofs.Only.{same_constraint}

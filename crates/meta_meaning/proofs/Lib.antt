@@ -1,7 +1,5 @@
 -- of types alone
-pub mod AllTypes
 pub mod Decided
-pub mod Numbers
 pub mod Names
 -- of sets, masks and chains alone
 pub mod Marks
@@ -9,7 +7,6 @@ pub mod Members
 pub mod Chains
 pub mod Fixedness
 -- one test an operand is one joint choice
-pub mod Places
 pub mod Family
 pub mod Candidates
 pub mod Choice

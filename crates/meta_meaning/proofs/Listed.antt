@@ -4,7 +4,7 @@ use Rattle.std.proofs.lemmas.Option.{same_Some, none-some, slice_get-map}
 use Rattle.std.proofs.lemmas.List.{length-map, map-append}
 use Rattle.meta_types.specs.Shape.{Shape, IsType, number_of}
 use Rattle.meta_meaning.specs.Acceptance.{AreNumbersOf, IsNumberOf}
-use Rattle.meta_meaning.proofs.Places.{slice_get-append_cases}
+use Rattle.meta_inst.proofs.Places.{slice_get-append_cases}
 
 -- n is the number of a type
 abbrev pub IsTypeNumber : ℕ → Type 0

@@ -10,7 +10,7 @@ use Rattle.meta_types.specs.Shape.{IntKind, FloatKind, widths, lane_counts}
 use Rattle.meta_types.specs.Function.{same_mark}
 use Rattle.meta_typevar.specs.FourSets.{IsPart}
 use Rattle.meta_typevar.specs.Masks.{Holds}
-use Rattle.meta_meaning.proofs.AllTypes.{at_each, at_each_contained, Contains-cases, same_mark_true}
+use Rattle.meta_types.proofs.AllTypes.{at_each, at_each_contained, Contains-cases, same_mark_true}
 
 -- the numbers of the list that the marks keep
 abbrev pub marked : List Bool → List ℕ → List ℕ

@@ -2,7 +2,7 @@
 use Rattle.std.proofs.Common.{◌≡◌, ℕ, ◌==◌, ◌+◌, ◌-◌, ◌*◌, Bool, true, false, cond, List, [], ◌∷◌, refl, sym, ap, ◌∙◌}
 use Rattle.std.specs.Fmt.{digits}
 use Rattle.meta_types.specs.Shape.{IntKind, FloatKind, Shape, IsType, scalar, letter, name_of}
-use Rattle.meta_meaning.proofs.AllTypes.{at_all, at_all_types, same_shape, same_shape_true}
+use Rattle.meta_types.proofs.AllTypes.{at_all, at_all_types, same_shape, same_shape_true}
 
 -- the number whose digits come next, up to an `x`, and what is left from there
 abbrev read_number : ℕ → List ℕ → ℕ × List ℕ

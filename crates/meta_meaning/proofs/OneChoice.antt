@@ -2,7 +2,8 @@
 --     choice_from_tests      where each operand's type passes its rule, one choice fits all
 --     passes_from_choice     where one choice fits all, each operand's type passes each rule of it
 --     fits_from_choice       and each controlling type fits its control
-use Rattle.std.proofs.Common.{◌≡◌, ℕ, List, [], ◌∷◌, length, Option, None, Some, slice_get, refl, sym, ap, ◌∙◌, subst, inl, inr}
+use Rattle.meta_types.specs.Function.{Function}
+use Rattle.std.proofs.Common.{◌≡◌, ℕ, List, [], ◌∷◌, ◌++◌, length, Option, None, Some, slice_get, refl, sym, ap, ◌∙◌, subst, inl, inr}
 use Rattle.meta_types.specs.Shape.{Shape}
 use Rattle.meta_typevar.specs.FourSets.{IsMember}
 use Rattle.meta_typevar.specs.Chain.{Agrees}
@@ -10,7 +11,7 @@ use Rattle.meta_typevar.specs.Variable.{Variable, Sets}
 use Rattle.meta_inst.specs.Instruction.{Instruction, IsOperand, operands}
 use Rattle.meta_meaning.specs.Acceptance.{Controls}
 use Rattle.meta_meaning.specs.Constraint.{ControlFits}
-use Rattle.meta_meaning.proofs.Places.{at_same_place}
+use Rattle.meta_inst.proofs.Places.{at_same_place}
 use Rattle.meta_meaning.proofs.Family.{Ruling, Rule, OneType, AnyOf, SameAs, ByOf, IsRule, RulePasses, PassesRule, AllFit, IsChoice}
 use Rattle.meta_meaning.proofs.Candidates.{Candidate, Reason, candidate, same_candidate, underived_agrees, step_agrees}
 use Rattle.meta_meaning.proofs.Choice.{Asked, choose, chosen}
@@ -80,7 +81,7 @@ module _ (sets : Sets) (i : Instruction) (Which : Type 0) (controls : Which → 
   passes_from_choice choice fits k w t at_k t_at (SameAs a) r =
       controlled_at choice fits a w r ∙ ap Some (sym (underived_agrees w.chain (choice w.root) t (ruling.underived a w r) (fits.agrees k w t at_k t_at)))
   passes_from_choice choice fits k w t at_k t_at (ByOf a f) r =
-      let one : w.chain ≡ f ∷ [] = r.derived.chain ∙ ap (λ fs. f ∷ fs) (ruling.underived a r.variable r.controls_is) in
+      let one : w.chain ≡ f ∷ [] = r.derived.chain ∙ ap (λ (fs : List Function). fs ++ (f ∷ [])) (ruling.underived a r.variable r.controls_is) in
       (choice w.root, controlled_at choice fits a r.variable r.controls_is ∙ ap (λ n. Some (choice n)) (sym r.derived.root), step_agrees w.chain f (choice w.root) t one (fits.agrees k w t at_k t_at))
 
   -- what a choice gives to a control is a member of its set

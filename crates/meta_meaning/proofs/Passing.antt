@@ -10,7 +10,7 @@ use Rattle.meta_typevar.specs.Variable.{Variable, Sets}
 use Rattle.meta_meaning.specs.Acceptance.{IsNumberOf}
 use Rattle.meta_meaning.specs.Constraint.{Constraint, Concrete, Free, Same, By, IsConstraint, Passes, ControlFits}
 use Rattle.meta_meaning.specs.Tables.{TableContents, NumberConstraint, SetContains, HoldsSet, StandsFor, NumberPasses, ControlNumberFits, IsTypeSetOffset, no_type_set}
-use Rattle.meta_meaning.proofs.Numbers.{one_number}
+use Rattle.meta_types.proofs.Numbers.{one_number}
 use Rattle.meta_meaning.proofs.Members.{numbers_of_members}
 use Rattle.meta_meaning.proofs.Chains.{agrees_type}
 use Rattle.meta_meaning.proofs.Listed.{IsTypeNumber, type_of_number, number_of_type, number_of_none}
@@ -56,7 +56,7 @@ module _ (tables : TableContents) (e : Option Shape) (c : Option ℕ) (numbered 
       (t, is, number)
   passing_typed (By f) y n sound stands p =
       let (u, _, steps) = subst (λ z. NumberPasses tables c z n) stands p in
-      (steps.to, steps.steps.to, steps.to_number)
+      (steps.to, steps.steps.to, steps.number_to)
 
   -- where the number of a type passes what stands for a constraint, the type passes it
   pub type_passes : (x : Constraint) (y : NumberConstraint) (t : Shape) → IsSound x → IsType t → StandsFor tables x y → NumberPasses tables c y (number_of t) → Passes e x t
@@ -68,8 +68,8 @@ module _ (tables : TableContents) (e : Option Shape) (c : Option ℕ) (numbered 
   type_passes (By f) y t sound is stands p =
       let (a, c_is, steps) = subst (λ z. NumberPasses tables c z (number_of t)) stands p in
       let (u, e_is, is_u, number) = type_of_number e c a numbered c_is in
-      let from : steps.from ≡ u = one_number steps.from u steps.steps.from is_u (steps.from_number ∙ sym number) in
-      let to : steps.to ≡ t = one_number steps.to t steps.steps.to is steps.to_number in
+      let from : steps.from ≡ u = one_number steps.from u steps.steps.from is_u (steps.number_from ∙ sym number) in
+      let to : steps.to ≡ t = one_number steps.to t steps.steps.to is steps.number_to in
       (u, e_is, subst₂ (λ (v w : Shape). Steps f v w) from to steps.steps)
 
   -- where a type passes a constraint, its number passes what stands for that
@@ -79,7 +79,7 @@ module _ (tables : TableContents) (e : Option Shape) (c : Option ℕ) (numbered 
   number_passes Same y t sound stands p = subst (λ z. NumberPasses tables c z (number_of t)) (sym stands) (number_of_type e c t numbered p)
   number_passes (By f) y t sound stands (u, e_is, steps) =
       subst (λ z. NumberPasses tables c z (number_of t)) (sym stands)
-      (number_of u, number_of_type e c u numbered e_is, record { from = u; to = t; steps = steps; from_number = refl; to_number = refl })
+      (number_of u, number_of_type e c u numbered e_is, record { from = u; to = t; steps = steps; number_from = refl; number_to = refl })
 
 -- a controlling number that fits the table's offset is that of a type that fits the control
 pub control_type : (sets : Sets) (control : Option Variable) (tables : TableContents) (offset : ℕ) (c : Option ℕ) → ((v : Variable) → control ≡ Some v → IsTypeSet (sets v.root)) → IsTypeSetOffset sets control tables offset → ControlNumberFits tables offset c

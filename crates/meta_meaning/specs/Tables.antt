@@ -2,8 +2,8 @@
 --     Allows tables op c rs vs              the decoding: the tables accept these numbers for the opcode
 --     IsEntry sets i control tables entry   the tables hold the instruction as this entry
 use Rattle.std.specs.Prelude.{◌≡◌, ℕ, ◌+◌, ◌/◌, ◌%◌, ◌<◌, ◌==◌, ◌↔◌, ◌≢◌, List, ◌++◌, length, slice_get, Option, None, Some, MatchBool, zero, suc}
-use Rattle.meta_types.specs.Shape.{Shape, number_of}
-use Rattle.meta_types.specs.Function.{Function, Steps}
+use Rattle.meta_types.specs.Shape.{number_of}
+use Rattle.meta_types.specs.Function.{Function, StepsNumbers}
 use Rattle.meta_typevar.specs.FourSets.{FourSets}
 use Rattle.meta_typevar.specs.Masks.{ContainsNumber, AreMasksOf}
 use Rattle.meta_typevar.specs.declared.masks.Masks.{Masks}
@@ -57,20 +57,12 @@ pub record SetContains (tables : TableContents) (j n : ℕ) : Type 0 where
 abbrev pub ControlNumberFits : TableContents → ℕ → Option ℕ → Type 0
 ControlNumberFits tables offset c = MatchBool (offset == no_type_set) (c ≡ None) ((n : ℕ) × (c ≡ Some n) × SetContains tables offset n)
 
--- a and b are the numbers of types of which f leads from the first to the second
-pub record StepsNumber (f : Function) (a b : ℕ) : Type 0 where
-  pub from : Shape
-  pub to : Shape
-  pub steps : Steps f from to
-  pub from_number : number_of from ≡ a
-  pub to_number : number_of to ≡ b
-
 -- under the controlling number c the number n passes the constraint
 abbrev pub NumberPasses : TableContents → Option ℕ → NumberConstraint → ℕ → Type 0
 NumberPasses tables c (ConcreteNumber m) n = n ≡ m
 NumberPasses tables c (FreeOf j) n = SetContains tables j n
 NumberPasses tables c SameNumber n = c ≡ Some n
-NumberPasses tables c (ByNumber f) n = (u : ℕ) × (c ≡ Some u) × StepsNumber f u n
+NumberPasses tables c (ByNumber f) n = (u : ℕ) × (c ≡ Some u) × StepsNumbers f u n
 
 -- there is a constraint at this place of the list, and n passes it
 pub record PassesAt (tables : TableContents) (c : Option ℕ) (place n : ℕ) : Type 0 where

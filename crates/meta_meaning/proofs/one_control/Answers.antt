@@ -1,4 +1,4 @@
-use Rattle.meta_meaning.proofs.Only.{same_control, control_not_missing}
+use Rattle.meta_inst.proofs.OneControl.{same_control, control_not_missing}
 use Rattle.meta_meaning.proofs.one_control.Goals as goal
 
 pub returns-clause-same : goal.returns-clause-same

@@ -1,0 +1,7 @@
+use Rattle.std.proofs.Common.{◌≡◌, ◌≤◌, count_by, take}
+use Rattle.meta_inst.specs.FormatMatch.{is_value_operand}
+use Rattle.meta_inst.proofs.format_match.value_count.Given as goal
+
+-- those so far are counted
+abbrev pub invariant-loop-operand : goal.invariant-loop-operand
+invariant-loop-operand l = (l.count ≡ count_by is_value_operand (take l.operand-index l.operands)) × (l.count ≤ l.operand-index)

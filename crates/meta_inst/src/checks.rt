@@ -1,0 +1,41 @@
+ghost use Rattle.std.specs.Prelude.{◌≡◌, ◌↔◌, ℕ, IsTrue, IfSome, IfNone};
+ghost use Rattle.std.specs.List.{position};
+ghost use Rattle.meta_inst.specs.InstructionFaults.{is_bad_output, AreTooMany, TakesNoImmediate};
+
+use meta_operands::{InstructionFormat, Operand};
+
+/// The most value results, and the most value inputs, that an instruction may have: each count has three bits.
+const MAX_OPERANDS: usize = 7;
+
+/// The place of the first output that is neither a value nor varargs.
+pub(crate) fn bad_output(outputs: &[Operand]) -> Option<usize>
+    ensures { result ≡ position is_bad_output outputs.now }
+{
+    outputs
+        .iter()
+        .position(|o| !o.is_value() && !o.is_varargs())
+}
+
+/// How many value results, or else value inputs, there are, where these are too many.
+pub(crate) fn too_many(results: usize, values: usize) -> Option<usize>
+    ensures found { IfSome result (AreTooMany results values) }
+    ensures none { IfNone result ((count : ℕ) → AreTooMany results values count → ⊥) }
+{
+    if results > MAX_OPERANDS {
+        return Some(results);
+    }
+    if values > MAX_OPERANDS {
+        return Some(values);
+    }
+    None
+}
+
+/// Whether no method can take an immediate for the last value input.
+pub(crate) fn takes_no_immediate(format: &InstructionFormat, results: usize, values: usize) -> bool
+    ensures { IsTrue result ↔ TakesNoImmediate format.now results values }
+{
+    if format.has_value_list {
+        return true;
+    }
+    results != 1 || values < 2
+}

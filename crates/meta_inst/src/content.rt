@@ -1,0 +1,295 @@
+ghost use Rattle.std.specs.Prelude.{◌≡◌, ◌++◌, ◌∷◌, [], IfOk, OnOk, Some};
+ghost use Rattle.std.specs.Option.{option_copied};
+ghost use Rattle.std.specs.Fmt.{DisplaysOnOk};
+ghost use Rattle.meta_operands.specs.Operand.{is_immediate_or_entityref_operand};
+ghost use Rattle.meta_inst.specs.FormatMatch.{is_value_operand};
+ghost use Rattle.meta_inst.specs.Content.{places_where, with_place, snake_name_of, names_text, more_names_text, outputs_text, inputs_text};
+
+use super::marks::Marks;
+use super::polymorphic::PolymorphicInfo;
+use meta_operands::{FormatId, Operand};
+use meta_types::Text;
+use std::alloc::{AllocError, Global};
+use std::fmt;
+use std::marker::Model;
+
+/// An instruction that is built: well declared, with its control (`cdsl/instructions.rs`).
+#[derive(Drop)]
+pub struct InstructionContent {
+    pub(crate) name: Text,
+    pub(crate) camel_name: Text,
+    pub(crate) doc: Text,
+    pub(crate) operands_in: Vec<Operand>,
+    pub(crate) operands_out: Vec<Operand>,
+    pub(crate) format: FormatId,
+    pub(crate) polymorphic_info: Option<PolymorphicInfo>,
+    pub(crate) value_opnums: Vec<usize>,
+    pub(crate) imm_opnums: Vec<usize>,
+    pub(crate) value_results: Vec<usize>,
+    pub(crate) marks: Marks,
+}
+
+/// An instruction that is built, which is owned (in the crate it is counted).
+pub type Instruction = InstructionContent;
+
+impl Model for InstructionContent {
+    ghost use Rattle.meta_inst.specs.Built.{Built};
+
+    ghost Value = { Built };
+
+    ghost view = { λ c. record { name = c.name; camel_name = c.camel_name; doc = c.doc; operands_in = c.operands_in.items; operands_out = c.operands_out.items; format = c.format; polymorphic_info = c.polymorphic_info; value_opnums = c.value_opnums.items; imm_opnums = c.imm_opnums.items; value_results = c.value_results.items; marks = c.marks } };
+}
+
+/// Adds the place, where the test holds.
+fn push_place(places: &mut Vec<usize>, place: usize, holds: bool) -> Result<(), AllocError>
+    ensures { OnOk result (places.new.items ≡ with_place places.old.items place holds) }
+{
+    if holds {
+        places.push(place)?;
+    }
+    Ok(())
+}
+
+/// The places of the operands that are values, in order.
+pub(crate) fn value_places(alloc: Global, operands: &[Operand]) -> Result<Vec<usize>, AllocError>
+    ensures { IfOk result (λ v. v.items ≡ places_where is_value_operand operands.now) }
+{
+    let mut places = Vec::new(alloc);
+    for place in 0..operands.len() {
+        push_place(&mut places, place, operands[place].is_value())?;
+    }
+    Ok(places)
+}
+
+/// The places of the operands that are immediates or entity references, in order.
+pub(crate) fn immediate_places(
+    alloc: Global,
+    operands: &[Operand],
+) -> Result<Vec<usize>, AllocError>
+    ensures { IfOk result (λ v. v.items ≡ places_where is_immediate_or_entityref_operand operands.now) }
+{
+    let mut places = Vec::new(alloc);
+    for place in 0..operands.len() {
+        push_place(
+            &mut places,
+            place,
+            operands[place].is_immediate_or_entityref(),
+        )?;
+    }
+    Ok(places)
+}
+
+/// Equal operands of their own.
+pub(crate) fn copied_operands(
+    alloc: Global,
+    operands: &[Operand],
+) -> Result<Vec<Operand>, AllocError>
+    ensures { IfOk result (λ v. v.items ≡ operands.now) }
+{
+    let mut copied = Vec::new(alloc);
+    for operand in operands {
+        copied.push(operand.copy(alloc)?)?;
+    }
+    Ok(copied)
+}
+
+impl InstructionContent {
+    /// The name, in snake case.
+    pub fn name(&self) -> &Text
+        ensures { result.now ≡ self.now.name }
+    {
+        &self.name
+    }
+
+    /// The name in camel case.
+    pub fn camel_name(&self) -> &Text
+        ensures { result.now ≡ self.now.camel_name }
+    {
+        &self.camel_name
+    }
+
+    /// The documentation.
+    pub fn doc(&self) -> &Text
+        ensures { result.now ≡ self.now.doc }
+    {
+        &self.doc
+    }
+
+    /// The inputs, in order.
+    pub fn operands_in(&self) -> &[Operand]
+        ensures { result.now ≡ self.now.operands_in }
+    {
+        self.operands_in.as_slice()
+    }
+
+    /// The outputs, in order.
+    pub fn operands_out(&self) -> &[Operand]
+        ensures { result.now ≡ self.now.operands_out }
+    {
+        self.operands_out.as_slice()
+    }
+
+    /// The number of the format.
+    pub fn format(&self) -> FormatId
+        ensures { result ≡ self.now.format }
+    {
+        self.format
+    }
+
+    /// What controls the instruction; `None` exactly where it isn't polymorphic.
+    pub fn polymorphic_info(&self) -> Option<PolymorphicInfo>
+        ensures { result ≡ self.now.polymorphic_info }
+    {
+        self.polymorphic_info
+    }
+
+    /// The places among the inputs, from 0, of the values.
+    pub fn value_opnums(&self) -> &[usize]
+        ensures { result.now ≡ self.now.value_opnums }
+    {
+        self.value_opnums.as_slice()
+    }
+
+    /// The places among the inputs, from 0, of the immediates and entity references, blocks among them.
+    pub fn imm_opnums(&self) -> &[usize]
+        ensures { result.now ≡ self.now.imm_opnums }
+    {
+        self.imm_opnums.as_slice()
+    }
+
+    /// The places among the outputs, from 0, of the values.
+    pub fn value_results(&self) -> &[usize]
+        ensures { result.now ≡ self.now.value_results }
+    {
+        self.value_results.as_slice()
+    }
+
+    /// Whether it ends a block.
+    pub fn is_terminator(&self) -> bool
+        ensures { result ≡ self.now.marks.is_terminator }
+    {
+        self.marks.is_terminator
+    }
+
+    /// Whether it branches to a block.
+    pub fn is_branch(&self) -> bool
+        ensures { result ≡ self.now.marks.is_branch }
+    {
+        self.marks.is_branch
+    }
+
+    /// Whether it calls a function.
+    pub fn is_call(&self) -> bool
+        ensures { result ≡ self.now.marks.is_call }
+    {
+        self.marks.is_call
+    }
+
+    /// Whether it returns from the function.
+    pub fn is_return(&self) -> bool
+        ensures { result ≡ self.now.marks.is_return }
+    {
+        self.marks.is_return
+    }
+
+    /// Whether it may read memory.
+    pub fn can_load(&self) -> bool
+        ensures { result ≡ self.now.marks.can_load }
+    {
+        self.marks.can_load
+    }
+
+    /// Whether it may write memory.
+    pub fn can_store(&self) -> bool
+        ensures { result ≡ self.now.marks.can_store }
+    {
+        self.marks.can_store
+    }
+
+    /// Whether it may trap.
+    pub fn can_trap(&self) -> bool
+        ensures { result ≡ self.now.marks.can_trap }
+    {
+        self.marks.can_trap
+    }
+
+    /// Whether it has other effects.
+    pub fn other_side_effects(&self) -> bool
+        ensures { result ≡ self.now.marks.other_side_effects }
+    {
+        self.marks.other_side_effects
+    }
+
+    /// Whether its effects, done twice, are those of once.
+    pub fn side_effects_idempotent(&self) -> bool
+        ensures { result ≡ self.now.marks.side_effects_idempotent }
+    {
+        self.marks.side_effects_idempotent
+    }
+
+    /// Whether the builder has a method for it that takes an immediate for the last value input.
+    pub fn inst_builder_imm_method(&self) -> bool
+        ensures { result ≡ self.now.marks.inst_builder_imm_method }
+    {
+        self.marks.inst_builder_imm_method
+    }
+
+    /// The name in the code that is written, where `return` is `return_`.
+    pub fn snake_name(&self) -> &str
+        ensures { result.now ≡ snake_name_of self.now.name }
+    {
+        if self.name.as_str() == "return" {
+            return "return_";
+        }
+        self.name.as_str()
+    }
+}
+
+/// Operand names after another one.
+fn write_more<W: fmt::Write>(f: &mut fmt::Formatter<W>, operands: &[Operand]) -> fmt::Result
+    ensures { DisplaysOnOk W.write_str_gives f.old result (Some (more_names_text operands.now)) f.new }
+{
+    for operand in operands {
+        f.write_str(", ")?;
+        f.write_str(operand.name.as_str())?;
+    }
+    Ok(())
+}
+
+/// The outputs before the name.
+fn write_outputs<W: fmt::Write>(f: &mut fmt::Formatter<W>, operands: &[Operand]) -> fmt::Result
+    ensures { DisplaysOnOk W.write_str_gives f.old result (Some (outputs_text operands.now)) f.new }
+{
+    let Some((first, rest)) = operands.split_first() else {
+        return Ok(());
+    };
+    f.write_str(first.name.as_str())?;
+    write_more(f, rest)?;
+    f.write_str(" = ")
+}
+
+/// The inputs behind the name.
+fn write_inputs<W: fmt::Write>(f: &mut fmt::Formatter<W>, operands: &[Operand]) -> fmt::Result
+    ensures { DisplaysOnOk W.write_str_gives f.old result (Some (inputs_text operands.now)) f.new }
+{
+    let Some((first, rest)) = operands.split_first() else {
+        return Ok(());
+    };
+    f.write_str(" ")?;
+    f.write_str(first.name.as_str())?;
+    write_more(f, rest)
+}
+
+/// As `a = iadd x, y`.
+impl fmt::Display for InstructionContent {
+    ghost use Rattle.std.specs.Prelude.{Some};
+    ghost use Rattle.meta_inst.specs.Content.{instruction_text};
+
+    ghost output = { λ content. Some (instruction_text content) };
+
+    fn fmt<W: fmt::Write>(&self, f: &mut fmt::Formatter<W>) -> fmt::Result {
+        write_outputs(f, self.operands_out.as_slice())?;
+        f.write_str(self.name.as_str())?;
+        write_inputs(f, self.operands_in.as_slice())
+    }
+}
