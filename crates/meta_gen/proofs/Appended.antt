@@ -1,6 +1,6 @@
 -- Lists to whose end one more is added.
 use Rattle.std.proofs.Common.{◌≡◌, ◌+◌, ℕ, List, [], ◌∷◌, ◌++◌, length, slice_get, Some, arith, ap, ◌∙◌, length-append}
-use Rattle.meta_meaning.proofs.Places.{slice_get-append_left, slice_get-append_right}
+use Rattle.meta_inst.proofs.Places.{slice_get-append_left, slice_get-append_right}
 
 module _ {X : Type 0} (old new : List X) (x : X) (added : new ≡ old ++ x ∷ []) where
   -- what stood at a place stands there

@@ -3,7 +3,7 @@ use Rattle.std.proofs.Common.{◌≡◌, ℕ, zero, suc, Option, None, Some, IfS
 use Rattle.std.proofs.lemmas.Option.{same_Some}
 use Rattle.meta_inst.specs.InstructionSet.{InstructionSet, root_sets, instruction_of}
 use Rattle.meta_meaning.specs.Tables.{TableContents, Entry, IsEntry, at_opcode}
-use Rattle.meta_meaning.proofs.Places.{at_same_place}
+use Rattle.meta_inst.proofs.Places.{at_same_place}
 use Rattle.meta_gen.specs.TablesOf.{AreTablesOf, HoldsInstruction}
 use Rattle.meta_gen.specs.Found.{IsDeclaredAs}
 use Rattle.meta_gen.specs.Constraint.{entry_of}

@@ -5,7 +5,7 @@ use Rattle.meta_inst.specs.InstructionSet.{InstructionSet, root_sets, instructio
 use Rattle.meta_meaning.specs.Acceptance.{AcceptsNumbers}
 use Rattle.meta_meaning.specs.Tables.{TableContents, Allows, at_opcode}
 use Rattle.meta_meaning.proofs.Decoding.{tables_mean}
-use Rattle.meta_meaning.proofs.Only.{same_control}
+use Rattle.meta_inst.proofs.OneControl.{same_control}
 use Rattle.meta_gen.specs.TablesOf.{AreTablesOf, HoldsInstruction, AcceptsOpcode}
 use Rattle.meta_gen.proofs.Declared.{declared_as}
 

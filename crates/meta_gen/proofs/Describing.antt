@@ -4,20 +4,26 @@ use Rattle.std.specs.Prelude.{option_map}
 use Rattle.std.proofs.lemmas.Bool.{false≢true}
 use Rattle.std.proofs.lemmas.Option.{same_Some}
 use Rattle.meta_types.specs.Shape.{number_of}
+use Rattle.meta_types.specs.Function.{Function}
+use Rattle.meta_types.specs.DerivedFunc.{function_of}
 use Rattle.meta_types.specs.ValueTypes.{shape_of}
 use Rattle.meta_types.specs.declared.value_type.ValueType.{ValueType}
 use Rattle.meta_typevar.specs.Chain.{IsFixed}
-use Rattle.meta_typevar.specs.Variable.{Variable, IsOpen}
-use Rattle.meta_typevar.specs.Registry.{sets_of, variable_at}
+use Rattle.meta_typevar.specs.Variable.{Variable, IsDerivedBy, IsOpen}
+use Rattle.meta_typevar.specs.Registry.{sets_of, variable_at, IsKept, IsRegistry}
 use Rattle.meta_typevar.specs.declared.masks.Masks.{Masks}
-use Rattle.meta_typevar.specs.declared.typevar.TypeVarContent.{TypeVarContent}
-use Rattle.meta_meaning.specs.Constraint.{Concrete as ConcreteType, Free as FreeType, Same as SameType}
-use Rattle.meta_meaning.specs.Tables.{ConcreteNumber}
+use Rattle.meta_typevar.specs.declared.content.TypeVarContent.{TypeVarContent}
+use Rattle.meta_typevar.specs.declared.content.TypeVarParent.{TypeVarParent}
+use Rattle.meta_typevar.proofs.Variables.{one_variable, underived_told}
+use Rattle.meta_inst.proofs.Derived.{not_root, one_function}
+use Rattle.meta_meaning.specs.Constraint.{Constraint as TypeConstraint, IsConstraint, Concrete as ConcreteType, Free as FreeType, Same as SameType, By as ByType}
+use Rattle.meta_meaning.specs.Tables.{ConcreteNumber, ByNumber}
 use Rattle.meta_meaning.proofs.Fixedness.{fixed_from_one}
 use Rattle.meta_gen.proofs.Appended.{stays, last}
 use Rattle.meta_gen.specs.declared.constraint.Constraint.{Constraint}
 use Rattle.meta_gen.specs.declared.constraint.Constraint.TheVariants.{Concrete, Free, Same}
-use Rattle.meta_gen.specs.Entries.{StaysIn, IsSetAt, IsFreeNumber, Describes, IsDescribedAt, control_at}
+use Rattle.meta_gen.specs.Constraint.{number_constraint_of}
+use Rattle.meta_gen.specs.Entries.{StaysIn, IsSetAt, IsFreeNumber, IsOfRegistry, HasConstraint, Describes, IsDescribedAt, control_at}
 
 -- a test that says no
 pub refused : (r : Bool) (P : Type 0) → r ≡ false → IsTrue r ↔ P → P → ⊥
@@ -28,36 +34,60 @@ pub mapped : {X Y : Type 0} (f : X → Y) (o : Option X) (y : Y) → option_map 
 mapped f None y e = absurd (cc)
 mapped f (Some x) y e = (x, refl, (cc))
 
-module _ (vars : List TypeVarContent) where
-  -- two numbers of one variable are one
-  one_number : (m n : ℕ) → variable_at vars m ≡ variable_at vars n → m ≡ n
-  one_number m n e = ap (λ (v : Variable). v.root) e
+-- the control by its number, and by its variable
+pub control_is : (vars : List TypeVarContent) (control : Option ℕ) (n : ℕ) → control ≡ Some n → control_at vars control ≡ Some (variable_at vars n)
+control_is vars control n e = ap (option_map (variable_at vars)) e
 
-  -- the control by its number, and by its variable
-  pub control_is : (control : Option ℕ) (n : ℕ) → control ≡ Some n → control_at vars control ≡ Some (variable_at vars n)
-  control_is control n e = ap (option_map (variable_at vars)) e
+pub control_from : (vars : List TypeVarContent) → IsRegistry vars → (control : Option ℕ) → IsOfRegistry vars control → (n : ℕ) → n < length vars → control_at vars control ≡ Some (variable_at vars n) → control ≡ Some n
+control_from vars r control of n l e =
+    let (x, is, same) = mapped (variable_at vars) control (variable_at vars n) e in
+    is ∙ ap Some (one_variable vars r x n (of x is) l same)
 
-  pub control_from : (control : Option ℕ) (n : ℕ) → control_at vars control ≡ Some (variable_at vars n) → control ≡ Some n
-  control_from control n e =
-      let (x, is, same) = mapped (variable_at vars) control (variable_at vars n) e in
-      is ∙ ap Some (one_number x n same)
+module _ (vars : List TypeVarContent) (control : Option ℕ) (type_sets : List Masks) (n : ℕ) where
+  pub concrete : (t : ValueType) (number : ℕ) → IsFixed (sets_of vars (variable_at vars n).root) (variable_at vars n).chain (shape_of t) → number ≡ number_of (shape_of t) → Describes vars control type_sets n (Concrete number)
+  concrete t number fixed e = record { constraint = ConcreteType (shape_of t); is_constraint = fixed; stands = λ names constraints entries. ap ConcreteNumber e }
 
-  module _ (control : Option ℕ) (type_sets : List Masks) (n : ℕ) where
-    pub concrete : (t : ValueType) (number : ℕ) → IsFixed (sets_of vars (variable_at vars n).root) (variable_at vars n).chain (shape_of t) → number ≡ number_of (shape_of t) → Describes vars control type_sets n (Concrete number)
-    concrete t number fixed e = record { constraint = ConcreteType (shape_of t); is_constraint = fixed; stands = λ names constraints entries. ap ConcreteNumber e }
+  pub same : IsOpen (sets_of vars) (variable_at vars n) → control ≡ Some n → Describes vars control type_sets n Same
+  same not_fixed e = record { constraint = SameType; is_constraint = record { not_fixed = not_fixed; controls = control_is vars control n e }; stands = λ names constraints entries. refl }
 
-    pub same : IsOpen (sets_of vars) (variable_at vars n) → control ≡ Some n → Describes vars control type_sets n Same
-    same not_fixed e = record { constraint = SameType; is_constraint = record { not_fixed = not_fixed; controls = control_is control n e }; stands = λ names constraints entries. refl }
-
-    pub free : (place : ℕ) → IsOpen (sets_of vars) (variable_at vars n) → (control ≡ Some n → ⊥) → IsSetAt type_sets place (sets_of vars (variable_at vars n).root) → Describes vars control type_sets n (Free place)
-    free place not_fixed other set = record {
+  -- what is said of a variable that isn't the control
+  module _ (registry : IsRegistry vars) (of : IsOfRegistry vars control) (below : n < length vars) (not_fixed : IsOpen (sets_of vars) (variable_at vars n)) (other : control ≡ Some n → ⊥) where
+    pub free : (place : ℕ) → (variable_at vars n).chain ≡ [] → IsSetAt type_sets place (sets_of vars (variable_at vars n).root) → Describes vars control type_sets n (Free place)
+    free place underived set = record {
       constraint = FreeType (sets_of vars (variable_at vars n).root);
-      is_constraint = record { not_fixed = not_fixed; underived = refl; other = λ e. other (control_from control n e); set = refl };
+      is_constraint = record { not_fixed = not_fixed; underived = underived; other = λ e. other (control_from vars registry control of n below e); set = refl };
       stands = λ names constraints entries. (place, refl, record { masks = set.masks; is_set = set.is_set; are_masks = set.are_masks });
     }
 
-    pub free_number : IsOpen (sets_of vars) (variable_at vars n) → (control ≡ Some n → ⊥) → IsFreeNumber vars control n
-    free_number not_fixed other = record { other = other; several = λ one. not_fixed one.one (fixed_from_one (sets_of vars (variable_at vars n).root) one) }
+    pub free_number : (variable_at vars n).chain ≡ [] → IsFreeNumber vars control n
+    free_number underived = record {
+      other = other;
+      underived = underived;
+      several = λ one. not_fixed one.one (subst (λ (fs : List Function). IsFixed (sets_of vars (variable_at vars n).root) fs one.one) (sym underived) (fixed_from_one (sets_of vars (variable_at vars n).root) one));
+    }
+
+    -- the constraint of a derived variable is its last function
+    by_function : (f : Function) → ((variable_at vars n).chain ≡ [] → ⊥) → ((v : Variable) (g : Function) → IsDerivedBy v (variable_at vars n) g → f ≡ g) → (x : TypeConstraint) → IsConstraint (sets_of vars) (control_at vars control) (variable_at vars n) x → IsConstraint (sets_of vars) (control_at vars control) (variable_at vars n) (ByType f)
+    by_function f derived one (ConcreteType t) h = absurd (not_fixed t h)
+    by_function f derived one (FreeType s) h = absurd (derived h.underived)
+    by_function f derived one SameType h = absurd (other (control_from vars registry control of n below h.controls))
+    by_function f derived one (ByType g) h = record {
+      not_fixed = not_fixed;
+      variable = h.variable;
+      controls = h.controls;
+      derived = subst (λ (k : Function). IsDerivedBy h.variable (variable_at vars n) k) (sym (one h.variable g h.derived)) h.derived;
+    }
+
+    pub by_parent : (d : TypeVarContent) (p : TypeVarParent) (y : Constraint) → IsKept vars n d → d.base ≡ Some p → HasConstraint vars control n → number_constraint_of y ≡ ByNumber (function_of p.derived_func) → Describes vars control type_sets n y
+    by_parent d p y kept e has is = record {
+      constraint = ByType (function_of p.derived_func);
+      is_constraint = by_function (function_of p.derived_func) (not_root vars registry n d kept p e) (one_function vars registry n d kept p e) has.0 has.1;
+      stands = λ names constraints entries. is;
+    }
+
+    -- and what has no parent is underived
+    pub underived_by : (d : TypeVarContent) → IsKept vars n d → d.base ≡ None → (variable_at vars n).chain ≡ []
+    underived_by d kept e = (underived_told vars n d registry kept).0 e
 
 -- what described a variable describes it in a longer list
 pub described_later : (vars : List TypeVarContent) (control : Option ℕ) (type_sets : List Masks) (old new : List Constraint) (place n : ℕ) → StaysIn old new → IsDescribedAt vars control type_sets old place n → IsDescribedAt vars control type_sets new place n

@@ -3,16 +3,18 @@ use Rattle.std.proofs.Common.{◌≡◌, ◌<◌, ◌≤◌, ◌+◌, inl, inr, 
 use Rattle.std.specs.declared.alloc.AllocError.{AllocError}
 use Rattle.std.proofs.lemmas.Option.{slice_get_within}
 use Rattle.std.proofs.lemmas.Bool.{cases_lt}
+use Rattle.std.proofs.lemmas.List.{length-map}
 use Rattle.meta_types.specs.declared.fault.Place.TheVariants.{Instruction as AtInstruction, Format as AtFormat, Group as AtGroup, Entry as AtEntry}
 use Rattle.meta_types.specs.declared.fault.DefinitionError.{DefinitionError}
 use Rattle.meta_types.specs.declared.fault.DefinitionError.TheVariants.{BadName, DuplicateName, TooManyOpcodes, FormatMismatch, NoControl, TooManyOperands, FormatClash, TooManyTypeSets, BadOutput, BadDerivation, BadImmMethod, BadFormat, BadEnum, BadPreset, TooManySettings, OutOfMemory}
 use Rattle.meta_typevar.specs.FourSets.{FourSets}
 use Rattle.meta_inst.specs.Builder.{Builder}
 use Rattle.meta_inst.specs.InstructionSet.{InstructionSet}
-use Rattle.meta_inst.specs.Faults.{HasTooManyOpcodes, HasTooManyTypeSets, AreNeededSets, Position, OfOpcodes, OfInstruction, OfFormat, OfTypeSets, Before, IsEarlier, InstructionShows, FormatShows, ShowsAt, IsFirstFault, IsValid}
+use Rattle.meta_inst.specs.Faults.{HasTooManyOpcodes, HasTooManyTypeSets, AreNeededSets, Position, OfOpcodes, OfInstruction, OfFormat, OfTypeSets, Before, IsEarlier, names_of, ShowsAt, IsFirstFault, IsValid}
 use Rattle.meta_gen.specs.Searched.{ShowsNoInstructionFault, IsFirstOfInstructions, ShowsNoFormatFault, IsFirstFormatFault, ShowsNoEarlyFault}
-use Rattle.meta_gen.specs.Needed.{AllControlled, AllSmall}
+use Rattle.meta_gen.specs.Needed.{AllControlled, AllDerived, AllSmall}
 use Rattle.meta_gen.proofs.Counted.{one_count}
+use Rattle.meta_gen.proofs.AtInstruction.{ShowsHere, at_instruction}
 
 module _ (d : InstructionSet) where
   -- what shows of all opcodes
@@ -31,9 +33,9 @@ module _ (d : InstructionSet) where
   at_opcodes (BadName (AtEntry u v)) h = absurd h
   at_opcodes (DuplicateName (AtGroup u) w) h = absurd h
   at_opcodes (DuplicateName (AtEntry u v) w) h = absurd h
-  at_opcodes (BadOutput u v) h = absurd h
-  at_opcodes (BadDerivation u v) h = absurd h
-  at_opcodes (BadImmMethod u) h = absurd h
+  at_opcodes (BadOutput u v) h = let e = h.position in absurd (cc)
+  at_opcodes (BadDerivation n place) h = let e = h.position in absurd (cc)
+  at_opcodes (BadImmMethod u) h = let e = h.position in absurd (cc)
   at_opcodes (BadFormat u) h = absurd h
   at_opcodes (BadEnum u v) h = absurd h
   at_opcodes (BadPreset u v) h = absurd h
@@ -56,9 +58,9 @@ module _ (d : InstructionSet) where
   at_type_sets (BadName (AtEntry u v)) h = absurd h
   at_type_sets (DuplicateName (AtGroup u) w) h = absurd h
   at_type_sets (DuplicateName (AtEntry u v) w) h = absurd h
-  at_type_sets (BadOutput u v) h = absurd h
-  at_type_sets (BadDerivation u v) h = absurd h
-  at_type_sets (BadImmMethod u) h = absurd h
+  at_type_sets (BadOutput u v) h = let e = h.position in absurd (cc)
+  at_type_sets (BadDerivation n place) h = let e = h.position in absurd (cc)
+  at_type_sets (BadImmMethod u) h = let e = h.position in absurd (cc)
   at_type_sets (BadFormat u) h = absurd h
   at_type_sets (BadEnum u v) h = absurd h
   at_type_sets (BadPreset u v) h = absurd h
@@ -66,39 +68,14 @@ module _ (d : InstructionSet) where
   at_type_sets OutOfMemory h = absurd h
 
   -- what shows at an instruction is of one that there is
-  within : (n own k rule : ℕ) (P : ℕ → Builder → Type 0) → InstructionShows d n own (OfInstruction k rule) P → k < length d.instructions
-  within n own k rule P h =
-      let e = h.position in
-      let place : h.place ≡ k = cc in
-      let l = slice_get_within d.instructions h.place h.builder h.at in
-      omega arith
+  within : (k rule : ℕ) (e : DefinitionError) → ShowsHere d k rule e → k < length d.instructions
+  within k rule e (inl h) = slice_get_within d.instructions k h.builder h.at
+  within k rule e (inr h) =
+      let l = slice_get_within (names_of d) k h.duplicate.name h.duplicate.is_name in
+      omega (arith, l, length-map d.instructions (λ (b : Builder). b.name))
 
-  no_format : (f own k rule : ℕ) (P : ℕ → Type 0) → FormatShows d f own (OfInstruction k rule) P → ⊥
-  no_format f own k rule P h = let e = h.position in cc
-
-  at_instruction : (k rule : ℕ) (e : DefinitionError) → ShowsAt d e (OfInstruction k rule) → k < length d.instructions
-  at_instruction k rule (TooManyOpcodes count) h = let e = h.0 in absurd (cc)
-  at_instruction k rule (BadName (AtInstruction n)) h = within n _ k rule _ h
-  at_instruction k rule (BadName (AtFormat f)) h = absurd (no_format f _ k rule _ h)
-  at_instruction k rule (DuplicateName (AtInstruction n) m) h = within n _ k rule _ h
-  at_instruction k rule (DuplicateName (AtFormat f) m) h = absurd h
-  at_instruction k rule (FormatMismatch n) h = within n _ k rule _ h
-  at_instruction k rule (NoControl n) h = within n _ k rule _ h
-  at_instruction k rule (TooManyOperands n count) h = within n _ k rule _ h
-  at_instruction k rule (FormatClash f g) h = absurd (no_format f _ k rule _ h)
-  at_instruction k rule (TooManyTypeSets count) h = let e = h.0 in absurd (cc)
-  at_instruction k rule (BadName (AtGroup u)) h = absurd h
-  at_instruction k rule (BadName (AtEntry u v)) h = absurd h
-  at_instruction k rule (DuplicateName (AtGroup u) w) h = absurd h
-  at_instruction k rule (DuplicateName (AtEntry u v) w) h = absurd h
-  at_instruction k rule (BadOutput u v) h = absurd h
-  at_instruction k rule (BadDerivation u v) h = absurd h
-  at_instruction k rule (BadImmMethod u) h = absurd h
-  at_instruction k rule (BadFormat u) h = absurd h
-  at_instruction k rule (BadEnum u v) h = absurd h
-  at_instruction k rule (BadPreset u v) h = absurd h
-  at_instruction k rule (TooManySettings u v w x) h = absurd h
-  at_instruction k rule OutOfMemory h = absurd h
+  at_place : (k rule : ℕ) (e : DefinitionError) → ShowsAt d e (OfInstruction k rule) → k < length d.instructions
+  at_place k rule e h = within k rule e (at_instruction d k rule e h)
 
   -- too many opcodes are the first fault of all
   pub first_of_opcodes : HasTooManyOpcodes d → IsFirstFault d (TooManyOpcodes (length d.instructions))
@@ -130,7 +107,7 @@ module _ (d : InstructionSet) where
 
     module _ (clean : (k : ℕ) → k < length d.instructions → ShowsNoInstructionFault d k) where
       no_instruction : (i r : ℕ) (f : DefinitionError) → ShowsAt d f (OfInstruction i r) → ⊥
-      no_instruction i r f s = clean i (at_instruction i r f s) r f s
+      no_instruction i r f s = clean i (at_place i r f s) r f s
 
       -- so is the first of the formats, where the instructions show none
       pub first_of_formats : (e : DefinitionError) → IsFirstFormatFault d e → IsFirstFault d e
@@ -152,10 +129,13 @@ module _ (d : InstructionSet) where
   module _ (early : ShowsNoEarlyFault d) where
     -- so each instruction has a control, and few operands
     pub controlled : AllControlled d
-    controlled k b at lack = early (OfInstruction k 4) (NoControl (k + 1)) tt (record { place = k; builder = b; at = at; number = refl; position = refl; shows = lack })
+    controlled k b at lack = early (OfInstruction k 5) (NoControl (k + 1)) tt (record { place = k; builder = b; rule = 5; at = at; position = refl; breaks = (refl, refl, lack) })
+
+    pub derived : AllDerived d
+    derived k b place at bad = early (OfInstruction k 6) (BadDerivation (k + 1) place) tt (record { place = k; builder = b; rule = 6; at = at; position = refl; breaks = (refl, refl, bad) })
 
     pub small : AllSmall d
-    small k b count at many = early (OfInstruction k 5) (TooManyOperands (k + 1) count) tt (record { place = k; builder = b; at = at; number = refl; position = refl; shows = many })
+    small k b count at many = early (OfInstruction k 7) (TooManyOperands (k + 1) count) tt (record { place = k; builder = b; rule = 7; at = at; position = refl; breaks = (refl, refl, many) })
 
     pub few_opcodes : length d.instructions ≤ 255
     few_opcodes = ⊎_elim (λ l. absurd (early OfOpcodes (TooManyOpcodes (length d.instructions)) tt (refl, refl, l))) (λ l. l) (cases_lt 255 (length d.instructions))

@@ -8,11 +8,11 @@ use Rattle.meta_types.specs.Name.{IsName}
 use Rattle.meta_types.specs.declared.fault.Place.TheVariants.{Instruction as AtInstruction, Format as AtFormat, Group as AtGroup, Entry as AtEntry}
 use Rattle.meta_types.specs.declared.fault.DefinitionError.{DefinitionError}
 use Rattle.meta_types.specs.declared.fault.DefinitionError.TheVariants.{BadName, DuplicateName, TooManyOpcodes, FormatMismatch, NoControl, TooManyOperands, FormatClash, TooManyTypeSets, BadOutput, BadDerivation, BadImmMethod, BadFormat, BadEnum, BadPreset, TooManySettings, OutOfMemory}
-use Rattle.meta_typevar.specs.declared.typevar.TypeVarContent.{TypeVarContent}
+use Rattle.meta_typevar.specs.declared.content.TypeVarContent.{TypeVarContent}
 use Rattle.meta_operands.specs.declared.format.InstructionFormat.{InstructionFormat}
 use Rattle.meta_inst.specs.Builder.{Builder}
 use Rattle.meta_inst.specs.InstructionSet.{InstructionSet}
-use Rattle.meta_inst.specs.Faults.{IsAt, IsFirstUse, HasBadFormatName, AreClashing, IsFirstClash, OfOpcodes, OfInstruction, OfFormat, OfTypeSets, ShowsAt, name_rule, clash_rule}
+use Rattle.meta_inst.specs.Faults.{IsAt, IsFirstUse, HasBadFormatName, AreClashing, IsFirstClash, OfOpcodes, OfInstruction, OfFormat, OfTypeSets, ShowsAt, format_name_rule, clash_rule}
 use Rattle.meta_gen.specs.Searched.{ShowsNoFormatFault, IsFirstFormatFault}
 use Rattle.meta_gen.specs.FormatsUsed.{IsAmong, IsNotAmong, AreOfTable, ClashIn, ClashesWithNone, IsFirstToClash}
 use Rattle.meta_gen.proofs.Pushed.{get_end, get_before, get_pushed}
@@ -51,9 +51,9 @@ shown d (BadName (AtGroup u)) k rule s = absurd s
 shown d (BadName (AtEntry u v)) k rule s = absurd s
 shown d (DuplicateName (AtGroup u) w) k rule s = absurd s
 shown d (DuplicateName (AtEntry u v) w) k rule s = absurd s
-shown d (BadOutput u v) k rule s = absurd s
-shown d (BadDerivation u v) k rule s = absurd s
-shown d (BadImmMethod u) k rule s = absurd s
+shown d (BadOutput u v) k rule s = absurd (elsewhere _ _ _ _ s.position)
+shown d (BadDerivation n place) k rule s = absurd (elsewhere _ _ _ _ s.position)
+shown d (BadImmMethod u) k rule s = absurd (elsewhere _ _ _ _ s.position)
 shown d (BadFormat u) k rule s = absurd s
 shown d (BadEnum u v) k rule s = absurd s
 shown d (BadPreset u v) k rule s = absurd s
@@ -215,11 +215,11 @@ module _ (d : InstructionSet) (k : ℕ) (b : Builder) (used : List ℕ) (before 
   pub first_bad_name : IsNotAmong used b.format → AreCleanBefore d k → HasBadFormatName d b.format → IsFirstFormatFault d (BadName (AtFormat b.format))
   first_bad_name new h bad = record {
     place = k;
-    rule = name_rule;
+    rule = format_name_rule;
     shows = record { place = k; first_use = first_here new; position = refl; shows = bad };
     first = λ j rule e earlier s.
         ⊎_elim (λ (m : j < k). h.clean j rule e m s)
-        (λ (m : (j ≡ k) × (rule < name_rule)). no_rule j rule m.1 (shown d e j rule s))
+        (λ (m : (j ≡ k) × (rule < format_name_rule)). no_rule j rule m.1 (shown d e j rule s))
         earlier;
   }
     where

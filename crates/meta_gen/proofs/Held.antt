@@ -3,16 +3,16 @@ use Rattle.std.proofs.Common.{◌≡◌, ◌<◌, ◌≤◌, ◌+◌, ℕ, List,
 use Rattle.std.specs.Prelude.{option_map}
 use Rattle.std.proofs.lemmas.Option.{slice_get-map, slice_get_within, same_Some}
 use Rattle.meta_typevar.specs.Variable.{Variable, Sets}
-use Rattle.meta_typevar.specs.Registry.{sets_of, variable_at}
+use Rattle.meta_typevar.specs.Registry.{sets_of, variable_at, IsRegistry}
 use Rattle.meta_typevar.specs.declared.masks.Masks.{Masks}
-use Rattle.meta_typevar.specs.declared.typevar.TypeVarContent.{TypeVarContent}
+use Rattle.meta_typevar.specs.declared.content.TypeVarContent.{TypeVarContent}
 use Rattle.meta_operands.specs.declared.format.InstructionFormat.{InstructionFormat}
 use Rattle.meta_inst.specs.Builder.{Builder}
 use Rattle.meta_inst.specs.Instruction.{Instruction}
 use Rattle.meta_inst.specs.Control.{IsControl}
 use Rattle.meta_inst.specs.InstructionSet.{InstructionSet, root_sets, instruction_in, instruction_of}
 use Rattle.meta_inst.specs.Faults.{IsAt}
-use Rattle.meta_inst.specs.Operands.{OperandList, instruction_with}
+use Rattle.meta_inst.specs.Operands.{OperandList, instruction_with, AreOf}
 use Rattle.meta_inst.proofs.Meaning.{operand_at, operand_from}
 use Rattle.meta_meaning.specs.Constraint.{Constraint as TypeConstraint, Concrete as ConcreteType, Free as FreeType, Same as SameType, By as ByType}
 use Rattle.meta_meaning.specs.Tables.{NumberConstraint, Entry, AreFlagsOf, IsTypeSetOffset, StandsFor, Constrains, IsEntry}
@@ -22,7 +22,7 @@ use Rattle.meta_gen.specs.Needed.{AreNeededMasks}
 use Rattle.meta_gen.specs.TablesOf.{HoldsInstruction}
 use Rattle.meta_gen.specs.declared.constraint.Constraint.{Constraint}
 use Rattle.meta_gen.specs.declared.constraint.OpcodeConstraints.{OpcodeConstraints}
-use Rattle.meta_gen.specs.Entries.{StaysIn, IsHeld, HoldNeeded, HoldFree, IsDescribedAt, AreDescribed, HasNoOperand, EntryHolds, IsHeldAt, control_at, set_with}
+use Rattle.meta_gen.specs.Entries.{StaysIn, IsHeld, HoldNeeded, HoldFree, IsDescribedAt, AreDescribed, HasNoOperand, EntryHolds, IsHeldAt, IsOfRegistry, control_at, set_with}
 use Rattle.meta_gen.proofs.Describing.{mapped, control_is, control_from}
 use Rattle.meta_gen.proofs.Appended.{stays, last}
 
@@ -34,7 +34,7 @@ needed_held d type_sets needed k b at control s is which =
     (j, record { masks = m; is_set = at_m; are_masks = are })
 
 module _ (vars : List TypeVarContent) (o : OperandList) (within : o.result_count ≤ length o.variables) (control : Option ℕ) (type_sets : List Masks)
-    (held : HoldNeeded type_sets (sets_of vars) (instruction_with vars o)) (is_control : IsControl (sets_of vars) (instruction_with vars o) (control_at vars control)) where
+    (held : HoldNeeded type_sets (sets_of vars) (instruction_with vars o)) (is_control : IsControl (sets_of vars) (instruction_with vars o) (control_at vars control)) (registry : IsRegistry vars) (are : AreOf vars o.variables) (of : IsOfRegistry vars control) where
   -- the set of the control is held
   pub control_held : (v : ℕ) → control ≡ Some v → IsHeld type_sets (sets_of vars (variable_at vars v).root)
   control_held v e = held (control_at vars control) (sets_of vars (variable_at vars v).root) is_control (inl record { variable = variable_at vars v; controls = control_is vars control v e; set = refl })
@@ -44,9 +44,9 @@ module _ (vars : List TypeVarContent) (o : OperandList) (within : o.result_count
   free_held numbers same k n at f = held (control_at vars control) (sets_of vars (variable_at vars n).root) is_control (inr record {
     place = k;
     variable = variable_at vars n;
-    operand = operand_at vars o within k n (ap (λ ns. slice_get ns k) (sym same) ∙ at);
-    underived = refl;
-    other = λ e. f.other (control_from vars control n e);
+    operand = operand_at vars o within registry are k n (ap (λ ns. slice_get ns k) (sym same) ∙ at);
+    underived = f.underived;
+    other = λ e. f.other (control_from vars registry control of n (are k n (ap (λ ns. slice_get ns k) (sym same) ∙ at)) e);
     set = refl;
     several = f.several;
   })
@@ -56,7 +56,7 @@ none_listed : (xs : List ℕ) → ((k n : ℕ) → slice_get xs k ≡ Some n →
 none_listed [] never = refl
 none_listed (x ∷ xs) never = absurd (never 0 x refl)
 
-module _ (vars : List TypeVarContent) (o : OperandList) (within : o.result_count ≤ length o.variables) (control : Option ℕ) (type_sets : List Masks) (constraints : List Constraint) where
+module _ (vars : List TypeVarContent) (o : OperandList) (within : o.result_count ≤ length o.variables) (registry : IsRegistry vars) (are : AreOf vars o.variables) (control : Option ℕ) (type_sets : List Masks) (constraints : List Constraint) where
   -- a described variable is constrained
   constrained : (names : List (List ℕ)) (entries : List OpcodeConstraints) (place n : ℕ) → IsDescribedAt vars control type_sets constraints place n
       → Constrains (sets_of vars) (control_at vars control) (contents_of names type_sets constraints entries) place (variable_at vars n)
@@ -84,7 +84,7 @@ module _ (vars : List TypeVarContent) (o : OperandList) (within : o.result_count
       flags = flags;
       type_set = type_set names constraints entries;
       constraints = λ k w op.
-          let (n, at, is) = operand_from vars o within k w op in
+          let (n, at, is) = operand_from vars o within registry are k w op in
           let l = slice_get_within o.variables k n at in
           let some : 0 < length o.variables = omega arith in
           let place : base + k ≡ e.constraint_offset + k = ap (λ b. b + k) (sym (offset some)) in
@@ -92,7 +92,7 @@ module _ (vars : List TypeVarContent) (o : OperandList) (within : o.result_count
           (subst (λ p. Constrains (sets_of vars) (control_at vars control) (contents_of names type_sets constraints entries) p (variable_at vars n)) place
           (constrained names entries (base + k) n (described k n at)));
     };
-    no_operand = λ never. no_offset (none_listed o.variables (λ k n at. never k (variable_at vars n) (operand_at vars o within k n at)));
+    no_operand = λ never. no_offset (none_listed o.variables (λ k n at. never k (variable_at vars n) (operand_at vars o within registry are k n at)));
   }
 
 module _ (names : List (List ℕ)) (type_sets : List Masks) (old new : List Constraint) (entries : List OpcodeConstraints) (stay : StaysIn old new) where

@@ -4,7 +4,7 @@ use Rattle.std.proofs.lemmas.Bool.{cases_lt, false≢true}
 use Rattle.meta_typevar.specs.FourSets.{FourSets}
 use Rattle.meta_typevar.specs.Masks.{AreMasksOf}
 use Rattle.meta_typevar.specs.declared.masks.Masks.{Masks}
-use Rattle.meta_meaning.proofs.Places.{slice_get-append_left, slice_get-append_right}
+use Rattle.meta_inst.proofs.Places.{slice_get-append_left, slice_get-append_right}
 use Rattle.meta_gen.specs.Interned.{StandsIn, AreDistinct, IsMaskOf, Interns}
 
 -- nothing is needed

@@ -5,7 +5,7 @@ pub mod Decoded
 pub mod Reading
 pub mod Naming
 -- the search for the first fault
-mod OperandsOf
+mod AtInstruction
 mod Rules
 mod NamesSoFar
 pub mod EarlierNames
@@ -24,3 +24,4 @@ mod Flags
 mod Held
 mod Made
 pub mod OneFault
+pub mod Derivations

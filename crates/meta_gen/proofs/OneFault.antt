@@ -6,9 +6,12 @@ use Rattle.meta_types.specs.declared.fault.Place.TheVariants.{Instruction as AtI
 use Rattle.meta_types.specs.declared.fault.DefinitionError.{DefinitionError}
 use Rattle.meta_types.specs.declared.fault.DefinitionError.TheVariants.{BadName, DuplicateName, TooManyOpcodes, FormatMismatch, NoControl, TooManyOperands, FormatClash, TooManyTypeSets, BadOutput, BadDerivation, BadImmMethod, BadFormat, BadEnum, BadPreset, TooManySettings, OutOfMemory}
 use Rattle.meta_inst.specs.Builder.{Builder}
-use Rattle.meta_inst.specs.InstructionSet.{InstructionSet}
-use Rattle.meta_inst.specs.Faults.{IsAt, SharesName, names_of, IsDuplicate, HasBadName, HasFormatMismatch, LacksControl, HasTooManyOperands, IsFirstUse, HasBadFormatName, IsFirstClash, HasTooManyTypeSets, Position, OfOpcodes, OfInstruction, OfFormat, OfTypeSets, Before, IsEarlier, InstructionShows, FormatShows, ShowsAt, IsFirstFault, IsValid}
+use Rattle.meta_inst.specs.InstructionSet.{InstructionSet, root_sets, instruction_of}
+use Rattle.meta_inst.specs.Faults.{IsAt, SharesName, names_of, IsDuplicate, IsFirstUse, HasBadFormatName, IsFirstClash, HasTooManyTypeSets, Position, OfOpcodes, OfInstruction, OfFormat, OfTypeSets, Before, IsEarlier, FormatShows, ShowsAt, IsFirstFault, IsValid}
 use Rattle.meta_gen.proofs.Counted.{one_count}
+use Rattle.meta_inst.specs.InstructionFaults.{Breaks}
+use Rattle.meta_inst.proofs.OneOwnFault.{one_broken, not_second}
+use Rattle.meta_gen.proofs.AtInstruction.{ShowsHere, at_instruction}
 
 -- ---- of two positions one is before the other, or they are one
 
@@ -74,13 +77,6 @@ one_duplicate names k i j h g = ⊎_elim (λ l. absurd (earlier i j h g l)) (⊎
     earlier : (i j : ℕ) → IsDuplicate names k i → IsDuplicate names k j → i < j → ⊥
     earlier i j h g l = g.first i h.earlier l h.is_earlier (subst (SharesName h.earlier) (same_Some h.name g.name (sym h.is_name ∙ g.is_name)) h.shares)
 
--- the count of operands
-one_operand_count : (b : Builder) (m n : ℕ) → HasTooManyOperands b m → HasTooManyOperands b n → m ≡ n
-one_operand_count b m n (inl h) (inl g) = h.1 ∙ sym g.1
-one_operand_count b m n (inl h) (inr g) = absurd (omega (arith, h.0, g.0))
-one_operand_count b m n (inr h) (inl g) = absurd (omega (arith, h.0, g.0))
-one_operand_count b m n (inr h) (inr g) = h.2 ∙ sym g.2
-
 module _ (d : InstructionSet) where
   one_at : (k : ℕ) (b c : Builder) → IsAt d k b → IsAt d k c → b ≡ c
   one_at k b c h g = same_Some b c (sym h ∙ g)
@@ -99,85 +95,13 @@ module _ (d : InstructionSet) where
 
   -- ---- what can show at a position
 
-  -- the faults of an instruction, by rule, with all that their numbers depend on
-  abbrev ShownAtInstruction : ℕ → ℕ → DefinitionError → Type 0
-  ShownAtInstruction k rule e =
-      ((rule ≡ 1) × (e ≡ BadName (AtInstruction (k + 1))))
-      ⊎ (((rule ≡ 2) × ((j : ℕ) × IsDuplicate (names_of d) k j × (e ≡ DuplicateName (AtInstruction (k + 1)) (j + 1))))
-      ⊎ (((rule ≡ 3) × (e ≡ FormatMismatch (k + 1)))
-      ⊎ (((rule ≡ 4) × (e ≡ NoControl (k + 1)))
-      ⊎ ((rule ≡ 5) × ((b : Builder) × (count : ℕ) × IsAt d k b × HasTooManyOperands b count × (e ≡ TooManyOperands (k + 1) count))))))
-
-  -- what a rule shows is of the instruction at the place
-  here : (n own k rule : ℕ) (P : ℕ → Builder → Type 0) → InstructionShows d n own (OfInstruction k rule) P → (rule ≡ own) × (n ≡ k + 1) × ((b : Builder) × IsAt d k b × P k b)
-  here n own k rule P h =
-      let at_place = h.position in
-      let place : h.place ≡ k = cc in
-      let rules : rule ≡ own = cc in
-      (rules, h.number ∙ ap (λ i. i + 1) place, (h.builder, subst (λ i. IsAt d i h.builder) place h.at, subst (λ i. P i h.builder) place h.shows))
-
-  not_format : (f own k rule : ℕ) (P : ℕ → Type 0) → FormatShows d f own (OfInstruction k rule) P → ⊥
-  not_format f own k rule P h = let e = h.position in cc
-
-  at_instruction : (k rule : ℕ) (e : DefinitionError) → ShowsAt d e (OfInstruction k rule) → ShownAtInstruction k rule e
-  at_instruction k rule (BadName (AtInstruction n)) h = let r = here n 1 k rule (λ k b. HasBadName b) h in inl (r.0, ap (λ n. BadName (AtInstruction n)) r.1)
-  at_instruction k rule (BadName (AtFormat f)) h = absurd (not_format f _ k rule _ h)
-  at_instruction k rule (DuplicateName (AtInstruction n) m) h =
-      let r = here n 2 k rule (λ k b. (j : ℕ) × (m ≡ j + 1) × IsDuplicate (names_of d) k j) h in
-      let (b, at, (j, earlier, duplicate)) = r.2 in
-      let number = r.1 in
-      inr (inl (r.0, (j, duplicate, cc)))
-  at_instruction k rule (DuplicateName (AtFormat f) m) h = absurd h
-  at_instruction k rule (TooManyOpcodes count) h = let e = h.0 in absurd (cc)
-  at_instruction k rule (FormatMismatch n) h = let r = here n 3 k rule (λ k b. HasFormatMismatch d b) h in inr (inr (inl (r.0, ap FormatMismatch r.1)))
-  at_instruction k rule (NoControl n) h = let r = here n 4 k rule (λ k b. LacksControl d b) h in inr (inr (inr (inl (r.0, ap NoControl r.1))))
-  at_instruction k rule (TooManyOperands n count) h =
-      let r = here n 5 k rule (λ k b. HasTooManyOperands b count) h in
-      let (b, at, many) = r.2 in
-      inr (inr (inr (inr (r.0, (b, count, at, many, ap (λ n. TooManyOperands n count) r.1)))))
-  at_instruction k rule (FormatClash f g) h = absurd (not_format f _ k rule _ h)
-  at_instruction k rule (TooManyTypeSets count) h = let e = h.0 in absurd (cc)
-  at_instruction k rule (BadName (AtGroup u)) h = absurd h
-  at_instruction k rule (BadName (AtEntry u v)) h = absurd h
-  at_instruction k rule (DuplicateName (AtGroup u) w) h = absurd h
-  at_instruction k rule (DuplicateName (AtEntry u v) w) h = absurd h
-  at_instruction k rule (BadOutput u v) h = absurd h
-  at_instruction k rule (BadDerivation u v) h = absurd h
-  at_instruction k rule (BadImmMethod u) h = absurd h
-  at_instruction k rule (BadFormat u) h = absurd h
-  at_instruction k rule (BadEnum u v) h = absurd h
-  at_instruction k rule (BadPreset u v) h = absurd h
-  at_instruction k rule (TooManySettings u v w x) h = absurd h
-  at_instruction k rule OutOfMemory h = absurd h
-
-  one_at_instruction : (k rule : ℕ) (e f : DefinitionError) → ShownAtInstruction k rule e → ShownAtInstruction k rule f → e ≡ f
-  one_at_instruction k rule e f (inl h) (inl g) = h.1 ∙ sym g.1
-  one_at_instruction k rule e f (inl h) (inr (inl g)) = absurd (omega (arith, h.0, g.0))
-  one_at_instruction k rule e f (inl h) (inr (inr (inl g))) = absurd (omega (arith, h.0, g.0))
-  one_at_instruction k rule e f (inl h) (inr (inr (inr (inl g)))) = absurd (omega (arith, h.0, g.0))
-  one_at_instruction k rule e f (inl h) (inr (inr (inr (inr g)))) = absurd (omega (arith, h.0, g.0))
-  one_at_instruction k rule e f (inr (inl h)) (inl g) = absurd (omega (arith, h.0, g.0))
-  one_at_instruction k rule e f (inr (inl (hr, (i, a, he)))) (inr (inl (gr, (j, b, ge)))) = he ∙ ap (λ j. DuplicateName (AtInstruction (k + 1)) (j + 1)) (one_duplicate (names_of d) k i j a b) ∙ sym ge
-  one_at_instruction k rule e f (inr (inl h)) (inr (inr (inl g))) = absurd (omega (arith, h.0, g.0))
-  one_at_instruction k rule e f (inr (inl h)) (inr (inr (inr (inl g)))) = absurd (omega (arith, h.0, g.0))
-  one_at_instruction k rule e f (inr (inl h)) (inr (inr (inr (inr g)))) = absurd (omega (arith, h.0, g.0))
-  one_at_instruction k rule e f (inr (inr (inl h))) (inl g) = absurd (omega (arith, h.0, g.0))
-  one_at_instruction k rule e f (inr (inr (inl h))) (inr (inl g)) = absurd (omega (arith, h.0, g.0))
-  one_at_instruction k rule e f (inr (inr (inl h))) (inr (inr (inl g))) = h.1 ∙ sym g.1
-  one_at_instruction k rule e f (inr (inr (inl h))) (inr (inr (inr (inl g)))) = absurd (omega (arith, h.0, g.0))
-  one_at_instruction k rule e f (inr (inr (inl h))) (inr (inr (inr (inr g)))) = absurd (omega (arith, h.0, g.0))
-  one_at_instruction k rule e f (inr (inr (inr (inl h)))) (inl g) = absurd (omega (arith, h.0, g.0))
-  one_at_instruction k rule e f (inr (inr (inr (inl h)))) (inr (inl g)) = absurd (omega (arith, h.0, g.0))
-  one_at_instruction k rule e f (inr (inr (inr (inl h)))) (inr (inr (inl g))) = absurd (omega (arith, h.0, g.0))
-  one_at_instruction k rule e f (inr (inr (inr (inl h)))) (inr (inr (inr (inl g)))) = h.1 ∙ sym g.1
-  one_at_instruction k rule e f (inr (inr (inr (inl h)))) (inr (inr (inr (inr g)))) = absurd (omega (arith, h.0, g.0))
-  one_at_instruction k rule e f (inr (inr (inr (inr h)))) (inl g) = absurd (omega (arith, h.0, g.0))
-  one_at_instruction k rule e f (inr (inr (inr (inr h)))) (inr (inl g)) = absurd (omega (arith, h.0, g.0))
-  one_at_instruction k rule e f (inr (inr (inr (inr h)))) (inr (inr (inl g))) = absurd (omega (arith, h.0, g.0))
-  one_at_instruction k rule e f (inr (inr (inr (inr h)))) (inr (inr (inr (inl g)))) = absurd (omega (arith, h.0, g.0))
-  one_at_instruction k rule e f (inr (inr (inr (inr (hr, (b, m, ba, bm, he)))))) (inr (inr (inr (inr (gr, (c, n, ca, cm, ge)))))) =
-      let same = one_at k b c ba ca in
-      he ∙ ap (λ n. TooManyOperands (k + 1) n) (one_operand_count c m n (subst (λ b. HasTooManyOperands b m) same bm) cm) ∙ sym ge
+  -- at an instruction, by one rule, one fault shows
+  one_at_instruction : (k rule : ℕ) (e f : DefinitionError) → ShowsHere d k rule e → ShowsHere d k rule f → e ≡ f
+  one_at_instruction k rule e f (inl h) (inl g) =
+      one_broken d.vars d.formats g.builder (k + 1) rule e f (subst (λ (b : Builder). Breaks d.vars d.formats b (k + 1) rule e) (one_at k h.builder g.builder h.at g.at) h.breaks) g.breaks
+  one_at_instruction k rule e f (inl h) (inr g) = absurd (not_second d.vars d.formats h.builder (k + 1) e (subst (λ r. Breaks d.vars d.formats h.builder (k + 1) r e) g.second h.breaks))
+  one_at_instruction k rule e f (inr h) (inl g) = absurd (not_second d.vars d.formats g.builder (k + 1) f (subst (λ r. Breaks d.vars d.formats g.builder (k + 1) r f) h.second g.breaks))
+  one_at_instruction k rule e f (inr h) (inr g) = h.is ∙ ap (λ j. DuplicateName (AtInstruction (k + 1)) (j + 1)) (one_duplicate (names_of d) k h.earlier g.earlier h.duplicate g.duplicate) ∙ sym g.is
 
   -- the faults of a format, by rule
   abbrev ShownAtFormat : ℕ → ℕ → DefinitionError → Type 0
@@ -193,27 +117,24 @@ module _ (d : InstructionSet) where
       let rules : rule ≡ own = cc in
       (rules, subst (IsFirstUse d f) place h.first_use, subst P place h.shows)
 
-  not_instruction : (n own k rule : ℕ) (P : ℕ → Builder → Type 0) → InstructionShows d n own (OfFormat k rule) P → ⊥
-  not_instruction n own k rule P h = let e = h.position in cc
-
   at_format : (k rule : ℕ) (e : DefinitionError) → ShowsAt d e (OfFormat k rule) → ShownAtFormat k rule e
-  at_format k rule (BadName (AtInstruction n)) h = absurd (not_instruction n _ k rule _ h)
+  at_format k rule (BadName (AtInstruction n)) h = let e = h.position in absurd (cc)
   at_format k rule (BadName (AtFormat f)) h = let r = first_used f 1 k rule (λ k. HasBadFormatName d f) h in inl (r.0, (f, r.1, refl))
-  at_format k rule (DuplicateName (AtInstruction n) m) h = absurd (not_instruction n _ k rule _ h)
+  at_format k rule (DuplicateName (AtInstruction n) m) h = let e = h.position in absurd (cc)
   at_format k rule (DuplicateName (AtFormat f) m) h = absurd h
   at_format k rule (TooManyOpcodes count) h = let e = h.0 in absurd (cc)
-  at_format k rule (FormatMismatch n) h = absurd (not_instruction n _ k rule _ h)
-  at_format k rule (NoControl n) h = absurd (not_instruction n _ k rule _ h)
-  at_format k rule (TooManyOperands n count) h = absurd (not_instruction n _ k rule _ h)
+  at_format k rule (FormatMismatch n) h = let e = h.position in absurd (cc)
+  at_format k rule (NoControl n) h = let e = h.position in absurd (cc)
+  at_format k rule (TooManyOperands n count) h = let e = h.position in absurd (cc)
   at_format k rule (FormatClash f g) h = let r = first_used f 2 k rule (λ k. IsFirstClash d f k g) h in inr (r.0, (f, g, r.1, r.2, refl))
   at_format k rule (TooManyTypeSets count) h = let e = h.0 in absurd (cc)
   at_format k rule (BadName (AtGroup u)) h = absurd h
   at_format k rule (BadName (AtEntry u v)) h = absurd h
   at_format k rule (DuplicateName (AtGroup u) w) h = absurd h
   at_format k rule (DuplicateName (AtEntry u v) w) h = absurd h
-  at_format k rule (BadOutput u v) h = absurd h
-  at_format k rule (BadDerivation u v) h = absurd h
-  at_format k rule (BadImmMethod u) h = absurd h
+  at_format k rule (BadOutput u v) h = let e = h.position in absurd (cc)
+  at_format k rule (BadDerivation n place) h = let e = h.position in absurd (cc)
+  at_format k rule (BadImmMethod u) h = let e = h.position in absurd (cc)
   at_format k rule (BadFormat u) h = absurd h
   at_format k rule (BadEnum u v) h = absurd h
   at_format k rule (BadPreset u v) h = absurd h
@@ -243,9 +164,9 @@ module _ (d : InstructionSet) where
   at_opcodes (BadName (AtEntry u v)) h = absurd h
   at_opcodes (DuplicateName (AtGroup u) w) h = absurd h
   at_opcodes (DuplicateName (AtEntry u v) w) h = absurd h
-  at_opcodes (BadOutput u v) h = absurd h
-  at_opcodes (BadDerivation u v) h = absurd h
-  at_opcodes (BadImmMethod u) h = absurd h
+  at_opcodes (BadOutput u v) h = let e = h.position in absurd (cc)
+  at_opcodes (BadDerivation n place) h = let e = h.position in absurd (cc)
+  at_opcodes (BadImmMethod u) h = let e = h.position in absurd (cc)
   at_opcodes (BadFormat u) h = absurd h
   at_opcodes (BadEnum u v) h = absurd h
   at_opcodes (BadPreset u v) h = absurd h
@@ -267,9 +188,9 @@ module _ (d : InstructionSet) where
   at_type_sets (BadName (AtEntry u v)) h = absurd h
   at_type_sets (DuplicateName (AtGroup u) w) h = absurd h
   at_type_sets (DuplicateName (AtEntry u v) w) h = absurd h
-  at_type_sets (BadOutput u v) h = absurd h
-  at_type_sets (BadDerivation u v) h = absurd h
-  at_type_sets (BadImmMethod u) h = absurd h
+  at_type_sets (BadOutput u v) h = let e = h.position in absurd (cc)
+  at_type_sets (BadDerivation n place) h = let e = h.position in absurd (cc)
+  at_type_sets (BadImmMethod u) h = let e = h.position in absurd (cc)
   at_type_sets (BadFormat u) h = absurd h
   at_type_sets (BadEnum u v) h = absurd h
   at_type_sets (BadPreset u v) h = absurd h
@@ -279,7 +200,7 @@ module _ (d : InstructionSet) where
   -- at one position one fault shows
   one_shown : (p : Position) (e f : DefinitionError) → ShowsAt d e p → ShowsAt d f p → e ≡ f
   one_shown OfOpcodes e f h g = at_opcodes e h ∙ sym (at_opcodes f g)
-  one_shown (OfInstruction k rule) e f h g = one_at_instruction k rule e f (at_instruction k rule e h) (at_instruction k rule f g)
+  one_shown (OfInstruction k rule) e f h g = one_at_instruction k rule e f (at_instruction d k rule e h) (at_instruction d k rule f g)
   one_shown (OfFormat k rule) e f h g = one_at_format k rule e f (at_format k rule e h) (at_format k rule f g)
   one_shown OfTypeSets e f h g =
       let (m, many, he) = at_type_sets e h in

@@ -5,7 +5,7 @@ use Rattle.std.proofs.lemmas.Bool.{false≢true}
 use Rattle.meta_typevar.specs.Registry.{HoldTypeSets}
 use Rattle.meta_inst.specs.InstructionSet.{InstructionSet}
 use Rattle.meta_meaning.specs.Tables.{TableContents, Entry, PassesAt, ControlNumberFits, Allows, at_opcode, result_count, value_count}
-use Rattle.meta_meaning.proofs.Places.{slice_get-append_left, slice_get-append_right}
+use Rattle.meta_inst.proofs.Places.{slice_get-append_left, slice_get-append_right}
 use Rattle.meta_gen.specs.TablesOf.{AreTablesOf, AcceptsOpcode}
 use Rattle.meta_gen.specs.Contents.{AllPass}
 use Rattle.meta_gen.proofs.Decoded.{tables_of_mean}

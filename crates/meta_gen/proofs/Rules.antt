@@ -1,149 +1,68 @@
--- The rules for one instruction: what shows at it, and which fault is first.
-use Rattle.std.proofs.Common.{◌≡◌, ◌≢◌, ◌+◌, ◌⊎◌, inl, inr, ⊎_elim, ℕ, ◌++◌, length, length-append, slice_get, Option, None, Some, MatchOption, refl, sym, ap, ◌∙◌, subst, arith}
-use Rattle.meta_types.specs.Name.{IsName}
-use Rattle.meta_types.specs.declared.fault.Place.TheVariants.{Instruction as AtInstruction, Format as AtFormat, Group as AtGroup, Entry as AtEntry}
+-- The first fault of one instruction, from those that it shows by itself and from the names before it.
+use Rattle.std.proofs.Common.{◌≡◌, ◌≢◌, ◌<◌, ◌+◌, ◌⊎◌, inl, inr, ⊎_elim, ℕ, slice_get, Option, None, Some, Result, Ok, Err, IfSome, IfNone, OnOk, IfErr, MatchOption, refl, sym, ap, ◌∙◌, subst, arith}
+use Rattle.std.proofs.lemmas.Option.{same_Some}
+use Rattle.meta_types.specs.declared.fault.Place.{Place}
+use Rattle.meta_types.specs.declared.fault.Place.TheVariants.{Instruction as AtInstruction}
 use Rattle.meta_types.specs.declared.fault.DefinitionError.{DefinitionError}
-use Rattle.meta_types.specs.declared.fault.DefinitionError.TheVariants.{BadName, DuplicateName, TooManyOpcodes, FormatMismatch, NoControl, TooManyOperands, FormatClash, TooManyTypeSets, BadOutput, BadDerivation, BadImmMethod, BadFormat, BadEnum, BadPreset, TooManySettings, OutOfMemory}
-use Rattle.meta_typevar.specs.Registry.{sets_of}
-use Rattle.meta_operands.specs.Operand.{variables_of}
-use Rattle.meta_operands.specs.declared.format.InstructionFormat.{InstructionFormat}
-use Rattle.meta_inst.specs.Builder.{Builder, inputs_of, outputs_of}
-use Rattle.meta_inst.specs.Control.{HasNoControl}
-use Rattle.meta_inst.specs.Operands.{OperandList, instruction_with}
-use Rattle.meta_inst.specs.InstructionSet.{InstructionSet, instruction_of}
-use Rattle.meta_inst.specs.Faults.{IsAt, names_of, IsDuplicate, HasBadName, HasFormatMismatch, LacksControl, HasTooManyOperands, OfInstruction, InstructionShows, FormatShows, ShowsAt}
-use Rattle.meta_gen.specs.OperandFaults.{value_count_of, LackControl, AreTooMany, HasNoOperandFault, IsOperandFault}
+use Rattle.meta_types.specs.declared.fault.DefinitionError.TheVariants.{BadName, DuplicateName, OutOfMemory}
+use Rattle.meta_inst.specs.Builder.{Builder}
+use Rattle.meta_inst.specs.Built.{Built}
+use Rattle.meta_inst.specs.InstructionSet.{InstructionSet}
+use Rattle.meta_inst.specs.InstructionFaults.{Breaks, IsFirstOwnFault, IsWellMade}
+use Rattle.meta_inst.specs.Faults.{IsAt, names_of, IsDuplicate, OfInstruction, ShowsAt}
+use Rattle.meta_inst.proofs.OneOwnFault.{later, first_rule}
 use Rattle.meta_gen.specs.Searched.{ShowsNoInstructionFault, IsFirstInstructionFault}
+use Rattle.meta_gen.proofs.AtInstruction.{BreaksHere, SharesHere, at_instruction, shows_own}
 
 module _ (d : InstructionSet) (k : ℕ) (b : Builder) (at : IsAt d k b) where
-  -- what shows at the instruction, by the number of the rule
-  abbrev Shows : ℕ → Type 0
-  Shows rule =
-      ((rule ≡ 1) × HasBadName b)
-      ⊎ (((rule ≡ 2) × ((j : ℕ) × IsDuplicate (names_of d) k j))
-      ⊎ (((rule ≡ 3) × HasFormatMismatch d b)
-      ⊎ (((rule ≡ 4) × LacksControl d b)
-      ⊎ ((rule ≡ 5) × ((count : ℕ) × HasTooManyOperands b count)))))
+  -- what is said of the instruction itself
+  abbrev Own : Option DefinitionError → Type 0
+  Own o = MatchOption o (IsWellMade d.vars d.formats b) (IsFirstOwnFault d.vars d.formats b (k + 1))
 
-  -- what a rule shows is of this instruction
-  here : (n own rule : ℕ) (P : ℕ → Builder → Type 0) → InstructionShows d n own (OfInstruction k rule) P → (rule ≡ own) × P k b
-  here n own rule P h =
-      let place : h.place ≡ k = cc in
-      let rules : rule ≡ own = cc in
-      let same : h.builder ≡ b = some_builder (sym h.at ∙ ap (slice_get d.instructions) place ∙ at) in
-      (rules, subst (λ i. P i b) place (subst (P h.place) same h.shows))
-    where
-      some_builder : {x y : Builder} → Some x ≡ Some y → x ≡ y
-      some_builder e = cc
+  -- a rule that is broken at the place is broken by the instruction
+  here : (rule : ℕ) (e : DefinitionError) → BreaksHere d k rule e → Breaks d.vars d.formats b (k + 1) rule e
+  here rule e h = subst (λ (x : Builder). Breaks d.vars d.formats x (k + 1) rule e) (same_Some h.builder b (sym h.at ∙ at)) h.breaks
 
-  -- a format shows nothing at an instruction
-  not_format : (f own rule : ℕ) (P : ℕ → Type 0) → FormatShows d f own (OfInstruction k rule) P → ⊥
-  not_format f own rule P h = let e = h.position in cc
-
-  shows : (rule : ℕ) (e : DefinitionError) → ShowsAt d e (OfInstruction k rule) → Shows rule
-  shows rule (BadName (AtInstruction n)) h = inl (here n 1 rule (λ k b. HasBadName b) h)
-  shows rule (BadName (AtFormat f)) h = absurd (not_format f _ rule _ h)
-  shows rule (DuplicateName (AtInstruction n) m) h = let r = here n 2 rule (λ k b. (j : ℕ) × (m ≡ j + 1) × IsDuplicate (names_of d) k j) h in inr (inl (r.0, (r.1.0, r.1.2)))
-  shows rule (DuplicateName (AtFormat f) m) h = absurd h
-  shows rule (TooManyOpcodes count) h = let e = h.0 in absurd (cc)
-  shows rule (FormatMismatch n) h = inr (inr (inl (here n 3 rule (λ k b. HasFormatMismatch d b) h)))
-  shows rule (NoControl n) h = inr (inr (inr (inl (here n 4 rule (λ k b. LacksControl d b) h))))
-  shows rule (TooManyOperands n count) h = let r = here n 5 rule (λ k b. HasTooManyOperands b count) h in inr (inr (inr (inr (r.0, (count, r.1)))))
-  shows rule (FormatClash f g) h = absurd (not_format f _ rule _ h)
-  shows rule (TooManyTypeSets count) h = let e = h.0 in absurd (cc)
-  shows rule (BadName (AtGroup u)) h = absurd h
-  shows rule (BadName (AtEntry u v)) h = absurd h
-  shows rule (DuplicateName (AtGroup u) w) h = absurd h
-  shows rule (DuplicateName (AtEntry u v) w) h = absurd h
-  shows rule (BadOutput u v) h = absurd h
-  shows rule (BadDerivation u v) h = absurd h
-  shows rule (BadImmMethod u) h = absurd h
-  shows rule (BadFormat u) h = absurd h
-  shows rule (BadEnum u v) h = absurd h
-  shows rule (BadPreset u v) h = absurd h
-  shows rule (TooManySettings u v w x) h = absurd h
-  shows rule OutOfMemory h = absurd h
-
-  -- nothing shows where no rule shows anything
-  pub clean : IsName b.name → ((j : ℕ) → IsDuplicate (names_of d) k j → ⊥) → (HasFormatMismatch d b → ⊥) → (LacksControl d b → ⊥) → ((count : ℕ) → HasTooManyOperands b count → ⊥) → ShowsNoInstructionFault d k
-  clean name duplicate format control counts rule e h = ⊎_elim (λ s. s.1 name) (⊎_elim (λ s. duplicate s.1.0 s.1.1) (⊎_elim (λ s. format s.1) (⊎_elim (λ s. control s.1) (λ s. counts s.1.0 s.1.1)))) (shows rule e h)
-
-  -- the name is bad
-  pub bad_name : HasBadName b → IsFirstInstructionFault d k (BadName (AtInstruction (k + 1)))
-  bad_name bad = record {
-    rule = 1;
-    shows = record { place = k; builder = b; at = at; number = refl; position = refl; shows = bad };
-    first = λ other e l h. ⊎_elim (λ s. omega (arith, s.0)) (⊎_elim (λ s. omega (arith, s.0)) (⊎_elim (λ s. omega (arith, s.0)) (⊎_elim (λ s. omega (arith, s.0)) (λ s. omega (arith, s.0))))) (shows other e h);
+  -- the first fault of its own is the first, where no name is shared before it
+  first_own : (e : DefinitionError) (h : IsFirstOwnFault d.vars d.formats b (k + 1) e) → (2 < h.rule → (j : ℕ) → IsDuplicate (names_of d) k j → ⊥) → IsFirstInstructionFault d k e
+  first_own e h unshared = record {
+    rule = h.rule;
+    shows = shows_own d k h.rule e (record { builder = b; at = at; breaks = h.breaks });
+    first = λ other f l s. ⊎_elim (λ o. h.first other f l (here other f o)) (λ (q : SharesHere d k other f). unshared (omega (arith, l, q.second)) q.earlier q.duplicate) (at_instruction d k other f s);
   }
 
-  -- the name is shared
-  pub shared_name : (j : ℕ) → IsName b.name → IsDuplicate (names_of d) k j → IsFirstInstructionFault d k (DuplicateName (AtInstruction (k + 1)) (j + 1))
-  shared_name j name duplicate = record {
+  -- a bad name is looked for first
+  pub bad_name_first : (p : Place) → IsFirstOwnFault d.vars d.formats b (k + 1) (BadName p) → IsFirstInstructionFault d k (BadName p)
+  bad_name_first p h = first_own (BadName p) h (λ l. let is = first_rule d.vars d.formats b (k + 1) h.rule p h.breaks in absurd (omega (arith, l, is)))
+
+  -- where the name isn't bad, no rule of its own comes before that of shared names
+  none_before : (o : Option DefinitionError) → Own o → ((p : Place) → o ≢ Some (BadName p)) → (other : ℕ) (f : DefinitionError) → other < 2 → Breaks d.vars d.formats b (k + 1) other f → ⊥
+  none_before None well named other f l h = well (k + 1) other f h
+  none_before (Some e) first named other f l h =
+      let behind : 2 < first.rule = later d.vars d.formats b (k + 1) first.rule e first.breaks (λ p is. named p (ap Some is)) in
+      first.first other f (omega (arith, l, behind)) h
+
+  pub shared_name_first : (o : Option DefinitionError) → Own o → ((p : Place) → o ≢ Some (BadName p)) → (j : ℕ) → IsDuplicate (names_of d) k j → IsFirstInstructionFault d k (DuplicateName (AtInstruction (k + 1)) (j + 1))
+  shared_name_first o own named j duplicate = record {
     rule = 2;
-    shows = record { place = k; builder = b; at = at; number = refl; position = refl; shows = (j, refl, duplicate) };
-    first = λ other e l h. ⊎_elim (λ s. s.1 name) (⊎_elim (λ s. omega (arith, s.0)) (⊎_elim (λ s. omega (arith, s.0)) (⊎_elim (λ s. omega (arith, s.0)) (λ s. omega (arith, s.0))))) (shows other e h);
+    shows = record { place = k; earlier = j; number = refl; earlier_number = refl; position = refl; duplicate = duplicate };
+    first = λ other f l s. ⊎_elim (λ h. none_before o own named other f l (here other f h)) (λ (q : SharesHere d k other f). omega (arith, l, q.second)) (at_instruction d k other f s);
   }
 
-  module _ (name : IsName b.name) (unshared : (j : ℕ) → IsDuplicate (names_of d) k j → ⊥) (format : InstructionFormat) (formatted : slice_get d.formats b.format ≡ Some format)
-      (o : OperandList) (meaning : instruction_with d.vars o ≡ instruction_of d b) (variables : o.variables ≡ variables_of (outputs_of b) ++ variables_of (inputs_of b)) (results : o.result_count ≡ length (variables_of (outputs_of b))) where
-    values : value_count_of o ≡ length (variables_of (inputs_of b))
-    values =
-        let lengths = ap length variables ∙ length-append (variables_of (outputs_of b)) (variables_of (inputs_of b)) in
-        omega arith
+  -- where no name is shared, what is said of the instruction itself is all
+  pub own_told : (o : Option DefinitionError) → Own o → ((j : ℕ) → IsDuplicate (names_of d) k j → ⊥) → MatchOption o (ShowsNoInstructionFault d k) (IsFirstInstructionFault d k)
+  own_told None well unshared = λ rule e s. ⊎_elim (λ h. well (k + 1) rule e (here rule e h)) (λ (q : SharesHere d k rule e). unshared q.earlier q.duplicate) (at_instruction d k rule e s)
+  own_told (Some e) first unshared = first_own e first (λ l. unshared)
 
-    lack : LackControl d.vars o → LacksControl d b
-    lack h = subst (HasNoControl (sets_of d.vars)) meaning h
+-- what building an instruction tells
+pub own_of : (d : InstructionSet) (b : Builder) (n : ℕ) (built : Result Built DefinitionError) (o : Option DefinitionError)
+    → IfErr built (λ e. e ≢ OutOfMemory → IsFirstOwnFault d.vars d.formats b n e) → OnOk built (IsWellMade d.vars d.formats b)
+    → IfNone o ((c : Built) × (built ≡ Ok c)) → IfSome o (λ e. (built ≡ Err e) × (e ≢ OutOfMemory)) → MatchOption o (IsWellMade d.vars d.formats b) (IsFirstOwnFault d.vars d.formats b n)
+own_of d b n built None refused well (c, is) some = subst (λ r. OnOk r (IsWellMade d.vars d.formats b)) is well
+own_of d b n built (Some e) refused well none (is, other) = (subst (λ r. IfErr r (λ x. x ≢ OutOfMemory → IsFirstOwnFault d.vars d.formats b n x)) is refused) other
 
-    lack_from : LacksControl d b → LackControl d.vars o
-    lack_from h = subst (HasNoControl (sets_of d.vars)) (sym meaning) h
-
-    many : (count : ℕ) → AreTooMany o count → HasTooManyOperands b count
-    many count (inl h) = inl (omega (arith, h.0, results), h.1 ∙ results)
-    many count (inr h) = inr (omega (arith, h.0, results), omega (arith, h.1, values), h.2 ∙ values)
-
-    mismatch : value_count_of o ≢ format.num_value_operands → HasFormatMismatch d b
-    mismatch differ = (format, formatted, λ e. differ (values ∙ e))
-
-    matches : value_count_of o ≡ format.num_value_operands → HasFormatMismatch d b → ⊥
-    matches same h =
-        let found : h.0 ≡ format = some_format (sym h.1 ∙ formatted) in
-        h.2 (sym values ∙ same ∙ ap (λ (f : InstructionFormat). f.num_value_operands) (sym found))
-      where
-        some_format : {x y : InstructionFormat} → Some x ≡ Some y → x ≡ y
-        some_format e = cc
-
-    -- what the search among the operands tells
-    pub operands_told : (r : Option DefinitionError) → MatchOption r (HasNoOperandFault d.vars format o) (IsOperandFault d.vars format o (k + 1)) → MatchOption r (ShowsNoInstructionFault d k) (IsFirstInstructionFault d k)
-    operands_told None h = clean name unshared (matches h.counted) (λ l. h.controlled (lack_from l)) few
-      where
-        few : (count : ℕ) → HasTooManyOperands b count → ⊥
-        few count (inl m) = omega (arith, m.0, results, h.few_results)
-        few count (inr m) = omega (arith, m.1, values, h.few_values)
-    operands_told (Some (FormatMismatch n)) h = record {
-      rule = 3;
-      shows = record { place = k; builder = b; at = at; number = h.0; position = refl; shows = mismatch h.1 };
-      first = λ other e l g. ⊎_elim (λ s. s.1 name) (⊎_elim (λ s. unshared s.1.0 s.1.1) (⊎_elim (λ s. omega (arith, s.0)) (⊎_elim (λ s. omega (arith, s.0)) (λ s. omega (arith, s.0))))) (shows other e g);
-    }
-    operands_told (Some (NoControl n)) h = record {
-      rule = 4;
-      shows = record { place = k; builder = b; at = at; number = h.0; position = refl; shows = lack h.1.lack };
-      first = λ other e l g. ⊎_elim (λ s. s.1 name) (⊎_elim (λ s. unshared s.1.0 s.1.1) (⊎_elim (λ s. matches h.1.counted s.1) (⊎_elim (λ s. omega (arith, s.0)) (λ s. omega (arith, s.0))))) (shows other e g);
-    }
-    operands_told (Some (TooManyOperands n count)) h = record {
-      rule = 5;
-      shows = record { place = k; builder = b; at = at; number = h.0; position = refl; shows = many count h.1.many };
-      first = λ other e l g. ⊎_elim (λ s. s.1 name) (⊎_elim (λ s. unshared s.1.0 s.1.1) (⊎_elim (λ s. matches h.1.counted s.1) (⊎_elim (λ s. h.1.controlled (lack_from s.1)) (λ s. omega (arith, s.0))))) (shows other e g);
-    }
-    operands_told (Some (BadName p)) h = absurd h
-    operands_told (Some (DuplicateName p m)) h = absurd h
-    operands_told (Some (TooManyOpcodes count)) h = absurd h
-    operands_told (Some (FormatClash f g)) h = absurd h
-    operands_told (Some (TooManyTypeSets count)) h = absurd h
-    operands_told (Some (BadOutput u v)) h = absurd h
-    operands_told (Some (BadDerivation u v)) h = absurd h
-    operands_told (Some (BadImmMethod u)) h = absurd h
-    operands_told (Some (BadFormat u)) h = absurd h
-    operands_told (Some (BadEnum u v)) h = absurd h
-    operands_told (Some (BadPreset u v)) h = absurd h
-    operands_told (Some (TooManySettings u v w x)) h = absurd h
-    operands_told (Some OutOfMemory) h = absurd h
+-- a fault that is that of a bad name is the first
+pub bad_name_told : (d : InstructionSet) (k : ℕ) (b : Builder) → IsAt d k b → (o : Option DefinitionError) → MatchOption o (IsWellMade d.vars d.formats b) (IsFirstOwnFault d.vars d.formats b (k + 1)) → (p : Place) → o ≡ Some (BadName p) → MatchOption o (ShowsNoInstructionFault d k) (IsFirstInstructionFault d k)
+bad_name_told d k b at o own p is =
+    subst (λ r. MatchOption r (ShowsNoInstructionFault d k) (IsFirstInstructionFault d k)) (sym is)
+    (bad_name_first d k b at p (subst (λ r. MatchOption r (IsWellMade d.vars d.formats b) (IsFirstOwnFault d.vars d.formats b (k + 1))) is own))

@@ -1,13 +1,13 @@
 -- What is made for the instructions: the operand constraints, one list behind another, and the entries.
 --     EntryHolds vars i type_sets constraints e      the entry holds the instruction
 --     HoldNeeded type_sets sets i                    the type sets hold what the instruction needs
-use Rattle.std.specs.Prelude.{◌≡◌, ◌≢◌, ◌⊎◌, ◌+◌, ℕ, List, slice_get, Option, Some, option_map}
+use Rattle.std.specs.Prelude.{◌≡◌, ◌≢◌, ◌⊎◌, ◌<◌, ◌+◌, ℕ, List, [], length, slice_get, Option, Some, option_map}
 use Rattle.meta_typevar.specs.FourSets.{FourSets, HasOne}
 use Rattle.meta_typevar.specs.Masks.{AreMasksOf}
 use Rattle.meta_typevar.specs.Variable.{Variable, Sets}
 use Rattle.meta_typevar.specs.Registry.{sets_of, variable_at}
 use Rattle.meta_typevar.specs.declared.masks.Masks.{Masks}
-use Rattle.meta_typevar.specs.declared.typevar.TypeVarContent.{TypeVarContent}
+use Rattle.meta_typevar.specs.declared.content.TypeVarContent.{TypeVarContent}
 use Rattle.meta_operands.specs.declared.format.InstructionFormat.{InstructionFormat}
 use Rattle.meta_inst.specs.Builder.{Builder}
 use Rattle.meta_inst.specs.Instruction.{Instruction, IsOperand}
@@ -43,14 +43,27 @@ HoldNeeded type_sets sets i = (control : Option Variable) (s : FourSets) → IsC
 abbrev pub control_at : List TypeVarContent → Option ℕ → Option Variable
 control_at vars control = option_map (variable_at vars) control
 
--- the variable n isn't the control, and its root hasn't exactly one type
+-- there is a constraint for an operand whose variable is n
+abbrev pub HasConstraint : List TypeVarContent → Option ℕ → ℕ → Type 0
+HasConstraint vars control n = (x : TypeConstraint) × IsConstraint (sets_of vars) (control_at vars control) (variable_at vars n) x
+
+-- the variable n isn't the control, it is underived, and its set hasn't exactly one type
 pub record IsFreeNumber (vars : List TypeVarContent) (control : Option ℕ) (n : ℕ) : Type 0 where
   pub other : control ≢ Some n
+  pub underived : (variable_at vars n).chain ≡ []
   pub several : HasOne (sets_of vars (variable_at vars n).root) → ⊥
 
--- the type sets hold the set of each variable that isn't the control and hasn't one type
+-- the type sets hold the set of each underived variable that isn't the control and hasn't one type
 abbrev pub HoldFree : List TypeVarContent → Option ℕ → List Masks → List ℕ → Type 0
 HoldFree vars control type_sets numbers = (k n : ℕ) → slice_get numbers k ≡ Some n → IsFreeNumber vars control n → IsHeld type_sets (sets_of vars (variable_at vars n).root)
+
+-- the control, if there is one, is of the registry
+abbrev pub IsOfRegistry : List TypeVarContent → Option ℕ → Type 0
+IsOfRegistry vars control = (v : ℕ) → control ≡ Some v → v < length vars
+
+-- there is a constraint for each of the variables
+abbrev pub AreConstrained : List TypeVarContent → Option ℕ → List ℕ → Type 0
+AreConstrained vars control numbers = (k n : ℕ) → slice_get numbers k ≡ Some n → HasConstraint vars control n
 
 -- in tables with these type sets, x is the constraint of an operand whose variable is n
 pub record Describes (vars : List TypeVarContent) (control : Option ℕ) (type_sets : List Masks) (n : ℕ) (x : Constraint) : Type 0 where

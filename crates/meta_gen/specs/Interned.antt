@@ -1,12 +1,12 @@
 -- How a list of masks grows by the sets that are needed.
 --     Interns P before after      the masks of the sets of which P speaks are added, each once
-use Rattle.std.specs.Prelude.{◌≡◌, ◌≢◌, ◌⊎◌, ℕ, List, slice_get, Option, Some}
+use Rattle.std.specs.Prelude.{◌≡◌, ◌≢◌, ◌⊎◌, ℕ, List, [], slice_get, Option, Some}
 use Rattle.meta_typevar.specs.FourSets.{FourSets, HasOne}
 use Rattle.meta_typevar.specs.Masks.{AreMasksOf}
 use Rattle.meta_typevar.specs.declared.masks.Masks.{Masks}
 use Rattle.meta_typevar.specs.Variable.{Variable, Sets}
-use Rattle.meta_typevar.specs.Registry.{sets_of}
-use Rattle.meta_typevar.specs.declared.typevar.TypeVarContent.{TypeVarContent}
+use Rattle.meta_typevar.specs.Registry.{sets_of, variable_at}
+use Rattle.meta_typevar.specs.declared.content.TypeVarContent.{TypeVarContent}
 use Rattle.meta_inst.specs.Instruction.{Instruction}
 use Rattle.meta_inst.specs.Control.{IsControl}
 use Rattle.meta_inst.specs.Faults.{IsControlSet, IsFreeSet}
@@ -35,20 +35,21 @@ pub record Interns (P : FourSets → Type 0) (before after : List Masks) : Type 
   pub only : (k : ℕ) (m : Masks) → slice_get after k ≡ Some m → StandsIn before m ⊎ IsMaskOf P m
   pub once : AreDistinct before → AreDistinct after
 
--- s is the set of the variable with the number n
+-- s is the set of the root of the variable with the number n
 abbrev pub IsSetOf : List TypeVarContent → ℕ → FourSets → Type 0
-IsSetOf vars n s = s ≡ sets_of vars n
+IsSetOf vars n s = s ≡ sets_of vars (variable_at vars n).root
 
 -- s is the set of the variable that controls
 pub record IsControlSetOf (vars : List TypeVarContent) (control : Control) (s : FourSets) : Type 0 where
   pub variable : ℕ
   pub controls : control ≡ By variable
-  pub set : s ≡ sets_of vars variable
+  pub set : IsSetOf vars variable s
 
--- s is the set of the variable with the number n, which doesn't control, and s hasn't exactly one type
+-- s is the set of the variable with the number n, which is underived and doesn't control, and s hasn't exactly one type
 pub record IsFreeSetOf (vars : List TypeVarContent) (control : Control) (n : ℕ) (s : FourSets) : Type 0 where
   pub other : control ≢ By n
-  pub set : s ≡ sets_of vars n
+  pub underived : (variable_at vars n).chain ≡ []
+  pub set : IsSetOf vars n s
   pub several : HasOne s → ⊥
 
 -- s is such a set of one of these variables

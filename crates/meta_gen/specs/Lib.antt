@@ -4,7 +4,6 @@ pub mod Contents
 pub mod Found
 pub mod Searched
 pub mod FormatsUsed
-pub mod OperandFaults
 pub mod Needed
 pub mod Interned
 pub mod Entries

@@ -5,7 +5,8 @@ use Rattle.meta_typevar.specs.Masks.{AreMasksOf}
 use Rattle.meta_typevar.specs.declared.masks.Masks.{Masks}
 use Rattle.meta_inst.specs.Builder.{Builder}
 use Rattle.meta_inst.specs.InstructionSet.{InstructionSet}
-use Rattle.meta_inst.specs.Faults.{IsAt, AreNeededSets, LacksControl, HasTooManyOperands}
+use Rattle.meta_inst.specs.InstructionFaults.{HasTooManyOperands}
+use Rattle.meta_inst.specs.Faults.{IsAt, AreNeededSets, LacksControl, HasBadDerivationAt}
 
 -- the masks are those of the sets, place by place
 pub record StandForSets (masks : List Masks) (sets : List FourSets) : Type 0 where
@@ -21,6 +22,10 @@ pub record AreNeededMasks (d : InstructionSet) (masks : List Masks) : Type 0 whe
 -- no instruction lacks a control
 abbrev pub AllControlled : InstructionSet → Type 0
 AllControlled d = (k : ℕ) (b : Builder) → IsAt d k b → LacksControl d b → ⊥
+
+-- no instruction has an operand that is badly derived
+abbrev pub AllDerived : InstructionSet → Type 0
+AllDerived d = (k : ℕ) (b : Builder) (place : ℕ) → IsAt d k b → HasBadDerivationAt d b place → ⊥
 
 -- no instruction has too many operands
 abbrev pub AllSmall : InstructionSet → Type 0

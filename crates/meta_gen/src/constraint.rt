@@ -1,6 +1,8 @@
 ghost use Rattle.std.specs.Prelude.{◌≡◌};
 ghost use Rattle.meta_meaning.specs.Tables.{result_count, value_count};
 
+use meta_types::DerivedFunc;
+
 /// What an operand's type has to be, by its number (in the crate `OperandConstraint` of the code that it writes).
 #[derive(Clone, Copy, Debug, PartialEq, Eq)]
 pub enum Constraint {
@@ -10,6 +12,47 @@ pub enum Constraint {
     Free(u8),
     /// The controlling type.
     Same,
+    /// The lane of the controlling type.
+    LaneOf,
+    /// What a comparison of values of the controlling type gives.
+    AsTruthy,
+    /// The controlling type with lanes of half the width.
+    HalfWidth,
+    /// The controlling type with lanes of twice the width.
+    DoubleWidth,
+    /// The controlling type with twice the lanes, each of half the width.
+    SplitLanes,
+    /// The controlling type with half the lanes, each of twice the width.
+    MergeLanes,
+    /// The fixed vector of the controlling type.
+    DynamicToVector,
+    /// A scalar of the controlling type's kind with fewer bits.
+    Narrower,
+    /// A scalar of the controlling type's kind with more bits.
+    Wider,
+}
+
+impl From<DerivedFunc> for Constraint {
+    ghost use Rattle.std.specs.Prelude.{◌≡◌};
+    ghost use Rattle.meta_types.specs.DerivedFunc.{function_of};
+    ghost use Rattle.meta_meaning.specs.Tables.{ByNumber};
+    ghost use Rattle.meta_gen.specs.Constraint.{number_constraint_of};
+
+    ghost from_gives = { λ derived_func result. number_constraint_of result ≡ ByNumber (function_of derived_func) };
+
+    fn from(derived_func: DerivedFunc) -> Constraint {
+        match derived_func {
+            DerivedFunc::LaneOf => Constraint::LaneOf,
+            DerivedFunc::AsTruthy => Constraint::AsTruthy,
+            DerivedFunc::HalfWidth => Constraint::HalfWidth,
+            DerivedFunc::DoubleWidth => Constraint::DoubleWidth,
+            DerivedFunc::SplitLanes => Constraint::SplitLanes,
+            DerivedFunc::MergeLanes => Constraint::MergeLanes,
+            DerivedFunc::DynamicToVector => Constraint::DynamicToVector,
+            DerivedFunc::Narrower => Constraint::Narrower,
+            DerivedFunc::Wider => Constraint::Wider,
+        }
+    }
 }
 
 /// What tables hold of one opcode (in the crate `OpcodeConstraints` of the code that it writes).

@@ -1,11 +1,9 @@
-ghost use Rattle.std.specs.Prelude.{◌≡◌, ◌↔◌, ◌∷◌, [], IsTrue};
+ghost use Rattle.std.specs.Prelude.{◌≡◌, ◌↔◌, IsTrue};
 ghost use Rattle.meta_typevar.specs.Registry.{HoldTypeSets};
-ghost use Rattle.meta_operands.specs.Operand.{variables_of};
-ghost use Rattle.meta_inst.specs.Operands.{AreOf};
-ghost use Rattle.meta_inst.specs.InstructionSet.{FitsBuilder, Fits};
+ghost use Rattle.meta_inst.specs.InstructionSet.{Fits};
 
-use meta_inst::{AllInstructions, InstructionBuilder};
-use meta_operands::{FormatTable, Operand};
+use meta_inst::AllInstructions;
+use meta_operands::FormatTable;
 use meta_typevar::TypeVars;
 use std::marker::Model;
 
@@ -28,48 +26,13 @@ impl Model for Declarations {
     ghost invariant = { λ d. Fits d.vars d.formats d.instructions };
 }
 
-/// Whether the variable of the operand, if it is a value, is of the registry.
-fn is_operand_of(vars: &TypeVars, operand: &Operand) -> bool
-    ensures { IsTrue result ↔ AreOf vars.now (variables_of (operand.now ∷ [])) }
-{
-    match operand.type_var() {
-        Some(tv) => vars.is_of(tv),
-        None => true,
-    }
-}
-
-/// Whether the variable of each value operand is of the registry.
-fn are_operands_of(vars: &TypeVars, operands: &[Operand]) -> bool
-    ensures { IsTrue result ↔ AreOf vars.now (variables_of operands.now) }
-{
-    for operand in operands {
-        if !is_operand_of(vars, operand) {
-            return false;
-        }
-    }
-    true
-}
-
-/// Whether the instruction is of these registries.
-fn fits_builder(vars: &TypeVars, formats: &FormatTable, builder: &InstructionBuilder) -> bool
-    ensures { IsTrue result ↔ FitsBuilder vars.now formats.now builder.now }
-{
-    if !formats.is_of(builder.format()) {
-        return false;
-    }
-    if !are_operands_of(vars, builder.outputs()) {
-        return false;
-    }
-    are_operands_of(vars, builder.inputs())
-}
-
 impl Declarations {
     /// Whether each instruction's format is of the formats, and the variable of each of its value operands of the variables.
     pub fn fits(vars: &TypeVars, formats: &FormatTable, instructions: &AllInstructions) -> bool
         ensures { IsTrue result ↔ Fits vars.now formats.now instructions.now }
     {
         for k in 0..instructions.len() {
-            if !fits_builder(vars, formats, instructions.get(k)) {
+            if !instructions.get(k).fits(vars, formats) {
                 return false;
             }
         }

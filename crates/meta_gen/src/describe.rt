@@ -1,7 +1,7 @@
 ghost use Rattle.std.specs.Prelude.{◌≡◌, ◌↔◌, ◌<◌, ◌≤◌, ◌+◌, ℕ, IsTrue, IsSome, OnOk, length, slice_get, Some};
 ghost use Rattle.meta_typevar.specs.Registry.{sets_of, variable_at};
 ghost use Rattle.meta_inst.specs.Operands.{AreOf};
-ghost use Rattle.meta_gen.specs.Entries.{StaysIn, IsSetAt, IsHeld, IsFreeNumber, HoldFree, Describes, AreDescribed};
+ghost use Rattle.meta_gen.specs.Entries.{StaysIn, IsSetAt, IsHeld, IsFreeNumber, HoldFree, IsOfRegistry, HasConstraint, AreConstrained, Describes, AreDescribed};
 
 use super::constraint::Constraint;
 use meta_typevar::{Masks, TypeVar, TypeVars};
@@ -29,7 +29,8 @@ pub(crate) fn set_place(vars: &TypeVars, tv: TypeVar, type_sets: &[Masks]) -> u8
     ensures below { result < 255 }
     ensures set { IsSetAt type_sets.now result (sets_of vars.now (variable_at vars.now tv).root) }
 {
-    place_of(type_sets, tv.get_raw_typeset(vars).masks())
+    let root = tv.root(vars);
+    place_of(type_sets, root.get_raw_typeset(vars).masks())
 }
 
 /// Whether the variable is the control.
@@ -43,7 +44,7 @@ pub(crate) fn is_control(control: &Option<TypeVar>, tv: TypeVar) -> bool
 }
 
 /// The constraint of an operand with this variable, under this control: its fixed type, where it has one; else that it is
-/// the control; else its type set.
+/// the control; else the function that leads to it from the control; else its type set.
 fn constraint_of(
     vars: &TypeVars,
     control: &Option<TypeVar>,
@@ -51,19 +52,21 @@ fn constraint_of(
     type_sets: &[Masks],
 ) -> Constraint
     requires of_registry { tv < length vars.now }
+    requires control_of { IsOfRegistry vars.now control.now }
     requires few { length type_sets.now ≤ 255 }
+    requires constrained { HasConstraint vars.now control.now tv }
     requires held { IsFreeNumber vars.now control.now tv → IsHeld type_sets.now (sets_of vars.now (variable_at vars.now tv).root) }
     ensures { Describes vars.now control.now type_sets.now tv result }
 {
-    match tv.fixed_type(vars) {
-        Some(fixed) => Constraint::Concrete(fixed.number()),
-        None => {
-            if is_control(control, tv) {
-                Constraint::Same
-            } else {
-                Constraint::Free(set_place(vars, tv, type_sets))
-            }
-        }
+    if let Some(fixed) = tv.fixed_type(vars) {
+        return Constraint::Concrete(fixed.number());
+    }
+    if is_control(control, tv) {
+        return Constraint::Same;
+    }
+    match vars.content(tv).base {
+        Some(parent) => Constraint::from(parent.derived_func),
+        None => Constraint::Free(set_place(vars, tv, type_sets)),
     }
 }
 
@@ -76,7 +79,9 @@ pub(crate) fn push_constraints(
     type_sets: &[Masks],
 ) -> Result<(), AllocError>
     requires variables { AreOf vars.now variables.now }
+    requires control_of { IsOfRegistry vars.now control.now }
     requires few { length type_sets.now ≤ 255 }
+    requires constrained { AreConstrained vars.now control.now variables.now }
     requires held { HoldFree vars.now control.now type_sets.now variables.now }
     ensures count { OnOk result (length constraints.new.items ≡ length constraints.old.items + length variables.now) }
     ensures stays { OnOk result (StaysIn constraints.old.items constraints.new.items) }

@@ -1,15 +1,16 @@
 ghost use Rattle.std.specs.Prelude.{◌≡◌, ◌↔◌, ◌<◌, ◌≤◌, ◌+◌, ◌/◌, ◌%◌, ◌^◌, ℕ, List, Bool, false, IsTrue, IfOk, OnOk, IfSome, length, slice_get, take, Some, ◌∷◌, []};
-ghost use Rattle.meta_typevar.specs.Registry.{sets_of, variable_at};
-ghost use Rattle.meta_typevar.specs.declared.typevar.TypeVarContent.{TypeVarContent};
+ghost use Rattle.meta_typevar.specs.Registry.{sets_of, variable_at, IsRegistry};
+ghost use Rattle.meta_typevar.specs.declared.content.TypeVarContent.{TypeVarContent};
 ghost use Rattle.meta_inst.specs.Builder.{Builder};
-ghost use Rattle.meta_inst.specs.Control.{IsControl, HasNoControl};
-ghost use Rattle.meta_inst.specs.Faults.{IsAt, HasTooManyOperands};
+ghost use Rattle.meta_inst.specs.Control.{IsControl, HasNoControl, DerivesBadly};
+ghost use Rattle.meta_inst.specs.InstructionFaults.{HasTooManyOperands};
+ghost use Rattle.meta_inst.specs.Faults.{IsAt};
 ghost use Rattle.meta_inst.specs.InstructionSet.{instruction_in, instruction_of, FitsBuilder, Fits};
 ghost use Rattle.meta_inst.specs.Operands.{AreOf, instruction_with, designated_number};
 ghost use Rattle.meta_meaning.specs.Tables.{AreFlagsOf, IsTypeSetOffset, result_count, value_count};
 ghost use Rattle.meta_gen.specs.Contents.{contents_of};
-ghost use Rattle.meta_gen.specs.Entries.{StaysIn, IsHeld, HoldNeeded, HasNoOperand, EntryHolds, control_at, set_with};
-ghost use Rattle.meta_gen.specs.Needed.{AreNeededMasks, AllControlled, AllSmall};
+ghost use Rattle.meta_gen.specs.Entries.{IsOfRegistry, StaysIn, IsHeld, HoldNeeded, HasNoOperand, EntryHolds, control_at, set_with};
+ghost use Rattle.meta_gen.specs.Needed.{AreNeededMasks, AllControlled, AllDerived, AllSmall};
 ghost use Rattle.meta_gen.specs.TablesOf.{HoldsInstruction};
 
 use super::constraint::{Constraint, OpcodeConstraints};
@@ -74,7 +75,7 @@ fn packed(results: u8, values: u8, designated: bool, first_result: bool) -> u8
 fn flags_of(operands: &Operands, control: &Option<TypeVar>) -> u8
     requires results { operands.now.result_count ≤ 7 }
     requires values { length operands.now.variables ≤ operands.now.result_count + 7 }
-    ensures flags { (vars : List TypeVarContent) → AreFlagsOf (instruction_with vars operands.now) (control_at vars control.now) result }
+    ensures flags { (vars : List TypeVarContent) → IsRegistry vars → AreOf vars operands.now.variables → IsOfRegistry vars control.now → AreFlagsOf (instruction_with vars operands.now) (control_at vars control.now) result }
     ensures within { operands.now.result_count ≤ length operands.now.variables }
 {
     let results = operands.result_count();
@@ -122,6 +123,7 @@ fn entry_of(
 ) -> Result<OpcodeConstraints, AllocError>
     requires variables { AreOf vars.now operands.now.variables }
     requires controlled { HasNoControl (sets_of vars.now) (instruction_with vars.now operands.now) → ⊥ }
+    requires derived { (place : ℕ) → DerivesBadly (sets_of vars.now) (instruction_with vars.now operands.now) place → ⊥ }
     requires results { operands.now.result_count ≤ 7 }
     requires values { length operands.now.variables ≤ operands.now.result_count + 7 }
     requires few { length type_sets.now ≤ 255 }
@@ -131,6 +133,8 @@ fn entry_of(
     ensures stays { OnOk result (StaysIn constraints.old.items constraints.new.items) }
     ensures count { OnOk result (length constraints.new.items ≡ length constraints.old.items + length operands.now.variables) }
 {
+    // Its clause says what a registry keeps.
+    let _count = vars.len();
     let control = control_of(vars, operands);
     let flags = flags_of(operands, &control);
     let typeset_offset = type_set_offset(vars, &control, type_sets);
@@ -154,6 +158,7 @@ fn push_instruction(
 ) -> Result<OpcodeConstraints, AllocError>
     requires fits { FitsBuilder vars.now formats.now builder.now }
     requires controlled { HasNoControl (sets_of vars.now) (instruction_in vars.now formats.now builder.now) → ⊥ }
+    requires derived { (place : ℕ) → DerivesBadly (sets_of vars.now) (instruction_in vars.now formats.now builder.now) place → ⊥ }
     requires small { (count : ℕ) → HasTooManyOperands builder.now count → ⊥ }
     requires few { length type_sets.now ≤ 255 }
     requires held { HoldNeeded type_sets.now (sets_of vars.now) (instruction_in vars.now formats.now builder.now) }
@@ -187,6 +192,7 @@ pub(crate) fn entries(
     requires fits { Fits vars.now formats.now instructions.now }
     requires few { length instructions.now ≤ 255 }
     requires controlled { AllControlled (set_with vars.now formats.now instructions.now) }
+    requires derived { AllDerived (set_with vars.now formats.now instructions.now) }
     requires small { AllSmall (set_with vars.now formats.now instructions.now) }
     requires sets { AreNeededMasks (set_with vars.now formats.now instructions.now) type_sets.now }
     requires few_sets { length type_sets.now ≤ 255 }

@@ -1,5 +1,5 @@
 ghost use Rattle.std.specs.Prelude.{◌≡◌, ◌↔◌, ◌<◌, ℕ, List, IsTrue, MatchBool, IfOk, IfSome, IfNone, length, slice_get, Some};
-ghost use Rattle.meta_typevar.specs.declared.typevar.TypeVarContent.{TypeVarContent};
+ghost use Rattle.meta_typevar.specs.declared.content.TypeVarContent.{TypeVarContent};
 ghost use Rattle.meta_inst.specs.Builder.{Builder};
 ghost use Rattle.meta_inst.specs.InstructionSet.{InstructionSet};
 ghost use Rattle.meta_gen.specs.FormatsUsed.{IsAmong, IsNotAmong, AreOfTable, ClashIn, ClashesWithNone, IsFirstToClash};

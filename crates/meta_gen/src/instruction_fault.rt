@@ -1,15 +1,41 @@
-ghost use Rattle.std.specs.Prelude.{◌≡◌, ◌<◌, ◌≤◌, ◌++◌, ◌∷◌, [], ◌^◌, ℕ, List, ◌+◌, IfOk, IfNone, MatchOption, length, take};
+ghost use Rattle.std.specs.Prelude.{◌≡◌, ◌≢◌, ◌↔◌, ◌<◌, ◌≤◌, ℕ, ◌+◌, IsTrue, IfOk, IfSome, IfNone, MatchOption, Some, Ok, Err, length, take};
+ghost use Rattle.meta_types.specs.declared.fault.Place.{Place};
+ghost use Rattle.meta_types.specs.declared.fault.DefinitionError.TheVariants.{BadName, OutOfMemory};
+ghost use Rattle.meta_inst.specs.Built.{Built};
 ghost use Rattle.meta_inst.specs.InstructionSet.{InstructionSet};
 ghost use Rattle.meta_inst.specs.Faults.{names_of};
 ghost use Rattle.meta_gen.specs.Searched.{Keeps, ShowsNoInstructionFault, IsFirstInstructionFault, IsFirstOfInstructions};
 
 use super::declarations::Declarations;
 use super::names::{add_name, no_names};
-use super::operand_fault::operand_fault;
-use meta_inst::Operands;
-use meta_types::{DefinitionError, Place, Text, is_name};
+use meta_inst::InstructionContent;
+use meta_types::{DefinitionError, Place, Text};
 use std::alloc::{AllocError, Global};
 use std::collections::BTreeMap;
+
+/// The fault by which an instruction was refused, or none where it was built.
+fn fault_of(
+    built: Result<InstructionContent, DefinitionError>,
+) -> Result<Option<DefinitionError>, AllocError>
+    ensures built { IfOk result (λ o. IfNone o ((c : Built) × (built ≡ Ok c))) }
+    ensures refused { IfOk result (λ o. IfSome o (λ e. (built ≡ Err e) × (e ≢ OutOfMemory))) }
+{
+    match built {
+        Ok(_) => Ok(None),
+        Err(DefinitionError::OutOfMemory) => Err(AllocError),
+        Err(fault) => Ok(Some(fault)),
+    }
+}
+
+/// Whether the fault is that of a bad name, which is looked for before shared names are.
+fn is_bad_name(fault: &Option<DefinitionError>) -> bool
+    ensures { IsTrue result ↔ ((p : Place) × (fault.now ≡ Some (BadName p))) }
+{
+    match fault {
+        Some(DefinitionError::BadName(_)) => true,
+        _ => false,
+    }
+}
 
 /// The first fault of the instruction at this place, counted from 0, where `places` keeps the names of the earlier ones.
 /// Where there is none its name is kept too.
@@ -26,16 +52,16 @@ fn instruction_fault(
     ensures fault { IfOk result (λ o. MatchOption o (ShowsNoInstructionFault declarations.now place) (IsFirstInstructionFault declarations.now place)) }
 {
     let builder = declarations.instructions().get(place);
+    let (vars, formats) = (declarations.vars(), declarations.formats());
     let number = place as u64 + 1;
-    if !is_name(builder.name()) {
-        return Ok(Some(DefinitionError::BadName(Place::Instruction(number))));
+    let own = fault_of(builder.build(alloc, vars, formats, number))?;
+    if is_bad_name(&own) {
+        return Ok(own);
     }
     if let Some(earlier) = add_name(alloc, places, builder.name(), place as u64)? {
         return Ok(Some(DefinitionError::DuplicateName(Place::Instruction(number), earlier + 1)));
     }
-    let operands = Operands::of(alloc, builder, declarations.formats())?;
-    let format = declarations.formats().get(builder.format());
-    Ok(operand_fault(declarations.vars(), format, &operands, number))
+    Ok(own)
 }
 
 /// The first fault of the instructions, in their order.

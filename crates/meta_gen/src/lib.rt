@@ -15,7 +15,6 @@ mod instruction_fault;
 mod laws;
 mod names;
 mod needed;
-mod operand_fault;
 mod tables;
 
 pub use constraint::{Constraint, OpcodeConstraints};
@@ -24,5 +23,7 @@ pub use generation::generate;
 pub use laws::one_first_fault;
 pub use tables::{Tables, tables_mean_the_declarations};
 
+#[cfg(test)]
+mod derived_tests;
 #[cfg(test)]
 mod tests;

@@ -4,6 +4,7 @@ ghost use Rattle.meta_typevar.specs.Masks.{AreMasksOf};
 ghost use Rattle.meta_typevar.specs.Registry.{sets_of};
 ghost use Rattle.meta_inst.specs.Operands.{AreOf};
 ghost use Rattle.meta_inst.specs.Control.{HasNoControl};
+ghost use Rattle.meta_inst.specs.FoundControl.{IsOf};
 ghost use Rattle.meta_inst.specs.InstructionSet.{Fits, FitsBuilder, instruction_in};
 ghost use Rattle.meta_gen.specs.Interned.{StandsIn, Interns, IsSetOf, IsControlSetOf, IsFreeSetOf, IsFreeSetAmong, IsNeededBy};
 ghost use Rattle.meta_gen.specs.Needed.{AllControlled, AreNeededMasks};
@@ -36,12 +37,13 @@ fn intern(type_sets: &mut Vec<Masks>, masks: Masks) -> Result<(), AllocError>
     Ok(())
 }
 
-/// Adds the set of the variable.
+/// Adds the set of the variable's root.
 fn intern_set(type_sets: &mut Vec<Masks>, vars: &TypeVars, tv: TypeVar) -> Result<(), AllocError>
     requires { tv < length vars.now }
     ensures { OnOk result (Interns (IsSetOf vars.now tv) type_sets.old.items type_sets.new.items) }
 {
-    intern(type_sets, tv.get_raw_typeset(vars).masks())
+    let root = tv.root(vars);
+    intern(type_sets, root.get_raw_typeset(vars).masks())
 }
 
 /// Adds the set of the variable that controls, if one does.
@@ -50,7 +52,7 @@ fn intern_control(
     vars: &TypeVars,
     control: &Control,
 ) -> Result<(), AllocError>
-    requires { (v : ℕ) → control.now ≡ Control.By v → v < length vars.now }
+    requires { IsOf vars.now control.now }
     ensures { OnOk result (Interns (IsControlSetOf vars.now control.now) type_sets.old.items type_sets.new.items) }
 {
     match control {
@@ -69,7 +71,7 @@ fn controls(control: &Control, tv: TypeVar) -> bool
     }
 }
 
-/// Adds the set of the variable, where it doesn't control and no type is fixed for it.
+/// Adds the set of the variable, where it is underived, doesn't control, and no type is fixed for it.
 fn intern_operand(
     type_sets: &mut Vec<Masks>,
     vars: &TypeVars,
@@ -82,13 +84,16 @@ fn intern_operand(
     if controls(control, tv) {
         return Ok(());
     }
+    if vars.content(tv).base.is_some() {
+        return Ok(());
+    }
     if tv.fixed_type(vars).is_some() {
         return Ok(());
     }
     intern_set(type_sets, vars, tv)
 }
 
-/// Adds the sets of the variables that don't control and for which no type is fixed.
+/// Adds the sets of the underived variables that don't control and for which no type is fixed.
 fn intern_free(
     type_sets: &mut Vec<Masks>,
     vars: &TypeVars,
@@ -116,6 +121,8 @@ fn intern_instruction(
     requires controlled { HasNoControl (sets_of vars.now) (instruction_in vars.now formats.now builder.now) → ⊥ }
     ensures { OnOk result (Interns (IsNeededBy (sets_of vars.now) (instruction_in vars.now formats.now builder.now)) type_sets.old.items type_sets.new.items) }
 {
+    // Its clause says what a registry keeps.
+    let _count = vars.len();
     let operands = Operands::of(alloc, builder, formats)?;
     let control = operands.control(vars);
     intern_control(type_sets, vars, &control)?;
@@ -133,7 +140,7 @@ pub(crate) fn needed_sets(
     requires controlled { AllControlled (record { vars = vars.now; formats = formats.now; instructions = instructions.now }) }
     ensures { IfOk result (λ masks. AreNeededMasks (record { vars = vars.now; formats = formats.now; instructions = instructions.now }) masks.items) }
 {
-    // only for what it says of the sets: they hold widths and lane counts of types alone
+    // Its clause says that the sets hold widths and lane counts of types alone.
     let _count = vars.len();
     let mut type_sets = Vec::new(alloc);
     for place in 0..instructions.len() {

@@ -1,4 +1,6 @@
 ghost use Rattle.std.specs.Prelude.{◌≡◌, ◌≢◌, ◌↔◌, ◌≤◌, ◌+◌, ◌^◌, ◌<◌, ℕ, List, Option, IsTrue, IsSome, IfSome, IfNone, length, map, slice_get, Some};
+ghost use Rattle.meta_types.specs.DerivedFunc.{function_of};
+ghost use Rattle.meta_types.specs.Function.{StepsNumbers};
 ghost use Rattle.meta_typevar.specs.Registry.{HoldTypeSets};
 ghost use Rattle.meta_inst.specs.InstructionSet.{InstructionSet};
 ghost use Rattle.meta_meaning.specs.Tables.{TableContents, at_opcode, Allows, SetContains, ControlNumberFits, NumberPasses, PassesAt};
@@ -8,7 +10,7 @@ ghost use Rattle.meta_gen.specs.Contents.{contents_of, IsOpcode, IsFirstNamed, A
 ghost use Rattle.meta_gen.specs.Found.{IsDeclaredAs, FindsName};
 
 use super::constraint::{Constraint, OpcodeConstraints};
-use meta_types::Text;
+use meta_types::{DerivedFunc, Text};
 use meta_typevar::Masks;
 use std::marker::Model;
 
@@ -34,6 +36,16 @@ impl Model for Tables {
     ghost view = { λ t. contents_of t.names.items t.type_sets.items t.operand_constraints.items t.constraints.items };
 
     ghost invariant = { λ t. AreIndexed t.names.items t.constraints.items };
+}
+
+/// Whether there is a controlling number, and the function leads from it to the number.
+fn is_related(ctrl: Option<u16>, derived_func: DerivedFunc, number: u16) -> bool
+    ensures { IsTrue result ↔ ((u : ℕ) × (ctrl ≡ Some u) × StepsNumbers (function_of derived_func) u number) }
+{
+    match ctrl {
+        Some(c) => derived_func.relates_number(c, number),
+        None => false,
+    }
 }
 
 impl Tables {
@@ -172,6 +184,15 @@ impl Tables {
             Constraint::Concrete(wanted) => number == wanted,
             Constraint::Free(set) => self.set_contains(set, number),
             Constraint::Same => ctrl == Some(number),
+            Constraint::LaneOf => is_related(ctrl, DerivedFunc::LaneOf, number),
+            Constraint::AsTruthy => is_related(ctrl, DerivedFunc::AsTruthy, number),
+            Constraint::HalfWidth => is_related(ctrl, DerivedFunc::HalfWidth, number),
+            Constraint::DoubleWidth => is_related(ctrl, DerivedFunc::DoubleWidth, number),
+            Constraint::SplitLanes => is_related(ctrl, DerivedFunc::SplitLanes, number),
+            Constraint::MergeLanes => is_related(ctrl, DerivedFunc::MergeLanes, number),
+            Constraint::DynamicToVector => is_related(ctrl, DerivedFunc::DynamicToVector, number),
+            Constraint::Narrower => is_related(ctrl, DerivedFunc::Narrower, number),
+            Constraint::Wider => is_related(ctrl, DerivedFunc::Wider, number),
         }
     }
 

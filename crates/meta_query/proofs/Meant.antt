@@ -10,7 +10,7 @@ use Rattle.meta_inst.specs.InstructionSet.{InstructionSet, root_sets, instructio
 use Rattle.meta_inst.specs.Faults.{IsAt, names_of}
 use Rattle.meta_meaning.specs.Acceptance.{Accepts, AcceptsNumbers, AreNumbersOf, IsNumberOf}
 use Rattle.meta_meaning.specs.Tables.{TableContents, at_opcode, Allows}
-use Rattle.meta_meaning.proofs.Numbers.{one_number}
+use Rattle.meta_types.proofs.Numbers.{one_number}
 use Rattle.meta_gen.specs.TablesOf.{AreTablesOf, AcceptsOpcode}
 use Rattle.meta_gen.specs.Contents.{IsFirstNamed}
 use Rattle.meta_query.specs.Question.{Question, IsQuestion}

@@ -30,7 +30,7 @@ module _ (d : InstructionSet) (valid : IsValid d) where
     not_first : (n : ℕ) → n < k → Unshared n → (other : List ℕ) → slice_get (names_of d) n ≡ Some other → SharesName other b.name → ⊥
     not_first n l before other is shares =
         let duplicate : IsDuplicate (names_of d) k n = record { name = b.name; earlier = other; is_name = name_at k b at; is_earlier = is; before = l; shares = shares; first = before } in
-        valid (OfInstruction k 2) (DuplicateName (AtInstruction (k + 1)) (n + 1)) (record { place = k; builder = b; at = at; number = refl; position = refl; shows = (n, refl, duplicate) })
+        valid (OfInstruction k 2) (DuplicateName (AtInstruction (k + 1)) (n + 1)) (record { place = k; earlier = n; number = refl; earlier_number = refl; position = refl; duplicate = duplicate })
 
     unshared : (n : ℕ) → n ≤ k → Unshared n
     unshared zero within j other l is shares = absurd (omega arith)

@@ -7,6 +7,9 @@ use Rattle.meta_gen.proofs.describe.push_constraints.Goals as goal
 pub constraint_of-requires-clause-held : goal.constraint_of-requires-clause-held
 constraint_of-requires-clause-held c = c.requires.held _ _ (slice_get_read c.args.variables.now _ _ _ refl c.loop-place-test.true c.index-variables-place.is)
 
+pub constraint_of-requires-clause-constrained : goal.constraint_of-requires-clause-constrained
+constraint_of-requires-clause-constrained c = c.requires.constrained _ _ (slice_get_read c.args.variables.now _ _ _ refl c.loop-place-test.true c.index-variables-place.is)
+
 pub loop-place-preserved : goal.loop-place-preserved
 loop-place-preserved c =
     let added = c.in_ok-push.ensures.items in

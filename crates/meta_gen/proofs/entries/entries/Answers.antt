@@ -8,6 +8,9 @@ use Rattle.meta_gen.proofs.entries.entries.Goals as goal
 pub push_instruction-requires-clause-controlled : goal.push_instruction-requires-clause-controlled
 push_instruction-requires-clause-controlled c = c.requires.controlled c.loop-k.k c.get.result.now c.get.ensures
 
+pub push_instruction-requires-clause-derived : goal.push_instruction-requires-clause-derived
+push_instruction-requires-clause-derived c = λ place. c.requires.derived c.loop-k.k c.get.result.now place c.get.ensures
+
 pub push_instruction-requires-clause-small : goal.push_instruction-requires-clause-small
 push_instruction-requires-clause-small c = λ count. c.requires.small c.loop-k.k c.get.result.now count c.get.ensures
 

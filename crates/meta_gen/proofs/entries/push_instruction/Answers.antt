@@ -3,7 +3,7 @@ use Rattle.std.specs.Prelude.{IfOk}
 use Rattle.std.proofs.lemmas.Result.{on_ok_weaker}
 use Rattle.meta_operands.specs.Operand.{variables_of}
 use Rattle.meta_inst.specs.Builder.{Builder, inputs_of, outputs_of}
-use Rattle.meta_inst.specs.Faults.{HasTooManyOperands}
+use Rattle.meta_inst.specs.InstructionFaults.{HasTooManyOperands}
 use Rattle.meta_gen.specs.Entries.{EntryHolds}
 use Rattle.meta_gen.proofs.entries.push_instruction.Goals as goal
 
@@ -32,6 +32,9 @@ few_more n old new few is = omega arith
 
 pub entry_of-requires-clause-controlled : goal.entry_of-requires-clause-controlled
 entry_of-requires-clause-controlled c = rw (c.in_ok-operands.ensures.meaning c.args.vars.now) c.requires.controlled
+
+pub entry_of-requires-clause-derived : goal.entry_of-requires-clause-derived
+entry_of-requires-clause-derived c = rw (c.in_ok-operands.ensures.meaning c.args.vars.now) c.requires.derived
 
 pub entry_of-requires-clause-held : goal.entry_of-requires-clause-held
 entry_of-requires-clause-held c = rw (c.in_ok-operands.ensures.meaning c.args.vars.now) c.requires.held

@@ -1,5 +1,5 @@
 use Rattle.std.proofs.Common.{List}
-use Rattle.meta_typevar.specs.declared.typevar.TypeVarContent.{TypeVarContent}
+use Rattle.meta_typevar.specs.declared.content.TypeVarContent.{TypeVarContent}
 use Rattle.meta_gen.specs.FormatsUsed.{AreOfTable}
 use Rattle.meta_gen.proofs.FormatSearch.{AreUsedBefore, AreCleanBefore, declared}
 use Rattle.meta_gen.proofs.format_fault.format_fault.Given as goal

@@ -3,7 +3,7 @@ use Rattle.meta_gen.specs.TablesOf.{AreTablesOf}
 use Rattle.meta_gen.proofs.Made.{tables_made}
 use Rattle.meta_gen.proofs.Decoded.{tables_of_mean}
 use Rattle.meta_inst.specs.Builder.{Builder}
-use Rattle.meta_gen.proofs.FirstFault.{controlled, small, few_opcodes, valid}
+use Rattle.meta_gen.proofs.FirstFault.{controlled, derived, small, few_opcodes, valid}
 use Rattle.meta_gen.proofs.generation.generate.Goals as goal
 
 -- the tables are made
@@ -28,6 +28,11 @@ pub entries-requires-clause-controlled : goal.entries-requires-clause-controlled
 entries-requires-clause-controlled c =
     rw (c.vars-vars.ensures.vars, c.formats-formats.ensures.formats, c.instructions-instructions.ensures.instructions)
     (controlled c.args.declarations.now (rw c.in_default.is at c.in_ok-fault.ensures))
+
+pub entries-requires-clause-derived : goal.entries-requires-clause-derived
+entries-requires-clause-derived c =
+    rw (c.vars-vars.ensures.vars, c.formats-formats.ensures.formats, c.instructions-instructions.ensures.instructions)
+    (derived c.args.declarations.now (rw c.in_default.is at c.in_ok-fault.ensures))
 
 pub entries-requires-clause-small : goal.entries-requires-clause-small
 entries-requires-clause-small c =

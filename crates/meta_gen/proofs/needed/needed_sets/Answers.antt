@@ -24,4 +24,4 @@ pub returns : goal.returns
 returns c =
     let d : InstructionSet = record { vars = c.args.vars.now; formats = c.args.formats.now; instructions = c.args.instructions.now } in
     let end : length c.args.instructions.now ≤ c.loop-place.place = omega arith in
-    needed_masks d c.loop-place.type_sets.items c.len-count.ensures.sets (interns_all d c.loop-place.place c.loop-place.type_sets.items end c.loop-place.invariant)
+    needed_masks d c.loop-place.type_sets.items c.len-count.ensures.registry.sets (interns_all d c.loop-place.place c.loop-place.type_sets.items end c.loop-place.invariant)
