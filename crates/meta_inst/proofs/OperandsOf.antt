@@ -1,5 +1,5 @@
 -- Whether the variables of operands are of a registry, operand by operand.
-use Rattle.std.proofs.Common.{◌≡◌, ◌<◌, ◌+◌, ◌↔◌, IsTrue, ⊎_elim, ℕ, Bool, false, List, [], ◌∷◌, ◌++◌, length, get_or, take, drop, None, Some, slice_get, sym, ap, ◌∙◌, subst, zero, suc}
+use Rattle.std.proofs.Common.{◌≡◌, ◌<◌, ◌+◌, ◌↔◌, IsTrue, ⊎_elim, ℕ, Bool, false, List, [], ◌∷◌, ◌++◌, length, get_or, take, drop, Some, slice_get, sym, ap, ◌∙◌, subst, zero, suc}
 use Rattle.std.specs.List.{cons_option}
 use Rattle.std.proofs.lemmas.Bool.{false≢true}
 use Rattle.std.proofs.lemmas.List.{take_more, take-append-drop}
@@ -27,12 +27,6 @@ one_is_of vars x n e =
     only : (k m : ℕ) → slice_get (n ∷ []) k ≡ Some m → n ≡ m
     only zero m e = cc
     only (suc k) m e = absurd (cc)
-
-pub none_is_of : (vars : List TypeVarContent) (x : Operand) → variable_of x ≡ None → AreOf vars (variables_of (x ∷ []))
-none_is_of vars x e k n at = absurd (none (sym (ap (λ o. slice_get (cons_option o []) k) e) ∙ at))
-  where
-    none : None ≡ Some n → ⊥
-    none e = cc
 
 more : (xs : List Operand) (i : ℕ) (x : Operand) → i < length xs → x ≡ get_or xs i x → variables_of (take (i + 1) xs) ≡ variables_of (take i xs) ++ variables_of (x ∷ [])
 more xs i x l is = ap variables_of (take_more xs i x l ∙ ap (λ y. take i xs ++ y ∷ []) (sym is)) ∙ filter_map-append variable_of (take i xs) (x ∷ [])

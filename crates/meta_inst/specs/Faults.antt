@@ -11,6 +11,7 @@ use Rattle.meta_types.specs.declared.fault.DefinitionError.TheVariants.{BadName,
 use Rattle.meta_typevar.specs.FourSets.{FourSets, HasOne}
 use Rattle.meta_typevar.specs.Variable.{Variable, Sets}
 use Rattle.meta_operands.specs.declared.format.InstructionFormat.{InstructionFormat}
+use Rattle.meta_operands.specs.Structure.{SharesStructure}
 use Rattle.meta_inst.specs.Builder.{Builder}
 use Rattle.meta_inst.specs.Instruction.{Instruction, IsOperand}
 use Rattle.meta_inst.specs.Control.{IsControl}
@@ -61,9 +62,13 @@ pub record IsFirstUse (d : InstructionSet) (f k : ℕ) : Type 0 where
 abbrev pub HasBadFormatName : InstructionSet → ℕ → Type 0
 HasBadFormatName d f = (format : InstructionFormat) × (slice_get d.formats f ≡ Some format) × (IsName format.name → ⊥)
 
--- two formats that can't both be in use: they share their name or their structure, the count of value inputs
+-- the format has more than two blocks, or more than one raw block
+abbrev pub HasTooManyBlocks : InstructionSet → ℕ → Type 0
+HasTooManyBlocks d f = (format : InstructionFormat) × (slice_get d.formats f ≡ Some format) × ((2 < format.num_block_operands) ⊎ (1 < format.num_raw_block_operands))
+
+-- two formats that can't both be in use: they share their name or their structure
 abbrev pub SharesFormat : InstructionFormat → InstructionFormat → Type 0
-SharesFormat a b = (a.name ≡ b.name) ⊎ (a.num_value_operands ≡ b.num_value_operands)
+SharesFormat a b = (a.name ≡ b.name) ⊎ SharesStructure a b
 
 abbrev pub AreClashing : InstructionSet → ℕ → ℕ → Type 0
 AreClashing d f g = (a : InstructionFormat) × (b : InstructionFormat) × (slice_get d.formats f ≡ Some a) × (slice_get d.formats g ≡ Some b) × SharesFormat a b
@@ -127,8 +132,11 @@ pub data Position : Type 0 where
 abbrev pub format_name_rule : ℕ
 format_name_rule = 1
 
+abbrev pub blocks_rule : ℕ
+blocks_rule = 2
+
 abbrev pub clash_rule : ℕ
-clash_rule = 2
+clash_rule = 3
 
 -- the place, and at one place the rule, comes before the other
 abbrev pub IsEarlier : ℕ → ℕ → ℕ → ℕ → Type 0
@@ -176,8 +184,7 @@ pub record FormatShows (d : InstructionSet) (f rule : ℕ) (p : Position) (P : �
   pub position : p ≡ OfFormat place rule
   pub shows : P place
 
--- The declarations show the fault, with its numbers, at the position. No rule looks yet for the faults of groups, nor for a bad
--- format: nothing shows these.
+-- The declarations show the fault, with its numbers, at the position. An instruction set shows no faults of groups.
 abbrev pub ShowsAt : InstructionSet → DefinitionError → Position → Type 0
 ShowsAt d (TooManyOpcodes count) p = (p ≡ OfOpcodes) × (count ≡ length d.instructions) × HasTooManyOpcodes d
 ShowsAt d (BadName (AtInstruction n)) p = BreaksAt d (BadName (AtInstruction n)) p
@@ -194,7 +201,7 @@ ShowsAt d (NoControl n) p = BreaksAt d (NoControl n) p
 ShowsAt d (BadDerivation n place) p = BreaksAt d (BadDerivation n place) p
 ShowsAt d (TooManyOperands n count) p = BreaksAt d (TooManyOperands n count) p
 ShowsAt d (BadImmMethod n) p = BreaksAt d (BadImmMethod n) p
-ShowsAt d (BadFormat f) p = ⊥
+ShowsAt d (BadFormat f) p = FormatShows d f blocks_rule p (λ k. HasTooManyBlocks d f)
 ShowsAt d (FormatClash f g) p = FormatShows d f clash_rule p (λ k. IsFirstClash d f k g)
 ShowsAt d (TooManyTypeSets count) p = (p ≡ OfTypeSets) × HasTooManyTypeSets d count
 ShowsAt d (BadEnum g e) p = ⊥
