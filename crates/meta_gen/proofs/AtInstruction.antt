@@ -1,6 +1,5 @@
 -- What shows at an instruction: a rule that it breaks by itself, or a name that it shares.
-use Rattle.std.proofs.Common.{◌≡◌, ◌+◌, ◌⊎◌, inl, inr, ℕ, refl, sym, ap, ◌∙◌, subst}
-use Rattle.meta_types.specs.declared.fault.Place.{Place}
+use Rattle.std.proofs.Common.{◌≡◌, ◌+◌, ◌⊎◌, inl, inr, ℕ, refl, ap, ◌∙◌, subst}
 use Rattle.meta_types.specs.declared.fault.Place.TheVariants.{Instruction as AtInstruction, Format as AtFormat, Group as AtGroup, Entry as AtEntry}
 use Rattle.meta_types.specs.declared.fault.DefinitionError.{DefinitionError}
 use Rattle.meta_types.specs.declared.fault.DefinitionError.TheVariants.{BadName, DuplicateName, TooManyOpcodes, FormatMismatch, NoControl, TooManyOperands, FormatClash, TooManyTypeSets, BadOutput, BadDerivation, BadImmMethod, BadFormat, BadEnum, BadPreset, TooManySettings, OutOfMemory}
@@ -70,7 +69,7 @@ module _ (d : InstructionSet) where
   at_instruction k rule (DuplicateName (AtGroup g) m) h = absurd h
   at_instruction k rule (DuplicateName (AtEntry g e) m) h = absurd h
   at_instruction k rule (TooManyOpcodes count) h = let e = h.0 in absurd (cc)
-  at_instruction k rule (BadFormat f) h = absurd h
+  at_instruction k rule (BadFormat f) h = absurd (not_format f _ k rule _ h)
   at_instruction k rule (FormatClash f g) h = absurd (not_format f _ k rule _ h)
   at_instruction k rule (TooManyTypeSets count) h = let e = h.0 in absurd (cc)
   at_instruction k rule (BadEnum g e) h = absurd h

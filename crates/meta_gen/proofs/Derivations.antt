@@ -1,6 +1,5 @@
 -- What a search for a bad derivation tells.
-use Rattle.std.proofs.Common.{◌≡◌, ◌<◌, ◌≤◌, ◌+◌, ℕ, zero, suc, ⊎_elim, Option, None, Some, List, length, slice_get, refl, sym, ap, ◌∙◌, subst, arith}
-use Rattle.std.proofs.lemmas.Bool.{cases_lt}
+use Rattle.std.proofs.Common.{◌≡◌, ◌<◌, ◌≤◌, ◌+◌, ℕ, zero, suc, Option, List, length, slice_get, sym, ap, ◌∙◌, arith}
 use Rattle.meta_typevar.specs.Variable.{Variable, Sets}
 use Rattle.meta_typevar.specs.Registry.{sets_of, variable_at, IsRegistry}
 use Rattle.meta_typevar.specs.declared.content.TypeVarContent.{TypeVarContent}
@@ -8,7 +7,6 @@ use Rattle.meta_inst.specs.Instruction.{Instruction}
 use Rattle.meta_inst.specs.Operands.{OperandList, instruction_with, AreOf}
 use Rattle.meta_inst.specs.Control.{IsControl, HasBadDerivation, IsFirstBadDerivation, DerivesBadly}
 use Rattle.meta_inst.proofs.Meaning.{operand_at}
-use Rattle.meta_inst.proofs.OneControl.{same_control}
 use Rattle.meta_meaning.proofs.Constrained.{has_constraint}
 use Rattle.meta_gen.specs.Entries.{control_at, AreConstrained}
 

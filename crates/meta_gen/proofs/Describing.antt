@@ -11,7 +11,7 @@ use Rattle.meta_types.specs.declared.value_type.ValueType.{ValueType}
 use Rattle.meta_typevar.specs.Chain.{IsFixed}
 use Rattle.meta_typevar.specs.Variable.{Variable, IsDerivedBy, IsOpen}
 use Rattle.meta_typevar.specs.Registry.{sets_of, variable_at, IsKept, IsRegistry}
-use Rattle.meta_typevar.specs.declared.masks.Masks.{Masks}
+use Rattle.meta_typevar.specs.FourSets.{FourSets}
 use Rattle.meta_typevar.specs.declared.content.TypeVarContent.{TypeVarContent}
 use Rattle.meta_typevar.specs.declared.content.TypeVarParent.{TypeVarParent}
 use Rattle.meta_typevar.proofs.Variables.{one_variable, underived_told}
@@ -23,7 +23,7 @@ use Rattle.meta_gen.proofs.Appended.{stays, last}
 use Rattle.meta_gen.specs.declared.constraint.Constraint.{Constraint}
 use Rattle.meta_gen.specs.declared.constraint.Constraint.TheVariants.{Concrete, Free, Same}
 use Rattle.meta_gen.specs.Constraint.{number_constraint_of}
-use Rattle.meta_gen.specs.Entries.{StaysIn, IsSetAt, IsFreeNumber, IsOfRegistry, HasConstraint, Describes, IsDescribedAt, control_at}
+use Rattle.meta_gen.specs.Entries.{StaysIn, IsFreeNumber, IsOfRegistry, HasConstraint, Describes, IsDescribedAt, control_at}
 
 -- a test that says no
 pub refused : (r : Bool) (P : Type 0) → r ≡ false → IsTrue r ↔ P → P → ⊥
@@ -43,20 +43,20 @@ control_from vars r control of n l e =
     let (x, is, same) = mapped (variable_at vars) control (variable_at vars n) e in
     is ∙ ap Some (one_variable vars r x n (of x is) l same)
 
-module _ (vars : List TypeVarContent) (control : Option ℕ) (type_sets : List Masks) (n : ℕ) where
+module _ (vars : List TypeVarContent) (control : Option ℕ) (type_sets : List FourSets) (n : ℕ) where
   pub concrete : (t : ValueType) (number : ℕ) → IsFixed (sets_of vars (variable_at vars n).root) (variable_at vars n).chain (shape_of t) → number ≡ number_of (shape_of t) → Describes vars control type_sets n (Concrete number)
-  concrete t number fixed e = record { constraint = ConcreteType (shape_of t); is_constraint = fixed; stands = λ names constraints entries. ap ConcreteNumber e }
+  concrete t number fixed e = record { constraint = ConcreteType (shape_of t); is_constraint = fixed; stands = λ tables has. ap ConcreteNumber e }
 
   pub same : IsOpen (sets_of vars) (variable_at vars n) → control ≡ Some n → Describes vars control type_sets n Same
-  same not_fixed e = record { constraint = SameType; is_constraint = record { not_fixed = not_fixed; controls = control_is vars control n e }; stands = λ names constraints entries. refl }
+  same not_fixed e = record { constraint = SameType; is_constraint = record { not_fixed = not_fixed; controls = control_is vars control n e }; stands = λ tables has. refl }
 
   -- what is said of a variable that isn't the control
   module _ (registry : IsRegistry vars) (of : IsOfRegistry vars control) (below : n < length vars) (not_fixed : IsOpen (sets_of vars) (variable_at vars n)) (other : control ≡ Some n → ⊥) where
-    pub free : (place : ℕ) → (variable_at vars n).chain ≡ [] → IsSetAt type_sets place (sets_of vars (variable_at vars n).root) → Describes vars control type_sets n (Free place)
+    pub free : (place : ℕ) → (variable_at vars n).chain ≡ [] → slice_get type_sets place ≡ Some (sets_of vars (variable_at vars n).root) → Describes vars control type_sets n (Free place)
     free place underived set = record {
       constraint = FreeType (sets_of vars (variable_at vars n).root);
       is_constraint = record { not_fixed = not_fixed; underived = underived; other = λ e. other (control_from vars registry control of n below e); set = refl };
-      stands = λ names constraints entries. (place, refl, record { masks = set.masks; is_set = set.is_set; are_masks = set.are_masks });
+      stands = λ tables has. let (m, there, are) = has.each place (sets_of vars (variable_at vars n).root) set in (place, refl, record { masks = m; is_set = there; are_masks = are });
     }
 
     pub free_number : (variable_at vars n).chain ≡ [] → IsFreeNumber vars control n
@@ -82,7 +82,7 @@ module _ (vars : List TypeVarContent) (control : Option ℕ) (type_sets : List M
     by_parent d p y kept e has is = record {
       constraint = ByType (function_of p.derived_func);
       is_constraint = by_function (function_of p.derived_func) (not_root vars registry n d kept p e) (one_function vars registry n d kept p e) has.0 has.1;
-      stands = λ names constraints entries. is;
+      stands = λ tables has. is;
     }
 
     -- and what has no parent is underived
@@ -90,17 +90,17 @@ module _ (vars : List TypeVarContent) (control : Option ℕ) (type_sets : List M
     underived_by d kept e = (underived_told vars n d registry kept).0 e
 
 -- what described a variable describes it in a longer list
-pub described_later : (vars : List TypeVarContent) (control : Option ℕ) (type_sets : List Masks) (old new : List Constraint) (place n : ℕ) → StaysIn old new → IsDescribedAt vars control type_sets old place n → IsDescribedAt vars control type_sets new place n
+pub described_later : (vars : List TypeVarContent) (control : Option ℕ) (type_sets : List FourSets) (old new : List Constraint) (place n : ℕ) → StaysIn old new → IsDescribedAt vars control type_sets old place n → IsDescribedAt vars control type_sets new place n
 described_later vars control type_sets old new place n stay h = record { constraint = h.constraint; at = stay place h.constraint h.at; describes = h.describes }
 
-module _ (vars : List TypeVarContent) (control : Option ℕ) (type_sets : List Masks) (old new : List Constraint) (x : Constraint) (added : new ≡ old ++ x ∷ []) where
+module _ (vars : List TypeVarContent) (control : Option ℕ) (type_sets : List FourSets) (old new : List Constraint) (x : Constraint) (added : new ≡ old ++ x ∷ []) where
   -- one more constraint, of the variable at the next place
-  pub one_more : (numbers : List ℕ) (base place n : ℕ) → length old ≡ base + place → slice_get numbers place ≡ Some n → Describes vars control type_sets n x
-      → ((k m : ℕ) → k < place → slice_get numbers k ≡ Some m → IsDescribedAt vars control type_sets old (base + k) m)
-      → (k m : ℕ) → k < place + 1 → slice_get numbers k ≡ Some m → IsDescribedAt vars control type_sets new (base + k) m
-  one_more numbers base place n count at describes before k m l at_k =
-      below_more (λ k. (m : ℕ) → slice_get numbers k ≡ Some m → IsDescribedAt vars control type_sets new (base + k) m) place
-      (λ k l m at. described_later vars control type_sets old new (base + k) m (stays old new x added) (before k m l at))
+  pub one_more : (numbers : List ℕ) (place n : ℕ) → length old ≡ place → slice_get numbers place ≡ Some n → Describes vars control type_sets n x
+      → ((k m : ℕ) → k < place → slice_get numbers k ≡ Some m → IsDescribedAt vars control type_sets old k m)
+      → (k m : ℕ) → k < place + 1 → slice_get numbers k ≡ Some m → IsDescribedAt vars control type_sets new k m
+  one_more numbers place n count at describes before k m l at_k =
+      below_more (λ k. (m : ℕ) → slice_get numbers k ≡ Some m → IsDescribedAt vars control type_sets new k m) place
+      (λ k l m at. described_later vars control type_sets old new k m (stays old new x added) (before k m l at))
       (λ m at_m. let e : n ≡ m = same_Some n m (sym at ∙ at_m) in
-      record { constraint = x; at = last old new x added (base + place) (sym count); describes = subst (λ i. Describes vars control type_sets i x) e describes })
+      record { constraint = x; at = last old new x added place (sym count); describes = subst (λ i. Describes vars control type_sets i x) e describes })
       k l m at_k

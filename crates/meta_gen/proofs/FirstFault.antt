@@ -1,72 +1,22 @@
 -- The first fault of all declarations, from the parts of the search.
-use Rattle.std.proofs.Common.{◌≡◌, ◌<◌, ◌≤◌, ◌+◌, inl, inr, ⊎_elim, ℕ, List, length, Option, None, Some, Result, Ok, Err, IfOk, IfSome, IfNone, MatchOption, refl, arith}
+use Rattle.std.proofs.Common.{◌<◌, ◌≤◌, ◌+◌, inl, inr, ⊎_elim, ℕ, List, length, Option, None, Some, Result, Ok, Err, IfOk, IfSome, IfNone, MatchOption, refl, arith}
 use Rattle.std.specs.declared.alloc.AllocError.{AllocError}
 use Rattle.std.proofs.lemmas.Option.{slice_get_within}
 use Rattle.std.proofs.lemmas.Bool.{cases_lt}
 use Rattle.std.proofs.lemmas.List.{length-map}
-use Rattle.meta_types.specs.declared.fault.Place.TheVariants.{Instruction as AtInstruction, Format as AtFormat, Group as AtGroup, Entry as AtEntry}
 use Rattle.meta_types.specs.declared.fault.DefinitionError.{DefinitionError}
-use Rattle.meta_types.specs.declared.fault.DefinitionError.TheVariants.{BadName, DuplicateName, TooManyOpcodes, FormatMismatch, NoControl, TooManyOperands, FormatClash, TooManyTypeSets, BadOutput, BadDerivation, BadImmMethod, BadFormat, BadEnum, BadPreset, TooManySettings, OutOfMemory}
+use Rattle.meta_types.specs.declared.fault.DefinitionError.TheVariants.{TooManyOpcodes, NoControl, TooManyOperands, TooManyTypeSets, BadDerivation}
 use Rattle.meta_typevar.specs.FourSets.{FourSets}
 use Rattle.meta_inst.specs.Builder.{Builder}
 use Rattle.meta_inst.specs.InstructionSet.{InstructionSet}
-use Rattle.meta_inst.specs.Faults.{HasTooManyOpcodes, HasTooManyTypeSets, AreNeededSets, Position, OfOpcodes, OfInstruction, OfFormat, OfTypeSets, Before, IsEarlier, names_of, ShowsAt, IsFirstFault, IsValid}
+use Rattle.meta_inst.specs.Faults.{HasTooManyOpcodes, AreNeededSets, Position, OfOpcodes, OfInstruction, OfFormat, OfTypeSets, Before, IsEarlier, names_of, ShowsAt, IsFirstFault, IsValid}
 use Rattle.meta_gen.specs.Searched.{ShowsNoInstructionFault, IsFirstOfInstructions, ShowsNoFormatFault, IsFirstFormatFault, ShowsNoEarlyFault}
 use Rattle.meta_gen.specs.Needed.{AllControlled, AllDerived, AllSmall}
 use Rattle.meta_gen.proofs.Counted.{one_count}
+use Rattle.meta_gen.proofs.AtAll.{at_opcodes, at_type_sets}
 use Rattle.meta_gen.proofs.AtInstruction.{ShowsHere, at_instruction}
 
 module _ (d : InstructionSet) where
-  -- what shows of all opcodes
-  at_opcodes : (e : DefinitionError) → ShowsAt d e OfOpcodes → HasTooManyOpcodes d
-  at_opcodes (TooManyOpcodes count) h = h.2
-  at_opcodes (BadName (AtInstruction n)) h = let e = h.position in absurd (cc)
-  at_opcodes (BadName (AtFormat f)) h = let e = h.position in absurd (cc)
-  at_opcodes (DuplicateName (AtInstruction n) m) h = let e = h.position in absurd (cc)
-  at_opcodes (DuplicateName (AtFormat f) m) h = absurd h
-  at_opcodes (FormatMismatch n) h = let e = h.position in absurd (cc)
-  at_opcodes (NoControl n) h = let e = h.position in absurd (cc)
-  at_opcodes (TooManyOperands n count) h = let e = h.position in absurd (cc)
-  at_opcodes (FormatClash f g) h = let e = h.position in absurd (cc)
-  at_opcodes (TooManyTypeSets count) h = let e = h.0 in absurd (cc)
-  at_opcodes (BadName (AtGroup u)) h = absurd h
-  at_opcodes (BadName (AtEntry u v)) h = absurd h
-  at_opcodes (DuplicateName (AtGroup u) w) h = absurd h
-  at_opcodes (DuplicateName (AtEntry u v) w) h = absurd h
-  at_opcodes (BadOutput u v) h = let e = h.position in absurd (cc)
-  at_opcodes (BadDerivation n place) h = let e = h.position in absurd (cc)
-  at_opcodes (BadImmMethod u) h = let e = h.position in absurd (cc)
-  at_opcodes (BadFormat u) h = absurd h
-  at_opcodes (BadEnum u v) h = absurd h
-  at_opcodes (BadPreset u v) h = absurd h
-  at_opcodes (TooManySettings u v w x) h = absurd h
-  at_opcodes OutOfMemory h = absurd h
-
-  -- what shows of all type sets
-  at_type_sets : (e : DefinitionError) → ShowsAt d e OfTypeSets → (count : ℕ) × HasTooManyTypeSets d count
-  at_type_sets (TooManyTypeSets count) h = (count, h.1)
-  at_type_sets (TooManyOpcodes count) h = let e = h.0 in absurd (cc)
-  at_type_sets (BadName (AtInstruction n)) h = let e = h.position in absurd (cc)
-  at_type_sets (BadName (AtFormat f)) h = let e = h.position in absurd (cc)
-  at_type_sets (DuplicateName (AtInstruction n) m) h = let e = h.position in absurd (cc)
-  at_type_sets (DuplicateName (AtFormat f) m) h = absurd h
-  at_type_sets (FormatMismatch n) h = let e = h.position in absurd (cc)
-  at_type_sets (NoControl n) h = let e = h.position in absurd (cc)
-  at_type_sets (TooManyOperands n count) h = let e = h.position in absurd (cc)
-  at_type_sets (FormatClash f g) h = let e = h.position in absurd (cc)
-  at_type_sets (BadName (AtGroup u)) h = absurd h
-  at_type_sets (BadName (AtEntry u v)) h = absurd h
-  at_type_sets (DuplicateName (AtGroup u) w) h = absurd h
-  at_type_sets (DuplicateName (AtEntry u v) w) h = absurd h
-  at_type_sets (BadOutput u v) h = let e = h.position in absurd (cc)
-  at_type_sets (BadDerivation n place) h = let e = h.position in absurd (cc)
-  at_type_sets (BadImmMethod u) h = let e = h.position in absurd (cc)
-  at_type_sets (BadFormat u) h = absurd h
-  at_type_sets (BadEnum u v) h = absurd h
-  at_type_sets (BadPreset u v) h = absurd h
-  at_type_sets (TooManySettings u v w x) h = absurd h
-  at_type_sets OutOfMemory h = absurd h
-
   -- what shows at an instruction is of one that there is
   within : (k rule : ℕ) (e : DefinitionError) → ShowsHere d k rule e → k < length d.instructions
   within k rule e (inl h) = slice_get_within d.instructions k h.builder h.at
@@ -89,7 +39,7 @@ module _ (d : InstructionSet) where
 
   module _ (few : length d.instructions ≤ 255) where
     no_opcodes : (f : DefinitionError) → ShowsAt d f OfOpcodes → ⊥
-    no_opcodes f h = let many = at_opcodes f h in omega arith
+    no_opcodes f h = let many = (at_opcodes d f h).0 in omega arith
 
     -- the first fault of the instructions is the first of all
     pub first_of_instructions : (e : DefinitionError) → IsFirstOfInstructions d e → IsFirstFault d e
@@ -150,8 +100,8 @@ module _ (d : InstructionSet) where
     valid sets needed few (OfInstruction i r) e s = early (OfInstruction i r) e tt s
     valid sets needed few (OfFormat i r) e s = early (OfFormat i r) e tt s
     valid sets needed few OfTypeSets e s =
-        let (count, (others, others_needed, is, many)) = at_type_sets e s in
-        let same = one_count d others sets others_needed needed in
+        let (count, (others, others_needed, is, many), same) = at_type_sets d e s in
+        let counted = one_count d others sets others_needed needed in
         omega arith
 
 -- what the search among the formats tells of all

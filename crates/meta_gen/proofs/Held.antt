@@ -1,39 +1,40 @@
 -- Entries that hold instructions, and the lists that grow behind them.
-use Rattle.std.proofs.Common.{◌≡◌, ◌<◌, ◌≤◌, ◌+◌, ℕ, List, [], ◌∷◌, ◌++◌, length, map, slice_get, Option, None, Some, inl, inr, arith, refl, sym, ap, ◌∙◌, subst, below_more}
+use Rattle.std.proofs.Common.{◌≡◌, ◌<◌, ◌≤◌, ◌+◌, ℕ, List, [], ◌∷◌, ◌++◌, length, map, take, drop, ◌-◌, length-drop, slice_get, Option, Some, inl, inr, ⊎_elim, arith, refl, sym, ap, ◌∙◌, subst, below_more, length-append}
 use Rattle.std.specs.Prelude.{option_map}
 use Rattle.std.proofs.lemmas.Option.{slice_get-map, slice_get_within, same_Some}
-use Rattle.meta_typevar.specs.Variable.{Variable, Sets}
+use Rattle.meta_typevar.specs.Variable.{Variable}
 use Rattle.meta_typevar.specs.Registry.{sets_of, variable_at, IsRegistry}
-use Rattle.meta_typevar.specs.declared.masks.Masks.{Masks}
+use Rattle.meta_typevar.specs.FourSets.{FourSets}
 use Rattle.meta_typevar.specs.declared.content.TypeVarContent.{TypeVarContent}
 use Rattle.meta_operands.specs.declared.format.InstructionFormat.{InstructionFormat}
 use Rattle.meta_inst.specs.Builder.{Builder}
-use Rattle.meta_inst.specs.Instruction.{Instruction}
+use Rattle.meta_inst.specs.Instruction.{Instruction, IsOperand}
 use Rattle.meta_inst.specs.Control.{IsControl}
 use Rattle.meta_inst.specs.InstructionSet.{InstructionSet, root_sets, instruction_in, instruction_of}
-use Rattle.meta_inst.specs.Faults.{IsAt}
+use Rattle.meta_inst.specs.Faults.{IsAt, AreNeededSets}
 use Rattle.meta_inst.specs.Operands.{OperandList, instruction_with, AreOf}
-use Rattle.meta_inst.proofs.Meaning.{operand_at, operand_from}
-use Rattle.meta_meaning.specs.Constraint.{Constraint as TypeConstraint, Concrete as ConcreteType, Free as FreeType, Same as SameType, By as ByType}
-use Rattle.meta_meaning.specs.Tables.{NumberConstraint, Entry, AreFlagsOf, IsTypeSetOffset, StandsFor, Constrains, IsEntry}
+use Rattle.meta_inst.proofs.Meaning.{operand_at, operand_from, results_length}
+use Rattle.meta_meaning.specs.Tables.{TableContents, Entry, AreFlagsOf, IsTypeSetOffset}
 use Rattle.meta_gen.specs.Constraint.{number_constraint_of, entry_of}
-use Rattle.meta_gen.specs.Contents.{contents_of}
-use Rattle.meta_gen.specs.Needed.{AreNeededMasks}
 use Rattle.meta_gen.specs.TablesOf.{HoldsInstruction}
 use Rattle.meta_gen.specs.declared.constraint.Constraint.{Constraint}
 use Rattle.meta_gen.specs.declared.constraint.OpcodeConstraints.{OpcodeConstraints}
-use Rattle.meta_gen.specs.Entries.{StaysIn, IsHeld, HoldNeeded, HoldFree, IsDescribedAt, AreDescribed, HasNoOperand, EntryHolds, IsHeldAt, IsOfRegistry, control_at, set_with}
+use Rattle.meta_unique.specs.Overlap.{added, added_at}
+use Rattle.meta_gen.specs.ConstraintLists.{same_constraint, three_same, overlapped, IsConstraintAt, IsConstraintList, AreOverlapped}
+use Rattle.meta_gen.specs.Entries.{StaysIn, IsHeld, HoldNeeded, HoldFree, HasTypeSets, IsDescribedAt, AreDescribed, EntryHolds, IsAdded, AreAdded, IsListOf, IsHeldAt, IsOfRegistry, control_at, set_with}
 use Rattle.meta_gen.proofs.Describing.{mapped, control_is, control_from}
-use Rattle.meta_gen.proofs.Appended.{stays, last}
+use Rattle.meta_gen.proofs.Appended.{stays, last, one_longer}
+use Rattle.meta_gen.proofs.Pushed.{get_before, get_pushed_below}
+use Rattle.meta_gen.proofs.Overlapping.{one_list_more}
+use Rattle.meta_inst.proofs.Places.{slice_get-append_left}
+use Rattle.std.proofs.Math.Seq.{take-append_seam}
+use Rattle.std.proofs.lemmas.List.{take-append-le, length-map}
 
 -- the needed sets hold what each instruction needs
-pub needed_held : (d : InstructionSet) (type_sets : List Masks) → AreNeededMasks d type_sets → (k : ℕ) (b : Builder) → IsAt d k b → HoldNeeded type_sets (root_sets d) (instruction_of d b)
-needed_held d type_sets needed k b at control s is which =
-    let (j, at_s) = needed.are_needed.all s (k, record { user = b; at = at; control = control; is_control = is; needs = which }) in
-    let (m, at_m, are) = needed.stand.each j s at_s in
-    (j, record { masks = m; is_set = at_m; are_masks = are })
+pub needed_held : (d : InstructionSet) (type_sets : List FourSets) → AreNeededSets d type_sets → (k : ℕ) (b : Builder) → IsAt d k b → HoldNeeded type_sets (root_sets d) (instruction_of d b)
+needed_held d type_sets needed k b at control s is which = needed.all s (k, record { user = b; at = at; control = control; is_control = is; needs = which })
 
-module _ (vars : List TypeVarContent) (o : OperandList) (within : o.result_count ≤ length o.variables) (control : Option ℕ) (type_sets : List Masks)
+module _ (vars : List TypeVarContent) (o : OperandList) (within : o.result_count ≤ length o.variables) (control : Option ℕ) (type_sets : List FourSets)
     (held : HoldNeeded type_sets (sets_of vars) (instruction_with vars o)) (is_control : IsControl (sets_of vars) (instruction_with vars o) (control_at vars control)) (registry : IsRegistry vars) (are : AreOf vars o.variables) (of : IsOfRegistry vars control) where
   -- the set of the control is held
   pub control_held : (v : ℕ) → control ≡ Some v → IsHeld type_sets (sets_of vars (variable_at vars v).root)
@@ -51,90 +52,67 @@ module _ (vars : List TypeVarContent) (o : OperandList) (within : o.result_count
     several = f.several;
   })
 
--- where nothing stands nothing is
-none_listed : (xs : List ℕ) → ((k n : ℕ) → slice_get xs k ≡ Some n → ⊥) → length xs ≡ 0
-none_listed [] never = refl
-none_listed (x ∷ xs) never = absurd (never 0 x refl)
+map_length : {X Y : Type 0} (f : X → Y) (xs : List X) → length (map f xs) ≡ length xs
+map_length f xs = length-map xs f
 
-module _ (vars : List TypeVarContent) (o : OperandList) (within : o.result_count ≤ length o.variables) (registry : IsRegistry vars) (are : AreOf vars o.variables) (control : Option ℕ) (type_sets : List Masks) (constraints : List Constraint) where
-  -- a described variable is constrained
-  constrained : (names : List (List ℕ)) (entries : List OpcodeConstraints) (place n : ℕ) → IsDescribedAt vars control type_sets constraints place n
-      → Constrains (sets_of vars) (control_at vars control) (contents_of names type_sets constraints entries) place (variable_at vars n)
-  constrained names entries place n h = record {
-    constraint = h.describes.constraint;
-    is_constraint = h.describes.is_constraint;
-    number_constraint = number_constraint_of h.constraint;
-    stands = h.describes.stands names constraints entries;
-    placed = slice_get-map number_constraint_of constraints place ∙ ap (option_map number_constraint_of) h.at;
-  }
+module _ (vars : List TypeVarContent) (o : OperandList) (within : o.result_count ≤ length o.variables) (registry : IsRegistry vars) (are : AreOf vars o.variables) (control : Option ℕ) (type_sets : List FourSets) (list : List Constraint) (described : AreDescribed vars control type_sets list o.variables) where
+  -- the constraint of an operand
+  constraint_at : (tables : TableContents) → HasTypeSets tables type_sets → (k : ℕ) (w : Variable) → IsOperand (instruction_with vars o) k w → IsConstraintAt (sets_of vars) (control_at vars control) tables list k w
+  constraint_at tables has k w op =
+      let (n, at, is) = operand_from vars o within registry are k w op in
+      let h : IsDescribedAt vars control type_sets list k n = described.each k n at in
+      subst (IsConstraintAt (sets_of vars) (control_at vars control) tables list k) (sym is) (record {
+        type_constraint = h.describes.constraint;
+        is_constraint = h.describes.is_constraint;
+        constraint = h.constraint;
+        stands = h.describes.stands tables has;
+        placed = h.at;
+      })
 
-  -- the entry of an instruction whose operands are described
-  pub entry_holds : (e : OpcodeConstraints) (base : ℕ)
+  -- there is one for each operand
+  list_length : length list ≡ length (instruction_with vars o).results + length (instruction_with vars o).values
+  list_length =
+      let results : length (instruction_with vars o).results ≡ o.result_count = results_length vars o within registry are in
+      let values : length (instruction_with vars o).values ≡ length o.variables - o.result_count = map_length (variable_at vars) (drop o.result_count o.variables) ∙ length-drop o.result_count o.variables in
+      omega (arith, described.count, results, values, within)
+
+  pub is_list : (tables : TableContents) → HasTypeSets tables type_sets → IsConstraintList (sets_of vars) (control_at vars control) tables (instruction_with vars o) list
+  is_list tables has = record { count = list_length; each = constraint_at tables has }
+
+  -- the entry of an instruction whose list stands in the constraints
+  pub entry_holds : (e : OpcodeConstraints) (constraints : List Constraint)
       → IsControl (sets_of vars) (instruction_with vars o) (control_at vars control)
       → AreFlagsOf (instruction_with vars o) (control_at vars control) e.flags
-      → ((names : List (List ℕ)) (constraints : List Constraint) (entries : List OpcodeConstraints) → IsTypeSetOffset (sets_of vars) (control_at vars control) (contents_of names type_sets constraints entries) e.typeset_offset)
-      → (0 < length o.variables → e.constraint_offset ≡ base)
-      → (length o.variables ≡ 0 → e.constraint_offset ≡ 0)
-      → AreDescribed vars control type_sets constraints base o.variables
+      → ((tables : TableContents) → HasTypeSets tables type_sets → IsTypeSetOffset (sets_of vars) (control_at vars control) tables e.typeset_offset)
+      → ((k : ℕ) (x : Constraint) → slice_get list k ≡ Some x → slice_get constraints (e.constraint_offset + k) ≡ Some x)
       → EntryHolds vars (instruction_with vars o) type_sets constraints e
-  entry_holds e base is_control flags type_set offset no_offset described = record {
+  entry_holds e constraints is_control flags type_set stands = record {
     control = control_at vars control;
     is_control = is_control;
-    is_entry = λ names entries. record {
+    is_entry = λ tables has hold. record {
       flags = flags;
-      type_set = type_set names constraints entries;
+      type_set = type_set tables has;
       constraints = λ k w op.
-          let (n, at, is) = operand_from vars o within registry are k w op in
-          let l = slice_get_within o.variables k n at in
-          let some : 0 < length o.variables = omega arith in
-          let place : base + k ≡ e.constraint_offset + k = ap (λ b. b + k) (sym (offset some)) in
-          subst (Constrains (sets_of vars) (control_at vars control) (contents_of names type_sets constraints entries) (e.constraint_offset + k)) (sym is)
-          (subst (λ p. Constrains (sets_of vars) (control_at vars control) (contents_of names type_sets constraints entries) p (variable_at vars n)) place
-          (constrained names entries (base + k) n (described k n at)));
-    };
-    no_operand = λ never. no_offset (none_listed o.variables (λ k n at. never k (variable_at vars n) (operand_at vars o within registry are k n at)));
-  }
-
-module _ (names : List (List ℕ)) (type_sets : List Masks) (old new : List Constraint) (entries : List OpcodeConstraints) (stay : StaysIn old new) where
-  -- what stands for a constraint, the set of the control, and the constraint of an operand, when the list grows
-  stands_later : (x : TypeConstraint) (y : NumberConstraint) → StandsFor (contents_of names type_sets old entries) x y → StandsFor (contents_of names type_sets new entries) x y
-  stands_later (ConcreteType t) y h = h
-  stands_later (FreeType s) y (j, is, set) = (j, is, record { masks = set.masks; is_set = set.is_set; are_masks = set.are_masks })
-  stands_later SameType y h = h
-  stands_later (ByType f) y h = h
-
-  offset_later : (sets : Sets) (control : Option Variable) (offset : ℕ) → IsTypeSetOffset sets control (contents_of names type_sets old entries) offset → IsTypeSetOffset sets control (contents_of names type_sets new entries) offset
-  offset_later sets None offset h = h
-  offset_later sets (Some v) offset (below, set) = (below, record { masks = set.masks; is_set = set.is_set; are_masks = set.are_masks })
-
-  numbers_stay : (k : ℕ) (x : NumberConstraint) → slice_get (map number_constraint_of old) k ≡ Some x → slice_get (map number_constraint_of new) k ≡ Some x
-  numbers_stay k x at =
-      let (y, at_y, is) = mapped number_constraint_of (slice_get old k) x (sym (slice_get-map number_constraint_of old k) ∙ at) in
-      slice_get-map number_constraint_of new k ∙ ap (option_map number_constraint_of) (stay k y at_y) ∙ ap Some is
-
-  entry_later : (sets : Sets) (i : Instruction) (control : Option Variable) (e : Entry) → IsEntry sets i control (contents_of names type_sets old entries) e → IsEntry sets i control (contents_of names type_sets new entries) e
-  entry_later sets i control e h = record {
-    flags = h.flags;
-    type_set = offset_later sets control e.typeset_offset h.type_set;
-    constraints = λ k w op. let c = h.constraints k w op in record {
-      constraint = c.constraint;
-      is_constraint = c.is_constraint;
-      number_constraint = c.number_constraint;
-      stands = stands_later c.constraint c.number_constraint c.stands;
-      placed = numbers_stay (e.constraint_offset + k) c.number_constraint c.placed;
+          let h = constraint_at tables has k w op in
+          record {
+            constraint = h.type_constraint;
+            is_constraint = h.is_constraint;
+            number_constraint = number_constraint_of h.constraint;
+            stands = h.stands;
+            placed = hold (e.constraint_offset + k) h.constraint (stands k h.constraint h.placed);
+          };
     };
   }
 
 -- an entry holds its instruction when the list of constraints has grown
-pub holds_later : (vars : List TypeVarContent) (i : Instruction) (type_sets : List Masks) (old new : List Constraint) (e : OpcodeConstraints) → StaysIn old new → EntryHolds vars i type_sets old e → EntryHolds vars i type_sets new e
+pub holds_later : (vars : List TypeVarContent) (i : Instruction) (type_sets : List FourSets) (old new : List Constraint) (e : OpcodeConstraints) → StaysIn old new → EntryHolds vars i type_sets old e → EntryHolds vars i type_sets new e
 holds_later vars i type_sets old new e stay h = record {
   control = h.control;
   is_control = h.is_control;
-  is_entry = λ names entries. entry_later names type_sets old new entries stay (sets_of vars) i h.control (entry_of e) (h.is_entry names entries);
-  no_operand = h.no_operand;
+  is_entry = λ tables has hold. h.is_entry tables has (λ k x at. hold k x (stay k x at));
 }
 
-module _ (vars : List TypeVarContent) (formats : List InstructionFormat) (type_sets : List Masks) where
+module _ (vars : List TypeVarContent) (formats : List InstructionFormat) (type_sets : List FourSets) where
   -- one more entry, that of the instruction at the next place
   pub one_more_held : (instructions : List Builder) (old new : List Constraint) (entries later : List OpcodeConstraints) (e : OpcodeConstraints) (b : Builder) (place : ℕ)
       → later ≡ entries ++ e ∷ [] → length entries ≡ place → slice_get instructions place ≡ Some b → StaysIn old new
@@ -156,17 +134,90 @@ module _ (vars : List TypeVarContent) (formats : List InstructionFormat) (type_s
       k below x at_k
 
   -- the tables hold an instruction whose entry holds it
-  pub instruction_held : (instructions : List Builder) (names : List (List ℕ)) (constraints : List Constraint) (entries : List OpcodeConstraints) (k : ℕ) (b : Builder)
-      → IsHeldAt vars formats type_sets constraints entries k b → HoldsInstruction (set_with vars formats instructions) (contents_of names type_sets constraints entries) k b
-  instruction_held instructions names constraints entries k b h = record {
+  pub instruction_held : (instructions : List Builder) (tables : TableContents) (constraints : List Constraint) (entries : List OpcodeConstraints) → HasTypeSets tables type_sets → tables.operand_constraints ≡ map number_constraint_of constraints → tables.entries ≡ map entry_of entries → (k : ℕ) (b : Builder)
+      → IsHeldAt vars formats type_sets constraints entries k b → HoldsInstruction (set_with vars formats instructions) tables k b
+  instruction_held instructions tables constraints entries has has_constraints has_entries k b h = record {
     control = h.holds.control;
     is_control = h.holds.is_control;
     entry = entry_of h.entry;
-    at = slice_get-map entry_of entries k ∙ ap (option_map entry_of) h.at;
-    is_entry = h.holds.is_entry names entries;
+    at = ap (λ xs. slice_get xs k) has_entries ∙ slice_get-map entry_of entries k ∙ ap (option_map entry_of) h.at;
+    is_entry = h.holds.is_entry tables has (λ j x at. ap (λ xs. slice_get xs j) has_constraints ∙ slice_get-map number_constraint_of constraints j ∙ ap (option_map number_constraint_of) at);
   }
 
-  -- and an instruction without an operand has offset 0
-  pub offset_held : (constraints : List Constraint) (entries : List OpcodeConstraints) (k : ℕ) (b : Builder) (e : OpcodeConstraints)
-      → IsHeldAt vars formats type_sets constraints entries k b → slice_get entries k ≡ Some e → HasNoOperand (instruction_in vars formats b) → e.constraint_offset ≡ 0
-  offset_held constraints entries k b e h at never = subst (λ (x : OpcodeConstraints). x.constraint_offset ≡ 0) (same_Some h.entry e (sym h.at ∙ at)) (h.holds.no_operand never)
+  -- nothing is added yet
+  pub none_added : (instructions : List Builder) → AreAdded vars formats instructions type_sets three_same [] []
+  none_added instructions = record {
+    count = refl;
+    whole = refl;
+    are = λ k b l at. absurd (omega arith);
+    offsets = λ k list e at at_e. absurd (cc);
+  }
+
+  -- one more list is added, that of the instruction at the next place
+  pub one_more_added : (instructions : List Builder) (old new : List Constraint) (entries later : List OpcodeConstraints) (e : OpcodeConstraints) (b : Builder) (lists : List (List Constraint))
+      → later ≡ entries ++ e ∷ [] → slice_get instructions (length entries) ≡ Some b
+      → (a : IsAdded vars (instruction_in vars formats b) type_sets old new e)
+      → AreAdded vars formats instructions type_sets old entries lists
+      → AreAdded vars formats instructions type_sets new later (lists ++ a.list ∷ [])
+  one_more_added instructions old new entries later e b lists pushed at a h = record {
+    count = length-append lists (a.list ∷ []) ∙ ap (λ n. n + 1) h.count ∙ sym longer;
+    whole = a.made ∙ ap (λ xs. added same_constraint xs a.list) h.whole ∙ sym (one_list_more lists a.list);
+    are = λ k c l at_c. below_more (λ k. (c : Builder) → slice_get instructions k ≡ Some c → IsListOf vars formats type_sets (lists ++ a.list ∷ []) k c) (length entries)
+        (λ k l c at_c. let x = h.are k c l at_c in record {
+          control = x.control;
+          is_control = x.is_control;
+          list = x.list;
+          at = slice_get-append_left lists (a.list ∷ []) k x.list x.at;
+          is_list = x.is_list;
+        })
+        (λ c at_c. subst (λ y. IsListOf vars formats type_sets (lists ++ a.list ∷ []) (length entries) y) (same_Some b c (sym at ∙ at_c)) (record {
+          control = a.control;
+          is_control = a.is_control;
+          list = a.list;
+          at = last lists (lists ++ a.list ∷ []) a.list refl (length entries) (sym h.count);
+          is_list = a.is_list;
+        }))
+        k (omega (arith, l, longer)) c at_c;
+    offsets = λ k list f at_l at_f. ⊎_elim
+        (λ before. older k list f at_l at_f before.0 before.1)
+        (λ here. newest k list f at_f here.0 here.1)
+        (get_pushed_below lists a.list k list at_l);
+  }
+    where
+      longer : length later ≡ length entries + 1
+      longer = one_longer entries later e pushed
+
+      -- the lists before a place are those before it among more
+      front : (k : ℕ) → k ≤ length lists → take k (lists ++ a.list ∷ []) ≡ take k lists
+      front k l = take-append-le k lists (a.list ∷ []) l
+
+      older : (k : ℕ) (list : List Constraint) (f : OpcodeConstraints) → slice_get (lists ++ a.list ∷ []) k ≡ Some list → slice_get later k ≡ Some f → k < length lists → slice_get lists k ≡ Some list → f.constraint_offset ≡ added_at same_constraint (overlapped (take k (lists ++ a.list ∷ []))) list
+      older k list f at_l at_f inside was =
+          let was_entry : slice_get entries k ≡ Some f = sym (get_before entries e k (omega (arith, inside, h.count))) ∙ ap (λ xs. slice_get xs k) (sym pushed) ∙ at_f in
+          h.offsets k list f was was_entry ∙ ap (λ ls. added_at same_constraint (overlapped ls) list) (sym (front k (omega (arith, inside))))
+
+      newest : (k : ℕ) (list : List Constraint) (f : OpcodeConstraints) → slice_get later k ≡ Some f → k ≡ length lists → a.list ≡ list → f.constraint_offset ≡ added_at same_constraint (overlapped (take k (lists ++ a.list ∷ []))) list
+      newest k list f at_f end same =
+          let is : e ≡ f = same_Some e f (sym (last entries later e pushed k (end ∙ h.count)) ∙ at_f) in
+          let all : take k (lists ++ a.list ∷ []) ≡ lists = ap (λ n. take n (lists ++ a.list ∷ [])) end ∙ take-append_seam lists (a.list ∷ []) in
+          ap (λ (x : OpcodeConstraints). x.constraint_offset) (sym is) ∙ a.offset ∙ ap (λ xs. added_at same_constraint xs a.list) h.whole ∙ ap (added_at same_constraint (overlapped lists)) same
+          ∙ ap (λ ls. added_at same_constraint (overlapped ls) list) (sym all)
+
+-- the one list of the tables is made of the lists of the instructions
+pub are_overlapped : (d : InstructionSet) (type_sets : List FourSets) (tables : TableContents) (constraints : List Constraint) (entries : List OpcodeConstraints) (lists : List (List Constraint)) → HasTypeSets tables type_sets → tables.operand_constraints ≡ map number_constraint_of constraints → tables.entries ≡ map entry_of entries → length entries ≡ length d.instructions
+    → AreAdded d.vars d.formats d.instructions type_sets constraints entries lists → AreOverlapped d tables
+are_overlapped d type_sets tables constraints entries lists has has_constraints has_entries count h = record {
+  lists = lists;
+  count = h.count ∙ count;
+  are = λ k b at. let inside = slice_get_within d.instructions k b at in let x = h.are k b (omega (arith, inside, count)) at in record {
+    control = x.control;
+    is_control = x.is_control;
+    list = x.list;
+    at = x.at;
+    is_list = x.is_list tables has;
+  };
+  whole = has_constraints ∙ ap (map number_constraint_of) h.whole;
+  offsets = λ k list entry at at_e.
+      let (e, at_own, is) = mapped entry_of (slice_get entries k) entry (sym (ap (λ xs. slice_get xs k) has_entries ∙ slice_get-map entry_of entries k) ∙ at_e) in
+      ap (λ (x : Entry). x.constraint_offset) (sym is) ∙ h.offsets k list e at at_own;
+}

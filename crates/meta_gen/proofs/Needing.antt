@@ -1,62 +1,70 @@
 -- What one instruction needs, by the numbers of its variables.
-use Rattle.std.proofs.Common.{◌≡◌, ◌≤◌, ◌+◌, ◌↔◌, IsTrue, Bool, true, false, ◌⊎◌, inl, inr, ⊎_elim, ℕ, List, [], length, Option, None, Some, IfSome, IfNone, slice_get, refl, sym, ap, ◌∙◌, subst, arith}
+use Rattle.std.proofs.Common.{◌≡◌, ◌≤◌, ◌+◌, ◌↔◌, IsTrue, Bool, true, false, ⊎_elim, ℕ, zero, suc, List, [], ◌∷◌, ◌++◌, length, length-append, Bor, Option, None, Some, IfSome, IfNone, slice_get, refl, sym, ap, ◌∙◌, subst, add-one, arith}
 use Rattle.std.specs.Prelude.{is_some}
 use Rattle.std.proofs.lemmas.Bool.{false≢true}
 use Rattle.std.proofs.lemmas.Option.{same_Some, slice_get_within}
 use Rattle.meta_types.specs.Function.{Function}
 use Rattle.meta_types.specs.ValueTypes.{shape_of}
 use Rattle.meta_types.specs.declared.value_type.ValueType.{ValueType}
-use Rattle.meta_typevar.specs.Masks.{AreMasksOf}
 use Rattle.meta_typevar.specs.Chain.{IsFixed, IsFixedNowhere}
 use Rattle.meta_typevar.specs.FourSets.{FourSets, HasOne}
 use Rattle.meta_typevar.specs.Variable.{Variable, IsOpen, underived}
-use Rattle.meta_typevar.specs.Registry.{sets_of, variable_at, coded_of, coded_at, IsRaw, IsKept, IsRegistry}
+use Rattle.meta_typevar.specs.Registry.{sets_of, variable_at, coded_of, coded_at, IsRaw, IsKept, IsRegistry, HoldTypeSets}
 use Rattle.meta_typevar.specs.declared.content.TypeVarContent.{TypeVarContent}
-use Rattle.meta_typevar.specs.declared.masks.Masks.{Masks}
 use Rattle.meta_inst.specs.Builder.{Builder}
 use Rattle.meta_inst.specs.Instruction.{Instruction}
 use Rattle.meta_inst.specs.InstructionSet.{InstructionSet, root_sets, instruction_of}
 use Rattle.meta_inst.specs.Operands.{OperandList, instruction_with, AreOf}
-use Rattle.meta_inst.specs.Control.{IsControl, HasNoControl}
+use Rattle.meta_inst.specs.Control.{HasNoControl}
 use Rattle.meta_inst.specs.FoundControl.{IsFound, control_in, IsOf}
-use Rattle.meta_inst.specs.Faults.{IsAt, IsControlSet, IsFreeSet, NeedsSetAt, NeedsSet}
+use Rattle.meta_inst.specs.Faults.{IsAt, IsControlSet, IsFreeSet}
 use Rattle.meta_inst.specs.declared.operands.Control.{Control}
-use Rattle.meta_inst.specs.declared.operands.Control.TheVariants.{NotPolymorphic, By, Missing}
+use Rattle.meta_inst.specs.declared.operands.Control.TheVariants.{By}
 use Rattle.meta_typevar.proofs.Variables.{one_variable, underived_told}
 use Rattle.meta_inst.proofs.OneType.{one_told}
 use Rattle.meta_inst.proofs.Derived.{by_control}
 use Rattle.meta_inst.proofs.Searching.{is_found}
 use Rattle.meta_inst.proofs.Meaning.{operand_at, operand_from}
 use Rattle.meta_inst.proofs.OneControl.{same_control}
-use Rattle.meta_gen.specs.Interned.{Interns, IsSetOf, IsControlSetOf, IsFreeSetOf, IsFreeSetAmong, IsNeededBy}
-use Rattle.meta_gen.proofs.Interning.{interns_none, interns_like, interns_both, interns_more, Below}
+use Rattle.meta_typevar.specs.Masks.{AreMasksOf}
+use Rattle.meta_typevar.specs.declared.masks.Masks.{Masks}
+use Rattle.meta_gen.specs.Needed.{NeedsUnder, NeedsAtPlace, NeedsInOrder, StandForSets}
+use Rattle.std.proofs.lemmas.List.{append-nil}
+use Rattle.meta_unique.specs.Interning.{pointed_to}
+use Rattle.meta_gen.proofs.Appended.{stays, last, one_longer}
+use Rattle.meta_gen.proofs.Pushed.{get_pushed_below}
+use Rattle.meta_gen.specs.Interned.{Adds, AddsSome, AddsEach, AddsNeeded, IsControlSetOf, IsFreeSetOf, IsFreeSetAt}
+use Rattle.meta_gen.proofs.Interning.{adds_none, adds_one, adds_like, each_like, each_behind, IsInterned, needs_more, next_instruction}
 
 module _ (vars : List TypeVarContent) (o : OperandList) (within : o.result_count ≤ length o.variables) (c : Control) (found : IsFound vars (instruction_with vars o) c) (controlled : HasNoControl (sets_of vars) (instruction_with vars o) → ⊥) (registry : IsRegistry vars) (are : AreOf vars o.variables) (of : IsOf vars c) where
   abbrev i : Instruction
   i = instruction_with vars o
 
-  from_control : (s : FourSets) → IsControlSetOf vars c s → IsNeededBy (sets_of vars) i s
+  from_control : (s : FourSets) → IsControlSetOf vars c s → NeedsAtPlace (sets_of vars) i 0 s
   from_control s h = record {
     control = control_in vars c;
     is_control = is_found vars i c found controlled;
-    needs = inl (record { variable = variable_at vars h.variable; controls = ap (control_in vars) h.controls; set = h.set });
+    needs = record { variable = variable_at vars h.variable; controls = ap (control_in vars) h.controls; set = h.set };
   }
 
-  from_free : (s : FourSets) → IsFreeSetAmong vars c o.variables s → IsNeededBy (sets_of vars) i s
-  from_free s h = record {
+  from_free : (k : ℕ) (s : FourSets) → IsFreeSetAt vars c o.variables k s → NeedsAtPlace (sets_of vars) i (suc k) s
+  from_free k s h = record {
     control = control_in vars c;
     is_control = is_found vars i c found controlled;
-    needs = inr (record {
-      place = h.place;
-      variable = variable_at vars h.variable;
-      operand = operand_at vars o within registry are h.place h.variable h.at;
-      underived = h.free.underived;
-      other = λ e.
-          let (m, by, same) = by_control vars c (variable_at vars h.variable) e in
-          h.free.other (by ∙ ap By (one_variable vars registry m h.variable (of m by) (are h.place h.variable h.at) same));
-      set = h.free.set;
-      several = h.free.several;
-    });
+    needs = (
+      record {
+        place = k;
+        variable = variable_at vars h.variable;
+        operand = operand_at vars o within registry are k h.variable h.at;
+        underived = h.free.underived;
+        other = λ e.
+            let (m, by, same) = by_control vars c (variable_at vars h.variable) e in
+            h.free.other (by ∙ ap By (one_variable vars registry m h.variable (of m by) (are k h.variable h.at) same));
+        set = h.free.set;
+        several = h.free.several;
+      },
+      refl,
+    );
   }
 
   control_back : (s : FourSets) → IsControlSet (sets_of vars) (control_in vars c) s → IsControlSetOf vars c s
@@ -64,11 +72,10 @@ module _ (vars : List TypeVarContent) (o : OperandList) (within : o.result_count
       let (m, by, same) = by_control vars c h.variable h.controls in
       record { variable = m; controls = by; set = h.set ∙ ap (λ (w : Variable). sets_of vars w.root) (sym same) }
 
-  free_back : (s : FourSets) → IsFreeSet (sets_of vars) i (control_in vars c) s → IsFreeSetAmong vars c o.variables s
+  free_back : (s : FourSets) (f : IsFreeSet (sets_of vars) i (control_in vars c) s) → IsFreeSetAt vars c o.variables f.place s
   free_back s h =
       let (n, at, e) = operand_from vars o within registry are h.place h.variable h.operand in
       record {
-        place = h.place;
         variable = n;
         at = at;
         free = record {
@@ -79,54 +86,79 @@ module _ (vars : List TypeVarContent) (o : OperandList) (within : o.result_count
         };
       }
 
-  back : (s : FourSets) → IsNeededBy (sets_of vars) i s → IsControlSetOf vars c s ⊎ IsFreeSetAmong vars c o.variables s
-  back s h =
-      let same : h.control ≡ control_in vars c = same_control (sets_of vars) i h.control (control_in vars c) h.is_control (is_found vars i c found controlled) in
-      ⊎_elim
-      (λ n. inl (control_back s (subst (λ (v : Option Variable). IsControlSet (sets_of vars) v s) same n)))
-      (λ n. inr (free_back s (subst (λ (v : Option Variable). IsFreeSet (sets_of vars) i v s) same n)))
-      h.needs
+  -- a need under the control that was found
+  under : (k : ℕ) (s : FourSets) → NeedsAtPlace (sets_of vars) i k s → NeedsUnder (sets_of vars) i (control_in vars c) k s
+  under k s n = subst (λ (v : Option Variable). NeedsUnder (sets_of vars) i v k s) (same_control (sets_of vars) i n.control (control_in vars c) n.is_control (is_found vars i c found controlled)) n.needs
+
+  first_back : (s : FourSets) → NeedsAtPlace (sets_of vars) i 0 s → IsControlSetOf vars c s
+  first_back s n = control_back s (under 0 s n)
+
+  behind_back : (k : ℕ) (s : FourSets) → NeedsAtPlace (sets_of vars) i (suc k) s → IsFreeSetAt vars c o.variables k s
+  behind_back k s n = let f = under (suc k) s n in subst (λ p. IsFreeSetAt vars c o.variables p s) f.1 (free_back s f.0)
+
+  no_more : (place : ℕ) (s : FourSets) → suc (length o.variables) ≤ place → NeedsAtPlace (sets_of vars) i place s → ⊥
+  no_more zero s l n = omega (arith, l)
+  no_more (suc k) s l n =
+      let f = behind_back k s n in
+      let inside = slice_get_within o.variables k f.variable f.at in
+      omega (arith, l, inside)
 
   -- the set of the control and then those of the operands
-  pub interns_needed : (a b d : List Masks) → Interns (IsControlSetOf vars c) a b → Interns (IsFreeSetAmong vars c o.variables) b d → Interns (IsNeededBy (sets_of vars) i) a d
-  interns_needed a b d = interns_both (IsControlSetOf vars c) (IsFreeSetAmong vars c o.variables) (IsNeededBy (sets_of vars) i) a b d from_control from_free back
+  adds_needed : (a b d : List FourSets) → AddsSome (IsControlSetOf vars c) a b → AddsEach (IsFreeSetAt vars c o.variables) (length o.variables) b d → AddsNeeded (sets_of vars) i a d
+  adds_needed a b d first rest = record {
+    end = suc (length o.variables);
+    each = each_behind (NeedsAtPlace (sets_of vars) i) (length o.variables) a b d
+        (adds_like (IsControlSetOf vars c) (NeedsAtPlace (sets_of vars) i 0) a b from_control first_back first)
+        (each_like (IsFreeSetAt vars c o.variables) (λ k. NeedsAtPlace (sets_of vars) i (suc k)) (length o.variables) b d from_free behind_back rest);
+    no_more = no_more;
+  }
 
 -- the same of the declared instruction
-pub interns_declared : (vars : List TypeVarContent) (o : OperandList) (declared : Instruction) (c : Control) (a b d : List Masks) → instruction_with vars o ≡ declared → o.result_count ≤ length o.variables → IsFound vars (instruction_with vars o) c → (HasNoControl (sets_of vars) declared → ⊥) → IsRegistry vars → AreOf vars o.variables → IsOf vars c → Interns (IsControlSetOf vars c) a b → Interns (IsFreeSetAmong vars c o.variables) b d → Interns (IsNeededBy (sets_of vars) declared) a d
-interns_declared vars o declared c a b d e within found controlled registry are of h g =
-    subst (λ (i : Instruction). Interns (IsNeededBy (sets_of vars) i) a d) e
-    (interns_needed vars o within c found (λ missing. controlled (subst (HasNoControl (sets_of vars)) e missing)) registry are of a b d h g)
+pub adds_declared : (vars : List TypeVarContent) (o : OperandList) (declared : Instruction) (c : Control) (a b d : List FourSets) → instruction_with vars o ≡ declared → o.result_count ≤ length o.variables → IsFound vars (instruction_with vars o) c → (HasNoControl (sets_of vars) declared → ⊥) → IsRegistry vars → AreOf vars o.variables → IsOf vars c → AddsSome (IsControlSetOf vars c) a b → AddsEach (IsFreeSetAt vars c o.variables) (length o.variables) b d → AddsNeeded (sets_of vars) declared a d
+adds_declared vars o declared c a b d e within found controlled registry are of h g =
+    subst (λ (i : Instruction). AddsNeeded (sets_of vars) i a d) e
+    (adds_needed vars o within c found (λ missing. controlled (subst (HasNoControl (sets_of vars)) e missing)) registry are of a b d h g)
 
--- what the instruction at a place needs
-pub interns_at : (d : InstructionSet) (k : ℕ) (b : Builder) (x y : List Masks) → IsAt d k b → Interns (IsNeededBy (root_sets d) (instruction_of d b)) x y → Interns (NeedsSetAt d k) x y
-interns_at d k b x y at = interns_like (IsNeededBy (root_sets d) (instruction_of d b)) (NeedsSetAt d k) x y
-    (λ s n. record { user = b; at = at; control = n.control; is_control = n.is_control; needs = n.needs })
-    (λ s n.
-    let same : n.user ≡ b = same_Some n.user b (sym n.at ∙ at) in
-    subst (λ (u : Builder). IsNeededBy (root_sets d) (instruction_of d u) s) same (record { control = n.control; is_control = n.is_control; needs = n.needs }))
+-- the needs of the instruction at a place
+module _ (d : InstructionSet) (k : ℕ) (b : Builder) (at : IsAt d k b) where
+  in_order : (p : ℕ) (s : FourSets) → NeedsAtPlace (root_sets d) (instruction_of d b) p s → NeedsInOrder d k p s
+  in_order p s n = record { user = b; at = at; needs = n }
+
+  at_place : (p : ℕ) (s : FourSets) → NeedsInOrder d k p s → NeedsAtPlace (root_sets d) (instruction_of d b) p s
+  at_place p s n =
+      let same : n.user ≡ b = same_Some n.user b (sym n.at ∙ at) in
+      subst (λ (u : Builder). NeedsAtPlace (root_sets d) (instruction_of d u) p s) same n.needs
+
+  pub instruction_more : (x y : List FourSets) → HoldTypeSets d.vars → IsInterned d k 0 x → AddsNeeded (root_sets d) (instruction_of d b) x y → IsInterned d (k + 1) 0 y
+  instruction_more x y types h a =
+      next_instruction d k a.end y
+      (needs_more d types k a.end x y h (each_like (NeedsAtPlace (root_sets d) (instruction_of d b)) (NeedsInOrder d k) a.end x y in_order at_place a.each))
+      (λ p s l n. a.no_more p s l (at_place p s n))
 
 -- what is kept of a root as its set is its coded image
 pub root_raw : (vars : List TypeVarContent) (r : ℕ) → variable_at vars r ≡ underived r → IsRaw vars r
 root_raw vars r e = sym (ap (coded_of vars) e)
 
--- the masks that are added to a list are those of the variable's root
-pub interns_variable : (vars : List TypeVarContent) (n r : ℕ) (x : FourSets) (m : Masks) (a b : List Masks) → r ≡ (variable_at vars n).root → variable_at vars r ≡ underived r → x ≡ coded_at vars r → AreMasksOf x m → ((s : FourSets) → AreMasksOf s m → Interns (λ q. q ≡ s) a b) → Interns (IsSetOf vars n) a b
-interns_variable vars n r x m a b at e is are h =
-    let set : x ≡ sets_of vars (variable_at vars n).root = is ∙ sym (root_raw vars r e) ∙ ap (sets_of vars) at in
-    h (sets_of vars (variable_at vars n).root) (subst (λ (s : FourSets). AreMasksOf s m) set are)
+-- the set that is read of a root is that of the variable's root
+pub set_is : (vars : List TypeVarContent) (n r : ℕ) (x : FourSets) → r ≡ (variable_at vars n).root → variable_at vars r ≡ underived r → x ≡ coded_at vars r → x ≡ sets_of vars (variable_at vars n).root
+set_is vars n r x at e is = is ∙ sym (root_raw vars r e) ∙ ap (sets_of vars) at
 
 same_variable : (c : Control) (v w : ℕ) → c ≡ By v → c ≡ By w → v ≡ w
 same_variable c v w e f = let h : By v ≡ By w = sym e ∙ f in cc
 
 -- the set of the variable that controls
-pub interns_control : (vars : List TypeVarContent) (c : Control) (v : ℕ) (a b : List Masks) → c ≡ By v → Interns (IsSetOf vars v) a b → Interns (IsControlSetOf vars c) a b
-interns_control vars c v a b is = interns_like (IsSetOf vars v) (IsControlSetOf vars c) a b
-    (λ s e. record { variable = v; controls = is; set = e })
+pub adds_control : (vars : List TypeVarContent) (c : Control) (v : ℕ) (a b : List FourSets) → c ≡ By v → Adds (sets_of vars (variable_at vars v).root) a b → AddsSome (IsControlSetOf vars c) a b
+adds_control vars c v a b is = adds_one (IsControlSetOf vars c) (sets_of vars (variable_at vars v).root) a b
+    (record { variable = v; controls = is; set = refl })
     (λ s h. h.set ∙ ap (λ n. sets_of vars (variable_at vars n).root) (same_variable c h.variable v h.controls is))
 
+-- the variable controls
+pub adds_controlling : (vars : List TypeVarContent) (c : Control) (n : ℕ) (sets : List FourSets) → c ≡ By n → AddsSome (IsFreeSetOf vars c n) sets sets
+adds_controlling vars c n sets is = adds_none (IsFreeSetOf vars c n) sets (λ s h. h.other is)
+
 -- the variable is derived
-pub interns_derived : (vars : List TypeVarContent) (c : Control) (n : ℕ) (d : TypeVarContent) (masks : List Masks) (r : Bool) → IsRegistry vars → IsKept vars n d → r ≡ is_some d.base → r ≡ true → Interns (IsFreeSetOf vars c n) masks masks
-interns_derived vars c n d masks r registry kept is some = interns_none (IsFreeSetOf vars c n) masks
+pub adds_derived : (vars : List TypeVarContent) (c : Control) (n : ℕ) (d : TypeVarContent) (sets : List FourSets) (r : Bool) → IsRegistry vars → IsKept vars n d → r ≡ is_some d.base → r ≡ true → AddsSome (IsFreeSetOf vars c n) sets sets
+adds_derived vars c n d sets r registry kept is some = adds_none (IsFreeSetOf vars c n) sets
     (λ s h. let none = (underived_told vars n d registry kept).1 h.underived in false≢true (sym (ap is_some none) ∙ sym is ∙ some))
 
 -- it isn't
@@ -148,40 +180,52 @@ module _ (vars : List TypeVarContent) (c : Control) (n : ℕ) (o : Option ValueT
       (subst (λ (fs : List Function). IfNone o (IsFixedNowhere own_set fs)) underived nowhere)
 
   -- a type is fixed for the variable
-  pub interns_fixed : (masks : List Masks) → r ≡ true → Interns (IsFreeSetOf vars c n) masks masks
-  interns_fixed masks fixed = interns_none (IsFreeSetOf vars c n) masks (λ s h. h.several (subst HasOne (sym h.set) (one_of.0 (sym is ∙ fixed))))
+  pub adds_fixed : (sets : List FourSets) → r ≡ true → AddsSome (IsFreeSetOf vars c n) sets sets
+  adds_fixed sets fixed = adds_none (IsFreeSetOf vars c n) sets (λ s h. h.several (subst HasOne (sym h.set) (one_of.0 (sym is ∙ fixed))))
 
   -- none is, and it doesn't control
-  pub interns_open : (a b : List Masks) (controls : Bool) → r ≡ false → (IsTrue controls ↔ (c ≡ By n)) → controls ≡ false → Interns (IsSetOf vars n) a b → Interns (IsFreeSetOf vars c n) a b
-  interns_open a b controls open_set told other = interns_like (IsSetOf vars n) (IsFreeSetOf vars c n) a b
-      (λ s e. record {
+  pub adds_open : (a b : List FourSets) (controls : Bool) → r ≡ false → (IsTrue controls ↔ (c ≡ By n)) → controls ≡ false → Adds own_set a b → AddsSome (IsFreeSetOf vars c n) a b
+  adds_open a b controls open_set told other = adds_one (IsFreeSetOf vars c n) own_set a b
+      (record {
         other = λ by. false≢true (sym other ∙ told.1 by);
         underived = underived;
-        set = e;
-        several = λ one. false≢true (sym open_set ∙ is ∙ one_of.1 (subst HasOne e one));
+        set = refl;
+        several = λ one. false≢true (sym open_set ∙ is ∙ one_of.1 one);
       })
       (λ s h. h.set)
 
--- s is such a set of the variable at this place
-abbrev pub IsFreeSetAt : List TypeVarContent → Control → List ℕ → ℕ → FourSets → Type 0
-IsFreeSetAt vars c numbers k s = (n : ℕ) × (slice_get numbers k ≡ Some n) × IsFreeSetOf vars c n s
-
 -- one variable more
-pub interns_place : (vars : List TypeVarContent) (c : Control) (numbers : List ℕ) (k n : ℕ) (a b d : List Masks) → slice_get numbers k ≡ Some n → Interns (Below (IsFreeSetAt vars c numbers) k) a b → Interns (IsFreeSetOf vars c n) b d → Interns (Below (IsFreeSetAt vars c numbers) (k + 1)) a d
-interns_place vars c numbers k n a b d at h g = interns_more (IsFreeSetAt vars c numbers) k a b d h
-    (interns_like (IsFreeSetOf vars c n) (IsFreeSetAt vars c numbers k) b d
-    (λ s f. (n, at, f))
-    (λ s f. subst (λ (m : ℕ). IsFreeSetOf vars c m s) (same_Some f.0 n (sym f.1 ∙ at)) f.2)
-    g)
+pub one_place_more : (vars : List TypeVarContent) (c : Control) (numbers : List ℕ) (k n : ℕ) (a b d : List FourSets) → slice_get numbers k ≡ Some n → AddsEach (IsFreeSetAt vars c numbers) k a b → AddsSome (IsFreeSetOf vars c n) b d → AddsEach (IsFreeSetAt vars c numbers) (k + 1) a d
+one_place_more vars c numbers k n a b d at h g =
+    subst (λ m. AddsEach (IsFreeSetAt vars c numbers) m a d) (sym (add-one k)) (
+      b,
+      h,
+      adds_like (IsFreeSetOf vars c n) (IsFreeSetAt vars c numbers k) b d
+          (λ s f. record { variable = n; at = at; free = f })
+          (λ s f. subst (λ (m : ℕ). IsFreeSetOf vars c m s) (same_Some f.variable n (sym f.at ∙ at)) f.free)
+          g,
+    )
 
--- all variables
-pub interns_places : (vars : List TypeVarContent) (c : Control) (numbers : List ℕ) (end : ℕ) (a b : List Masks) → length numbers ≤ end → Interns (Below (IsFreeSetAt vars c numbers) end) a b → Interns (IsFreeSetAmong vars c numbers) a b
-interns_places vars c numbers end a b l = interns_like (Below (IsFreeSetAt vars c numbers) end) (IsFreeSetAmong vars c numbers) a b
-    (λ s h. record { place = h.0; variable = h.2.0; at = h.2.1; free = h.2.2 })
-    (λ s h. let within = slice_get_within numbers h.place h.variable h.at in (h.place, omega arith, (h.variable, h.at, h.free)))
+-- no masks stand for no sets
+pub none_stand : StandForSets [] []
+none_stand = record { count = refl; each = λ k s at. absurd (cc) }
 
--- all instructions
-pub interns_all : (d : InstructionSet) (end : ℕ) (masks : List Masks) → length d.instructions ≤ end → Interns (Below (NeedsSetAt d) end) [] masks → Interns (NeedsSet d) [] masks
-interns_all d end masks l = interns_like (Below (NeedsSetAt d) end) (NeedsSet d) [] masks
-    (λ s h. (h.0, h.2))
-    (λ s h. let within = slice_get_within d.instructions h.0 h.1.user h.1.at in (h.0, omega arith, h.1))
+-- one more set and its masks
+pub one_stands : (masks more : List Masks) (sets : List FourSets) (m : Masks) (s : FourSets) → more ≡ masks ++ m ∷ [] → AreMasksOf s m → StandForSets masks sets → StandForSets more (sets ++ s ∷ [])
+one_stands masks more sets m s pushed are h = record {
+  count = one_longer masks more m pushed ∙ ap (λ n. n + 1) h.count ∙ sym (length-append sets (s ∷ []));
+  each = λ k t at. ⊎_elim
+      (λ o. let (x, there, are_x) = h.each k t o.1 in (x, stays masks more m pushed k x there, are_x))
+      (λ e. (m, last masks more m pushed k (e.0 ∙ sym h.count), subst (λ (q : FourSets). AreMasksOf q m) e.1 are))
+      (get_pushed_below sets s k t at);
+}
+
+-- what is left moves to the front
+pub moved : (front : List FourSets) (s : FourSets) (rest : List FourSets) → front ++ (s ∷ rest) ≡ (front ++ s ∷ []) ++ rest
+moved [] s rest = refl
+moved (x ∷ xs) s rest = ap (λ ys. x ∷ ys) (moved xs s rest)
+
+-- where nothing is left all sets have their masks
+pub all_stand : (masks : List Masks) (front sets : List FourSets) (rest : List (Bor FourSets)) → StandForSets masks front → sets ≡ front ++ pointed_to rest → length rest ≡ 0 → StandForSets masks sets
+all_stand masks front sets [] h whole none = subst (StandForSets masks) (sym (whole ∙ append-nil front)) h
+all_stand masks front sets (x ∷ xs) h whole none = absurd (omega (arith, none))

@@ -1,16 +1,18 @@
 -- Declarations show one first fault at most.
-use Rattle.std.proofs.Common.{◌≡◌, ◌<◌, ◌+◌, ◌⊎◌, inl, inr, ⊎_elim, ℕ, List, length, refl, sym, ap, ◌∙◌, subst, arith}
+use Rattle.std.proofs.Common.{◌≡◌, ◌<◌, ◌+◌, ◌⊎◌, inl, inr, ⊎_elim, ℕ, List, refl, sym, ap, ◌∙◌, subst, arith}
 use Rattle.std.proofs.lemmas.Option.{same_Some}
 use Rattle.std.proofs.lemmas.Bool.{cases_lt}
-use Rattle.meta_types.specs.declared.fault.Place.TheVariants.{Instruction as AtInstruction, Format as AtFormat, Group as AtGroup, Entry as AtEntry}
+use Rattle.meta_types.specs.declared.fault.Place.TheVariants.{Instruction as AtInstruction}
 use Rattle.meta_types.specs.declared.fault.DefinitionError.{DefinitionError}
-use Rattle.meta_types.specs.declared.fault.DefinitionError.TheVariants.{BadName, DuplicateName, TooManyOpcodes, FormatMismatch, NoControl, TooManyOperands, FormatClash, TooManyTypeSets, BadOutput, BadDerivation, BadImmMethod, BadFormat, BadEnum, BadPreset, TooManySettings, OutOfMemory}
+use Rattle.meta_types.specs.declared.fault.DefinitionError.TheVariants.{DuplicateName, TooManyTypeSets}
 use Rattle.meta_inst.specs.Builder.{Builder}
-use Rattle.meta_inst.specs.InstructionSet.{InstructionSet, root_sets, instruction_of}
-use Rattle.meta_inst.specs.Faults.{IsAt, SharesName, names_of, IsDuplicate, IsFirstUse, HasBadFormatName, IsFirstClash, HasTooManyTypeSets, Position, OfOpcodes, OfInstruction, OfFormat, OfTypeSets, Before, IsEarlier, FormatShows, ShowsAt, IsFirstFault, IsValid}
+use Rattle.meta_inst.specs.InstructionSet.{InstructionSet}
+use Rattle.meta_inst.specs.Faults.{IsAt, SharesName, names_of, IsDuplicate, HasTooManyTypeSets, Position, OfOpcodes, OfInstruction, OfFormat, OfTypeSets, Before, IsEarlier, ShowsAt, IsFirstFault, IsValid}
 use Rattle.meta_gen.proofs.Counted.{one_count}
 use Rattle.meta_inst.specs.InstructionFaults.{Breaks}
 use Rattle.meta_inst.proofs.OneOwnFault.{one_broken, not_second}
+use Rattle.meta_gen.proofs.AtAll.{at_opcodes, at_type_sets}
+use Rattle.meta_gen.proofs.AtFormat.{at_format, one_at_format}
 use Rattle.meta_gen.proofs.AtInstruction.{ShowsHere, at_instruction}
 
 -- ---- of two positions one is before the other, or they are one
@@ -81,14 +83,6 @@ module _ (d : InstructionSet) where
   one_at : (k : ℕ) (b c : Builder) → IsAt d k b → IsAt d k c → b ≡ c
   one_at k b c h g = same_Some b c (sym h ∙ g)
 
-  -- the format that an instruction is the first to use
-  one_use : (f g k : ℕ) → IsFirstUse d f k → IsFirstUse d g k → f ≡ g
-  one_use f g k h other = sym h.uses ∙ ap (λ (b : Builder). b.format) (one_at k h.user other.user h.at other.at) ∙ other.uses
-
-  -- the format that is clashed with
-  one_clash : (f k g h : ℕ) → IsFirstClash d f k g → IsFirstClash d f k h → g ≡ h
-  one_clash f k g h a b = ⊎_elim (λ l. absurd (b.first a.place g l a.first_use a.clashes)) (⊎_elim (λ l. absurd (a.first b.place h l b.first_use b.clashes)) (λ e. one_use g h b.place (subst (IsFirstUse d g) e a.first_use) b.first_use)) (ordered a.place b.place)
-
   -- the count of sets
   one_set_count : (m n : ℕ) → HasTooManyTypeSets d m → HasTooManyTypeSets d n → m ≡ n
   one_set_count m n h g = h.2 ∙ one_count d h.0 g.0 h.1 g.1 ∙ sym g.2
@@ -103,108 +97,14 @@ module _ (d : InstructionSet) where
   one_at_instruction k rule e f (inr h) (inl g) = absurd (not_second d.vars d.formats g.builder (k + 1) f (subst (λ r. Breaks d.vars d.formats g.builder (k + 1) r f) h.second g.breaks))
   one_at_instruction k rule e f (inr h) (inr g) = h.is ∙ ap (λ j. DuplicateName (AtInstruction (k + 1)) (j + 1)) (one_duplicate (names_of d) k h.earlier g.earlier h.duplicate g.duplicate) ∙ sym g.is
 
-  -- the faults of a format, by rule
-  abbrev ShownAtFormat : ℕ → ℕ → DefinitionError → Type 0
-  ShownAtFormat k rule e =
-      ((rule ≡ 1) × ((f : ℕ) × IsFirstUse d f k × (e ≡ BadName (AtFormat f))))
-      ⊎ ((rule ≡ 2) × ((f : ℕ) × (g : ℕ) × IsFirstUse d f k × IsFirstClash d f k g × (e ≡ FormatClash f g)))
-
-  -- what a rule shows is of the format that is first used at the place
-  first_used : (f own k rule : ℕ) (P : ℕ → Type 0) → FormatShows d f own (OfFormat k rule) P → (rule ≡ own) × IsFirstUse d f k × P k
-  first_used f own k rule P h =
-      let at_place = h.position in
-      let place : h.place ≡ k = cc in
-      let rules : rule ≡ own = cc in
-      (rules, subst (IsFirstUse d f) place h.first_use, subst P place h.shows)
-
-  at_format : (k rule : ℕ) (e : DefinitionError) → ShowsAt d e (OfFormat k rule) → ShownAtFormat k rule e
-  at_format k rule (BadName (AtInstruction n)) h = let e = h.position in absurd (cc)
-  at_format k rule (BadName (AtFormat f)) h = let r = first_used f 1 k rule (λ k. HasBadFormatName d f) h in inl (r.0, (f, r.1, refl))
-  at_format k rule (DuplicateName (AtInstruction n) m) h = let e = h.position in absurd (cc)
-  at_format k rule (DuplicateName (AtFormat f) m) h = absurd h
-  at_format k rule (TooManyOpcodes count) h = let e = h.0 in absurd (cc)
-  at_format k rule (FormatMismatch n) h = let e = h.position in absurd (cc)
-  at_format k rule (NoControl n) h = let e = h.position in absurd (cc)
-  at_format k rule (TooManyOperands n count) h = let e = h.position in absurd (cc)
-  at_format k rule (FormatClash f g) h = let r = first_used f 2 k rule (λ k. IsFirstClash d f k g) h in inr (r.0, (f, g, r.1, r.2, refl))
-  at_format k rule (TooManyTypeSets count) h = let e = h.0 in absurd (cc)
-  at_format k rule (BadName (AtGroup u)) h = absurd h
-  at_format k rule (BadName (AtEntry u v)) h = absurd h
-  at_format k rule (DuplicateName (AtGroup u) w) h = absurd h
-  at_format k rule (DuplicateName (AtEntry u v) w) h = absurd h
-  at_format k rule (BadOutput u v) h = let e = h.position in absurd (cc)
-  at_format k rule (BadDerivation n place) h = let e = h.position in absurd (cc)
-  at_format k rule (BadImmMethod u) h = let e = h.position in absurd (cc)
-  at_format k rule (BadFormat u) h = absurd h
-  at_format k rule (BadEnum u v) h = absurd h
-  at_format k rule (BadPreset u v) h = absurd h
-  at_format k rule (TooManySettings u v w x) h = absurd h
-  at_format k rule OutOfMemory h = absurd h
-
-  one_at_format : (k rule : ℕ) (e f : DefinitionError) → ShownAtFormat k rule e → ShownAtFormat k rule f → e ≡ f
-  one_at_format k rule e f (inl (hr, (i, a, he))) (inl (gr, (j, b, ge))) = he ∙ ap (λ i. BadName (AtFormat i)) (one_use i j k a b) ∙ sym ge
-  one_at_format k rule e f (inl h) (inr g) = absurd (omega (arith, h.0, g.0))
-  one_at_format k rule e f (inr h) (inl g) = absurd (omega (arith, h.0, g.0))
-  one_at_format k rule e f (inr (hr, (i, m, a, am, he))) (inr (gr, (j, n, b, bn, ge))) =
-      let same = one_use i j k a b in
-      he ∙ ap (λ i. FormatClash i m) same ∙ ap (λ n. FormatClash j n) (one_clash j k m n (subst (λ i. IsFirstClash d i k m) same am) bn) ∙ sym ge
-
-  at_opcodes : (e : DefinitionError) → ShowsAt d e OfOpcodes → e ≡ TooManyOpcodes (length d.instructions)
-  at_opcodes (TooManyOpcodes count) h = ap TooManyOpcodes h.1
-  at_opcodes (BadName (AtInstruction n)) h = let e = h.position in absurd (cc)
-  at_opcodes (BadName (AtFormat f)) h = let e = h.position in absurd (cc)
-  at_opcodes (DuplicateName (AtInstruction n) m) h = let e = h.position in absurd (cc)
-  at_opcodes (DuplicateName (AtFormat f) m) h = absurd h
-  at_opcodes (FormatMismatch n) h = let e = h.position in absurd (cc)
-  at_opcodes (NoControl n) h = let e = h.position in absurd (cc)
-  at_opcodes (TooManyOperands n count) h = let e = h.position in absurd (cc)
-  at_opcodes (FormatClash f g) h = let e = h.position in absurd (cc)
-  at_opcodes (TooManyTypeSets count) h = let e = h.0 in absurd (cc)
-  at_opcodes (BadName (AtGroup u)) h = absurd h
-  at_opcodes (BadName (AtEntry u v)) h = absurd h
-  at_opcodes (DuplicateName (AtGroup u) w) h = absurd h
-  at_opcodes (DuplicateName (AtEntry u v) w) h = absurd h
-  at_opcodes (BadOutput u v) h = let e = h.position in absurd (cc)
-  at_opcodes (BadDerivation n place) h = let e = h.position in absurd (cc)
-  at_opcodes (BadImmMethod u) h = let e = h.position in absurd (cc)
-  at_opcodes (BadFormat u) h = absurd h
-  at_opcodes (BadEnum u v) h = absurd h
-  at_opcodes (BadPreset u v) h = absurd h
-  at_opcodes (TooManySettings u v w x) h = absurd h
-  at_opcodes OutOfMemory h = absurd h
-
-  at_type_sets : (e : DefinitionError) → ShowsAt d e OfTypeSets → (count : ℕ) × HasTooManyTypeSets d count × (e ≡ TooManyTypeSets count)
-  at_type_sets (TooManyTypeSets count) h = (count, h.1, refl)
-  at_type_sets (TooManyOpcodes count) h = let e = h.0 in absurd (cc)
-  at_type_sets (BadName (AtInstruction n)) h = let e = h.position in absurd (cc)
-  at_type_sets (BadName (AtFormat f)) h = let e = h.position in absurd (cc)
-  at_type_sets (DuplicateName (AtInstruction n) m) h = let e = h.position in absurd (cc)
-  at_type_sets (DuplicateName (AtFormat f) m) h = absurd h
-  at_type_sets (FormatMismatch n) h = let e = h.position in absurd (cc)
-  at_type_sets (NoControl n) h = let e = h.position in absurd (cc)
-  at_type_sets (TooManyOperands n count) h = let e = h.position in absurd (cc)
-  at_type_sets (FormatClash f g) h = let e = h.position in absurd (cc)
-  at_type_sets (BadName (AtGroup u)) h = absurd h
-  at_type_sets (BadName (AtEntry u v)) h = absurd h
-  at_type_sets (DuplicateName (AtGroup u) w) h = absurd h
-  at_type_sets (DuplicateName (AtEntry u v) w) h = absurd h
-  at_type_sets (BadOutput u v) h = let e = h.position in absurd (cc)
-  at_type_sets (BadDerivation n place) h = let e = h.position in absurd (cc)
-  at_type_sets (BadImmMethod u) h = let e = h.position in absurd (cc)
-  at_type_sets (BadFormat u) h = absurd h
-  at_type_sets (BadEnum u v) h = absurd h
-  at_type_sets (BadPreset u v) h = absurd h
-  at_type_sets (TooManySettings u v w x) h = absurd h
-  at_type_sets OutOfMemory h = absurd h
-
   -- at one position one fault shows
   one_shown : (p : Position) (e f : DefinitionError) → ShowsAt d e p → ShowsAt d f p → e ≡ f
-  one_shown OfOpcodes e f h g = at_opcodes e h ∙ sym (at_opcodes f g)
+  one_shown OfOpcodes e f h g = (at_opcodes d e h).1 ∙ sym (at_opcodes d f g).1
   one_shown (OfInstruction k rule) e f h g = one_at_instruction k rule e f (at_instruction d k rule e h) (at_instruction d k rule f g)
-  one_shown (OfFormat k rule) e f h g = one_at_format k rule e f (at_format k rule e h) (at_format k rule f g)
+  one_shown (OfFormat k rule) e f h g = one_at_format d k rule e f (at_format d k rule e h) (at_format d k rule f g)
   one_shown OfTypeSets e f h g =
-      let (m, many, he) = at_type_sets e h in
-      let (n, others, ge) = at_type_sets f g in
+      let (m, many, he) = at_type_sets d e h in
+      let (n, others, ge) = at_type_sets d f g in
       he ∙ ap TooManyTypeSets (one_set_count m n many others) ∙ sym ge
 
 -- Declarations show one first fault at most.

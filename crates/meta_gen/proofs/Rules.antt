@@ -1,5 +1,5 @@
 -- The first fault of one instruction, from those that it shows by itself and from the names before it.
-use Rattle.std.proofs.Common.{◌≡◌, ◌≢◌, ◌<◌, ◌+◌, ◌⊎◌, inl, inr, ⊎_elim, ℕ, slice_get, Option, None, Some, Result, Ok, Err, IfSome, IfNone, OnOk, IfErr, MatchOption, refl, sym, ap, ◌∙◌, subst, arith}
+use Rattle.std.proofs.Common.{◌≡◌, ◌≢◌, ◌<◌, ◌+◌, ⊎_elim, ℕ, Option, None, Some, Result, Ok, Err, IfSome, IfNone, OnOk, IfErr, MatchOption, refl, sym, ap, ◌∙◌, subst, arith}
 use Rattle.std.proofs.lemmas.Option.{same_Some}
 use Rattle.meta_types.specs.declared.fault.Place.{Place}
 use Rattle.meta_types.specs.declared.fault.Place.TheVariants.{Instruction as AtInstruction}
@@ -9,7 +9,7 @@ use Rattle.meta_inst.specs.Builder.{Builder}
 use Rattle.meta_inst.specs.Built.{Built}
 use Rattle.meta_inst.specs.InstructionSet.{InstructionSet}
 use Rattle.meta_inst.specs.InstructionFaults.{Breaks, IsFirstOwnFault, IsWellMade}
-use Rattle.meta_inst.specs.Faults.{IsAt, names_of, IsDuplicate, OfInstruction, ShowsAt}
+use Rattle.meta_inst.specs.Faults.{IsAt, names_of, IsDuplicate}
 use Rattle.meta_inst.proofs.OneOwnFault.{later, first_rule}
 use Rattle.meta_gen.specs.Searched.{ShowsNoInstructionFault, IsFirstInstructionFault}
 use Rattle.meta_gen.proofs.AtInstruction.{BreaksHere, SharesHere, at_instruction, shows_own}

@@ -1,23 +1,24 @@
--- What is made for the instructions: the operand constraints, one list behind another, and the entries.
+-- What is made for the instructions: the one list of operand constraints and the entries.
 --     EntryHolds vars i type_sets constraints e      the entry holds the instruction
+--     IsAdded vars i type_sets old new e             the instruction's list is added, and the entry has its offset
 --     HoldNeeded type_sets sets i                    the type sets hold what the instruction needs
-use Rattle.std.specs.Prelude.{◌≡◌, ◌≢◌, ◌⊎◌, ◌<◌, ◌+◌, ℕ, List, [], length, slice_get, Option, Some, option_map}
+use Rattle.std.specs.Prelude.{◌≡◌, ◌≢◌, ◌⊎◌, ◌<◌, ℕ, List, [], length, take, slice_get, Option, Some, option_map}
 use Rattle.meta_typevar.specs.FourSets.{FourSets, HasOne}
-use Rattle.meta_typevar.specs.Masks.{AreMasksOf}
 use Rattle.meta_typevar.specs.Variable.{Variable, Sets}
 use Rattle.meta_typevar.specs.Registry.{sets_of, variable_at}
-use Rattle.meta_typevar.specs.declared.masks.Masks.{Masks}
 use Rattle.meta_typevar.specs.declared.content.TypeVarContent.{TypeVarContent}
 use Rattle.meta_operands.specs.declared.format.InstructionFormat.{InstructionFormat}
 use Rattle.meta_inst.specs.Builder.{Builder}
-use Rattle.meta_inst.specs.Instruction.{Instruction, IsOperand}
+use Rattle.meta_inst.specs.Instruction.{Instruction}
 use Rattle.meta_inst.specs.InstructionSet.{InstructionSet, instruction_in}
 use Rattle.meta_inst.specs.Control.{IsControl}
 use Rattle.meta_inst.specs.Faults.{IsControlSet, IsFreeSet}
 use Rattle.meta_meaning.specs.Constraint.{IsConstraint, Constraint as TypeConstraint}
-use Rattle.meta_meaning.specs.Tables.{StandsFor, IsEntry}
+use Rattle.meta_meaning.specs.Tables.{TableContents, StandsFor, IsEntry}
 use Rattle.meta_gen.specs.Constraint.{number_constraint_of, entry_of}
-use Rattle.meta_gen.specs.Contents.{contents_of}
+use Rattle.meta_gen.specs.Needed.{StandForSets}
+use Rattle.meta_unique.specs.Overlap.{added, added_at}
+use Rattle.meta_gen.specs.ConstraintLists.{same_constraint, overlapped, IsConstraintList}
 use Rattle.meta_gen.specs.declared.constraint.Constraint.{Constraint}
 use Rattle.meta_gen.specs.declared.constraint.OpcodeConstraints.{OpcodeConstraints}
 
@@ -25,23 +26,21 @@ use Rattle.meta_gen.specs.declared.constraint.OpcodeConstraints.{OpcodeConstrain
 abbrev pub StaysIn : List Constraint → List Constraint → Type 0
 StaysIn old new = (k : ℕ) (x : Constraint) → slice_get old k ≡ Some x → slice_get new k ≡ Some x
 
--- the type set at this place is the masks of s
-pub record IsSetAt (type_sets : List Masks) (place : ℕ) (s : FourSets) : Type 0 where
-  pub masks : Masks
-  pub is_set : slice_get type_sets place ≡ Some masks
-  pub are_masks : AreMasksOf s masks
-
--- some type set is the masks of s
-abbrev pub IsHeld : List Masks → FourSets → Type 0
-IsHeld type_sets s = (place : ℕ) × IsSetAt type_sets place s
+-- some type set is s
+abbrev pub IsHeld : List FourSets → FourSets → Type 0
+IsHeld type_sets s = (place : ℕ) × (slice_get type_sets place ≡ Some s)
 
 -- the type sets hold each set that the instruction needs
-abbrev pub HoldNeeded : List Masks → Sets → Instruction → Type 0
+abbrev pub HoldNeeded : List FourSets → Sets → Instruction → Type 0
 HoldNeeded type_sets sets i = (control : Option Variable) (s : FourSets) → IsControl sets i control → IsControlSet sets control s ⊎ IsFreeSet sets i control s → IsHeld type_sets s
 
 -- the control of an instruction, by its number
 abbrev pub control_at : List TypeVarContent → Option ℕ → Option Variable
 control_at vars control = option_map (variable_at vars) control
+
+-- the tables have the masks of these type sets
+abbrev pub HasTypeSets : TableContents → List FourSets → Type 0
+HasTypeSets tables type_sets = StandForSets tables.type_sets type_sets
 
 -- there is a constraint for an operand whose variable is n
 abbrev pub HasConstraint : List TypeVarContent → Option ℕ → ℕ → Type 0
@@ -54,7 +53,7 @@ pub record IsFreeNumber (vars : List TypeVarContent) (control : Option ℕ) (n :
   pub several : HasOne (sets_of vars (variable_at vars n).root) → ⊥
 
 -- the type sets hold the set of each underived variable that isn't the control and hasn't one type
-abbrev pub HoldFree : List TypeVarContent → Option ℕ → List Masks → List ℕ → Type 0
+abbrev pub HoldFree : List TypeVarContent → Option ℕ → List FourSets → List ℕ → Type 0
 HoldFree vars control type_sets numbers = (k n : ℕ) → slice_get numbers k ≡ Some n → IsFreeNumber vars control n → IsHeld type_sets (sets_of vars (variable_at vars n).root)
 
 -- the control, if there is one, is of the registry
@@ -66,38 +65,61 @@ abbrev pub AreConstrained : List TypeVarContent → Option ℕ → List ℕ → 
 AreConstrained vars control numbers = (k n : ℕ) → slice_get numbers k ≡ Some n → HasConstraint vars control n
 
 -- in tables with these type sets, x is the constraint of an operand whose variable is n
-pub record Describes (vars : List TypeVarContent) (control : Option ℕ) (type_sets : List Masks) (n : ℕ) (x : Constraint) : Type 0 where
+pub record Describes (vars : List TypeVarContent) (control : Option ℕ) (type_sets : List FourSets) (n : ℕ) (x : Constraint) : Type 0 where
   pub constraint : TypeConstraint
   pub is_constraint : IsConstraint (sets_of vars) (control_at vars control) (variable_at vars n) constraint
-  pub stands : (names : List (List ℕ)) (constraints : List Constraint) (entries : List OpcodeConstraints) → StandsFor (contents_of names type_sets constraints entries) constraint (number_constraint_of x)
+  pub stands : (tables : TableContents) → HasTypeSets tables type_sets → StandsFor tables constraint (number_constraint_of x)
 
 -- such a constraint stands at this place of the list
-pub record IsDescribedAt (vars : List TypeVarContent) (control : Option ℕ) (type_sets : List Masks) (constraints : List Constraint) (place n : ℕ) : Type 0 where
+pub record IsDescribedAt (vars : List TypeVarContent) (control : Option ℕ) (type_sets : List FourSets) (constraints : List Constraint) (place n : ℕ) : Type 0 where
   pub constraint : Constraint
   pub at : slice_get constraints place ≡ Some constraint
   pub describes : Describes vars control type_sets n constraint
 
--- from this place on the list has the constraints of the variables
-abbrev pub AreDescribed : List TypeVarContent → Option ℕ → List Masks → List Constraint → ℕ → List ℕ → Type 0
-AreDescribed vars control type_sets constraints offset numbers = (k n : ℕ) → slice_get numbers k ≡ Some n → IsDescribedAt vars control type_sets constraints (offset + k) n
+-- the list is the constraints of the variables, in order
+pub record AreDescribed (vars : List TypeVarContent) (control : Option ℕ) (type_sets : List FourSets) (list : List Constraint) (numbers : List ℕ) : Type 0 where
+  pub count : length list ≡ length numbers
+  pub each : (k n : ℕ) → slice_get numbers k ≡ Some n → IsDescribedAt vars control type_sets list k n
 
--- the instruction has no value operand
-abbrev pub HasNoOperand : Instruction → Type 0
-HasNoOperand i = (k : ℕ) (w : Variable) → IsOperand i k w → ⊥
+-- each constraint stands in the tables, at its place
+abbrev pub HoldConstraints : TableContents → List Constraint → Type 0
+HoldConstraints tables constraints = (k : ℕ) (x : Constraint) → slice_get constraints k ≡ Some x → slice_get tables.operand_constraints k ≡ Some (number_constraint_of x)
 
--- in tables with these type sets and operand constraints, the entry holds the instruction, under its control; its offset is
--- 0 where there is no operand
-pub record EntryHolds (vars : List TypeVarContent) (i : Instruction) (type_sets : List Masks) (constraints : List Constraint) (e : OpcodeConstraints) : Type 0 where
+-- in tables with these type sets and operand constraints, the entry holds the instruction, under its control
+pub record EntryHolds (vars : List TypeVarContent) (i : Instruction) (type_sets : List FourSets) (constraints : List Constraint) (e : OpcodeConstraints) : Type 0 where
   pub control : Option Variable
   pub is_control : IsControl (sets_of vars) i control
-  pub is_entry : (names : List (List ℕ)) (entries : List OpcodeConstraints) → IsEntry (sets_of vars) i control (contents_of names type_sets constraints entries) (entry_of e)
-  pub no_operand : HasNoOperand i → e.constraint_offset ≡ 0
+  pub is_entry : (tables : TableContents) → HasTypeSets tables type_sets → HoldConstraints tables constraints → IsEntry (sets_of vars) i control tables (entry_of e)
+
+-- the list of the instruction's constraints was added to the one list, and the entry says where it then stands
+pub record IsAdded (vars : List TypeVarContent) (i : Instruction) (type_sets : List FourSets) (old new : List Constraint) (e : OpcodeConstraints) : Type 0 where
+  pub control : Option Variable
+  pub is_control : IsControl (sets_of vars) i control
+  pub list : List Constraint
+  pub is_list : (tables : TableContents) → HasTypeSets tables type_sets → IsConstraintList (sets_of vars) control tables i list
+  pub made : new ≡ added same_constraint old list
+  pub offset : e.constraint_offset ≡ added_at same_constraint old list
 
 -- the entry at this place holds the instruction b
-pub record IsHeldAt (vars : List TypeVarContent) (formats : List InstructionFormat) (type_sets : List Masks) (constraints : List Constraint) (entries : List OpcodeConstraints) (k : ℕ) (b : Builder) : Type 0 where
+pub record IsHeldAt (vars : List TypeVarContent) (formats : List InstructionFormat) (type_sets : List FourSets) (constraints : List Constraint) (entries : List OpcodeConstraints) (k : ℕ) (b : Builder) : Type 0 where
   pub entry : OpcodeConstraints
   pub at : slice_get entries k ≡ Some entry
   pub holds : EntryHolds vars (instruction_in vars formats b) type_sets constraints entry
+
+-- the list at this place is that of the instruction b, under its control
+pub record IsListOf (vars : List TypeVarContent) (formats : List InstructionFormat) (type_sets : List FourSets) (lists : List (List Constraint)) (k : ℕ) (b : Builder) : Type 0 where
+  pub control : Option Variable
+  pub is_control : IsControl (sets_of vars) (instruction_in vars formats b) control
+  pub list : List Constraint
+  pub at : slice_get lists k ≡ Some list
+  pub is_list : (tables : TableContents) → HasTypeSets tables type_sets → IsConstraintList (sets_of vars) control tables (instruction_in vars formats b) list
+
+-- these lists are those of the first instructions, added one after another, and the entries say where each then stood
+pub record AreAdded (vars : List TypeVarContent) (formats : List InstructionFormat) (instructions : List Builder) (type_sets : List FourSets) (constraints : List Constraint) (entries : List OpcodeConstraints) (lists : List (List Constraint)) : Type 0 where
+  pub count : length lists ≡ length entries
+  pub whole : constraints ≡ overlapped lists
+  pub are : (k : ℕ) (b : Builder) → k < length entries → slice_get instructions k ≡ Some b → IsListOf vars formats type_sets lists k b
+  pub offsets : (k : ℕ) (list : List Constraint) (e : OpcodeConstraints) → slice_get lists k ≡ Some list → slice_get entries k ≡ Some e → e.constraint_offset ≡ added_at same_constraint (overlapped (take k lists)) list
 
 -- the declarations with these variables, formats and instructions
 abbrev pub set_with : List TypeVarContent → List InstructionFormat → List Builder → InstructionSet

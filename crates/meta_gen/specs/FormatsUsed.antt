@@ -1,20 +1,30 @@
 -- A format and those that are used before it.
-use Rattle.std.specs.Prelude.{◌≡◌, ◌≢◌, ◌<◌, ℕ, List, length, slice_get, Some}
+use Rattle.std.specs.Prelude.{◌≡◌, ◌≢◌, ◌<◌, ℕ, List, slice_get, Some}
+use Rattle.meta_operands.specs.Structure.{structure_of}
 use Rattle.meta_operands.specs.declared.format.InstructionFormat.{InstructionFormat}
 use Rattle.meta_inst.specs.Faults.{SharesFormat}
+use Rattle.meta_gen.specs.declared.format_fault.UsedFormat.{UsedFormat}
 
 -- the format is one of these
-pub record IsAmong (used : List ℕ) (f : ℕ) : Type 0 where
+pub record IsAmong (used : List UsedFormat) (f : ℕ) : Type 0 where
   pub place : ℕ
-  pub at : slice_get used place ≡ Some f
+  pub format : UsedFormat
+  pub at : slice_get used place ≡ Some format
+  pub is : format.id ≡ f
 
 -- the format is none of these
-abbrev pub IsNotAmong : List ℕ → ℕ → Type 0
-IsNotAmong used f = (k : ℕ) → slice_get used k ≢ Some f
+abbrev pub IsNotAmong : List UsedFormat → ℕ → Type 0
+IsNotAmong used f = (k : ℕ) (format : UsedFormat) → slice_get used k ≡ Some format → format.id ≢ f
 
--- each of these is a format of the table
-abbrev pub AreOfTable : List InstructionFormat → List ℕ → Type 0
-AreOfTable formats used = (k f : ℕ) → slice_get used k ≡ Some f → f < length formats
+-- it is a format of the table, with its structure
+pub record IsOfTable (formats : List InstructionFormat) (used : UsedFormat) : Type 0 where
+  pub format : InstructionFormat
+  pub at : slice_get formats used.id ≡ Some format
+  pub structure : used.structure ≡ structure_of format
+
+-- each of these is
+abbrev pub AreOfTable : List InstructionFormat → List UsedFormat → Type 0
+AreOfTable formats used = (k : ℕ) (format : UsedFormat) → slice_get used k ≡ Some format → IsOfTable formats format
 
 -- two formats of the table that can't both be in use
 pub record ClashIn (formats : List InstructionFormat) (f g : ℕ) : Type 0 where
@@ -25,12 +35,14 @@ pub record ClashIn (formats : List InstructionFormat) (f g : ℕ) : Type 0 where
   pub shares : SharesFormat one other
 
 -- f can stand beside each of these
-abbrev pub ClashesWithNone : List InstructionFormat → List ℕ → ℕ → Type 0
-ClashesWithNone formats used f = (k g : ℕ) → slice_get used k ≡ Some g → ClashIn formats f g → ⊥
+abbrev pub ClashesWithNone : List InstructionFormat → List UsedFormat → ℕ → Type 0
+ClashesWithNone formats used f = (k : ℕ) (format : UsedFormat) → slice_get used k ≡ Some format → ClashIn formats f format.id → ⊥
 
 -- g is the first of these that f can't stand beside
-pub record IsFirstToClash (formats : List InstructionFormat) (used : List ℕ) (f g : ℕ) : Type 0 where
+pub record IsFirstToClash (formats : List InstructionFormat) (used : List UsedFormat) (f g : ℕ) : Type 0 where
   pub place : ℕ
-  pub at : slice_get used place ≡ Some g
+  pub format : UsedFormat
+  pub at : slice_get used place ≡ Some format
+  pub is : format.id ≡ g
   pub clashes : ClashIn formats f g
-  pub first : (i h : ℕ) → i < place → slice_get used i ≡ Some h → ClashIn formats f h → ⊥
+  pub first : (i : ℕ) (other : UsedFormat) → i < place → slice_get used i ≡ Some other → ClashIn formats f other.id → ⊥

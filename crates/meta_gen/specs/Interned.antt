@@ -1,39 +1,31 @@
--- How a list of masks grows by the sets that are needed.
---     Interns P before after      the masks of the sets of which P speaks are added, each once
-use Rattle.std.specs.Prelude.{◌≡◌, ◌≢◌, ◌⊎◌, ℕ, List, [], slice_get, Option, Some}
+-- How the list of type sets grows by the sets that are needed.
+--     Adds s before after          s is added, where no equal set stands there
+--     AddsSome P before after      the one set of which P speaks is added, if there is one
+--     AddsEach F n before after    so are those of which F speaks at 0, 1 and so on, n of them
+use Rattle.std.specs.Prelude.{◌≡◌, ◌≢◌, ◌⊎◌, ◌≤◌, ℕ, zero, suc, List, [], ◌∷◌, ◌++◌, slice_get, Some}
+use Rattle.meta_typevar.specs.Compared.{are_equal}
 use Rattle.meta_typevar.specs.FourSets.{FourSets, HasOne}
-use Rattle.meta_typevar.specs.Masks.{AreMasksOf}
-use Rattle.meta_typevar.specs.declared.masks.Masks.{Masks}
-use Rattle.meta_typevar.specs.Variable.{Variable, Sets}
+use Rattle.meta_typevar.specs.Variable.{Sets}
 use Rattle.meta_typevar.specs.Registry.{sets_of, variable_at}
 use Rattle.meta_typevar.specs.declared.content.TypeVarContent.{TypeVarContent}
 use Rattle.meta_inst.specs.Instruction.{Instruction}
-use Rattle.meta_inst.specs.Control.{IsControl}
-use Rattle.meta_inst.specs.Faults.{IsControlSet, IsFreeSet}
 use Rattle.meta_inst.specs.declared.operands.Control.{Control}
 use Rattle.meta_inst.specs.declared.operands.Control.TheVariants.{By}
+use Rattle.meta_unique.specs.Interning.{IsIndexOf, IsNew}
+use Rattle.meta_gen.specs.Needed.{NeedsAtPlace}
 
--- the masks stand in the list
-abbrev pub StandsIn : List Masks → Masks → Type 0
-StandsIn masks m = (k : ℕ) × (slice_get masks k ≡ Some m)
+-- an equal set stands there and the list stays as it is, or none does and s is added at the end
+abbrev pub Adds : FourSets → List FourSets → List FourSets → Type 0
+Adds s before after = ((i : ℕ) × IsIndexOf are_equal before s i × (after ≡ before)) ⊎ (IsNew are_equal before s × (after ≡ before ++ s ∷ []))
 
--- no masks stand twice in the list
-abbrev pub AreDistinct : List Masks → Type 0
-AreDistinct masks = (j k : ℕ) (m : Masks) → slice_get masks j ≡ Some m → slice_get masks k ≡ Some m → j ≡ k
+-- P speaks of no set and the list stays as it is, or P speaks of one set and that is added
+abbrev pub AddsSome : (FourSets → Type 0) → List FourSets → List FourSets → Type 0
+AddsSome P before after = (((s : FourSets) → P s → ⊥) × (after ≡ before)) ⊎ ((s : FourSets) × P s × ((t : FourSets) → P t → t ≡ s) × Adds s before after)
 
--- these are the masks of a set of which P speaks
-pub record IsMaskOf (P : FourSets → Type 0) (m : Masks) : Type 0 where
-  pub set : FourSets
-  pub is : P set
-  pub masks : AreMasksOf set m
-
--- the masks of each set of which P speaks stand in the second list; what stood in the first stays at its place; nothing
--- else is added, and nothing twice
-pub record Interns (P : FourSets → Type 0) (before after : List Masks) : Type 0 where
-  pub kept : (k : ℕ) (m : Masks) → slice_get before k ≡ Some m → slice_get after k ≡ Some m
-  pub all : (s : FourSets) → P s → (m : Masks) × AreMasksOf s m × StandsIn after m
-  pub only : (k : ℕ) (m : Masks) → slice_get after k ≡ Some m → StandsIn before m ⊎ IsMaskOf P m
-  pub once : AreDistinct before → AreDistinct after
+-- the sets of which F speaks at each number below n are added in order
+abbrev pub AddsEach : (ℕ → FourSets → Type 0) → ℕ → List FourSets → List FourSets → Type 0
+AddsEach F zero before after = after ≡ before
+AddsEach F (suc n) before after = (between : List FourSets) × AddsEach F n before between × AddsSome (F n) between after
 
 -- s is the set of the root of the variable with the number n
 abbrev pub IsSetOf : List TypeVarContent → ℕ → FourSets → Type 0
@@ -52,16 +44,14 @@ pub record IsFreeSetOf (vars : List TypeVarContent) (control : Control) (n : ℕ
   pub set : IsSetOf vars n s
   pub several : HasOne s → ⊥
 
--- s is such a set of one of these variables
-pub record IsFreeSetAmong (vars : List TypeVarContent) (control : Control) (numbers : List ℕ) (s : FourSets) : Type 0 where
-  pub place : ℕ
+-- s is such a set of the variable at this place
+pub record IsFreeSetAt (vars : List TypeVarContent) (control : Control) (numbers : List ℕ) (place : ℕ) (s : FourSets) : Type 0 where
   pub variable : ℕ
   pub at : slice_get numbers place ≡ Some variable
   pub free : IsFreeSetOf vars control variable s
 
--- the instruction needs the set: it is the set of its control, or that of another underived value operand whose set hasn't
--- exactly one type
-pub record IsNeededBy (sets : Sets) (i : Instruction) (s : FourSets) : Type 0 where
-  pub control : Option Variable
-  pub is_control : IsControl sets i control
-  pub needs : IsControlSet sets control s ⊎ IsFreeSet sets i control s
+-- all sets that the instruction needs are added, in the order of the places where it needs them
+pub record AddsNeeded (sets : Sets) (i : Instruction) (before after : List FourSets) : Type 0 where
+  pub end : ℕ
+  pub each : AddsEach (NeedsAtPlace sets i) end before after
+  pub no_more : (place : ℕ) (s : FourSets) → end ≤ place → NeedsAtPlace sets i place s → ⊥

@@ -3,6 +3,9 @@ ghost use Rattle.meta_meaning.specs.Tables.{result_count, value_count};
 
 use meta_types::DerivedFunc;
 
+/// The type set offset of an opcode without a control.
+pub(crate) const NO_TYPE_SET: u8 = 255;
+
 /// What an operand's type has to be, by its number (in the crate `OperandConstraint` of the code that it writes).
 #[derive(Clone, Copy, Debug, PartialEq, Eq)]
 pub enum Constraint {

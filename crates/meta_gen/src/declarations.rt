@@ -2,28 +2,28 @@ ghost use Rattle.std.specs.Prelude.{◌≡◌, ◌↔◌, IsTrue};
 ghost use Rattle.meta_typevar.specs.Registry.{HoldTypeSets};
 ghost use Rattle.meta_inst.specs.InstructionSet.{Fits};
 
+use super::declared_set::DeclaredSet;
 use meta_inst::AllInstructions;
 use meta_operands::FormatTable;
+use meta_settings::SettingGroupBuilder;
 use meta_typevar::TypeVars;
 use std::marker::Model;
 
-/// An instruction set as it is declared: its type variables, its formats and its instructions. The format of each
-/// instruction is of the formats, and the variable of each of its value operands is of the variables (this project's own).
+/// What is declared: an instruction set, which is its type variables, its formats and its instructions, and groups of settings.
+/// The format of each instruction is of the formats, and the variable of each of its value operands is of the variables (this
+/// project's own).
 #[derive(Drop)]
 pub struct Declarations {
-    vars: TypeVars,
-    formats: FormatTable,
-    instructions: AllInstructions,
+    set: DeclaredSet,
+    groups: Vec<SettingGroupBuilder>,
 }
 
 impl Model for Declarations {
-    ghost use Rattle.meta_inst.specs.InstructionSet.{InstructionSet, Fits};
+    ghost use Rattle.meta_gen.specs.AllDeclared.{Declared};
 
-    ghost Value = { InstructionSet };
+    ghost Value = { Declared };
 
-    ghost view = { λ d. record { vars = d.vars; formats = d.formats; instructions = d.instructions } };
-
-    ghost invariant = { λ d. Fits d.vars d.formats d.instructions };
+    ghost view = { λ d. record { set = d.set; groups = d.groups.items } };
 }
 
 impl Declarations {
@@ -31,48 +31,60 @@ impl Declarations {
     pub fn fits(vars: &TypeVars, formats: &FormatTable, instructions: &AllInstructions) -> bool
         ensures { IsTrue result ↔ Fits vars.now formats.now instructions.now }
     {
-        for k in 0..instructions.len() {
-            if !instructions.get(k).fits(vars, formats) {
-                return false;
-            }
-        }
-        true
+        DeclaredSet::fits(vars, formats, instructions)
     }
 
-    /// These declarations, which `fits` tells to be of one another.
-    pub fn new(vars: TypeVars, formats: FormatTable, instructions: AllInstructions) -> Declarations
+    /// These declarations, where `fits` tells that the instructions are of the variables and formats. The groups are numbered
+    /// from 0.
+    pub fn new(
+        vars: TypeVars,
+        formats: FormatTable,
+        instructions: AllInstructions,
+        groups: Vec<SettingGroupBuilder>,
+    ) -> Declarations
         requires { Fits vars formats instructions }
-        ensures { result ≡ record { vars = vars; formats = formats; instructions = instructions } }
+        ensures { result ≡ record { set = record { vars = vars; formats = formats; instructions = instructions }; groups = groups.items } }
     {
         Declarations {
-            vars,
-            formats,
-            instructions,
+            set: DeclaredSet::new(vars, formats, instructions),
+            groups,
         }
+    }
+
+    /// The instruction set.
+    pub(crate) fn set(&self) -> &DeclaredSet
+        ensures { result.now ≡ self.now.set }
+    {
+        &self.set
     }
 
     /// The type variables, whose sets are sets of types.
     pub fn vars(&self) -> &TypeVars
-        ensures vars { result.now ≡ self.now.vars }
-        ensures sets { HoldTypeSets self.now.vars }
+        ensures vars { result.now ≡ self.now.set.vars }
+        ensures sets { HoldTypeSets self.now.set.vars }
     {
-        // a count says that the sets are sets of types
-        let _count = self.vars.len();
-        &self.vars
+        self.set.vars()
     }
 
     /// The formats.
     pub fn formats(&self) -> &FormatTable
-        ensures formats { result.now ≡ self.now.formats }
+        ensures formats { result.now ≡ self.now.set.formats }
     {
-        &self.formats
+        self.set.formats()
     }
 
     /// The instructions, each of which is of the variables and formats.
     pub fn instructions(&self) -> &AllInstructions
-        ensures instructions { result.now ≡ self.now.instructions }
-        ensures fits { Fits self.now.vars self.now.formats self.now.instructions }
+        ensures instructions { result.now ≡ self.now.set.instructions }
+        ensures fits { Fits self.now.set.vars self.now.set.formats self.now.set.instructions }
     {
-        &self.instructions
+        self.set.instructions()
+    }
+
+    /// The groups of settings, in order.
+    pub fn groups(&self) -> &[SettingGroupBuilder]
+        ensures { result.now ≡ self.now.groups }
+    {
+        &self.groups
     }
 }

@@ -55,6 +55,13 @@ fn operand(
     Ok(Operand::new(Text::new(alloc, "x")?, kind))
 }
 
+/// This instruction alone.
+fn alone(alloc: Global, builder: InstructionBuilder) -> Result<AllInstructions, AllocError> {
+    let mut all = AllInstructions::new(alloc);
+    InstructionGroupBuilder::new(&mut all).push(builder)?;
+    Ok(all)
+}
+
 /// The tables of one instruction `f` with these outputs and inputs.
 fn tables_of(
     rt: &impl Abort,
@@ -84,11 +91,12 @@ fn tables_of(
     let (name, doc) = (Text::new(alloc, "f")?, Text::new(alloc, "")?);
     let builder = InstructionBuilder::new(alloc, name, doc, format);
     let builder = builder.operands_in(operands_in).operands_out(operands_out);
-    let mut instructions = AllInstructions::new(alloc);
-    let mut group = InstructionGroupBuilder::new(&mut instructions);
-    group.push(builder)?;
+    let instructions = alone(alloc, builder)?;
     assert!(rt; Declarations::fits(&vars, &formats, &instructions));
-    generate(alloc, &Declarations::new(vars, formats, instructions))
+    generate(
+        alloc,
+        &Declarations::new(vars, formats, instructions, Vec::new(alloc)),
+    )
 }
 
 /// Ints of 16 bits and more.

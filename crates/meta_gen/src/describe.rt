@@ -1,36 +1,31 @@
-ghost use Rattle.std.specs.Prelude.{◌≡◌, ◌↔◌, ◌<◌, ◌≤◌, ◌+◌, ℕ, IsTrue, IsSome, OnOk, length, slice_get, Some};
+ghost use Rattle.std.specs.Prelude.{◌≡◌, ◌↔◌, ◌<◌, ◌≤◌, ◌+◌, ℕ, IsTrue, IsSome, IfOk, length, slice_get, Some};
 ghost use Rattle.meta_typevar.specs.Registry.{sets_of, variable_at};
 ghost use Rattle.meta_inst.specs.Operands.{AreOf};
-ghost use Rattle.meta_gen.specs.Entries.{StaysIn, IsSetAt, IsHeld, IsFreeNumber, HoldFree, IsOfRegistry, HasConstraint, AreConstrained, Describes, AreDescribed};
+ghost use Rattle.meta_gen.specs.Entries.{IsHeld, IsFreeNumber, HoldFree, IsOfRegistry, HasConstraint, AreConstrained, Describes, AreDescribed};
 
 use super::constraint::Constraint;
-use meta_typevar::{Masks, TypeVar, TypeVars};
-use std::alloc::AllocError;
+use meta_typevar::{TypeSet, TypeVar, TypeVars};
+use meta_unique::UniqueTable;
+use std::alloc::{AllocError, Global};
 
-/// The place of the masks among the type sets, where they are.
-fn place_of(type_sets: &[Masks], masks: Masks) -> u8
-    requires few { length type_sets.now ≤ 255 }
-    requires there { (k : ℕ) × (slice_get type_sets.now k ≡ Some masks) }
-    ensures { slice_get type_sets.now result ≡ Some masks }
-{
-    for place in 0..type_sets.len() {
-        if type_sets[place] == masks {
-            return place as u8;
-        }
-    }
-    unreachable!()
-}
-
-/// The place of the set of the variable's root among the type sets, where it is.
-pub(crate) fn set_place(vars: &TypeVars, tv: TypeVar, type_sets: &[Masks]) -> u8
+/// The place of the set of the variable's root among the type sets, where it is. They stay as they are.
+pub(crate) fn set_place<'d>(
+    vars: &'d TypeVars,
+    tv: TypeVar,
+    type_sets: &mut UniqueTable<'d, TypeSet>,
+) -> u8
     requires of_registry { tv < length vars.now }
-    requires few { length type_sets.now ≤ 255 }
-    requires held { IsHeld type_sets.now (sets_of vars.now (variable_at vars.now tv).root) }
+    requires few { length type_sets.old ≤ 255 }
+    requires held { IsHeld type_sets.old (sets_of vars.now (variable_at vars.now tv).root) }
     ensures below { result < 255 }
-    ensures set { IsSetAt type_sets.now result (sets_of vars.now (variable_at vars.now tv).root) }
+    ensures set { slice_get type_sets.old result ≡ Some (sets_of vars.now (variable_at vars.now tv).root) }
+    ensures same { type_sets.new ≡ type_sets.old }
 {
     let root = tv.root(vars);
-    place_of(type_sets, root.get_raw_typeset(vars).masks())
+    match type_sets.add(root.get_raw_typeset(vars)) {
+        Ok(place) => place as u8,
+        Err(_) => unreachable!(),
+    }
 }
 
 /// Whether the variable is the control.
@@ -45,18 +40,19 @@ pub(crate) fn is_control(control: &Option<TypeVar>, tv: TypeVar) -> bool
 
 /// The constraint of an operand with this variable, under this control: its fixed type, where it has one; else that it is
 /// the control; else the function that leads to it from the control; else its type set.
-fn constraint_of(
-    vars: &TypeVars,
+fn constraint_of<'d>(
+    vars: &'d TypeVars,
     control: &Option<TypeVar>,
     tv: TypeVar,
-    type_sets: &[Masks],
+    type_sets: &mut UniqueTable<'d, TypeSet>,
 ) -> Constraint
     requires of_registry { tv < length vars.now }
     requires control_of { IsOfRegistry vars.now control.now }
-    requires few { length type_sets.now ≤ 255 }
+    requires few { length type_sets.old ≤ 255 }
     requires constrained { HasConstraint vars.now control.now tv }
-    requires held { IsFreeNumber vars.now control.now tv → IsHeld type_sets.now (sets_of vars.now (variable_at vars.now tv).root) }
-    ensures { Describes vars.now control.now type_sets.now tv result }
+    requires held { IsFreeNumber vars.now control.now tv → IsHeld type_sets.old (sets_of vars.now (variable_at vars.now tv).root) }
+    ensures describes { Describes vars.now control.now type_sets.old tv result }
+    ensures same { type_sets.new ≡ type_sets.old }
 {
     if let Some(fixed) = tv.fixed_type(vars) {
         return Constraint::Concrete(fixed.number());
@@ -70,25 +66,25 @@ fn constraint_of(
     }
 }
 
-/// The constraints of operands with these variables, appended in order.
-pub(crate) fn push_constraints(
-    constraints: &mut Vec<Constraint>,
-    vars: &TypeVars,
+/// The constraints of operands with these variables, in order.
+pub(crate) fn constraints_of<'d>(
+    alloc: Global,
+    vars: &'d TypeVars,
     control: &Option<TypeVar>,
     variables: &[TypeVar],
-    type_sets: &[Masks],
-) -> Result<(), AllocError>
+    type_sets: &mut UniqueTable<'d, TypeSet>,
+) -> Result<Vec<Constraint>, AllocError>
     requires variables { AreOf vars.now variables.now }
     requires control_of { IsOfRegistry vars.now control.now }
-    requires few { length type_sets.now ≤ 255 }
+    requires few { length type_sets.old ≤ 255 }
     requires constrained { AreConstrained vars.now control.now variables.now }
-    requires held { HoldFree vars.now control.now type_sets.now variables.now }
-    ensures count { OnOk result (length constraints.new.items ≡ length constraints.old.items + length variables.now) }
-    ensures stays { OnOk result (StaysIn constraints.old.items constraints.new.items) }
-    ensures described { OnOk result (AreDescribed vars.now control.now type_sets.now constraints.new.items (length constraints.old.items) variables.now) }
+    requires held { HoldFree vars.now control.now type_sets.old variables.now }
+    ensures described { IfOk result (λ v. AreDescribed vars.now control.now type_sets.old v.items variables.now) }
+    ensures same { type_sets.new ≡ type_sets.old }
 {
+    let mut constraints = Vec::new(alloc);
     for place in 0..variables.len() {
         constraints.push(constraint_of(vars, control, variables[place], type_sets))?;
     }
-    Ok(())
+    Ok(constraints)
 }

@@ -6,7 +6,7 @@ ghost use Rattle.meta_inst.specs.InstructionSet.{InstructionSet};
 ghost use Rattle.meta_inst.specs.Faults.{names_of};
 ghost use Rattle.meta_gen.specs.Searched.{Keeps, ShowsNoInstructionFault, IsFirstInstructionFault, IsFirstOfInstructions};
 
-use super::declarations::Declarations;
+use super::declared_set::DeclaredSet;
 use super::names::{add_name, no_names};
 use meta_inst::InstructionContent;
 use meta_types::{DefinitionError, Place, Text};
@@ -41,18 +41,18 @@ fn is_bad_name(fault: &Option<DefinitionError>) -> bool
 /// Where there is none its name is kept too.
 fn instruction_fault(
     alloc: Global,
-    declarations: &Declarations,
+    set: &DeclaredSet,
     place: usize,
     places: &mut BTreeMap<Text, u64>,
 ) -> Result<Option<DefinitionError>, AllocError>
-    requires few { length declarations.now.instructions ≤ 255 }
-    requires within { place < length declarations.now.instructions }
-    requires kept { Keeps places.old (take place (names_of declarations.now)) }
-    ensures kept { IfOk result (λ o. IfNone o (Keeps places.new (take (place + 1) (names_of declarations.now)))) }
-    ensures fault { IfOk result (λ o. MatchOption o (ShowsNoInstructionFault declarations.now place) (IsFirstInstructionFault declarations.now place)) }
+    requires few { length set.now.instructions ≤ 255 }
+    requires within { place < length set.now.instructions }
+    requires kept { Keeps places.old (take place (names_of set.now)) }
+    ensures kept { IfOk result (λ o. IfNone o (Keeps places.new (take (place + 1) (names_of set.now)))) }
+    ensures fault { IfOk result (λ o. MatchOption o (ShowsNoInstructionFault set.now place) (IsFirstInstructionFault set.now place)) }
 {
-    let builder = declarations.instructions().get(place);
-    let (vars, formats) = (declarations.vars(), declarations.formats());
+    let builder = set.instructions().get(place);
+    let (vars, formats) = (set.vars(), set.formats());
     let number = place as u64 + 1;
     let own = fault_of(builder.build(alloc, vars, formats, number))?;
     if is_bad_name(&own) {
@@ -67,14 +67,14 @@ fn instruction_fault(
 /// The first fault of the instructions, in their order.
 pub(crate) fn instructions_fault(
     alloc: Global,
-    declarations: &Declarations,
+    set: &DeclaredSet,
 ) -> Result<Option<DefinitionError>, AllocError>
-    requires { length declarations.now.instructions ≤ 255 }
-    ensures { IfOk result (λ o. MatchOption o ((k : ℕ) → k < length declarations.now.instructions → ShowsNoInstructionFault declarations.now k) (IsFirstOfInstructions declarations.now)) }
+    requires { length set.now.instructions ≤ 255 }
+    ensures { IfOk result (λ o. MatchOption o ((k : ℕ) → k < length set.now.instructions → ShowsNoInstructionFault set.now k) (IsFirstOfInstructions set.now)) }
 {
     let mut places = no_names(alloc);
-    for place in 0..declarations.instructions().len() {
-        if let Some(fault) = instruction_fault(alloc, declarations, place, &mut places)? {
+    for place in 0..set.instructions().len() {
+        if let Some(fault) = instruction_fault(alloc, set, place, &mut places)? {
             return Ok(Some(fault));
         }
     }

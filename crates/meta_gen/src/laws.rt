@@ -1,10 +1,30 @@
-ghost use Rattle.std.specs.Prelude.{◌≡◌};
+ghost use Rattle.std.specs.Prelude.{◌≡◌, ◌↔◌, ℕ, List, Option, IsTrue};
 ghost use Rattle.meta_types.specs.declared.fault.DefinitionError.{DefinitionError};
 ghost use Rattle.meta_inst.specs.InstructionSet.{InstructionSet};
-ghost use Rattle.meta_inst.specs.Faults.{IsFirstFault, IsValid};
+ghost use Rattle.meta_typevar.specs.Registry.{HoldTypeSets};
+ghost use Rattle.meta_meaning.specs.Tables.{TableContents, Allows};
+ghost use Rattle.meta_gen.specs.TablesOf.{AreTablesOf, AcceptsOpcode};
+ghost use Rattle.meta_gen.specs.ConstraintLists.{same_constraint};
+ghost use Rattle.meta_gen.specs.AllDeclared.{Declared, ShowsFirst, AreValid};
+ghost use Rattle.meta_gen.specs.declared.constraint.Constraint.{Constraint};
+
+use meta_settings::one_group_fault;
 
 /// Declarations show one first fault at most, and none where they are valid.
 pub fn one_first_fault()
-    ensures same { (d : InstructionSet) (e f : DefinitionError) → IsFirstFault d e → IsFirstFault d f → e ≡ f }
-    ensures valid { (d : InstructionSet) (e : DefinitionError) → IsValid d → IsFirstFault d e → ⊥ }
+    ensures same { (d : Declared) (e f : DefinitionError) → ShowsFirst d e → ShowsFirst d f → e ≡ f }
+    ensures valid { (d : Declared) (e : DefinitionError) → AreValid d → ShowsFirst d e → ⊥ }
+{
+    one_group_fault();
+}
+
+/// The tables mean the declarations: where they are those of declarations whose variables have sets of types, the decoding
+/// allows exactly those numbers, of all numbers, that the declarations accept.
+pub fn tables_mean_the_declarations()
+    ensures { (d : InstructionSet) (tables : TableContents) (op : ℕ) (c : Option ℕ) (rs vs : List ℕ) → HoldTypeSets d.vars → AreTablesOf d tables → (Allows tables op c rs vs ↔ AcceptsOpcode d op c rs vs) }
+{}
+
+/// Two operand constraints compare equal exactly where they are the same.
+pub fn equal_constraints()
+    ensures { (x y : Constraint) → (IsTrue (same_constraint x y) ↔ x ≡ y) }
 {}

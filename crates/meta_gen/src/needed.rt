@@ -1,59 +1,40 @@
 ghost use Rattle.std.specs.Prelude.{◌≡◌, ◌<◌, ◌↔◌, ℕ, IsTrue, IfOk, OnOk, length};
-ghost use Rattle.meta_typevar.specs.FourSets.{FourSets};
-ghost use Rattle.meta_typevar.specs.Masks.{AreMasksOf};
-ghost use Rattle.meta_typevar.specs.Registry.{sets_of};
+ghost use Rattle.meta_typevar.specs.Registry.{sets_of, variable_at};
 ghost use Rattle.meta_inst.specs.Operands.{AreOf};
 ghost use Rattle.meta_inst.specs.Control.{HasNoControl};
 ghost use Rattle.meta_inst.specs.FoundControl.{IsOf};
 ghost use Rattle.meta_inst.specs.InstructionSet.{Fits, FitsBuilder, instruction_in};
-ghost use Rattle.meta_gen.specs.Interned.{StandsIn, Interns, IsSetOf, IsControlSetOf, IsFreeSetOf, IsFreeSetAmong, IsNeededBy};
-ghost use Rattle.meta_gen.specs.Needed.{AllControlled, AreNeededMasks};
+ghost use Rattle.meta_gen.specs.Interned.{Adds, AddsSome, AddsEach, AddsNeeded, IsControlSetOf, IsFreeSetOf, IsFreeSetAt};
+ghost use Rattle.meta_gen.specs.Needed.{AllControlled, AreSetsByNeed, StandForSets};
 
 use meta_inst::{AllInstructions, Control, InstructionBuilder, Operands};
 use meta_operands::FormatTable;
-use meta_typevar::{Masks, TypeVar, TypeVars};
+use meta_typevar::{Masks, TypeSet, TypeVar, TypeVars};
+use meta_unique::UniqueTable;
 use std::alloc::{AllocError, Global};
 
-/// Whether the masks stand in the list.
-fn stands_in(type_sets: &[Masks], masks: Masks) -> bool
-    ensures { IsTrue result ↔ StandsIn type_sets.now masks }
+/// Adds the set of the variable's root, where no equal one is there yet.
+fn intern_set<'d>(
+    type_sets: &mut UniqueTable<'d, TypeSet>,
+    vars: &'d TypeVars,
+    tv: TypeVar,
+) -> Result<(), AllocError>
+    requires { tv < length vars.now }
+    ensures { OnOk result (Adds (sets_of vars.now (variable_at vars.now tv).root) type_sets.old type_sets.new) }
 {
-    for k in 0..type_sets.len() {
-        if type_sets[k] == masks {
-            return true;
-        }
-    }
-    false
-}
-
-/// Adds the masks, where they aren't there yet.
-fn intern(type_sets: &mut Vec<Masks>, masks: Masks) -> Result<(), AllocError>
-    ensures { OnOk result ((s : FourSets) → AreMasksOf s masks → Interns (λ q. q ≡ s) type_sets.old.items type_sets.new.items) }
-{
-    if stands_in(type_sets, masks) {
-        return Ok(());
-    }
-    type_sets.push(masks)?;
+    let root = tv.root(vars);
+    type_sets.add(root.get_raw_typeset(vars))?;
     Ok(())
 }
 
-/// Adds the set of the variable's root.
-fn intern_set(type_sets: &mut Vec<Masks>, vars: &TypeVars, tv: TypeVar) -> Result<(), AllocError>
-    requires { tv < length vars.now }
-    ensures { OnOk result (Interns (IsSetOf vars.now tv) type_sets.old.items type_sets.new.items) }
-{
-    let root = tv.root(vars);
-    intern(type_sets, root.get_raw_typeset(vars).masks())
-}
-
 /// Adds the set of the variable that controls, if one does.
-fn intern_control(
-    type_sets: &mut Vec<Masks>,
-    vars: &TypeVars,
+fn intern_control<'d>(
+    type_sets: &mut UniqueTable<'d, TypeSet>,
+    vars: &'d TypeVars,
     control: &Control,
 ) -> Result<(), AllocError>
     requires { IsOf vars.now control.now }
-    ensures { OnOk result (Interns (IsControlSetOf vars.now control.now) type_sets.old.items type_sets.new.items) }
+    ensures { OnOk result (AddsSome (IsControlSetOf vars.now control.now) type_sets.old type_sets.new) }
 {
     match control {
         Control::By(v) => intern_set(type_sets, vars, *v),
@@ -72,14 +53,14 @@ fn controls(control: &Control, tv: TypeVar) -> bool
 }
 
 /// Adds the set of the variable, where it is underived, doesn't control, and no type is fixed for it.
-fn intern_operand(
-    type_sets: &mut Vec<Masks>,
-    vars: &TypeVars,
+fn intern_operand<'d>(
+    type_sets: &mut UniqueTable<'d, TypeSet>,
+    vars: &'d TypeVars,
     control: &Control,
     tv: TypeVar,
 ) -> Result<(), AllocError>
     requires { tv < length vars.now }
-    ensures { OnOk result (Interns (IsFreeSetOf vars.now control.now tv) type_sets.old.items type_sets.new.items) }
+    ensures { OnOk result (AddsSome (IsFreeSetOf vars.now control.now tv) type_sets.old type_sets.new) }
 {
     if controls(control, tv) {
         return Ok(());
@@ -94,14 +75,14 @@ fn intern_operand(
 }
 
 /// Adds the sets of the underived variables that don't control and for which no type is fixed.
-fn intern_free(
-    type_sets: &mut Vec<Masks>,
-    vars: &TypeVars,
+fn intern_free<'d>(
+    type_sets: &mut UniqueTable<'d, TypeSet>,
+    vars: &'d TypeVars,
     control: &Control,
     variables: &[TypeVar],
 ) -> Result<(), AllocError>
     requires { AreOf vars.now variables.now }
-    ensures { OnOk result (Interns (IsFreeSetAmong vars.now control.now variables.now) type_sets.old.items type_sets.new.items) }
+    ensures { OnOk result (AddsEach (IsFreeSetAt vars.now control.now variables.now) (length variables.now) type_sets.old type_sets.new) }
 {
     for place in 0..variables.len() {
         intern_operand(type_sets, vars, control, variables[place])?;
@@ -110,16 +91,16 @@ fn intern_free(
 }
 
 /// Adds the sets that the instruction needs: first that of its control, then those of its operands.
-fn intern_instruction(
+fn intern_instruction<'d>(
     alloc: Global,
-    type_sets: &mut Vec<Masks>,
-    vars: &TypeVars,
+    type_sets: &mut UniqueTable<'d, TypeSet>,
+    vars: &'d TypeVars,
     formats: &FormatTable,
     builder: &InstructionBuilder,
 ) -> Result<(), AllocError>
     requires fits { FitsBuilder vars.now formats.now builder.now }
     requires controlled { HasNoControl (sets_of vars.now) (instruction_in vars.now formats.now builder.now) → ⊥ }
-    ensures { OnOk result (Interns (IsNeededBy (sets_of vars.now) (instruction_in vars.now formats.now builder.now)) type_sets.old.items type_sets.new.items) }
+    ensures { OnOk result (AddsNeeded (sets_of vars.now) (instruction_in vars.now formats.now builder.now) type_sets.old type_sets.new) }
 {
     // Its clause says what a registry keeps.
     let _count = vars.len();
@@ -129,20 +110,20 @@ fn intern_instruction(
     intern_free(type_sets, vars, &control, operands.variables())
 }
 
-/// The masks of the type sets that the instructions need, in order of first need, each once.
-pub(crate) fn needed_sets(
+/// The type sets that the instructions need, each once, in order of first need.
+pub(crate) fn needed_sets<'d>(
     alloc: Global,
-    vars: &TypeVars,
+    vars: &'d TypeVars,
     formats: &FormatTable,
     instructions: &AllInstructions,
-) -> Result<Vec<Masks>, AllocError>
+) -> Result<UniqueTable<'d, TypeSet>, AllocError>
     requires fits { Fits vars.now formats.now instructions.now }
     requires controlled { AllControlled (record { vars = vars.now; formats = formats.now; instructions = instructions.now }) }
-    ensures { IfOk result (λ masks. AreNeededMasks (record { vars = vars.now; formats = formats.now; instructions = instructions.now }) masks.items) }
+    ensures { IfOk result (λ sets. AreSetsByNeed (record { vars = vars.now; formats = formats.now; instructions = instructions.now }) sets) }
 {
     // Its clause says that the sets hold widths and lane counts of types alone.
     let _count = vars.len();
-    let mut type_sets = Vec::new(alloc);
+    let mut type_sets = UniqueTable::new(alloc);
     for place in 0..instructions.len() {
         intern_instruction(
             alloc,
@@ -153,4 +134,18 @@ pub(crate) fn needed_sets(
         )?;
     }
     Ok(type_sets)
+}
+
+/// The masks of the type sets, in order.
+pub(crate) fn masks_of(
+    alloc: Global,
+    type_sets: &UniqueTable<TypeSet>,
+) -> Result<Vec<Masks>, AllocError>
+    ensures { IfOk result (λ masks. StandForSets masks.items type_sets.now) }
+{
+    let mut masks = Vec::new(alloc);
+    for set in type_sets.iter() {
+        masks.push(set.masks())?;
+    }
+    Ok(masks)
 }

@@ -1,4 +1,4 @@
-ghost use Rattle.std.specs.Prelude.{◌≡◌, ◌≢◌, ◌↔◌, ◌≤◌, ◌+◌, ◌^◌, ◌<◌, ℕ, List, Option, IsTrue, IsSome, IfSome, IfNone, length, map, slice_get, Some};
+ghost use Rattle.std.specs.Prelude.{◌≡◌, ◌≢◌, ◌↔◌, ◌≤◌, ◌+◌, ◌^◌, ◌<◌, ℕ, List, Option, IsTrue, IsSome, IfSome, IfNone, IfOk, length, map, slice_get, None, Some};
 ghost use Rattle.meta_types.specs.DerivedFunc.{function_of};
 ghost use Rattle.meta_types.specs.Function.{StepsNumbers};
 ghost use Rattle.meta_typevar.specs.Registry.{HoldTypeSets};
@@ -7,35 +7,42 @@ ghost use Rattle.meta_meaning.specs.Tables.{TableContents, at_opcode, Allows, Se
 ghost use Rattle.meta_gen.specs.TablesOf.{AreTablesOf, AcceptsOpcode};
 ghost use Rattle.meta_gen.specs.Constraint.{number_constraint_of, entry_of};
 ghost use Rattle.meta_gen.specs.Contents.{contents_of, IsOpcode, IsFirstNamed, AllPass};
+ghost use Rattle.meta_gen.specs.ConstraintLists.{same_constraint};
+ghost use Rattle.meta_gen.specs.OpcodeSlots.{AreDifferentNames, AreOpcodeSlots, TellsName, IsNameLookup};
 ghost use Rattle.meta_gen.specs.Found.{IsDeclaredAs, FindsName};
 
-use super::constraint::{Constraint, OpcodeConstraints};
+use super::constraint::{Constraint, NO_TYPE_SET, OpcodeConstraints};
+use super::opcode_slots::opcode_slots;
+use super::same::{same_constraints, same_entries, same_masks, same_slots, same_texts};
 use meta_types::{DerivedFunc, Text};
 use meta_typevar::Masks;
+use meta_unique::{Steps, probe, probe_counted, simple_hash};
+use std::alloc::{AllocError, Global};
 use std::marker::Model;
+use std::sync::ledger::Ledger;
 
-/// The type set offset of an opcode without a control.
-const NO_TYPE_SET: u8 = 255;
-
-/// The tables of an instruction set: by opcode its name and its constraints, and the type sets and the one list of operand
-/// constraints that these refer to (this project's own). Opcodes are numbered from 1.
+/// The tables of an instruction set: by opcode its name, the name of its format and its constraints, the type sets and the
+/// one list of operand constraints that these refer to, and the slots by which a name is looked up (this project's own).
+/// Opcodes are numbered from 1.
 #[derive(Debug, Drop)]
-pub struct Tables {
+pub struct OpcodeTables {
     names: Vec<Text>,
+    formats: Vec<Text>,
     type_sets: Vec<Masks>,
     operand_constraints: Vec<Constraint>,
     constraints: Vec<OpcodeConstraints>,
+    opcode_slots: Vec<Option<u16>>,
 }
 
-impl Model for Tables {
+impl Model for OpcodeTables {
     ghost use Rattle.meta_meaning.specs.Tables.{TableContents};
     ghost use Rattle.meta_gen.specs.Contents.{contents_of, AreIndexed};
 
     ghost Value = { TableContents };
 
-    ghost view = { λ t. contents_of t.names.items t.type_sets.items t.operand_constraints.items t.constraints.items };
+    ghost view = { λ t. contents_of (record { names = t.names.items; formats = t.formats.items; slots = t.opcode_slots.items }) t.type_sets.items t.operand_constraints.items t.constraints.items };
 
-    ghost invariant = { λ t. AreIndexed t.names.items t.constraints.items };
+    ghost invariant = { λ t. AreIndexed (record { names = t.names.items; formats = t.formats.items; slots = t.opcode_slots.items }) t.constraints.items };
 }
 
 /// Whether there is a controlling number, and the function leads from it to the number.
@@ -48,24 +55,32 @@ fn is_related(ctrl: Option<u16>, derived_func: DerivedFunc, number: u16) -> bool
     }
 }
 
-impl Tables {
-    /// The tables with these parts, the names and the constraints by opcode.
+impl OpcodeTables {
+    /// The tables with these parts, the names, the names of the formats and the constraints by opcode. No name stands twice.
     pub(crate) fn new(
+        alloc: Global,
         names: Vec<Text>,
+        formats: Vec<Text>,
         type_sets: Vec<Masks>,
         operand_constraints: Vec<Constraint>,
         constraints: Vec<OpcodeConstraints>,
-    ) -> Tables
+    ) -> Result<OpcodeTables, AllocError>
         requires named { length names.items ≡ length constraints.items }
+        requires formatted { length formats.items ≡ length constraints.items }
         requires few { length constraints.items ≤ 255 }
-        ensures { result ≡ contents_of names.items type_sets.items operand_constraints.items constraints.items }
+        requires different { AreDifferentNames names.items }
+        ensures parts { IfOk result (λ t. t ≡ contents_of (record { names = names.items; formats = formats.items; slots = t.opcode_slots }) type_sets.items operand_constraints.items constraints.items) }
+        ensures slots { IfOk result (λ t. AreOpcodeSlots names.items t.opcode_slots) }
     {
-        Tables {
+        let opcode_slots = opcode_slots(alloc, &names)?;
+        Ok(OpcodeTables {
             names,
+            formats,
             type_sets,
             operand_constraints,
             constraints,
-        }
+            opcode_slots,
+        })
     }
 
     /// How many opcodes there are, at most 255: they are 1 to this number.
@@ -75,6 +90,28 @@ impl Tables {
         ensures few { length self.now.entries ≤ 255 }
     {
         self.constraints.len() as u16
+    }
+
+    /// Whether these tables and the others are the same: all their parts are equal.
+    pub fn same(&self, other: &OpcodeTables) -> bool
+        ensures { IsTrue result ↔ (self.now ≡ other.now) }
+    {
+        if !same_texts(&self.names, &other.names) {
+            return false;
+        }
+        if !same_texts(&self.formats, &other.formats) {
+            return false;
+        }
+        if !same_slots(&self.opcode_slots, &other.opcode_slots) {
+            return false;
+        }
+        if !same_masks(&self.type_sets, &other.type_sets) {
+            return false;
+        }
+        if !same_constraints(&self.operand_constraints, &other.operand_constraints) {
+            return false;
+        }
+        same_entries(&self.constraints, &other.constraints)
     }
 
     /// The type sets, by the places that the constraints name.
@@ -107,6 +144,7 @@ impl Tables {
     pub fn opcode_name(&self, opcode: u16) -> Option<&Text>
         ensures opcode { IsSome result ↔ IsOpcode self.now opcode }
         ensures name { IfSome result (λ name. at_opcode self.now.names opcode ≡ Some name.now) }
+        ensures none { IfNone result (at_opcode self.now.names opcode ≡ None) }
     {
         if opcode == 0 {
             return None;
@@ -114,18 +152,67 @@ impl Tables {
         self.names.get(opcode as usize - 1)
     }
 
-    /// The opcode that has the name, the first one if there are several, and `None` exactly where none has it.
+    /// The name of the format of an opcode, and `None` exactly where it isn't 1 to `opcode_count`.
+    pub fn opcode_format(&self, opcode: u16) -> Option<&Text>
+        ensures opcode { IsSome result ↔ IsOpcode self.now opcode }
+        ensures format { IfSome result (λ name. at_opcode self.now.formats opcode ≡ Some name.now) }
+        ensures none { IfNone result (at_opcode self.now.formats opcode ≡ None) }
+    {
+        if opcode == 0 {
+            return None;
+        }
+        self.formats.get(opcode as usize - 1)
+    }
+
+    /// The slots that a look-up of a name probes: each opcode stands where the hash of its name and the opcodes before it
+    /// put it.
+    pub fn opcode_slots(&self) -> &[Option<u16>]
+        ensures slots { result.now ≡ self.now.opcode_slots }
+        ensures names { AreOpcodeSlots self.now.names self.now.opcode_slots }
+    {
+        &self.opcode_slots
+    }
+
+    /// Whether this is an opcode and has the name.
+    fn has_name(&self, opcode: u16, name: &[u8]) -> bool
+        ensures { TellsName self.now.names name.now opcode result }
+    {
+        match self.opcode_name(opcode) {
+            Some(own) => own.as_bytes() == name,
+            None => false,
+        }
+    }
+
+    /// The opcode that has the name, of which there is one at most, and `None` exactly where none has it. It costs the length
+    /// of the name, and that of the look-up in the slots.
     pub fn find_opcode(&self, name: &[u8]) -> Option<u16>
         ensures found { IfSome result (IsFirstNamed self.now.names name.now) }
+        ensures finds { (op : ℕ) → at_opcode self.now.names op ≡ Some name.now → result ≡ Some op }
         ensures none { IfNone result ((k : ℕ) → at_opcode self.now.names k ≢ Some name.now) }
         ensures findings { (d : InstructionSet) → AreTablesOf d self.now → FindsName d name.now result }
     {
-        for (place, own) in self.names.iter().enumerate() {
-            if own.as_bytes() == name {
-                return Some(place as u16 + 1);
-            }
-        }
-        None
+        probe(
+            &self.opcode_slots,
+            simple_hash(name),
+            |opcode| self.has_name(opcode, name),
+        )
+    }
+
+    /// As `find_opcode`, and `steps` rises by the length of the look-up, the number of slots that were looked at.
+    pub fn find_opcode_counted<L: Ledger>(&self, name: &[u8], steps: &mut Steps<L>) -> Option<u16>
+        ensures found { IfSome result (IsFirstNamed self.now.names name.now) }
+        ensures finds { (op : ℕ) → at_opcode self.now.names op ≡ Some name.now → result ≡ Some op }
+        ensures none { IfNone result ((k : ℕ) → at_opcode self.now.names k ≢ Some name.now) }
+        ensures findings { (d : InstructionSet) → AreTablesOf d self.now → FindsName d name.now result }
+        ensures steps { (last : ℕ) × IsNameLookup self.now.names self.now.opcode_slots name.now result last × (steps.new ≡ steps.old + (last + 1)) }
+        ensures most { steps.new ≤ steps.old + length self.now.opcode_slots }
+    {
+        probe_counted(
+            &self.opcode_slots,
+            simple_hash(name),
+            |opcode| self.has_name(opcode, name),
+            steps,
+        )
     }
 
     /// Whether the opcode accepts these types, by their numbers: the controlling type, the types of the value results and
@@ -219,12 +306,6 @@ impl Tables {
         true
     }
 }
-
-/// The tables mean the declarations: where they are those of declarations whose variables have sets of types, the decoding
-/// allows exactly those numbers, of all numbers, that the declarations accept.
-pub fn tables_mean_the_declarations()
-    ensures { (d : InstructionSet) (tables : TableContents) (op : ℕ) (c : Option ℕ) (rs vs : List ℕ) → HoldTypeSets d.vars → AreTablesOf d tables → (Allows tables op c rs vs ↔ AcceptsOpcode d op c rs vs) }
-{}
 
 #[cfg(test)]
 mod tests;

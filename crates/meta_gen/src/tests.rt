@@ -7,6 +7,12 @@ use std::alloc::{AllocError, Global};
 use std::process::Abort;
 use std::test::Fail;
 
+mod groups;
+mod hostile;
+mod lists;
+mod one_fault;
+mod slots;
+
 /// The numbers of `i32` and `i64`.
 const I32: u16 = 0x76;
 
@@ -120,7 +126,7 @@ fn declared(
         push(alloc, &mut all, name, ids[*place], inputs, outputs)?;
     }
     assert!(rt; Declarations::fits(&vars, &table, &all));
-    Ok(Declarations::new(vars, table, all))
+    Ok(Declarations::new(vars, table, all, Vec::new(alloc)))
 }
 
 /// Declarations of this many instructions without operands: one of this name, and then `f1`, `f2` and so on.
@@ -140,140 +146,146 @@ fn nullary(
     }
     let vars = TypeVars::new(alloc);
     assert!(rt; Declarations::fits(&vars, &formats, &all));
-    Ok(Declarations::new(vars, formats, all))
+    Ok(Declarations::new(vars, formats, all, Vec::new(alloc)))
 }
 
-#[test]
-fn refuses_by_the_first_fault(rt: HostRuntime) -> Result<(), Fail> {
-    let alloc = rt.alloc();
+/// The first fault of these instructions, whose places of variables are of `ALL` twice and of `i32`, and whose places of formats
+/// are of the ones that stand here.
+fn check_fault(
+    rt: &impl Abort,
+    alloc: Global,
+    instructions: &[Instruction],
+    want: DefinitionError,
+) -> Result<(), AllocError> {
     let variables: [Widths; 3] = [ALL, ALL, Some((32, 32))];
     let formats: [Format; 6] = [("F", 0), ("G", 0), ("9a", 0), ("U", 1), ("T", 3), ("E", 8)];
-    let none: &[usize] = &[];
-    let eight: &[usize] = &[2, 2, 2, 2, 2, 2, 2, 2];
-    let second = Place::Instruction(2);
-    let rows: [(&[Instruction], DefinitionError); 13] = [
-        // nothing controls where the second input's variable stands at the third too
-        (&[("i", 4, &[0, 1, 1], none)], DefinitionError::NoControl(1)),
-        (
-            &[("9a", 0, none, none)],
-            DefinitionError::BadName(Place::Instruction(1)),
-        ),
-        (
-            &[("9a", 3, none, none)],
-            DefinitionError::BadName(Place::Instruction(1)),
-        ),
-        (
-            &[("a1", 0, none, none), ("a_1", 0, none, none)],
-            DefinitionError::DuplicateName(second, 1),
-        ),
-        (
-            &[("ab", 0, none, none), ("ab", 0, none, none)],
-            DefinitionError::DuplicateName(second, 1),
-        ),
-        (
-            &[
-                ("ab", 0, none, none),
-                ("a_b", 0, none, none),
-                ("ab", 3, none, none),
-            ],
-            DefinitionError::DuplicateName(Place::Instruction(3), 1),
-        ),
-        (
-            &[("i", 3, &[0, 0], none)],
-            DefinitionError::FormatMismatch(1),
-        ),
-        (&[("i", 3, none, none)], DefinitionError::FormatMismatch(1)),
-        (
-            &[("i", 5, eight, none)],
-            DefinitionError::TooManyOperands(1, 8),
-        ),
-        (
-            &[("i", 0, none, eight)],
-            DefinitionError::TooManyOperands(1, 8),
-        ),
-        (
-            &[("i", 0, none, none), ("j", 1, none, none)],
-            DefinitionError::FormatClash(1, 0),
-        ),
-        (
-            &[("i", 2, none, none)],
-            DefinitionError::BadName(Place::Format(2)),
-        ),
-        (
-            &[
-                ("i", 0, none, none),
-                ("j", 1, none, none),
-                ("k", 3, none, none),
-            ],
-            DefinitionError::FormatMismatch(3),
-        ),
-    ];
-    for (instructions, want) in &rows {
-        let declarations = declared(&rt, alloc, &variables, &formats, instructions)?;
-        assert_eq!(rt; generate(alloc, &declarations).err(), Some(*want));
-    }
-    for first in ["f0", "9a"] {
-        let fault = generate(alloc, &nullary(&rt, alloc, first, 256)?).err();
-        assert_eq!(rt;
-            fault,
-            Some(DefinitionError::TooManyOpcodes(256)),
-            "{first}"
-        );
-    }
+    let declarations = declared(rt, alloc, &variables, &formats, instructions)?;
+    assert_eq!(rt; generate(alloc, &declarations).err(), Some(want));
+    Ok(())
+}
+
+/// No places of operands.
+const NONE: &[usize] = &[];
+
+#[test]
+fn refuses_bad_names(rt: HostRuntime) -> Result<(), Fail> {
+    let alloc = rt.alloc();
+    let of_first = DefinitionError::BadName(Place::Instruction(1));
+    check_fault(&rt, alloc, &[("9a", 0, NONE, NONE)], of_first)?;
+    check_fault(&rt, alloc, &[("9a", 3, NONE, NONE)], of_first)?;
+    let of_format = DefinitionError::BadName(Place::Format(2));
+    check_fault(&rt, alloc, &[("i", 2, NONE, NONE)], of_format)?;
     Ok(())
 }
 
 #[test]
-fn describes_what_is_declared(rt: HostRuntime) -> Result<(), Fail> {
+fn refuses_shared_names(rt: HostRuntime) -> Result<(), Fail> {
+    let alloc = rt.alloc();
+    let second = DefinitionError::DuplicateName(Place::Instruction(2), 1);
+    let a1 = ("a1", 0, NONE, NONE);
+    check_fault(&rt, alloc, &[a1, ("a_1", 0, NONE, NONE)], second)?;
+    let ab = ("ab", 0, NONE, NONE);
+    check_fault(&rt, alloc, &[ab, ab], second)?;
+    let third = DefinitionError::DuplicateName(Place::Instruction(3), 1);
+    let other = ("a_b", 0, NONE, NONE);
+    check_fault(&rt, alloc, &[ab, other, ("ab", 3, NONE, NONE)], third)?;
+    Ok(())
+}
+
+#[test]
+fn refuses_what_a_format_does_not_store(rt: HostRuntime) -> Result<(), Fail> {
+    let alloc = rt.alloc();
+    let first = DefinitionError::FormatMismatch(1);
+    check_fault(&rt, alloc, &[("i", 3, &[0, 0], NONE)], first)?;
+    check_fault(&rt, alloc, &[("i", 3, NONE, NONE)], first)?;
+    let (i, j) = (("i", 0, NONE, NONE), ("j", 1, NONE, NONE));
+    check_fault(&rt, alloc, &[i, j], DefinitionError::FormatClash(1, 0))?;
+    let third = DefinitionError::FormatMismatch(3);
+    check_fault(&rt, alloc, &[i, j, ("k", 3, NONE, NONE)], third)?;
+    Ok(())
+}
+
+#[test]
+fn refuses_too_many_operands(rt: HostRuntime) -> Result<(), Fail> {
+    let alloc = rt.alloc();
+    let eight: &[usize] = &[2, 2, 2, 2, 2, 2, 2, 2];
+    let many = DefinitionError::TooManyOperands(1, 8);
+    check_fault(&rt, alloc, &[("i", 5, eight, NONE)], many)?;
+    check_fault(&rt, alloc, &[("i", 0, NONE, eight)], many)?;
+    // nothing controls where the second input's variable stands at the third too
+    let uncontrolled = DefinitionError::NoControl(1);
+    check_fault(&rt, alloc, &[("i", 4, &[0, 1, 1], NONE)], uncontrolled)?;
+    Ok(())
+}
+
+#[test]
+fn holds_255_opcodes(rt: HostRuntime) -> Result<(), Fail> {
     let alloc = rt.alloc();
     let tables = generate(alloc, &nullary(&rt, alloc, "f0", 255)?)?;
     assert_eq!(rt; tables.opcode_count(), 255);
     assert_eq!(rt; tables.find_opcode("f254".as_bytes()), Some(255));
     assert_eq!(rt; tables.type_sets().len(), 0);
+    for first in ["f0", "9a"] {
+        let fault = generate(alloc, &nullary(&rt, alloc, first, 256)?).err();
+        let many = DefinitionError::TooManyOpcodes(256);
+        assert_eq!(rt; fault, Some(many), "{first}");
+    }
+    Ok(())
+}
+
+/// The entry and the list of constraints of `iadd` with these outputs and inputs.
+fn check_iadd(
+    rt: &impl Abort,
+    alloc: Global,
+    outputs: &[usize],
+    inputs: &[usize],
+    entry: OpcodeConstraints,
+    constraints: &[Constraint],
+) -> Result<(), DefinitionError> {
+    let variables: [Widths; 3] = [ALL, ALL, Some((32, 32))];
+    let iadd: [Instruction; 1] = [("iadd", 0, inputs, outputs)];
+    let declarations = declared(rt, alloc, &variables, &[("Binary", 2)], &iadd)?;
+    let tables = generate(alloc, &declarations)?;
+    assert_eq!(rt; tables.opcode_count(), 1);
+    assert_eq!(rt; tables.find_opcode("iadd".as_bytes()), Some(1));
+    assert_eq!(rt; tables.constraints(1), Some(entry));
     let scalar_ints = Masks {
         lanes: 1,
         dynamic_lanes: 0,
         ints: 248,
         floats: 0,
     };
+    assert_eq!(rt; tables.type_sets(), [scalar_ints].as_slice());
+    assert_eq!(rt; tables.operand_constraints(), constraints);
+    Ok(())
+}
+
+/// An entry with these flags and this constraint offset, whose control has the first type set.
+fn entry(flags: u8, constraint_offset: u16) -> OpcodeConstraints {
+    OpcodeConstraints {
+        flags,
+        typeset_offset: 0,
+        constraint_offset,
+    }
+}
+
+#[test]
+fn describes_what_is_declared(rt: HostRuntime) -> Result<(), Fail> {
+    let alloc = rt.alloc();
     let same = Constraint::Same;
     let free = Constraint::Free(0);
     let i32 = Constraint::Concrete(I32);
-    // the outputs and the inputs of `iadd`, its flags, and all constraints
-    let rows: [(&[usize], &[usize], u8, &[Constraint]); 5] = [
-        (&[0], &[0, 0], 0x49, &[same, same, same, same, same, same]),
-        // two roots with one set: the first input controls where no output has the other's variable
-        (&[], &[0, 1], 0x58, &[same, same, same, same, free]),
-        (&[1], &[0, 1], 0x41, &[same, same, same, same, free, same]),
-        (
-            &[2, 0],
-            &[0, 2],
-            0x5a,
-            &[same, same, same, i32, same, same, i32],
-        ),
-        (
-            &[0, 2],
-            &[2, 1],
-            0x42,
-            &[same, same, same, same, i32, i32, free],
-        ),
-    ];
-    let variables: [Widths; 3] = [ALL, ALL, Some((32, 32))];
-    for (outputs, inputs, flags, constraints) in &rows {
-        let iadd: [Instruction; 1] = [("iadd", 0, inputs, outputs)];
-        let declarations = declared(&rt, alloc, &variables, &[("Binary", 2)], &iadd)?;
-        let tables = generate(alloc, &declarations)?;
-        let entry = OpcodeConstraints {
-            flags: *flags,
-            typeset_offset: 0,
-            constraint_offset: 3,
-        };
-        assert_eq!(rt; tables.opcode_count(), 1);
-        assert_eq!(rt; tables.find_opcode("iadd".as_bytes()), Some(1));
-        assert_eq!(rt; tables.constraints(1), Some(entry));
-        assert_eq!(rt; tables.type_sets(), [scalar_ints].as_slice());
-        assert_eq!(rt; tables.operand_constraints(), *constraints);
-    }
+    let all: &[Constraint] = &[same, same, same];
+    check_iadd(&rt, alloc, &[0], &[0, 0], entry(0x49, 0), all)?;
+    // two roots with one set: the first input controls where no output has the other's variable
+    let all: &[Constraint] = &[same, same, same, free];
+    check_iadd(&rt, alloc, &[], &[0, 1], entry(0x58, 2), all)?;
+    let all: &[Constraint] = &[same, same, same, free, same];
+    check_iadd(&rt, alloc, &[1], &[0, 1], entry(0x41, 2), all)?;
+    let all: &[Constraint] = &[same, same, same, i32, same, same, i32];
+    check_iadd(&rt, alloc, &[2, 0], &[0, 2], entry(0x5a, 3), all)?;
+    let all: &[Constraint] = &[same, same, same, i32, i32, free];
+    check_iadd(&rt, alloc, &[0, 2], &[2, 1], entry(0x42, 2), all)?;
     Ok(())
 }
 
@@ -295,40 +307,53 @@ fn tables_of(
 
 #[test]
 fn accepts_what_is_declared(rt: HostRuntime) -> Result<(), Fail> {
-    let alloc = rt.alloc();
-    let none: &[u16] = &[];
-    let adding = tables_of(&rt, alloc, &[ALL], &[0], &[0, 0])?;
+    let adding = tables_of(&rt, rt.alloc(), &[ALL], &[0], &[0, 0])?;
     assert!(rt; adding.accepts(1, Some(I32), [I32].as_slice(), [I32, I32].as_slice()));
     assert!(rt; !adding.accepts(1, Some(I32), [I32].as_slice(), [I32, I64].as_slice()));
-    // two free inputs, the first of which controls
-    let free = tables_of(&rt, alloc, &[ALL, ALL], &[], &[0, 1])?;
-    for (control, values, want) in [
-        (Some(I32), [I32, I64], true),
-        (Some(I32), [I32, I32], true),
-        (Some(I64), [I32, I64], false),
-        (Some(I32), [I64, I32], false),
-        (Some(I32), [I32, 0], false),
-        (None, [I32, I64], false),
-    ] {
-        assert_eq!(rt;
-            free.accepts(1, control, none, values.as_slice()),
-            want,
-            "{values:?}"
-        );
+    Ok(())
+}
+
+/// Whether the one instruction, without results, accepts two values.
+fn accepts_two(tables: &Tables, control: Option<u16>, first: u16, second: u16) -> bool {
+    let none: &[u16] = &[];
+    tables.accepts(1, control, none, [first, second].as_slice())
+}
+
+#[test]
+fn accepts_two_free_inputs(rt: HostRuntime) -> Result<(), Fail> {
+    // the first controls
+    let free = tables_of(&rt, rt.alloc(), &[ALL, ALL], &[], &[0, 1])?;
+    assert!(rt; accepts_two(&free, Some(I32), I32, I64));
+    assert!(rt; accepts_two(&free, Some(I32), I32, I32));
+    assert!(rt; !accepts_two(&free, Some(I64), I32, I64));
+    assert!(rt; !accepts_two(&free, Some(I32), I64, I32));
+    assert!(rt; !accepts_two(&free, Some(I32), I32, 0));
+    assert!(rt; !accepts_two(&free, None, I32, I64));
+    Ok(())
+}
+
+/// The one instruction, without results, accepts these values under no control.
+fn check_refused(rt: &impl Abort, tables: &Tables, values: &[u16]) {
+    let none: &[u16] = &[];
+    for control in [None, Some(0), Some(I32), Some(I64)] {
+        assert!(rt; !tables.accepts(1, control, none, values), "{values:?}");
     }
-    // nothing is of the empty set, alone or beside another
-    let numbers: [u16; 4] = [0, 0x70, I32, I64];
+}
+
+#[test]
+fn accepts_nothing_of_no_type(rt: HostRuntime) -> Result<(), Fail> {
+    let alloc = rt.alloc();
     let alone = tables_of(&rt, alloc, &[None], &[], &[0])?;
+    for number in [0, 0x70, I32, I64] {
+        check_refused(&rt, &alone, [number].as_slice());
+    }
+    // beside another
     let first = tables_of(&rt, alloc, &[ALL, None], &[], &[1, 0])?;
     let second = tables_of(&rt, alloc, &[ALL, None], &[], &[0, 1])?;
-    for control in [None, Some(0), Some(I32), Some(I64)] {
-        for one in numbers {
-            assert!(rt; !alone.accepts(1, control, none, [one].as_slice()));
-            for other in numbers {
-                let values = [one, other];
-                assert!(rt; !first.accepts(1, control, none, values.as_slice()));
-                assert!(rt; !second.accepts(1, control, none, values.as_slice()));
-            }
+    for one in [0, 0x70, I32, I64] {
+        for other in [0, 0x70, I32, I64] {
+            check_refused(&rt, &first, [one, other].as_slice());
+            check_refused(&rt, &second, [one, other].as_slice());
         }
     }
     Ok(())

@@ -24,9 +24,12 @@ pub record Entry : Type 0 where
   pub typeset_offset : ℕ
   pub constraint_offset : ℕ
 
--- the tables: the type sets, the one list of operand constraints, and by opcode, from 1 on, the names and the entries
+-- the tables: the type sets, the one list of operand constraints, by opcode, from 1 on, the names, the names of the formats and
+-- the entries, and the slots by which an opcode is found by its name
 pub record TableContents : Type 0 where
   pub names : List (List ℕ)
+  pub formats : List (List ℕ)
+  pub opcode_slots : List (Option ℕ)
   pub type_sets : List Masks
   pub operand_constraints : List NumberConstraint
   pub entries : List Entry

@@ -4,7 +4,7 @@ use Rattle.std.proofs.lemmas.Result.{on_ok_weaker}
 use Rattle.meta_operands.specs.Operand.{variables_of}
 use Rattle.meta_inst.specs.Builder.{Builder, inputs_of, outputs_of}
 use Rattle.meta_inst.specs.InstructionFaults.{HasTooManyOperands}
-use Rattle.meta_gen.specs.Entries.{EntryHolds}
+use Rattle.meta_gen.specs.Entries.{EntryHolds, IsAdded}
 use Rattle.meta_gen.proofs.entries.push_instruction.Goals as goal
 
 -- few results, and few inputs
@@ -27,7 +27,7 @@ few_variables b variables count small is is_count =
     let e : length variables ≡ length (variables_of (outputs_of b)) + length (variables_of (inputs_of b)) = ap length is ∙ length-append (variables_of (outputs_of b)) (variables_of (inputs_of b)) in
     omega arith
 
-few_more : (n old new : ℕ) → n ≤ 14 → new ≡ old + n → new ≤ old + 14
+few_more : (n old new : ℕ) → n ≤ 14 → new ≤ old + n → new ≤ old + 14
 few_more n old new few is = omega arith
 
 pub entry_of-requires-clause-controlled : goal.entry_of-requires-clause-controlled
@@ -50,7 +50,7 @@ entry_of-requires-clause-values c = few_variables c.args.builder.now _ _ c.requi
 
 pub returns-clause-holds : goal.returns-clause-holds
 returns-clause-holds c =
-    subst (λ i. IfOk c.entry_of.result (λ e. EntryHolds c.args.vars.now i c.args.type_sets.now c.entry_of.new.constraints.items e))
+    subst (λ i. IfOk c.entry_of.result (λ e. EntryHolds c.args.vars.now i c.args.type_sets.now c.entry_of.new.constraints e))
     (c.in_ok-operands.ensures.meaning c.args.vars.now) c.entry_of.ensures.holds
 
 pub returns-clause-count : goal.returns-clause-count
@@ -59,3 +59,16 @@ returns-clause-count c =
     let count = c.in_ok-operands.ensures.result_count in
     let few = few_variables c.args.builder.now _ _ c.requires.small c.in_ok-operands.ensures.variables count in
     on_ok_weaker _ (few_more (length c.in_ok-operands.operands.variables) _ _ (omega arith)) c.entry_of.ensures.count
+
+pub returns-clause-added : goal.returns-clause-added
+returns-clause-added c =
+    subst (λ i. IfOk c.entry_of.result (λ e. IsAdded c.args.vars.now i c.args.type_sets.now c.args.constraints.now c.entry_of.new.constraints e))
+    (c.in_ok-operands.ensures.meaning c.args.vars.now) c.entry_of.ensures.added
+
+pub entry_of-requires-clause-room : goal.entry_of-requires-clause-room
+entry_of-requires-clause-room c =
+    let results = few_results c.args.builder.now c.requires.small in
+    let count = c.in_ok-operands.ensures.result_count in
+    let few = few_variables c.args.builder.now _ _ c.requires.small c.in_ok-operands.ensures.variables count in
+    let room = c.requires.room in
+    omega arith

@@ -5,7 +5,7 @@ use Rattle.meta_gen.proofs.first_fault.first_fault.Goals as goal
 
 pub returns : goal.returns
 returns c =
-    let d = c.args.declarations.now in
+    let d = c.args.set.now in
     let counted = c.len-count.ensures in
     let same = ap (length {A = Builder}) c.instructions.ensures.instructions in
     let few = c.if-count-gt-MAX_OPCODES.false in

@@ -5,4 +5,4 @@ use Rattle.meta_gen.proofs.format_fault.first_clash.Goals as goal
 pub returns-clause-none : goal.returns-clause-none
 returns-clause-none c = λ k g at.
     let within = slice_get_within c.args.used.now k g at in
-    c.loop-other.invariant k g (omega arith) at
+    c.loop-earlier.invariant k g (omega arith) at

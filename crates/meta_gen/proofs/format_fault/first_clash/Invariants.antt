@@ -2,8 +2,9 @@ use Rattle.std.proofs.Common.{◌≡◌, ℕ, ◌<◌}
 use Rattle.std.specs.List.{slice_get}
 use Rattle.std.specs.Prelude.{Some}
 use Rattle.meta_gen.specs.FormatsUsed.{ClashIn}
+use Rattle.meta_gen.specs.declared.format_fault.UsedFormat.{UsedFormat}
 use Rattle.meta_gen.proofs.format_fault.first_clash.Given as goal
 
 -- none of the formats so far clashes
-abbrev pub invariant-loop-other : goal.invariant-loop-other
-invariant-loop-other l = (i h : ℕ) → i < l.other-index → slice_get l.used i ≡ Some h → ClashIn l.formats l.id h → ⊥
+abbrev pub invariant-loop-earlier : goal.invariant-loop-earlier
+invariant-loop-earlier l = (i : ℕ) (h : UsedFormat) → i < l.earlier-index → slice_get l.used i ≡ Some h → ClashIn l.formats l.format.id h.id → ⊥

@@ -12,7 +12,7 @@ read instructions all k b e at = sym (ap (λ xs. slice_get xs k) e) ∙ at
 
 pub returns-then-is_bad_name-clause-fault : goal.returns-then-is_bad_name-clause-fault
 returns-then-is_bad_name-clause-fault c =
-    let d = c.args.declarations.now in
+    let d = c.args.set.now in
     let b = c.get-builder.result.now in
     let at = read _ d.instructions c.args.place b c.instructions.ensures.instructions c.get-builder.ensures in
     let own = own_of d b (c.args.place + 1) c.build.result c.in_ok-own.own (rw (c.vars-vars.ensures.vars, c.formats-formats.ensures.formats) at c.build.ensures.refused) (rw (c.vars-vars.ensures.vars, c.formats-formats.ensures.formats) at c.build.ensures.well_made) c.in_ok-own.ensures.built c.in_ok-own.ensures.refused in
@@ -21,7 +21,7 @@ returns-then-is_bad_name-clause-fault c =
 
 pub overflow_add-result : goal.overflow_add-result
 overflow_add-result c =
-    let d = c.args.declarations.now in
+    let d = c.args.set.now in
     let b = c.get-builder.result.now in
     let at = read _ d.instructions c.args.place b c.instructions.ensures.instructions c.get-builder.ensures in
     let shared = rw c.in-Some.is at (c.in_ok-earlier.ensures.shared (take c.args.place (names_of d)) c.requires.kept (names_so_far d c.args.place b at)) in
@@ -32,7 +32,7 @@ overflow_add-result c =
 
 pub returns-in-Some-clause-fault : goal.returns-in-Some-clause-fault
 returns-in-Some-clause-fault c =
-    let d = c.args.declarations.now in
+    let d = c.args.set.now in
     let b = c.get-builder.result.now in
     let at = read _ d.instructions c.args.place b c.instructions.ensures.instructions c.get-builder.ensures in
     let own = own_of d b (c.args.place + 1) c.build.result c.in_ok-own.own (rw (c.vars-vars.ensures.vars, c.formats-formats.ensures.formats) at c.build.ensures.refused) (rw (c.vars-vars.ensures.vars, c.formats-formats.ensures.formats) at c.build.ensures.well_made) c.in_ok-own.ensures.built c.in_ok-own.ensures.refused in
@@ -47,7 +47,7 @@ in_any_case (Some x) P p = tt
 
 pub returns-clause-kept : goal.returns-clause-kept
 returns-clause-kept c =
-    let d = c.args.declarations.now in
+    let d = c.args.set.now in
     let b = c.get-builder.result.now in
     let at = read _ d.instructions c.args.place b c.instructions.ensures.instructions c.get-builder.ensures in
     let added = rw c.in_default.is at (c.in_ok-earlier.ensures.added (take c.args.place (names_of d)) c.requires.kept (names_so_far d c.args.place b at)) in
@@ -55,7 +55,7 @@ returns-clause-kept c =
 
 pub returns-clause-fault : goal.returns-clause-fault
 returns-clause-fault c =
-    let d = c.args.declarations.now in
+    let d = c.args.set.now in
     let b = c.get-builder.result.now in
     let at = read _ d.instructions c.args.place b c.instructions.ensures.instructions c.get-builder.ensures in
     let own = own_of d b (c.args.place + 1) c.build.result c.in_ok-own.own (rw (c.vars-vars.ensures.vars, c.formats-formats.ensures.formats) at c.build.ensures.refused) (rw (c.vars-vars.ensures.vars, c.formats-formats.ensures.formats) at c.build.ensures.well_made) c.in_ok-own.ensures.built c.in_ok-own.ensures.refused in

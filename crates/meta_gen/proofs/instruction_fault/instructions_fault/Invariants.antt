@@ -6,6 +6,6 @@ use Rattle.meta_gen.proofs.instruction_fault.instructions_fault.Given as goal
 -- the names so far are kept, and none of the instructions so far shows a fault
 abbrev pub invariant-loop-place : goal.invariant-loop-place
 invariant-loop-place l = record {
-  kept : Keeps l.places (take l.place (names_of l.declarations));
-  clean : (k : ℕ) → k < l.place → ShowsNoInstructionFault l.declarations k;
+  kept : Keeps l.places (take l.place (names_of l.set));
+  clean : (k : ℕ) → k < l.place → ShowsNoInstructionFault l.set k;
 }

@@ -1,14 +1,15 @@
-use Rattle.std.proofs.Common.{refl}
+use Rattle.std.proofs.Common.{refl, subst, arith, ◌≡◌, length}
 use Rattle.std.proofs.lemmas.Option.{slice_get_read}
-use Rattle.meta_gen.proofs.Interning.{interns_start}
-use Rattle.meta_gen.proofs.Needing.{IsFreeSetAt, interns_place, interns_places}
+use Rattle.meta_gen.specs.Interned.{AddsEach, IsFreeSetAt}
+use Rattle.meta_gen.proofs.Needing.{one_place_more}
 use Rattle.meta_gen.proofs.needed.intern_free.Goals as goal
 
-pub loop-place-init : goal.loop-place-init
-loop-place-init c = interns_start (IsFreeSetAt c.args.vars.now c.args.control.now c.args.variables.now) _
-
 pub loop-place-preserved : goal.loop-place-preserved
-loop-place-preserved c = interns_place _ _ _ _ _ _ _ _ (slice_get_read c.args.variables.now _ c.loop-place.place c.index-variables-place.result refl c.loop-place-test.true c.index-variables-place.is) c.loop-place.invariant c.in_ok-intern_operand.ensures
+loop-place-preserved c = one_place_more _ _ _ _ _ _ _ _ (slice_get_read c.args.variables.now _ c.loop-place.place c.index-variables-place.result refl c.loop-place-test.true c.index-variables-place.is) c.loop-place.invariant c.in_ok-intern_operand.ensures
 
 pub returns : goal.returns
-returns c = interns_places _ _ _ _ _ _ c.loop-place-test.false c.loop-place.invariant
+returns c =
+    let past = c.loop-place-test.false in
+    let within = c.loop-place.auto.place-end in
+    let end : c.loop-place.place ≡ length c.args.variables.now = omega arith in
+    subst (λ n. AddsEach (IsFreeSetAt c.args.vars.now c.args.control.now c.args.variables.now) n c.args.type_sets.now c.loop-place.type_sets) end c.loop-place.invariant

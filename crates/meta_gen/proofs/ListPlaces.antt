@@ -1,0 +1,57 @@
+-- Elements of lists by their places.
+use Rattle.std.proofs.Common.{◌≡◌, ◌≢◌, ℕ, ◌+◌, ◌<◌, ◌⊎◌, inl, inr, ⊎_elim, zero, suc, List, [], ◌∷◌, ◌++◌, length, take, drop, slice_get, slice_set, Some, refl, sym, ap, ◌∙◌, suc-add, zero-add, arith}
+
+-- ---- a list of which one element is set
+
+pub get_set_here : {X : Type 0} (xs : List X) (i : ℕ) (y : X) → i < length xs → slice_get (slice_set xs i y) i ≡ Some y
+get_set_here [] i y l = absurd (omega arith)
+get_set_here (x ∷ xs) zero y l = refl
+get_set_here (x ∷ xs) (suc i) y l = get_set_here xs i y (omega arith)
+
+pub get_set_other : {X : Type 0} (xs : List X) (i j : ℕ) (y : X) → j ≢ i → slice_get (slice_set xs i y) j ≡ slice_get xs j
+get_set_other [] i j y n = refl
+get_set_other (x ∷ xs) zero zero y n = absurd (n refl)
+get_set_other (x ∷ xs) zero (suc j) y n = refl
+get_set_other (x ∷ xs) (suc i) zero y n = refl
+get_set_other (x ∷ xs) (suc i) (suc j) y n = get_set_other xs i j y (λ e. n (ap suc e))
+
+-- ---- two lists joined
+
+pub get_left : {X : Type 0} (xs ys : List X) (k : ℕ) → k < length xs → slice_get (xs ++ ys) k ≡ slice_get xs k
+get_left [] ys k l = absurd (omega arith)
+get_left (x ∷ xs) ys zero l = refl
+get_left (x ∷ xs) ys (suc k) l = get_left xs ys k (omega arith)
+
+pub get_right : {X : Type 0} (xs ys : List X) (k : ℕ) → slice_get (xs ++ ys) (length xs + k) ≡ slice_get ys k
+get_right [] ys k = ap (slice_get ys) (zero-add k)
+get_right (x ∷ xs) ys k = ap (slice_get (x ∷ (xs ++ ys))) (suc-add (length xs) k) ∙ get_right xs ys k
+
+-- an element is one of the first or one of the second
+pub get_cases : {X : Type 0} (xs ys : List X) (k : ℕ) (x : X) → slice_get (xs ++ ys) k ≡ Some x → (slice_get xs k ≡ Some x) ⊎ ((j : ℕ) × (k ≡ length xs + j) × (slice_get ys j ≡ Some x))
+get_cases [] ys k x e = inr (k, omega arith, e)
+get_cases (z ∷ xs) ys zero x e = inl e
+get_cases (z ∷ xs) ys (suc k) x e = ⊎_elim (λ h. inl h) (λ h. inr (h.0, omega (arith, h.1), h.2)) (get_cases xs ys k x e)
+
+-- an element is one of the list, or the one behind it
+pub get_pushed : {X : Type 0} (xs : List X) (y : X) (k : ℕ) (z : X) → slice_get (xs ++ y ∷ []) k ≡ Some z → (slice_get xs k ≡ Some z) ⊎ ((k ≡ length xs) × (y ≡ z))
+get_pushed [] y zero z e = inr (refl, (cc))
+get_pushed [] y (suc k) z e = absurd (cc)
+get_pushed (x ∷ xs) y zero z e = inl e
+get_pushed (x ∷ xs) y (suc k) z e = ⊎_elim (λ h. inl h) (λ h. inr (omega (arith, h.0), h.1)) (get_pushed xs y k z e)
+
+pub get_end : {X : Type 0} (xs : List X) (y : X) → slice_get (xs ++ y ∷ []) (length xs) ≡ Some y
+get_end [] y = refl
+get_end (x ∷ xs) y = get_end xs y
+
+-- ---- the first elements, and the others
+
+pub get_take : {X : Type 0} (xs : List X) (n i : ℕ) → i < n → slice_get (take n xs) i ≡ slice_get xs i
+get_take xs zero i l = absurd (omega arith)
+get_take [] (suc n) i l = refl
+get_take (x ∷ xs) (suc n) zero l = refl
+get_take (x ∷ xs) (suc n) (suc i) l = get_take xs n i (omega arith)
+
+pub get_drop : {X : Type 0} (xs : List X) (n i : ℕ) → slice_get (drop n xs) i ≡ slice_get xs (n + i)
+get_drop xs zero i = ap (slice_get xs) (sym (zero-add i))
+get_drop [] (suc n) i = refl
+get_drop (x ∷ xs) (suc n) i = get_drop xs n i ∙ ap (slice_get (x ∷ xs)) (sym (suc-add n i))

@@ -1,0 +1,25 @@
+-- What the name of an entry finds.
+use Rattle.std.specs.Prelude.{ℕ, ◌≡◌, ◌<◌, List, ◌++◌, ◌+◌, length, map, slice_get, Option, Some, None}
+use Rattle.meta_settings.specs.Layout.{Layout}
+
+-- the names of the entries of a group: its settings, then its presets
+abbrev pub entry_names : Layout → List (List ℕ)
+entry_names g = map (λ s. s.name) g.settings ++ map (λ p. p.name) g.presets
+
+-- how many entries it has
+abbrev pub entry_count : Layout → ℕ
+entry_count g = length g.settings + length g.presets
+
+-- the entry has the name, and none before it has it
+pub record IsFirstNamed (names : List (List ℕ)) (name : List ℕ) (e : ℕ) : Type 0 where
+  pub there : slice_get names e ≡ Some name
+  pub is_first : (j : ℕ) → j < e → slice_get names j ≡ Some name → ⊥
+
+-- nothing is found exactly where no entry has the name, and else the first that has it
+abbrev pub FindsEntry : List (List ℕ) → List ℕ → Option ℕ → Type 0
+FindsEntry names name None = (e : ℕ) → slice_get names e ≡ Some name → ⊥
+FindsEntry names name (Some e) = IsFirstNamed names name e
+
+-- no two of the names are the same
+abbrev pub AreApart : List (List ℕ) → Type 0
+AreApart names = (i j : ℕ) (name : List ℕ) → slice_get names i ≡ Some name → slice_get names j ≡ Some name → i ≡ j

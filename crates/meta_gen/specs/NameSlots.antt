@@ -1,0 +1,36 @@
+-- Slots of names, which hold the numbers of the names.
+--     AreNameSlots first names slots       the slots of names that are numbered from `first` on
+--     NameAnswers first names name ..      what a lookup of a name asks of the number in a slot
+use Rattle.std.specs.Prelude.{ℕ, zero, suc, ◌≡◌, ◌↔◌, ◌+◌, ◌≤◌, Bool, true, List, [], ◌∷◌, length, slice_get, Option, Some}
+use Rattle.meta_unique.specs.SimpleHash.{hash_of}
+use Rattle.meta_unique.specs.Slots.{IsSlots}
+
+-- the number is that of this name
+pub record IsNumberOf (first : ℕ) (names : List (List ℕ)) (name : List ℕ) (number : ℕ) : Type 0 where
+  pub place : ℕ
+  pub number_is : number ≡ first + place
+  pub there : slice_get names place ≡ Some name
+
+-- the name with this number hashes to h
+pub record HashesTo (first : ℕ) (names : List (List ℕ)) (number h : ℕ) : Type 0 where
+  pub name : List ℕ
+  pub is_number : IsNumberOf first names name number
+  pub hash : h ≡ hash_of name
+
+-- so many numbers from `first` on
+abbrev pub numbers_from : ℕ → ℕ → List ℕ
+numbers_from first zero = []
+numbers_from first (suc count) = first ∷ numbers_from (first + 1) count
+
+-- the slots hold the numbers of the names, each at the first vacant slot of the probe from its name's hash, in order
+abbrev pub AreNameSlots : ℕ → List (List ℕ) → List (Option ℕ) → Type 0
+AreNameSlots first names slots = IsSlots (HashesTo first names) (numbers_from first (length names)) slots
+
+-- the answer to whether the number is that of the name
+abbrev pub NameAnswers : ℕ → List (List ℕ) → List ℕ → ℕ → Bool → Type 0
+NameAnswers first names name number answer = (answer ≡ true) ↔ IsNumberOf first names name number
+
+-- the number is that of the name, and no number before it is
+pub record IsFirstNumberOf (first : ℕ) (names : List (List ℕ)) (name : List ℕ) (number : ℕ) : Type 0 where
+  pub is_number : IsNumberOf first names name number
+  pub is_first : (other : ℕ) → IsNumberOf first names name other → number ≤ other

@@ -1,0 +1,292 @@
+ghost use Rattle.std.specs.Prelude.{◌≡◌, ◌≢◌, ◌↔◌, ◌≤◌, ◌+◌, ◌<◌, ℕ, List, Option, IsTrue, IsSome, IfSome, IfNone, length, map, take, drop, slice_get, slice_index_or, None, Some, false};
+ghost use Rattle.std.specs.Option.{option_map};
+ghost use Rattle.meta_typevar.specs.Registry.{HoldTypeSets};
+ghost use Rattle.meta_inst.specs.InstructionSet.{InstructionSet};
+ghost use Rattle.meta_unique.specs.Probing.{IsLookup};
+ghost use Rattle.meta_unique.specs.SimpleHash.{hash_of};
+ghost use Rattle.meta_settings.specs.Layout.{Layout};
+ghost use Rattle.meta_meaning.specs.Tables.{at_opcode, Allows};
+ghost use Rattle.meta_gen.specs.TablesOf.{AreTablesOf, AcceptsOpcode};
+ghost use Rattle.meta_gen.specs.Constraint.{number_constraint_of, entry_of};
+ghost use Rattle.meta_gen.specs.Contents.{IsOpcode, IsFirstNamed};
+ghost use Rattle.meta_gen.specs.OpcodeSlots.{AreOpcodeSlots, IsNameLookup};
+ghost use Rattle.meta_gen.specs.Found.{IsDeclaredAs, FindsName};
+ghost use Rattle.meta_gen.specs.declared.descriptor.Descriptor.{Descriptor};
+ghost use Rattle.meta_gen.specs.Descriptor.{DescribesEntry};
+ghost use Rattle.meta_gen.specs.NameSlots.{AreNameSlots, NameAnswers};
+ghost use Rattle.meta_gen.specs.FoundSetting.{entry_count, FindsEntry};
+ghost use Rattle.meta_gen.specs.PresetMasks.{AreJoined};
+ghost use Rattle.meta_gen.specs.GroupTables.{names_in, IsPresetIn, AreTablesOfGroup, default_in, AnswersDefault, Applies};
+ghost use Rattle.meta_gen.specs.AllDeclared.{Declared};
+ghost use Rattle.meta_gen.specs.WholeTables.{OfGroup, HasNoGroup, part_in, AreWholeTablesOf, FindsSetting};
+
+use super::constraint::{Constraint, OpcodeConstraints};
+use super::descriptor::Descriptor;
+use super::group_tables::GroupTables;
+use super::opcode_tables::OpcodeTables;
+use super::same::same_groups;
+use meta_types::Text;
+use meta_typevar::Masks;
+use meta_unique::Steps;
+use std::marker::Model;
+use std::sync::ledger::Ledger;
+
+/// The tables of declarations (this project's own). Of the instruction set they have by opcode the name, the name of the format
+/// and the constraints, the type sets and the one list of operand constraints that these refer to, and the slots by which a name
+/// is looked up; opcodes are numbered from 1. Of each group of settings they have its entries, and what is found by an entry;
+/// groups and entries are numbered from 0.
+#[derive(Debug, Drop)]
+pub struct Tables {
+    opcodes: OpcodeTables,
+    groups: Vec<GroupTables>,
+}
+
+impl Model for Tables {
+    ghost use Rattle.meta_gen.specs.WholeTables.{WholeTables};
+
+    ghost Value = { WholeTables };
+
+    ghost view = { λ t. record { opcodes = t.opcodes; groups = t.groups.items } };
+}
+
+impl Tables {
+    /// The tables with these parts.
+    pub(crate) fn new(opcodes: OpcodeTables, groups: Vec<GroupTables>) -> Tables
+        ensures { result ≡ record { opcodes = opcodes; groups = groups.items } }
+    {
+        Tables { opcodes, groups }
+    }
+
+    /// How many opcodes there are, at most 255: they are 1 to this number.
+    pub fn opcode_count(&self) -> u16
+        ensures count { result ≡ length self.now.opcodes.entries }
+        ensures named { length self.now.opcodes.names ≡ length self.now.opcodes.entries }
+        ensures few { length self.now.opcodes.entries ≤ 255 }
+    {
+        self.opcodes.opcode_count()
+    }
+
+    /// How many groups of settings there are: they are 0 to one less.
+    pub fn group_count(&self) -> usize
+        ensures { result ≡ length self.now.groups }
+    {
+        self.groups.len()
+    }
+
+    /// Whether these tables and the others are the same: all their parts are equal.
+    pub fn same(&self, other: &Tables) -> bool
+        ensures { IsTrue result ↔ (self.now ≡ other.now) }
+    {
+        self.opcodes.same(&other.opcodes) && same_groups(&self.groups, &other.groups)
+    }
+
+    /// The type sets, by the places that the constraints name.
+    pub fn type_sets(&self) -> &[Masks]
+        ensures { result.now ≡ self.now.opcodes.type_sets }
+    {
+        self.opcodes.type_sets()
+    }
+
+    /// The one list of operand constraints, which the offsets of opcodes point into.
+    pub fn operand_constraints(&self) -> &[Constraint]
+        ensures { map number_constraint_of result.now ≡ self.now.opcodes.operand_constraints }
+    {
+        self.opcodes.operand_constraints()
+    }
+
+    /// The constraints of an opcode, and `None` exactly where it isn't 1 to `opcode_count`.
+    pub fn constraints(&self, opcode: u16) -> Option<OpcodeConstraints>
+        ensures opcode { IsSome result ↔ IsOpcode self.now.opcodes opcode }
+        ensures entry { IfSome result (λ e. at_opcode self.now.opcodes.entries opcode ≡ Some (entry_of e)) }
+        ensures meaning { (d : InstructionSet) → AreTablesOf d self.now.opcodes → IfSome result (λ e. IsDeclaredAs d self.now.opcodes opcode (entry_of e)) }
+    {
+        self.opcodes.constraints(opcode)
+    }
+
+    /// The name of an opcode, and `None` exactly where it isn't 1 to `opcode_count`.
+    pub fn opcode_name(&self, opcode: u16) -> Option<&Text>
+        ensures opcode { IsSome result ↔ IsOpcode self.now.opcodes opcode }
+        ensures name { IfSome result (λ name. at_opcode self.now.opcodes.names opcode ≡ Some name.now) }
+        ensures none { IfNone result (at_opcode self.now.opcodes.names opcode ≡ None) }
+    {
+        self.opcodes.opcode_name(opcode)
+    }
+
+    /// The name of the format of an opcode, and `None` exactly where it isn't 1 to `opcode_count`.
+    pub fn opcode_format(&self, opcode: u16) -> Option<&Text>
+        ensures opcode { IsSome result ↔ IsOpcode self.now.opcodes opcode }
+        ensures format { IfSome result (λ name. at_opcode self.now.opcodes.formats opcode ≡ Some name.now) }
+        ensures none { IfNone result (at_opcode self.now.opcodes.formats opcode ≡ None) }
+    {
+        self.opcodes.opcode_format(opcode)
+    }
+
+    /// The slots that a look-up of a name probes: each opcode stands where the hash of its name and the opcodes before it
+    /// put it.
+    pub fn opcode_slots(&self) -> &[Option<u16>]
+        ensures slots { result.now ≡ self.now.opcodes.opcode_slots }
+        ensures names { AreOpcodeSlots self.now.opcodes.names self.now.opcodes.opcode_slots }
+    {
+        self.opcodes.opcode_slots()
+    }
+
+    /// The opcode that has the name, of which there is one at most, and `None` exactly where none has it. It costs the length
+    /// of the name, and that of the look-up in the slots.
+    pub fn find_opcode(&self, name: &[u8]) -> Option<u16>
+        ensures found { IfSome result (IsFirstNamed self.now.opcodes.names name.now) }
+        ensures finds { (op : ℕ) → at_opcode self.now.opcodes.names op ≡ Some name.now → result ≡ Some op }
+        ensures none { IfNone result ((k : ℕ) → at_opcode self.now.opcodes.names k ≢ Some name.now) }
+        ensures findings { (d : InstructionSet) → AreTablesOf d self.now.opcodes → FindsName d name.now result }
+    {
+        self.opcodes.find_opcode(name)
+    }
+
+    /// As `find_opcode`, and `steps` rises by the length of the look-up, the number of slots that were looked at.
+    pub fn find_opcode_counted<L: Ledger>(&self, name: &[u8], steps: &mut Steps<L>) -> Option<u16>
+        ensures found { IfSome result (IsFirstNamed self.now.opcodes.names name.now) }
+        ensures finds { (op : ℕ) → at_opcode self.now.opcodes.names op ≡ Some name.now → result ≡ Some op }
+        ensures none { IfNone result ((k : ℕ) → at_opcode self.now.opcodes.names k ≢ Some name.now) }
+        ensures findings { (d : InstructionSet) → AreTablesOf d self.now.opcodes → FindsName d name.now result }
+        ensures steps { (last : ℕ) × IsNameLookup self.now.opcodes.names self.now.opcodes.opcode_slots name.now result last × (steps.new ≡ steps.old + (last + 1)) }
+        ensures most { steps.new ≤ steps.old + length self.now.opcodes.opcode_slots }
+    {
+        self.opcodes.find_opcode_counted(name, steps)
+    }
+
+    /// Whether the opcode accepts these types, by their numbers: the controlling type, the types of the value results and
+    /// those of the value inputs. It is false for a number that no type has, and for an opcode that there isn't.
+    pub fn accepts(&self, opcode: u16, ctrl: Option<u16>, results: &[u16], values: &[u16]) -> bool
+        ensures decoding { IsTrue result ↔ Allows self.now.opcodes opcode ctrl results.now values.now }
+        ensures meaning { (d : InstructionSet) → HoldTypeSets d.vars → AreTablesOf d self.now.opcodes → (IsTrue result ↔ AcceptsOpcode d opcode ctrl results.now values.now) }
+    {
+        self.opcodes.accepts(opcode, ctrl, results, values)
+    }
+
+    /// The name of a group, and `None` exactly where there is no such group.
+    pub fn group_name(&self, group: usize) -> Option<&Text>
+        ensures { option_map (λ name. name.now) result ≡ part_in self.now group (λ t. t.name) }
+    {
+        let tables = self.groups.get(group)?;
+        Some(tables.name())
+    }
+
+    /// How many bytes the settings of a group take, and `None` exactly where there is no such group.
+    pub fn settings_size(&self, group: usize) -> Option<u8>
+        ensures size { result ≡ part_in self.now group (λ t. length t.defaults) }
+        ensures meaning { OfGroup self.now group (λ t. (g : Layout) → AreTablesOfGroup g t → result ≡ Some g.settings_size) }
+    {
+        let tables = self.groups.get(group)?;
+        Some(tables.settings_size())
+    }
+
+    /// The one list of the values of all enums of a group, in which the descriptor of an enum says where its own stand, and
+    /// `None` exactly where there is no such group.
+    pub fn enumerators(&self, group: usize) -> Option<&[Text]>
+        ensures { option_map (λ list. list.now) result ≡ part_in self.now group (λ t. t.enumerators) }
+    {
+        let tables = self.groups.get(group)?;
+        Some(tables.enumerators())
+    }
+
+    /// The default bytes of a group, one a setting byte, with the declared defaults joined, and `None` exactly where there is no
+    /// such group.
+    pub fn defaults(&self, group: usize) -> Option<&[u8]>
+        ensures { option_map (λ bytes. bytes.now) result ≡ part_in self.now group (λ t. t.defaults) }
+    {
+        let tables = self.groups.get(group)?;
+        Some(tables.defaults())
+    }
+
+    /// The masks of the presets of a group, one a preset and setting byte, preset after preset, and `None` exactly where there
+    /// is no such group.
+    pub fn preset_masks(&self, group: usize) -> Option<&[u8]>
+        ensures { option_map (λ masks. masks.now) result ≡ part_in self.now group (λ t. t.preset_masks) }
+    {
+        let tables = self.groups.get(group)?;
+        Some(tables.preset_masks())
+    }
+
+    /// The slots of the names of the entries of a group, and `None` exactly where there is no such group.
+    pub fn setting_slots(&self, group: usize) -> Option<&[Option<u16>]>
+        ensures slots { option_map (λ slots. slots.now) result ≡ part_in self.now group (λ t. t.slots) }
+        ensures names { OfGroup self.now group (λ t. AreNameSlots 0 (names_in t.descriptors) t.slots) }
+    {
+        let tables = self.groups.get(group)?;
+        Some(tables.setting_slots())
+    }
+
+    /// The entry of a group with this number, from 0, and `None` exactly where there is no such group or entry.
+    pub fn descriptor(&self, group: usize, index: u16) -> Option<&Descriptor>
+        ensures entry { OfGroup self.now group (λ t. option_map (λ d. d.now) result ≡ slice_get t.descriptors index) }
+        ensures no_group { HasNoGroup self.now group → result ≡ None }
+        ensures none { OfGroup self.now group (λ t. (g : Layout) → AreTablesOfGroup g t → (IsSome result ↔ (index < entry_count g))) }
+        ensures meaning { OfGroup self.now group (λ t. (g : Layout) → AreTablesOfGroup g t → IfSome result (λ d. DescribesEntry g t.enumerators index d.now)) }
+    {
+        let tables = self.groups.get(group)?;
+        tables.descriptor(index)
+    }
+
+    /// What the setting of a group with this number is by default: 0 or 1 for a boolean, 0 for an enum, which is its first
+    /// value, and the number. It is `None` exactly for a preset and where there is no such group or entry.
+    pub fn default_value(&self, group: usize, index: u16) -> Option<u8>
+        ensures entry { OfGroup self.now group (λ t. (d : Descriptor) → slice_get t.descriptors index ≡ Some d → result ≡ default_in (slice_index_or t.defaults d.offset 0) d.detail) }
+        ensures absent { OfGroup self.now group (λ t. slice_get t.descriptors index ≡ None → result ≡ None) }
+        ensures no_group { HasNoGroup self.now group → result ≡ None }
+        ensures meaning { OfGroup self.now group (λ t. (g : Layout) → AreTablesOfGroup g t → AnswersDefault g index result) }
+    {
+        let tables = self.groups.get(group)?;
+        tables.default_value(index)
+    }
+
+    /// The tables of a group, and `None` exactly where there is no such group.
+    fn tables_of(&self, group: usize) -> Option<&GroupTables>
+        ensures { option_map (λ t. t.now) result ≡ slice_get self.now.groups group }
+    {
+        self.groups.get(group)
+    }
+
+    /// The number of the entry of a group that has the name, and `None` exactly where none has it or there is no such group. It
+    /// costs the length of the name, and that of the look-up in the slots.
+    pub fn find_setting(&self, group: usize, name: &[u8]) -> Option<u16>
+        ensures found { OfGroup self.now group (λ t. FindsEntry (names_in t.descriptors) name.now result) }
+        ensures no_group { HasNoGroup self.now group → result ≡ None }
+        ensures findings { (d : Declared) → AreWholeTablesOf d self.now → FindsSetting d group name.now result }
+    {
+        let tables = self.tables_of(group)?;
+        tables.find_setting(name)
+    }
+
+    /// As `find_setting`, and `steps` rises by the length of the look-up, the number of slots that were looked at. Where there is
+    /// no such group it doesn't rise.
+    pub fn find_setting_counted<L: Ledger>(
+        &self,
+        group: usize,
+        name: &[u8],
+        steps: &mut Steps<L>,
+    ) -> Option<u16>
+        ensures found { OfGroup self.now group (λ t. FindsEntry (names_in t.descriptors) name.now result) }
+        ensures no_group { HasNoGroup self.now group → (result ≡ None) × (steps.new ≡ steps.old) }
+        ensures findings { (d : Declared) → AreWholeTablesOf d self.now → FindsSetting d group name.now result }
+        ensures counted { OfGroup self.now group (λ t. (last : ℕ) × IsLookup (NameAnswers 0 (names_in t.descriptors) name.now) t.slots (hash_of name.now) result last × (steps.new ≡ steps.old + (last + 1))) }
+        ensures most { OfGroup self.now group (λ t. steps.new ≤ steps.old + length t.slots) }
+    {
+        let tables = self.tables_of(group)?;
+        tables.find_setting_counted(name, steps)
+    }
+
+    /// Turns on the bits of what a preset of a group turns on, in setting bytes, where `preset` is the number of its entry. It
+    /// answers false and changes nothing exactly where that is no preset of the group, there is no such group, or there aren't
+    /// `settings_size` bytes.
+    pub fn apply_preset(&self, group: usize, preset: u16, bytes: &mut [u8]) -> bool
+        ensures answer { OfGroup self.now group (λ t. (IsTrue result ↔ (((d : Descriptor) × IsPresetIn t.descriptors preset d) × (length bytes.old ≡ length t.defaults)))) }
+        ensures joined { OfGroup self.now group (λ t. IsTrue result → (d : Descriptor) → IsPresetIn t.descriptors preset d → AreJoined bytes.old (take (length t.defaults) (drop d.offset t.preset_masks)) bytes.new) }
+        ensures no_group { HasNoGroup self.now group → result ≡ false }
+        ensures unchanged { result ≡ false → bytes.new ≡ bytes.old }
+        ensures meaning { OfGroup self.now group (λ t. (g : Layout) → AreTablesOfGroup g t → Applies g preset bytes.old bytes.new result) }
+    {
+        match self.groups.get(group) {
+            Some(tables) => tables.apply_preset(preset, bytes),
+            None => false,
+        }
+    }
+}
