@@ -2,7 +2,10 @@ mod PieceLemmas
 mod LineLemmas
 mod NameLemmas
 mod QuestionLemmas
+mod QueryLemmas
 mod AnswerLemmas
+mod SettingLines
+mod LineParts
 mod Meant
 mod Runs
 mod OneOutput

@@ -1,22 +1,26 @@
 -- What tables answer is what the declarations mean that they were made for.
-use Rattle.std.proofs.Common.{◌≡◌, ◌≢◌, ◌↔◌, ◌+◌, ℕ, zero, suc, List, [], ◌∷◌, ◌++◌, map, slice_get, Option, None, Some, IfSome, All, refl, sym, ap, ◌∙◌, subst, add-one, arith}
+use Rattle.std.proofs.Common.{◌≡◌, ◌↔◌, ◌+◌, inl, inr, ℕ, zero, suc, List, [], ◌∷◌, length, map, slice_get, Option, None, Some, IfSome, All, refl, sym, ap, ◌∙◌, subst, add-one, arith}
 use Rattle.std.specs.Option.{option_map}
-use Rattle.std.proofs.lemmas.Option.{slice_get-map, slice_get_within, slice_get-get_or, get_or_from_slice_get}
+use Rattle.std.proofs.lemmas.Option.{slice_get-map, slice_get_within, get_or_from_slice_get}
 use Rattle.meta_types.specs.Shape.{Shape, IsType, number_of}
 use Rattle.meta_typevar.specs.Variable.{Variable, Sets}
 use Rattle.meta_inst.specs.Builder.{Builder}
 use Rattle.meta_inst.specs.Instruction.{Instruction}
 use Rattle.meta_inst.specs.InstructionSet.{InstructionSet, root_sets, instruction_of}
 use Rattle.meta_inst.specs.Faults.{IsAt, names_of}
-use Rattle.meta_meaning.specs.Acceptance.{Accepts, AcceptsNumbers, AreNumbersOf, IsNumberOf}
+use Rattle.meta_meaning.specs.Acceptance.{Accepts, AcceptsNumbers, IsNumberOf}
 use Rattle.meta_meaning.specs.Tables.{TableContents, at_opcode, Allows}
 use Rattle.meta_types.proofs.Numbers.{one_number}
 use Rattle.meta_gen.specs.TablesOf.{AreTablesOf, AcceptsOpcode}
-use Rattle.meta_gen.specs.Contents.{IsFirstNamed}
+use Rattle.meta_gen.specs.AllDeclared.{Declared}
+use Rattle.meta_gen.specs.WholeTables.{WholeTables, AreTablesOfGroups, AreWholeTablesOf}
+use Rattle.meta_settings.specs.GroupDeclaration.{GroupDeclaration}
 use Rattle.meta_query.specs.Question.{Question, IsQuestion}
-use Rattle.meta_query.specs.Answer.{AllowsAsked, AsksOpcode, IsTableReply, AcceptsAsked, AsksInstruction, IsReply, IsAnswered, AreAnswers}
+use Rattle.meta_query.specs.Query.{Asked, OfQuestion, OfSetting, Asks}
+use Rattle.meta_query.specs.Answer.{AllowsAsked, AllowedReply, IsLineInTables, SettingReply, TablesReply, IsTableReply, AcceptsAsked, AcceptedReply, IsLineOfEntry, EntryReply, DeclaredReply, IsReply, IsAnswered, AreAnswers}
 use Rattle.meta_query.specs.declared.reply.Reply.{Reply}
-use Rattle.meta_query.specs.declared.reply.Reply.TheVariants.{Accept, Refuse, Unknown, Bad}
+use Rattle.meta_query.specs.declared.reply.Reply.TheVariants.{Accept, Refuse, Unknown, Bad, Setting}
+use Rattle.meta_query.proofs.SettingLines.{same_line}
 
 -- each is a type
 abbrev AreTypes : List Shape → Type 0
@@ -119,16 +123,61 @@ module _ (d : InstructionSet) (tables : TableContents) (made : AreTablesOf d tab
           accepts = numbers_from_types (root_sets d) (instruction_of d b) h.control q.control q.results q.values asks.control (named_types q.results asks.results) (named_types q.values asks.values) h.accepts;
         })
 
+  -- what the tables allow is what the instruction accepts
+  accepted : (line : List ℕ) (q : Question) → IsQuestion line q → (reply : Reply) → AllowedReply tables q reply → AcceptedReply d q reply
+  accepted line q asks Accept (op, named, allows) =
+      let (k, b, number, at, is) = opcode_is op q.name named.named in
+      (b, record { place = k; at = at; named = is }, accepts_asked line q asks k b at op number allows)
+  accepted line q asks Refuse (op, named, never) =
+      let (k, b, number, at, is) = opcode_is op q.name named.named in
+      (b, record { place = k; at = at; named = is }, λ h. never (allows_asked line q asks k b at op number h))
+  accepted line q asks Unknown never = λ k b at e. never (k + 1) (opcode_named k b at ∙ ap (λ n. Some n) e)
+  accepted line q asks Bad h = h
+  accepted line q asks (Setting text) h = h
+
+-- ---- settings
+
+-- where one of two lists of the same length has a first element, the other has one too
+first_there : {X Y : Type 0} (xs : List X) (ys : List Y) → length xs ≡ length ys → (y : Y) → slice_get ys 0 ≡ Some y → (x : X) × (slice_get xs 0 ≡ Some x)
+first_there [] [] e y at = absurd (cc)
+first_there [] (z ∷ ys) e y at = absurd (omega (arith, e))
+first_there (x ∷ xs) ys e y at = (x, refl)
+
+module _ (groups : List GroupDeclaration) (tables : WholeTables) (made : AreTablesOfGroups groups tables.groups) where
+  -- the line of the entry of the tables is that of the entry of the declared group
+  line_means : (name line : List ℕ) → IsLineInTables tables name line → IsLineOfEntry groups name line
+  line_means name line h =
+      let (g, at) = first_there groups tables.groups (sym made.count) h.group h.group_is in
+      let own = made.each 0 g h.group at h.group_is in
+      record {
+        group = g;
+        group_is = at;
+        entry = h.entry;
+        named = ap (λ names. slice_get names h.entry) (sym own.names) ∙ h.named.there;
+        line_is = same_line g h.group own h.entry h.descriptor h.there ∙ ap (λ l. Some l) (sym h.line_is);
+      }
+
+  -- what the tables reply to the name of a setting is what the declared group means
+  setting_means : (name : List ℕ) (reply : Reply) → SettingReply tables name reply → EntryReply groups name reply
+  setting_means name Accept h = h
+  setting_means name Refuse h = h
+  setting_means name Unknown h = λ g at e named.
+      let (t, there) = first_there tables.groups groups made.count g at in
+      h t there e (ap (λ names. slice_get names e) (made.each 0 g t at there).names ∙ named)
+  setting_means name Bad h = h
+  setting_means name (Setting line) h = line_means name line h
+
+-- ---- all that a line asks
+
+module _ (d : Declared) (tables : WholeTables) (made : AreWholeTablesOf d tables) (means : (op : ℕ) (c : Option ℕ) (rs vs : List ℕ) → (Allows tables.opcodes op c rs vs ↔ AcceptsOpcode d.set op c rs vs)) where
+  query_means : (line : List ℕ) (q : Asked) → Asks line q → (reply : Reply) → TablesReply tables q reply → DeclaredReply d q reply
+  query_means line (OfQuestion q) asks reply h = accepted d.set tables.opcodes made.opcodes means line q asks reply h
+  query_means line (OfSetting name) asks reply h = setting_means d.groups tables made.groups name reply h
+
   -- the reply of the tables is that of the declarations
   reply_means : (line : List ℕ) (reply : Reply) → IsTableReply tables line reply → IsReply d line reply
-  reply_means line Accept (q, op, asked, allows) =
-      let (k, b, number, at, is) = opcode_is op q.name asked.named.named in
-      (q, b, record { asks = asked.asks; place = k; at = at; named = is }, accepts_asked line q asked.asks k b at op number allows)
-  reply_means line Refuse (q, op, asked, never) =
-      let (k, b, number, at, is) = opcode_is op q.name asked.named.named in
-      (q, b, record { asks = asked.asks; place = k; at = at; named = is }, λ h. never (allows_asked line q asked.asks k b at op number h))
-  reply_means line Unknown (q, asks, never) = (q, asks, λ k b at e. never (k + 1) (opcode_named k b at ∙ ap (λ n. Some n) e))
-  reply_means line Bad h = h
+  reply_means line reply (inl (q, asks, h)) = inl (q, asks, query_means line q asks reply h)
+  reply_means line reply (inr h) = inr h
 
   answer_means : (line text : List ℕ) → IsAnswered (IsTableReply tables) line text → IsAnswered (IsReply d) line text
   answer_means [] text h = h

@@ -1,5 +1,5 @@
 -- Valid declarations answer an input with one output at most.
-use Rattle.std.proofs.Common.{◌≡◌, ◌<◌, ◌≤◌, ◌+◌, inl, ⊎_elim, ℕ, zero, suc, List, [], ◌∷◌, ◌++◌, slice_get, Some, refl, sym, ap, ap₂, ◌∙◌, subst, arith}
+use Rattle.std.proofs.Common.{◌≡◌, ◌<◌, ◌≤◌, ◌+◌, inl, inr, ⊎_elim, ℕ, zero, suc, List, [], ◌∷◌, ◌++◌, slice_get, Some, refl, sym, ap, ap₂, ◌∙◌, subst, arith}
 use Rattle.std.specs.Prelude.{option_map}
 use Rattle.std.proofs.lemmas.Option.{same_Some, slice_get-map}
 use Rattle.std.proofs.lemmas.Bool.{cases_lt}
@@ -9,11 +9,18 @@ use Rattle.meta_inst.specs.Builder.{Builder}
 use Rattle.meta_inst.specs.InstructionSet.{InstructionSet}
 use Rattle.meta_inst.specs.Faults.{IsAt, SharesName, names_of, IsDuplicate, OfInstruction, IsValid}
 use Rattle.meta_query.specs.Lines.{lines_of}
-use Rattle.meta_query.specs.Question.{Question, IsQuestion}
-use Rattle.meta_query.specs.Answer.{AcceptsAsked, AsksInstruction, IsReply, reply_line, IsAnswered, AreAnswers, IsOutput}
+use Rattle.meta_settings.specs.GroupDeclaration.{GroupDeclaration}
+use Rattle.meta_settings.specs.GroupFaults.{IsValidGroup}
+use Rattle.meta_settings.specs.LaidOut.{built_of}
+use Rattle.meta_gen.specs.FoundSetting.{entry_names, AreApart}
+use Rattle.meta_gen.specs.AllDeclared.{Declared, AreValidGroups, AreValid}
+use Rattle.meta_query.specs.Question.{Question}
+use Rattle.meta_query.specs.Query.{Asked, OfQuestion, OfSetting}
+use Rattle.meta_query.specs.SettingLine.{entry_lines}
+use Rattle.meta_query.specs.Answer.{AcceptsAsked, IsAskedFor, AcceptedReply, IsLineOfEntry, EntryReply, DeclaredReply, IsReply, reply_line, IsAnswered, AreAnswers, IsOutput}
 use Rattle.meta_query.specs.declared.reply.Reply.{Reply}
-use Rattle.meta_query.specs.declared.reply.Reply.TheVariants.{Accept, Refuse, Unknown, Bad}
-use Rattle.meta_query.proofs.QuestionLemmas.{one_question}
+use Rattle.meta_query.specs.declared.reply.Reply.TheVariants.{Accept, Refuse, Unknown, Bad, Setting}
+use Rattle.meta_query.proofs.QueryLemmas.{one_query}
 
 module _ (d : InstructionSet) (valid : IsValid d) where
   -- ---- two instructions of one name are one
@@ -51,41 +58,66 @@ module _ (d : InstructionSet) (valid : IsValid d) where
       (cases_lt k j))
       (cases_lt j k)
 
-  -- ---- a line has one reply
+  -- ---- a question has one reply
 
-  module _ (line : List ℕ) where
-    name_of_both : (q p : Question) → IsQuestion line q → IsQuestion line p → q.name ≡ p.name
-    name_of_both q p h g = ap (λ (q : Question). q.name) (one_question line q p h g)
+  -- what the instruction accepts isn't refused
+  not_both : (q : Question) (b c : Builder) → IsAskedFor d q b → IsAskedFor d q c → AcceptsAsked d b q → (AcceptsAsked d c q → ⊥) → ⊥
+  not_both q b c h g accepts refuses = refuses (subst (λ b. AcceptsAsked d b q) (one_named h.place g.place b c h.at g.at (h.named ∙ sym g.named)) accepts)
 
-    -- what the instruction accepts isn't refused
-    not_both : (q p : Question) (b c : Builder) → AsksInstruction d line q b → AsksInstruction d line p c → AcceptsAsked d b q → (AcceptsAsked d c p → ⊥) → ⊥
-    not_both q p b c h g accepts refuses =
-        let same : b ≡ c = one_named h.place g.place b c h.at g.at (h.named ∙ name_of_both q p h.asks g.asks ∙ sym g.named) in
-        refuses (subst (AcceptsAsked d c) (one_question line q p h.asks g.asks) (subst (λ b. AcceptsAsked d b q) same accepts))
+  -- a declared name isn't unknown
+  not_unknown : (q : Question) (b : Builder) → IsAskedFor d q b → ((k : ℕ) (c : Builder) → IsAt d k c → c.name ≡ q.name → ⊥) → ⊥
+  not_unknown q b h unknown = unknown h.place b h.at h.named
 
-    -- a declared name isn't unknown
-    not_unknown : (q p : Question) (b : Builder) → AsksInstruction d line q b → IsQuestion line p → ((k : ℕ) (c : Builder) → IsAt d k c → c.name ≡ p.name → ⊥) → ⊥
-    not_unknown q p b h asks unknown = unknown h.place b h.at (h.named ∙ name_of_both q p h.asks asks)
+  one_accepted : (q : Question) (r s : Reply) → AcceptedReply d q r → AcceptedReply d q s → r ≡ s
+  one_accepted q Accept Accept h g = refl
+  one_accepted q Accept Refuse (b, asked, accepts) (c, other, refuses) = absurd (not_both q b c asked other accepts refuses)
+  one_accepted q Accept Unknown (b, asked, accepts) unknown = absurd (not_unknown q b asked unknown)
+  one_accepted q Refuse Accept (c, other, refuses) (b, asked, accepts) = absurd (not_both q b c asked other accepts refuses)
+  one_accepted q Refuse Refuse h g = refl
+  one_accepted q Refuse Unknown (b, asked, refuses) unknown = absurd (not_unknown q b asked unknown)
+  one_accepted q Unknown Accept unknown (b, asked, accepts) = absurd (not_unknown q b asked unknown)
+  one_accepted q Unknown Refuse unknown (b, asked, refuses) = absurd (not_unknown q b asked unknown)
+  one_accepted q Unknown Unknown h g = refl
+  one_accepted q r Bad h g = absurd g
+  one_accepted q r (Setting line) h g = absurd g
+  one_accepted q Bad s h g = absurd h
+  one_accepted q (Setting line) s h g = absurd h
 
-    one_reply : (r s : Reply) → IsReply d line r → IsReply d line s → r ≡ s
-    one_reply Accept Accept h g = refl
-    one_reply Accept Refuse (q, b, asks, accepts) (p, c, other, refuses) = absurd (not_both q p b c asks other accepts refuses)
-    one_reply Accept Unknown (q, b, asks, accepts) (p, other, unknown) = absurd (not_unknown q p b asks other unknown)
-    one_reply Accept Bad (q, b, asks, accepts) bad = absurd (bad q asks.asks)
-    one_reply Refuse Accept (p, c, other, refuses) (q, b, asks, accepts) = absurd (not_both q p b c asks other accepts refuses)
-    one_reply Refuse Refuse h g = refl
-    one_reply Refuse Unknown (q, b, asks, refuses) (p, other, unknown) = absurd (not_unknown q p b asks other unknown)
-    one_reply Refuse Bad (q, b, asks, refuses) bad = absurd (bad q asks.asks)
-    one_reply Unknown Accept (p, other, unknown) (q, b, asks, accepts) = absurd (not_unknown q p b asks other unknown)
-    one_reply Unknown Refuse (p, other, unknown) (q, b, asks, refuses) = absurd (not_unknown q p b asks other unknown)
-    one_reply Unknown Unknown h g = refl
-    one_reply Unknown Bad (p, asks, unknown) bad = absurd (bad p asks)
-    one_reply Bad Accept bad (q, b, asks, accepts) = absurd (bad q asks.asks)
-    one_reply Bad Refuse bad (q, b, asks, refuses) = absurd (bad q asks.asks)
-    one_reply Bad Unknown bad (p, asks, unknown) = absurd (bad p asks)
-    one_reply Bad Bad h g = refl
+-- ---- so has the name of a setting
 
-  -- ---- so the lines have one answer
+module _ (apart : (g : GroupDeclaration) → IsValidGroup g → AreApart (entry_names (built_of g))) (groups : List GroupDeclaration) (valid : AreValidGroups groups) (name : List ℕ) where
+  one_line : (a b : List ℕ) → IsLineOfEntry groups name a → IsLineOfEntry groups name b → a ≡ b
+  one_line a b h g =
+      let group : h.group ≡ g.group = same_Some h.group g.group (sym h.group_is ∙ g.group_is) in
+      let named : slice_get (entry_names (built_of g.group)) h.entry ≡ Some name = subst (λ (d : GroupDeclaration). slice_get (entry_names (built_of d)) h.entry ≡ Some name) group h.named in
+      let line : slice_get (entry_lines (built_of g.group)) h.entry ≡ Some a = subst (λ (d : GroupDeclaration). slice_get (entry_lines (built_of d)) h.entry ≡ Some a) group h.line_is in
+      let entry : h.entry ≡ g.entry = apart g.group (valid 0 g.group g.group_is) h.entry g.entry name named g.named in
+      same_Some a b (sym line ∙ ap (slice_get (entry_lines (built_of g.group))) entry ∙ g.line_is)
+
+  one_entry : (r s : Reply) → EntryReply groups name r → EntryReply groups name s → r ≡ s
+  one_entry Unknown Unknown h g = refl
+  one_entry Unknown (Setting line) h g = absurd (h g.group g.group_is g.entry g.named)
+  one_entry (Setting line) Unknown h g = absurd (g h.group h.group_is h.entry h.named)
+  one_entry (Setting line) (Setting other) h g = ap (λ l. Setting l) (one_line line other h g)
+  one_entry r Accept h g = absurd g
+  one_entry r Refuse h g = absurd g
+  one_entry r Bad h g = absurd g
+  one_entry Accept s h g = absurd h
+  one_entry Refuse s h g = absurd h
+  one_entry Bad s h g = absurd h
+
+-- ---- so the lines have one answer
+
+module _ (apart : (g : GroupDeclaration) → IsValidGroup g → AreApart (entry_names (built_of g))) (d : Declared) (valid : AreValid d) where
+  one_declared : (q : Asked) (r s : Reply) → DeclaredReply d q r → DeclaredReply d q s → r ≡ s
+  one_declared (OfQuestion q) r s h g = one_accepted d.set valid.set q r s h g
+  one_declared (OfSetting name) r s h g = one_entry apart d.groups valid.groups name r s h g
+
+  one_reply : (line : List ℕ) (r s : Reply) → IsReply d line r → IsReply d line s → r ≡ s
+  one_reply line r s (inl (q, asks, h)) (inl (p, others, g)) = one_declared q r s h (subst (λ q. DeclaredReply d q s) (one_query line p q others asks) g)
+  one_reply line r s (inl (q, asks, h)) (inr (bad, none)) = absurd (none q asks)
+  one_reply line r s (inr (bad, none)) (inl (q, asks, h)) = absurd (none q asks)
+  one_reply line r s (inr (bad, none)) (inr (too, nothing)) = bad ∙ sym too
 
   one_answer : (line a b : List ℕ) → IsAnswered (IsReply d) line a → IsAnswered (IsReply d) line b → a ≡ b
   one_answer [] a b h g = h ∙ sym g
@@ -95,6 +127,6 @@ module _ (d : InstructionSet) (valid : IsValid d) where
   one_list [] a b h g = h ∙ sym g
   one_list (line ∷ lines) a b (first, rest, h, hs, is) (other, others, g, gs, too) = is ∙ ap₂ ◌++◌ (one_answer line first other h g) (one_list lines rest others hs gs) ∙ sym too
 
--- Valid declarations answer an input with one output at most.
-pub same_output : (d : InstructionSet) (input a b : List ℕ) → IsValid d → IsOutput d input a → IsOutput d input b → a ≡ b
-same_output d input a b valid h g = one_list d valid (lines_of input) a b h g
+-- Valid declarations answer an input with one output at most, where no two entries of a valid group have the same name.
+pub same_output : ((g : GroupDeclaration) → IsValidGroup g → AreApart (entry_names (built_of g))) → (d : Declared) (input a b : List ℕ) → AreValid d → IsOutput d input a → IsOutput d input b → a ≡ b
+same_output apart d input a b valid h g = one_list apart d valid (lines_of input) a b h g

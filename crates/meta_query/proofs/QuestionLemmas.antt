@@ -1,5 +1,5 @@
 -- What a line asks.
-use Rattle.std.proofs.Common.{◌≡◌, ◌≢◌, ℕ, ◌<◌, ◌==◌, List, [], ◌∷◌, ◌++◌, map, length, All, Contains, codes, Option, Some, None, IfSome, refl, sym, ap, ap₂, ◌∙◌, arith, append-nil, eq-eqb, false}
+use Rattle.std.proofs.Common.{◌≡◌, ◌≢◌, ℕ, ◌<◌, ◌==◌, List, [], ◌∷◌, ◌++◌, map, length, All, codes, Option, Some, None, IfSome, refl, sym, ap, ap₂, ◌∙◌, arith, append-nil, eq-eqb, false}
 use Rattle.std.specs.List.{join_with_byte}
 use Rattle.std.proofs.lemmas.List.Elements.{All-nil, All-cons, All-head, All-tail, All-same, All-weaker, All-map}
 use Rattle.std.proofs.lemmas.Bool.{false≢true}
@@ -108,7 +108,7 @@ name_has_bytes line q h =
     (All-head IsWord q.name behind (All-tail IsWord (codes "accept") (q.name ∷ behind) h.words.each)).has_bytes
 
 -- pieces between spaces that have bytes are words
-words_from : (words : List (List ℕ)) → All (λ w. 0 < length w) words → All (λ w. All (λ b. (b == 32) ≡ false) w) words → All IsWord words
+pub words_from : (words : List (List ℕ)) → All (λ w. 0 < length w) words → All (λ w. All (λ b. (b == 32) ≡ false) w) words → All IsWord words
 words_from words some lack = λ k d l. record { has_bytes = some k d l; has_no_space = λ i e m s. false≢true (sym (lack k d l i e m) ∙ eq-eqb _ 32 s) }
 
 -- a line of other words asks nothing

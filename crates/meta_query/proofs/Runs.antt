@@ -1,22 +1,21 @@
 -- From the parts of a run to the whole.
-use Rattle.std.proofs.Common.{◌≡◌, ◌≢◌, ◌↔◌, ◌<◌, ◌≤◌, ◌+◌, ◌⊎◌, inl, inr, ⊎_elim, ℕ, List, [], ◌∷◌, ◌++◌, length, length-append, Option, None, Some, IfSome, refl, sym, ap, ◌∙◌, subst, arith}
+use Rattle.std.proofs.Common.{◌≡◌, ◌↔◌, ◌<◌, ◌≤◌, ℕ, List, [], ◌++◌, length, length-append, Option, None, Some, refl, sym, ap, ◌∙◌, subst, arith}
 use Rattle.std.proofs.lemmas.List.{append-nil}
 use Rattle.meta_types.specs.declared.fault.DefinitionError.{DefinitionError}
-use Rattle.meta_inst.specs.InstructionSet.{InstructionSet}
-use Rattle.meta_inst.specs.Faults.{IsFirstFault, IsValid}
-use Rattle.meta_meaning.specs.Tables.{TableContents, Allows}
-use Rattle.meta_gen.specs.TablesOf.{AreTablesOf, AcceptsOpcode}
-use Rattle.meta_text.specs.Outside.{Rose, with_front, with_more, NothingLeft, longest_input, GaveMore, GaveAtMost, TookPart}
+use Rattle.meta_meaning.specs.Tables.{Allows}
+use Rattle.meta_gen.specs.TablesOf.{AcceptsOpcode}
+use Rattle.meta_gen.specs.AllDeclared.{Declared, ShowsFirst, AreValid}
+use Rattle.meta_gen.specs.WholeTables.{WholeTables, AreWholeTablesOf}
+use Rattle.meta_text.specs.Outside.{Rose, with_front, with_more, NothingLeft, longest_input, GaveMore, GaveAtMost}
 use Rattle.meta_query.specs.Lines.{lines_of}
 use Rattle.meta_query.specs.Answer.{IsOutput, refusal}
-use Rattle.meta_query.specs.Run.{IsCommand, IsAnsweredWhole, IsRefusedWhole, IsRefusedInPart, IsAnsweredInPart, IsWritten, IsWrittenInPart, Answers, Refuses}
+use Rattle.meta_query.specs.Run.{IsCommand, IsAnsweredWhole, IsRefusedWhole, IsAnsweredInPart, IsWritten, IsWrittenInPart, Answers, Refuses}
 use Rattle.meta_query.specs.declared.status.Status.{Status}
 use Rattle.meta_query.specs.declared.status.Status.TheVariants.{Done, Refused, Usage, ReadFault, WriteFault, OutOfMemory, TooLong}
-use Rattle.meta_gen.proofs.OneFault.{one_fault}
 use Rattle.meta_query.proofs.Meant.{answers_mean}
 
 -- what tables of the declarations answered is their output
-module _ (d : InstructionSet) (tables : TableContents) (made : AreTablesOf d tables) (means : (op : ℕ) (c : Option ℕ) (rs vs : List ℕ) → (Allows tables op c rs vs ↔ AcceptsOpcode d op c rs vs)) (valid : IsValid d) (left left' taken taken' : Option (List ℕ)) where
+module _ (d : Declared) (tables : WholeTables) (made : AreWholeTablesOf d tables) (means : (op : ℕ) (c : Option ℕ) (rs vs : List ℕ) → (Allows tables.opcodes op c rs vs ↔ AcceptsOpcode d.set op c rs vs)) (valid : AreValid d) (left left' taken taken' : Option (List ℕ)) where
   pub answered : IsWritten tables left left' taken taken' → IsAnsweredWhole d left left' taken taken'
   answered h = record { valid = valid; input = h.input; output = h.output; read = h.read; end = h.end; within = h.within; answers = answers_mean d tables made means (lines_of h.input) h.output h.answers; took = h.took }
 
@@ -49,16 +48,17 @@ gave_within input left' few h = within left' h.given
         let m = more in
         omega (arith, ap length whole, length-append h.bytes rest)
 
-module _ (d : InstructionSet) (words : List (List ℕ)) (left left' taken taken' : Option (List ℕ)) (reads reads' writes writes' : ℕ) where
+-- where declarations show one first fault at most, and valid ones show none
+module _ (one_fault : (d : Declared) (e f : DefinitionError) → ShowsFirst d e → ShowsFirst d f → e ≡ f) (no_fault : (d : Declared) (e : DefinitionError) → AreValid d → ShowsFirst d e → ⊥) (d : Declared) (words : List (List ℕ)) (left left' taken taken' : Option (List ℕ)) (reads reads' writes writes' : ℕ) where
   -- from the causes of each ending, that valid declarations are answered
-  pub headline : (status : Status) → (status ≡ Usage → IsCommand words → ⊥) → (status ≡ Done → IsCommand words × IsAnsweredWhole d left left' taken taken') → (status ≡ Refused → IsCommand words × IsRefusedWhole d taken taken') → (status ≡ ReadFault → IsCommand words × IsValid d × Rose reads reads') → (status ≡ WriteFault → IsCommand words × Rose writes writes') → (status ≡ TooLong → IsCommand words × IsValid d × GaveMore longest_input left left') → Answers d words left reads reads' taken taken' writes writes' status
+  pub headline : (status : Status) → (status ≡ Usage → IsCommand words → ⊥) → (status ≡ Done → IsCommand words × IsAnsweredWhole d left left' taken taken') → (status ≡ Refused → IsCommand words × IsRefusedWhole d taken taken') → (status ≡ ReadFault → IsCommand words × AreValid d × Rose reads reads') → (status ≡ WriteFault → IsCommand words × Rose writes writes') → (status ≡ TooLong → IsCommand words × AreValid d × GaveMore longest_input left left') → Answers d words left reads reads' taken taken' writes writes' status
   headline Done usage done refused read write long command valid memory input before told few no_read taken_is no_write =
       let h = (done refl).1 in
       let all = read_all input h.input left' (sym told ∙ h.read) h.end in
       (refl, h.output, subst (λ i. IsOutput d i h.output) all h.answers, h.took ∙ ap (λ t. with_more t h.output) taken_is)
   headline Refused usage done refused read write long command valid memory input before told few no_read taken_is no_write =
       let h = (refused refl).1 in
-      absurd (valid h.first.position h.fault h.first.shows)
+      absurd (no_fault d h.fault valid h.first)
   headline Usage usage done refused read write long command valid memory input before told few no_read taken_is no_write = absurd (usage refl command)
   headline ReadFault usage done refused read write long command valid memory input before told few no_read taken_is no_write = absurd (no_read (read refl).2)
   headline WriteFault usage done refused read write long command valid memory input before told few no_read taken_is no_write = absurd (no_write (write refl).1)
@@ -67,13 +67,13 @@ module _ (d : InstructionSet) (words : List (List ℕ)) (left left' taken taken'
       absurd (gave_within input left' few (subst (λ l. GaveMore longest_input l left') told (long refl).2))
 
   -- and that others are refused
-  pub refuses : (status : Status) → (status ≡ Usage → IsCommand words → ⊥) → (status ≡ Done → IsCommand words × IsAnsweredWhole d left left' taken taken') → (status ≡ Refused → IsCommand words × IsRefusedWhole d taken taken') → (status ≡ ReadFault → IsCommand words × IsValid d × Rose reads reads') → (status ≡ WriteFault → IsCommand words × Rose writes writes') → (status ≡ TooLong → IsCommand words × IsValid d × GaveMore longest_input left left') → Refuses d words taken taken' writes writes' status
-  refuses Done usage done refused read write long command e first memory before taken_is no_write = absurd ((done refl).1.valid first.position e first.shows)
+  pub refuses : (status : Status) → (status ≡ Usage → IsCommand words → ⊥) → (status ≡ Done → IsCommand words × IsAnsweredWhole d left left' taken taken') → (status ≡ Refused → IsCommand words × IsRefusedWhole d taken taken') → (status ≡ ReadFault → IsCommand words × AreValid d × Rose reads reads') → (status ≡ WriteFault → IsCommand words × Rose writes writes') → (status ≡ TooLong → IsCommand words × AreValid d × GaveMore longest_input left left') → Refuses d words taken taken' writes writes' status
+  refuses Done usage done refused read write long command e first memory before taken_is no_write = absurd (no_fault d e (done refl).1.valid first)
   refuses Refused usage done refused read write long command e first memory before taken_is no_write =
       let h = (refused refl).1 in
       (refl, h.took ∙ ap (λ t. with_more t (refusal h.fault)) taken_is ∙ ap (λ f. Some (before ++ refusal f)) (one_fault d h.fault e h.first first))
   refuses Usage usage done refused read write long command e first memory before taken_is no_write = absurd (usage refl command)
-  refuses ReadFault usage done refused read write long command e first memory before taken_is no_write = absurd ((read refl).1 first.position e first.shows)
+  refuses ReadFault usage done refused read write long command e first memory before taken_is no_write = absurd (no_fault d e (read refl).1 first)
   refuses WriteFault usage done refused read write long command e first memory before taken_is no_write = absurd (no_write (write refl).1)
   refuses OutOfMemory usage done refused read write long command e first memory before taken_is no_write = absurd (memory refl)
-  refuses TooLong usage done refused read write long command e first memory before taken_is no_write = absurd ((long refl).1 first.position e first.shows)
+  refuses TooLong usage done refused read write long command e first memory before taken_is no_write = absurd (no_fault d e (long refl).1 first)

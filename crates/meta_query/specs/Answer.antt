@@ -3,7 +3,7 @@
 --     IsReply d line reply               the reply of declarations, as they mean
 --     AreAnswers R lines out             out is the answers of the lines in order, each with LF
 --     IsOutput d input out               out answers the whole input as the declarations mean
-use Rattle.std.specs.Prelude.{◌≡◌, ◌≢◌, ℕ, List, [], ◌∷◌, ◌++◌, map, Option, None, Some, codes}
+use Rattle.std.specs.Prelude.{◌≡◌, ◌≢◌, ℕ, List, [], ◌∷◌, ◌++◌, ◌⊎◌, map, slice_get, Option, None, Some, codes}
 use Rattle.std.specs.Option.{option_map}
 use Rattle.meta_types.specs.Shape.{number_of}
 use Rattle.meta_types.specs.Fault.{line_of}
@@ -15,29 +15,70 @@ use Rattle.meta_inst.specs.InstructionSet.{InstructionSet, root_sets, instructio
 use Rattle.meta_inst.specs.Faults.{IsAt}
 use Rattle.meta_meaning.specs.Acceptance.{Accepts}
 use Rattle.meta_meaning.specs.Tables.{TableContents, at_opcode, Allows}
+use Rattle.meta_settings.specs.GroupDeclaration.{GroupDeclaration}
+use Rattle.meta_settings.specs.LaidOut.{built_of}
+use Rattle.meta_gen.specs.declared.descriptor.Descriptor.{Descriptor}
 use Rattle.meta_gen.specs.Contents.{IsFirstNamed}
+use Rattle.meta_gen.specs.FoundSetting.{entry_names, FindsEntry}
+use Rattle.meta_gen.specs.GroupTables.{GroupContents, names_in}
+use Rattle.meta_gen.specs.AllDeclared.{Declared}
+use Rattle.meta_gen.specs.WholeTables.{WholeTables}
 use Rattle.meta_query.specs.Lines.{lines_of}
-use Rattle.meta_query.specs.Question.{Question, IsQuestion}
+use Rattle.meta_query.specs.Question.{Question}
+use Rattle.meta_query.specs.Query.{Asked, OfQuestion, OfSetting, Asks}
+use Rattle.meta_query.specs.SettingLine.{entry_lines, line_in}
 use Rattle.meta_query.specs.Reply.{reply_text}
 use Rattle.meta_query.specs.declared.reply.Reply.{Reply}
-use Rattle.meta_query.specs.declared.reply.Reply.TheVariants.{Accept, Refuse, Unknown, Bad}
+use Rattle.meta_query.specs.declared.reply.Reply.TheVariants.{Accept, Refuse, Unknown, Bad, Setting}
+
+-- The reply to a line, where R says what is replied to what is asked: that of what the line asks, and `bad` where it asks nothing.
+abbrev pub IsReplyBy : (Asked → Reply → Type 0) → List ℕ → Reply → Type 0
+IsReplyBy R line reply =
+    ((q : Asked) × Asks line q × R q reply)
+    ⊎ ((reply ≡ Bad) × ((q : Asked) → Asks line q → ⊥))
+
+-- ---- by tables
 
 -- the tables allow, for the opcode, the numbers of the types that are asked
 abbrev pub AllowsAsked : TableContents → ℕ → Question → Type 0
 AllowsAsked tables op q = Allows tables op (option_map number_of q.control) (map number_of q.results) (map number_of q.values)
 
--- the line asks the question, and the opcode has the name that it asks for
-pub record AsksOpcode (tables : TableContents) (line : List ℕ) (q : Question) (op : ℕ) : Type 0 where
-  pub asks : IsQuestion line q
-  pub named : IsFirstNamed tables.names q.name op
+-- whether the decoding allows, for the opcode that has the name, what is asked; `unknown` where no opcode has it
+abbrev pub AllowedReply : TableContents → Question → Reply → Type 0
+AllowedReply tables q Accept = (op : ℕ) × IsFirstNamed tables.names q.name op × AllowsAsked tables op q
+AllowedReply tables q Refuse = (op : ℕ) × IsFirstNamed tables.names q.name op × (AllowsAsked tables op q → ⊥)
+AllowedReply tables q Unknown = (op : ℕ) → at_opcode tables.names op ≢ Some q.name
+AllowedReply tables q Bad = ⊥
+AllowedReply tables q (Setting line) = ⊥
 
--- the reply to a line by tables alone: whether the decoding allows what is asked; `unknown` where no opcode has the name;
--- `bad` where the line asks nothing
-abbrev pub IsTableReply : TableContents → List ℕ → Reply → Type 0
-IsTableReply tables line Accept = (q : Question) × (op : ℕ) × AsksOpcode tables line q op × AllowsAsked tables op q
-IsTableReply tables line Refuse = (q : Question) × (op : ℕ) × AsksOpcode tables line q op × (AllowsAsked tables op q → ⊥)
-IsTableReply tables line Unknown = (q : Question) × IsQuestion line q × ((op : ℕ) → at_opcode tables.names op ≢ Some q.name)
-IsTableReply tables line Bad = (q : Question) → IsQuestion line q → ⊥
+-- the text is the line of the entry of group 0 that has the name, by its tables
+pub record IsLineInTables (tables : WholeTables) (name line : List ℕ) : Type 0 where
+  pub group : GroupContents
+  pub group_is : slice_get tables.groups 0 ≡ Some group
+  pub entry : ℕ
+  pub named : FindsEntry (names_in group.descriptors) name (Some entry)
+  pub descriptor : Descriptor
+  pub there : slice_get group.descriptors entry ≡ Some descriptor
+  pub line_is : line ≡ line_in group descriptor
+
+-- the line of the entry of group 0 that has the name; `unknown` where no entry has it, or there is no such group
+abbrev pub SettingReply : WholeTables → List ℕ → Reply → Type 0
+SettingReply tables name Accept = ⊥
+SettingReply tables name Refuse = ⊥
+SettingReply tables name Unknown = (g : GroupContents) → slice_get tables.groups 0 ≡ Some g → (e : ℕ) → slice_get (names_in g.descriptors) e ≢ Some name
+SettingReply tables name Bad = ⊥
+SettingReply tables name (Setting line) = IsLineInTables tables name line
+
+-- what tables reply to what is asked
+abbrev pub TablesReply : WholeTables → Asked → Reply → Type 0
+TablesReply tables (OfQuestion q) reply = AllowedReply tables.opcodes q reply
+TablesReply tables (OfSetting name) reply = SettingReply tables name reply
+
+-- the reply to a line by tables alone
+abbrev pub IsTableReply : WholeTables → List ℕ → Reply → Type 0
+IsTableReply tables line reply = IsReplyBy (TablesReply tables) line reply
+
+-- ---- as the declarations mean
 
 -- the instruction accepts the types that are asked: one choice of types for all its roots fits them
 pub record AcceptsAsked (d : InstructionSet) (b : Builder) (q : Question) : Type 0 where
@@ -45,20 +86,46 @@ pub record AcceptsAsked (d : InstructionSet) (b : Builder) (q : Question) : Type
   pub is_control : IsControl (root_sets d) (instruction_of d b) control
   pub accepts : Accepts (root_sets d) (instruction_of d b) control q.control q.results q.values
 
--- the line asks the question, and a declared instruction has the name that it asks for
-pub record AsksInstruction (d : InstructionSet) (line : List ℕ) (q : Question) (b : Builder) : Type 0 where
-  pub asks : IsQuestion line q
+-- the instruction is declared, and has the name that the question asks for
+pub record IsAskedFor (d : InstructionSet) (q : Question) (b : Builder) : Type 0 where
   pub place : ℕ
   pub at : IsAt d place b
   pub named : b.name ≡ q.name
 
--- the reply to a line as the declarations mean: whether the instruction accepts what is asked; `unknown` where no
--- instruction has the name; `bad` where the line asks nothing
-abbrev pub IsReply : InstructionSet → List ℕ → Reply → Type 0
-IsReply d line Accept = (q : Question) × (b : Builder) × AsksInstruction d line q b × AcceptsAsked d b q
-IsReply d line Refuse = (q : Question) × (b : Builder) × AsksInstruction d line q b × (AcceptsAsked d b q → ⊥)
-IsReply d line Unknown = (q : Question) × IsQuestion line q × ((k : ℕ) (b : Builder) → IsAt d k b → b.name ≢ q.name)
-IsReply d line Bad = (q : Question) → IsQuestion line q → ⊥
+-- whether the instruction that has the name accepts what is asked; `unknown` where no instruction has it
+abbrev pub AcceptedReply : InstructionSet → Question → Reply → Type 0
+AcceptedReply d q Accept = (b : Builder) × IsAskedFor d q b × AcceptsAsked d b q
+AcceptedReply d q Refuse = (b : Builder) × IsAskedFor d q b × (AcceptsAsked d b q → ⊥)
+AcceptedReply d q Unknown = (k : ℕ) (b : Builder) → IsAt d k b → b.name ≢ q.name
+AcceptedReply d q Bad = ⊥
+AcceptedReply d q (Setting line) = ⊥
+
+-- the text is the line of the entry of group 0 that has the name
+pub record IsLineOfEntry (groups : List GroupDeclaration) (name line : List ℕ) : Type 0 where
+  pub group : GroupDeclaration
+  pub group_is : slice_get groups 0 ≡ Some group
+  pub entry : ℕ
+  pub named : slice_get (entry_names (built_of group)) entry ≡ Some name
+  pub line_is : slice_get (entry_lines (built_of group)) entry ≡ Some line
+
+-- the line of the entry of group 0 that has the name; `unknown` where no entry has it, or there is no such group
+abbrev pub EntryReply : List GroupDeclaration → List ℕ → Reply → Type 0
+EntryReply groups name Accept = ⊥
+EntryReply groups name Refuse = ⊥
+EntryReply groups name Unknown = (g : GroupDeclaration) → slice_get groups 0 ≡ Some g → (e : ℕ) → slice_get (entry_names (built_of g)) e ≢ Some name
+EntryReply groups name Bad = ⊥
+EntryReply groups name (Setting line) = IsLineOfEntry groups name line
+
+-- what declarations reply to what is asked
+abbrev pub DeclaredReply : Declared → Asked → Reply → Type 0
+DeclaredReply d (OfQuestion q) reply = AcceptedReply d.set q reply
+DeclaredReply d (OfSetting name) reply = EntryReply d.groups name reply
+
+-- the reply to a line as the declarations mean
+abbrev pub IsReply : Declared → List ℕ → Reply → Type 0
+IsReply d line reply = IsReplyBy (DeclaredReply d) line reply
+
+-- ---- the answers of lines
 
 -- a reply as it stands in the output: its text and LF
 abbrev pub reply_line : Reply → List ℕ
@@ -75,7 +142,7 @@ AreAnswers R [] out = out ≡ []
 AreAnswers R (line ∷ lines) out = (first : List ℕ) × (rest : List ℕ) × IsAnswered R line first × AreAnswers R lines rest × (out ≡ first ++ rest)
 
 -- the output for an input: the answers of its lines, as the declarations mean
-abbrev pub IsOutput : InstructionSet → List ℕ → List ℕ → Type 0
+abbrev pub IsOutput : Declared → List ℕ → List ℕ → Type 0
 IsOutput d input out = AreAnswers (IsReply d) (lines_of input) out
 
 -- what answers one line: none where it is empty, and else the text of its reply

@@ -1,6 +1,9 @@
 pub mod Lines
 pub mod Words
 pub mod Question
+pub mod Query
+pub mod SettingLine
+pub mod Demo
 pub mod Reply
 pub mod Status
 pub mod Answer

@@ -1,9 +1,12 @@
 ghost use Rattle.std.specs.Prelude.{◌≡◌, ℕ, List};
-ghost use Rattle.meta_inst.specs.InstructionSet.{InstructionSet};
-ghost use Rattle.meta_inst.specs.Faults.{IsValid};
+ghost use Rattle.meta_gen.specs.AllDeclared.{Declared, AreValid};
 ghost use Rattle.meta_query.specs.Answer.{IsOutput};
+
+use meta_gen::built_groups_have_tables;
 
 /// Valid declarations answer an input with one output at most.
 pub fn one_output()
-    ensures { (d : InstructionSet) (input a b : List ℕ) → IsValid d → IsOutput d input a → IsOutput d input b → a ≡ b }
-{}
+    ensures { (d : Declared) (input a b : List ℕ) → AreValid d → IsOutput d input a → IsOutput d input b → a ≡ b }
+{
+    built_groups_have_tables();
+}

@@ -1,15 +1,19 @@
-//! Query lines: the lines of an input, the question that a line asks, and the replies.
+//! Query lines: the lines of an input, what a line asks, and the replies.
 #![tactic(auto)]
 
 mod answer;
 mod laws;
 mod lines;
 mod pieces;
+mod query;
 mod question;
 mod reply;
 #[cfg(test)]
 mod run_tests;
 mod running;
+mod setting_line;
+#[cfg(test)]
+mod setting_tests;
 mod start;
 mod status;
 #[cfg(test)]
@@ -18,6 +22,7 @@ mod tests;
 pub use answer::answer_line;
 pub use laws::one_output;
 pub use lines::Lines;
+pub use query::{Query, asks_one_query};
 pub use question::{Question, asks_one_question};
 pub use reply::Reply;
 pub use running::run;

@@ -1,29 +1,34 @@
 ghost use Rattle.std.specs.Prelude.{◌≡◌};
 ghost use Rattle.meta_query.specs.Reply.{reply_text};
 
-/// The reply to a question (this project's own).
-#[derive(Clone, Copy, Debug, PartialEq, Eq)]
+use meta_types::Text;
+
+/// The reply to a line (this project's own).
+#[derive(Debug, Drop, PartialEq, Eq)]
 pub enum Reply {
     /// The instruction accepts the types.
     Accept,
     /// The instruction doesn't accept the types.
     Refuse,
-    /// No instruction has the name.
+    /// Nothing has the name.
     Unknown,
     /// The line asks nothing.
     Bad,
+    /// The line that tells of the setting.
+    Setting(Text),
 }
 
 impl Reply {
-    /// The reply as it is written: `accept`, `refuse`, `unknown` or `bad`.
-    pub fn text(self) -> &'static str
-        ensures { result.now ≡ reply_text self }
+    /// The reply as it is written: `accept`, `refuse`, `unknown`, `bad`, or the line of the setting.
+    pub fn text(&self) -> &str
+        ensures { result.now ≡ reply_text self.now }
     {
         match self {
             Reply::Accept => "accept",
             Reply::Refuse => "refuse",
             Reply::Unknown => "unknown",
             Reply::Bad => "bad",
+            Reply::Setting(line) => line.as_str(),
         }
     }
 }

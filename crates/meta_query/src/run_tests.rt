@@ -10,6 +10,8 @@ use meta_typevar::TypeVars;
 use std::alloc::{AllocError, Global};
 use std::test::Fail;
 
+mod refusals;
+
 /// A source of these bytes that never fails.
 fn source_of(alloc: Global, input: &[u8]) -> Result<MemorySource, AllocError> {
     Ok(MemorySource::new(input.to_vec(alloc)?, 5_000, Vec::new(alloc)))
@@ -115,7 +117,7 @@ fn instructions_named(alloc: Global, names: &[&str]) -> Result<Option<Declaratio
     if !Declarations::fits(&vars, &formats, &instructions) {
         return Ok(None);
     }
-    Ok(Some(Declarations::new(vars, formats, instructions)))
+    Ok(Some(Declarations::new(vars, formats, instructions, Vec::new(alloc))))
 }
 
 /// As many bytes of this value as `n` says.
@@ -126,7 +128,7 @@ fn repeated(alloc: Global, byte: u8, n: usize) -> Result<Vec<u8>, AllocError> {
 const LINES: &[u8] =
     b"accept iadd i32 i32 i32,i32\naccept iadd i32 i32 i32,i64\naccept iadd i32 i32 i32\naccept iadd - i32 i32,i32\naccept iadx - - -\naccept iadd i33 i33 i33,i33\nsetting x\n";
 
-const ANSWERS: &[u8] = b"accept\nrefuse\nrefuse\nrefuse\nunknown\nbad\nbad\n";
+const ANSWERS: &[u8] = b"accept\nrefuse\nrefuse\nrefuse\nunknown\nbad\nx num byte 0 default 5\n";
 
 #[test]
 fn answers_inputs(rt: HostRuntime) -> Result<(), Fail> {

@@ -1,13 +1,13 @@
 ghost use Rattle.std.specs.Prelude.{◌≡◌, ◌≢◌, ◌≤◌, ◌++◌, ◌⊎◌, ℕ, List, length, IfOk, IsTrue, ◌↔◌, Some};
 ghost use Rattle.meta_types.specs.declared.fault.DefinitionError.{DefinitionError};
-ghost use Rattle.meta_inst.specs.Faults.{IsFirstFault, IsValid};
 ghost use Rattle.meta_text.specs.Outside.{Rose, with_more, longest_input, GaveMore, GaveAtMost, TookPart};
+ghost use Rattle.meta_gen.specs.AllDeclared.{AreValid};
 ghost use Rattle.meta_query.specs.Answer.{IsOutput, refusal};
 ghost use Rattle.meta_query.specs.Run.{IsCommand, IsAnsweredWhole, IsRefusedWhole, IsRefusedInPart, IsAnsweredInPart, IsWritten, IsWrittenInPart, WritesNothing, Answers, Refuses};
 
 use super::answer::answers;
 use super::status::Status;
-use meta_gen::{Declarations, Tables, generate};
+use meta_gen::{Declarations, Tables, generate, one_first_fault};
 use meta_text::{ReadError, Sink, Source, read_whole, write_whole};
 use meta_types::{DefinitionError, Text};
 use std::alloc::{AllocError, Global};
@@ -106,12 +106,12 @@ fn run_words<S: Source, K: Sink>(
 
     ensures done { result ≡ Status.Done → IsCommand words.now × IsAnsweredWhole declarations.now (S.left source.old) (S.left source.new) (K.taken sink.old) (K.taken sink.new) }
     ensures refused { result ≡ Status.Refused → IsCommand words.now × IsRefusedWhole declarations.now (K.taken sink.old) (K.taken sink.new) }
-    ensures read_fault { result ≡ Status.ReadFault → IsCommand words.now × IsValid declarations.now × Rose (S.faults source.old) (S.faults source.new) }
+    ensures read_fault { result ≡ Status.ReadFault → IsCommand words.now × AreValid declarations.now × Rose (S.faults source.old) (S.faults source.new) }
     ensures write_fault { result ≡ Status.WriteFault → IsCommand words.now × Rose (K.faults sink.old) (K.faults sink.new) }
     ensures written_in_part { result ≡ Status.WriteFault
         → IsRefusedInPart declarations.now (K.taken sink.old) (K.taken sink.new)
         ⊎ IsAnsweredInPart declarations.now (S.left source.old) (S.left source.new) (K.taken sink.old) (K.taken sink.new) }
-    ensures too_long { result ≡ Status.TooLong → IsCommand words.now × IsValid declarations.now × GaveMore longest_input (S.left source.old) (S.left source.new) }
+    ensures too_long { result ≡ Status.TooLong → IsCommand words.now × AreValid declarations.now × GaveMore longest_input (S.left source.old) (S.left source.new) }
     ensures else_within { result ≢ Status.TooLong → GaveAtMost longest_input (S.left source.old) (S.left source.new) }
 
     ensures untouched { WritesNothing result → sink.new ≡ sink.old }
@@ -151,12 +151,12 @@ pub fn run<S: Source, K: Sink>(
 
     ensures done { result ≡ Status.Done → IsCommand words.now × IsAnsweredWhole declarations.now (S.left source.old) (S.left source.new) (K.taken sink.old) (K.taken sink.new) }
     ensures refused { result ≡ Status.Refused → IsCommand words.now × IsRefusedWhole declarations.now (K.taken sink.old) (K.taken sink.new) }
-    ensures read_fault { result ≡ Status.ReadFault → IsCommand words.now × IsValid declarations.now × Rose (S.faults source.old) (S.faults source.new) }
+    ensures read_fault { result ≡ Status.ReadFault → IsCommand words.now × AreValid declarations.now × Rose (S.faults source.old) (S.faults source.new) }
     ensures write_fault { result ≡ Status.WriteFault → IsCommand words.now × Rose (K.faults sink.old) (K.faults sink.new) }
     ensures written_in_part { result ≡ Status.WriteFault
         → IsRefusedInPart declarations.now (K.taken sink.old) (K.taken sink.new)
         ⊎ IsAnsweredInPart declarations.now (S.left source.old) (S.left source.new) (K.taken sink.old) (K.taken sink.new) }
-    ensures too_long { result ≡ Status.TooLong → IsCommand words.now × IsValid declarations.now × GaveMore longest_input (S.left source.old) (S.left source.new) }
+    ensures too_long { result ≡ Status.TooLong → IsCommand words.now × AreValid declarations.now × GaveMore longest_input (S.left source.old) (S.left source.new) }
     ensures else_within { result ≢ Status.TooLong → GaveAtMost longest_input (S.left source.old) (S.left source.new) }
 
     ensures untouched { WritesNothing result → sink.new ≡ sink.old }
@@ -165,5 +165,6 @@ pub fn run<S: Source, K: Sink>(
     ensures read_counted { S.faults source.old ≤ S.faults source.new }
     ensures write_counted { K.faults sink.old ≤ K.faults sink.new }
 {
+    one_first_fault();
     run_words(alloc, words, declarations, source, sink)
 }

@@ -1,10 +1,12 @@
 ghost use Rattle.std.specs.Prelude.{◌≡◌, ◌∷◌, [], IfOk, codes};
 ghost use Rattle.meta_operands.specs.Operand.{variables_of};
 ghost use Rattle.meta_inst.specs.Faults.{names_of};
+ghost use Rattle.meta_query.specs.Demo.{demo};
 
 use meta_gen::Declarations;
 use meta_inst::{AllInstructions, InstructionBuilder, InstructionGroupBuilder};
 use meta_operands::{FormatTable, InstructionFormatBuilder, Operand, OperandKind};
+use meta_settings::{SettingGroupBuilder, preset};
 use meta_types::Text;
 use meta_typevar::{Interval, TypeSetBuilder, TypeVar, TypeVars};
 use std::alloc::{AllocError, Global};
@@ -39,11 +41,31 @@ fn inputs(alloc: Global, tv: TypeVar) -> Result<Vec<Operand>, AllocError>
     Ok(operands)
 }
 
+/// A text without bytes.
+fn empty(alloc: Global) -> Result<Text, AllocError>
+    ensures { IfOk result (λ t. t ≡ []) }
+{
+    Text::new(alloc, "")
+}
+
+/// The group `demo`: the booleans `a`, true by default, and `b`, false; the number `x`, 5; and the preset `p` of `b`.
+fn demo(alloc: Global) -> Result<SettingGroupBuilder, AllocError>
+    ensures { IfOk result (λ g. g ≡ demo) }
+{
+    let mut group = SettingGroupBuilder::new(alloc, Text::new(alloc, "demo")?);
+    group.add_bool(Text::new(alloc, "a")?, empty(alloc)?, empty(alloc)?, true)?;
+    let b = group.add_bool(Text::new(alloc, "b")?, empty(alloc)?, empty(alloc)?, false)?;
+    group.add_num(Text::new(alloc, "x")?, empty(alloc)?, empty(alloc)?, 5)?;
+    group.add_preset(Text::new(alloc, "p")?, empty(alloc)?, preset!(alloc; b))?;
+    Ok(group)
+}
+
 /// The declarations over which the program runs today: the variable `Int` of all scalar integer types, the format `Binary` of
-/// two values, and the instruction `iadd` with the inputs `x` and `y` and the output `a`, all of that variable (this
-/// project's own).
+/// two values, and the instruction `iadd` with the inputs `x` and `y` and the output `a`, all of that variable; and the group
+/// `demo` of the booleans `a`, true by default, and `b`, false, the number `x`, 5, and the preset `p` of `b` (this project's own).
 pub fn starter(alloc: Global) -> Result<Declarations, AllocError>
-    ensures { IfOk result (λ d. names_of d ≡ codes "iadd" ∷ []) }
+    ensures instructions { IfOk result (λ d. names_of d.set ≡ codes "iadd" ∷ []) }
+    ensures groups { IfOk result (λ d. d.groups ≡ demo ∷ []) }
 {
     let mut vars = TypeVars::new(alloc);
     let ints = TypeSetBuilder::new().ints(Interval::All).build(alloc)?;
@@ -59,5 +81,7 @@ pub fn starter(alloc: Global) -> Result<Declarations, AllocError>
     let mut instructions = AllInstructions::new(alloc);
     let mut group = InstructionGroupBuilder::new(&mut instructions);
     group.push(iadd)?;
-    Ok(Declarations::new(vars, formats, instructions))
+    let mut groups = Vec::new(alloc);
+    groups.push(demo(alloc)?)?;
+    Ok(Declarations::new(vars, formats, instructions, groups))
 }

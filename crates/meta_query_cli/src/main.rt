@@ -11,12 +11,13 @@ use std::io::{self, ErrorKind};
 use std::process::ExitCode;
 
 const HELP: &str = "\
-Answers questions about the instructions of a set, one a line, from standard input to standard output.
+Answers questions about the instructions and the settings of a set, one a line, from standard input to standard output.
 
 Usage: meta_query_cli query < FILE
 
 A line is `accept NAME CONTROL RESULTS VALUES`: whether the instruction takes these types, with `-` where there is none.
-The answers are accept, refuse, unknown and bad.
+A line `setting NAME` asks what the setting is: its kind, byte, default and values, or what a preset enables.
+The answers are accept, refuse, the line of the setting, unknown and bad.
 
 Options:
   --help     prints this
