@@ -1,0 +1,47 @@
+ghost use Rattle.std.specs.Prelude.{◌≡◌, ◌<◌, IfSome, length};
+
+use meta_types::Text;
+
+/// What is declared, and how much of it.
+#[derive(Clone, Copy, Debug, PartialEq, Eq)]
+pub(crate) enum Subject {
+    /// So many instructions.
+    Instructions(u8),
+    /// One group of so many settings and presets.
+    Settings(u16),
+}
+
+/// What the words ask for: that `generate` is called so many times over one subject.
+#[derive(Clone, Copy, Debug, PartialEq, Eq)]
+pub(crate) struct Command {
+    pub(crate) subject: Subject,
+    pub(crate) times: u32,
+}
+
+impl Subject {
+    /// The subject of this name and size.
+    fn of(name: &str, size: &str) -> Option<Subject> {
+        match name {
+            "instructions" => Some(Subject::Instructions(size.parse().ok()?)),
+            "settings" => Some(Subject::Settings(size.parse().ok()?)),
+            _ => None,
+        }
+    }
+}
+
+impl Command {
+    /// The command that the words are: a subject's name, its size, and how many times, which isn't 0.
+    pub(crate) fn of(words: &[Text]) -> Option<Command>
+        ensures times { IfSome result (λ c. 0 < c.times) }
+        ensures words { IfSome result (λ c. length words.now ≡ 3) }
+    {
+        if words.len() != 3 {
+            return None;
+        }
+        let subject = Subject::of(words[0].as_str(), words[1].as_str())?;
+        match words[2].as_str().parse::<u32>() {
+            Ok(0) | Err(_) => None,
+            Ok(times) => Some(Command { subject, times }),
+        }
+    }
+}

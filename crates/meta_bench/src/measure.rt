@@ -1,0 +1,65 @@
+ghost use Rattle.std.specs.Prelude.{◌≢◌, ◌<◌, IfOk, IfErr};
+ghost use Rattle.meta_types.specs.declared.fault.DefinitionError.TheVariants.{OutOfMemory};
+ghost use Rattle.meta_gen.specs.AllDeclared.{ShowsFirst};
+ghost use Rattle.meta_gen.specs.WholeTables.{AreWholeTablesOf};
+
+use super::command::{Command, Subject};
+use super::instructions::instruction_declarations;
+use super::settings::setting_declarations;
+use meta_gen::{Declarations, Tables, generate};
+use meta_types::DefinitionError;
+use std::alloc::{AllocError, Global};
+
+/// The tables of the declarations, which are made so many times.
+fn generated(
+    alloc: Global,
+    declarations: &Declarations,
+    times: u32,
+) -> Result<Tables, DefinitionError>
+    requires { 0 < times }
+    ensures refused { IfErr result (λ e. e ≢ OutOfMemory → ShowsFirst declarations.now e) }
+    ensures tables { IfOk result (λ t. AreWholeTablesOf declarations.now t) }
+{
+    for _ in 1..times {
+        let _tables = generate(alloc, declarations)?;
+    }
+    generate(alloc, declarations)
+}
+
+/// What the tables of instructions hold.
+fn about_instructions(alloc: Global, count: u8, tables: &Tables) -> Result<String, AllocError> {
+    let opcodes = tables.opcode_count();
+    let type_sets = tables.type_sets().len();
+    let constraints = tables.operand_constraints().len();
+    format!(in alloc;
+        "instructions {count}: {opcodes} opcodes, {type_sets} type sets, {constraints} constraints"
+    )
+}
+
+/// What the tables of a group of settings hold.
+fn about_settings(alloc: Global, count: u16, tables: &Tables) -> Result<String, AllocError> {
+    let slots = tables.setting_slots(0).unwrap_or(&[]);
+    let entries = slots.iter().flatten().count();
+    format!(in alloc;
+        "settings {count}: {entries} entries, {} slots",
+        slots.len()
+    )
+}
+
+/// Declares the subject once, makes its tables as often as the command says, and tells what they hold.
+pub(crate) fn measured(alloc: Global, command: &Command) -> Result<String, DefinitionError>
+    requires { 0 < command.now.times }
+{
+    match command.subject {
+        Subject::Instructions(count) => {
+            let declarations = instruction_declarations(alloc, count)?;
+            let tables = generated(alloc, &declarations, command.times)?;
+            Ok(about_instructions(alloc, count, &tables)?)
+        }
+        Subject::Settings(count) => {
+            let declarations = setting_declarations(alloc, count)?;
+            let tables = generated(alloc, &declarations, command.times)?;
+            Ok(about_settings(alloc, count, &tables)?)
+        }
+    }
+}
