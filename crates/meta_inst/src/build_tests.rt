@@ -315,9 +315,9 @@ fn refuses_other_formats(rt: HostRuntime) -> Result<(), Fail> {
 }
 
 #[test]
-fn refuses_other_fields_and_varargs(rt: HostRuntime) -> Result<(), Fail> {
+fn refuses_other_fields(rt: HostRuntime) -> Result<(), Fail> {
     let alloc = rt.alloc();
-    let rows: [(Row, Option<DefinitionError>); 7] = [
+    let rows: [(Row, Option<DefinitionError>); 4] = [
         (
             (
                 "f",
@@ -358,6 +358,17 @@ fn refuses_other_fields_and_varargs(rt: HostRuntime) -> Result<(), Fail> {
             ),
             None,
         ),
+    ];
+    for (row, want) in rows {
+        assert_eq!(rt; fault(&rt, alloc, &row)?, want);
+    }
+    Ok(())
+}
+
+#[test]
+fn refuses_varargs_that_are_not_stored(rt: HostRuntime) -> Result<(), Fail> {
+    let alloc = rt.alloc();
+    let rows: [(Row, Option<DefinitionError>); 3] = [
         (
             ("f", values(0), &[Arg::Varargs], &[], false),
             Some(DefinitionError::FormatMismatch(1)),

@@ -8,6 +8,7 @@ use meta_text::{MemorySink, MemorySource, ReadOutcome, Source};
 use meta_types::Text;
 use meta_typevar::TypeVars;
 use std::alloc::{AllocError, Global};
+use std::process::Abort;
 use std::test::Fail;
 
 mod refusals;
@@ -205,121 +206,91 @@ fn answers_by_tables(
     Ok(Some(answers_of(alloc, &tables, input)?))
 }
 
+/// Each of these lines alone has this answer.
+fn all_answer(rt: &impl Abort, alloc: Global, lines: &[&str], answer: &[u8]) -> Result<(), Fail> {
+    let declarations = starter(alloc)?;
+    for line in lines {
+        let ran = query(alloc, &declarations, line.as_bytes())?;
+        assert_eq!(rt; ran.status, Status::Done, "{line}");
+        assert_eq!(rt; ran.taken.as_slice(), answer, "{line}");
+    }
+    Ok(())
+}
+
 #[test]
-fn answers_lines(rt: HostRuntime) -> Result<(), Fail> {
+fn accepts_what_fits(rt: HostRuntime) -> Result<(), Fail> {
+    let lines = ["accept iadd i128 i128 i128,i128", "accept iadd i8 i8 i8,i8"];
+    all_answer(&rt, rt.alloc(), lines.as_slice(), b"accept\n")
+}
+
+#[test]
+fn refuses_what_does_not_fit(rt: HostRuntime) -> Result<(), Fail> {
+    let lines = [
+        "accept iadd i32 i32 i32,i64",
+        "accept iadd i32 i64 i32,i32",
+        "accept iadd i64 i32 i32,i32",
+        "accept iadd f32 f32 f32,f32",
+        "accept iadd i32x4 i32x4 i32x4,i32x4",
+        "accept iadd i8x2xN i8x2xN i8x2xN,i8x2xN",
+        "accept iadd i32 - -",
+        "accept iadd - - -",
+        "accept iadd i32 i32,i32 i32,i32",
+        "accept iadd i32 i32 i32,i32,i32",
+    ];
+    all_answer(&rt, rt.alloc(), lines.as_slice(), b"refuse\n")
+}
+
+#[test]
+fn knows_no_other_names(rt: HostRuntime) -> Result<(), Fail> {
+    let lines = [
+        "accept iad i32 i32 i32,i32",
+        "accept iadd\t i32 i32 i32,i32",
+        "accept iadd\0 i32 i32 i32,i32",
+        "accept iädd i32 i32 i32,i32",
+        "accept - - - -",
+    ];
+    all_answer(&rt, rt.alloc(), lines.as_slice(), b"unknown\n")
+}
+
+#[test]
+fn other_lines_are_bad(rt: HostRuntime) -> Result<(), Fail> {
+    let lines = [
+        "accept iadd i32x1 - -",
+        " ",
+        "\t",
+        "\0",
+        "accept",
+        "accept  iadd i32 i32 i32,i32",
+        "accept iadd i32 i32  i32,i32",
+        " accept iadd i32 i32 i32,i32",
+        "accept iadd i32 i32 i32,i32 ",
+        "accept iadd i32 i32 i32,i32\t",
+        "accept iadd\ti32 i32 i32,i32",
+        "accept iadd i32 i32",
+        "accept iadd i32 i32 ",
+        "accept iadd i32 i32 ,",
+        "accept iadd i32 i32 i32,",
+        "accept iadd i32 i32 ,i32",
+        "accept iadd i32 i32 -,-",
+        "accept iadd i32 -,- i32,i32",
+        "accept iadd i32 i32 i32,i32\0",
+        "accept iadx i33 - -",
+    ];
+    all_answer(&rt, rt.alloc(), lines.as_slice(), b"bad\n")
+}
+
+#[test]
+fn answers_lines_that_are_no_text(rt: HostRuntime) -> Result<(), Fail> {
     let rows = [
-        (
-            b"accept iadd i128 i128 i128,i128".as_slice(),
-            b"accept\n".as_slice(),
-        ),
-        (
-            b"accept iadd i8 i8 i8,i8".as_slice(),
-            b"accept\n".as_slice(),
-        ),
-        (
-            b"accept iadd i32 i32 i32,i64".as_slice(),
-            b"refuse\n".as_slice(),
-        ),
-        (
-            b"accept iadd i32 i64 i32,i32".as_slice(),
-            b"refuse\n".as_slice(),
-        ),
-        (
-            b"accept iadd i64 i32 i32,i32".as_slice(),
-            b"refuse\n".as_slice(),
-        ),
-        (
-            b"accept iadd f32 f32 f32,f32".as_slice(),
-            b"refuse\n".as_slice(),
-        ),
-        (
-            b"accept iadd i32x4 i32x4 i32x4,i32x4".as_slice(),
-            b"refuse\n".as_slice(),
-        ),
-        (
-            b"accept iadd i8x2xN i8x2xN i8x2xN,i8x2xN".as_slice(),
-            b"refuse\n".as_slice(),
-        ),
-        (b"accept iadd i32x1 - -".as_slice(), b"bad\n".as_slice()),
-        (b"accept iadd i32 - -".as_slice(), b"refuse\n".as_slice()),
-        (b"accept iadd - - -".as_slice(), b"refuse\n".as_slice()),
-        (
-            b"accept iadd i32 i32,i32 i32,i32".as_slice(),
-            b"refuse\n".as_slice(),
-        ),
-        (
-            b"accept iadd i32 i32 i32,i32,i32".as_slice(),
-            b"refuse\n".as_slice(),
-        ),
-        (
-            b"accept iad i32 i32 i32,i32".as_slice(),
-            b"unknown\n".as_slice(),
-        ),
-        (
-            b"accept iadd\t i32 i32 i32,i32".as_slice(),
-            b"unknown\n".as_slice(),
-        ),
-        (
-            b"accept iadd\0 i32 i32 i32,i32".as_slice(),
-            b"unknown\n".as_slice(),
-        ),
-        (
-            b"accept i\xc3\xa4dd i32 i32 i32,i32".as_slice(),
-            b"unknown\n".as_slice(),
-        ),
         (b"accept \xff - - -".as_slice(), b"unknown\n".as_slice()),
-        (b"accept - - - -".as_slice(), b"unknown\n".as_slice()),
-        (b" ".as_slice(), b"bad\n".as_slice()),
-        (b"\t".as_slice(), b"bad\n".as_slice()),
-        (b"\0".as_slice(), b"bad\n".as_slice()),
         (b"\xff\x80".as_slice(), b"bad\n".as_slice()),
-        (b"accept".as_slice(), b"bad\n".as_slice()),
-        (
-            b"accept  iadd i32 i32 i32,i32".as_slice(),
-            b"bad\n".as_slice(),
-        ),
-        (
-            b"accept iadd i32 i32  i32,i32".as_slice(),
-            b"bad\n".as_slice(),
-        ),
-        (
-            b" accept iadd i32 i32 i32,i32".as_slice(),
-            b"bad\n".as_slice(),
-        ),
-        (
-            b"accept iadd i32 i32 i32,i32 ".as_slice(),
-            b"bad\n".as_slice(),
-        ),
-        (
-            b"accept iadd i32 i32 i32,i32\t".as_slice(),
-            b"bad\n".as_slice(),
-        ),
-        (
-            b"accept iadd\ti32 i32 i32,i32".as_slice(),
-            b"bad\n".as_slice(),
-        ),
-        (b"accept iadd i32 i32".as_slice(), b"bad\n".as_slice()),
-        (b"accept iadd i32 i32 ".as_slice(), b"bad\n".as_slice()),
-        (b"accept iadd i32 i32 ,".as_slice(), b"bad\n".as_slice()),
-        (b"accept iadd i32 i32 i32,".as_slice(), b"bad\n".as_slice()),
-        (b"accept iadd i32 i32 ,i32".as_slice(), b"bad\n".as_slice()),
-        (b"accept iadd i32 i32 -,-".as_slice(), b"bad\n".as_slice()),
-        (
-            b"accept iadd i32 -,- i32,i32".as_slice(),
-            b"bad\n".as_slice(),
-        ),
-        (
-            b"accept iadd i32 i32 i32,i32\0".as_slice(),
-            b"bad\n".as_slice(),
-        ),
         (b"accept iadd i32 i32 \xff".as_slice(), b"bad\n".as_slice()),
-        (b"accept iadx i33 - -".as_slice(), b"bad\n".as_slice()),
     ];
     let declarations = starter(rt.alloc())?;
-    for (line, output) in rows {
+    for (line, answer) in rows {
         let ran = query(rt.alloc(), &declarations, line)?;
         assert_eq!(rt; ran.status, Status::Done);
-        assert_eq!(rt; ran.taken.as_slice(), output);
+        assert_eq!(rt; ran.taken.as_slice(), answer);
     }
     Ok(())
 }
@@ -497,54 +468,42 @@ fn query_long(
     query(alloc, &declarations, &input)
 }
 
+/// A line of so many bytes of this value, between others, is answered so, and with one more it is too long.
+fn takes_up_to(
+    rt: &impl Abort,
+    alloc: Global,
+    front: &[u8],
+    byte: u8,
+    n: usize,
+    back: &[u8],
+    answer: &[u8],
+) -> Result<(), Fail>
+    requires { n ≤ 1048576 }
+{
+    let ran = query_long(alloc, front, byte, n, back)?;
+    assert_eq!(rt; ran.status, Status::Done);
+    assert_eq!(rt; ran.taken.as_slice(), answer);
+    let ran = query_long(alloc, front, byte, n + 1, back)?;
+    assert_eq!(rt; ran.status, Status::TooLong);
+    assert!(rt; ran.taken.is_empty());
+    Ok(())
+}
+
 #[test]
 fn takes_the_longest_inputs(rt: HostRuntime) -> Result<(), Fail> {
-    let rows = [
-        (
-            b"".as_slice(),
-            b'\n',
-            1_048_576,
-            b"".as_slice(),
-            b"".as_slice(),
-        ),
-        (
-            b"".as_slice(),
-            b'\r',
-            1_048_576,
-            b"".as_slice(),
-            b"bad\n".as_slice(),
-        ),
-        (
-            b"".as_slice(),
-            b' ',
-            1_048_576,
-            b"".as_slice(),
-            b"bad\n".as_slice(),
-        ),
-        (
-            b"".as_slice(),
-            b'x',
-            1_048_575,
-            b"\n".as_slice(),
-            b"bad\n".as_slice(),
-        ),
-        (
-            b"accept ".as_slice(),
-            b'x',
-            1_048_563,
-            b" - - -".as_slice(),
-            b"unknown\n".as_slice(),
-        ),
-    ];
-    for (front, byte, n, back, output) in rows {
-        let ran = query_long(rt.alloc(), front, byte, n, back)?;
-        assert_eq!(rt; ran.status, Status::Done);
-        assert_eq!(rt; ran.taken.as_slice(), output);
-        let ran = query_long(rt.alloc(), front, byte, n + 1, back)?;
-        assert_eq!(rt; ran.status, Status::TooLong);
-        assert!(rt; ran.taken.is_empty());
-    }
-    Ok(())
+    takes_up_to(&rt, rt.alloc(), b"", b'\n', 1_048_576, b"", b"")?;
+    takes_up_to(&rt, rt.alloc(), b"", b'\r', 1_048_576, b"", b"bad\n")?;
+    takes_up_to(&rt, rt.alloc(), b"", b' ', 1_048_576, b"", b"bad\n")?;
+    takes_up_to(&rt, rt.alloc(), b"", b'x', 1_048_575, b"\n", b"bad\n")?;
+    takes_up_to(
+        &rt,
+        rt.alloc(),
+        b"accept ",
+        b'x',
+        1_048_563,
+        b" - - -",
+        b"unknown\n",
+    )
 }
 
 /// What a run writes that refuses instructions of these names. `None` is for another status, and for a source that was read.

@@ -4,6 +4,7 @@ ghost use Rattle.meta_query.specs.Lines.{lines_of};
 
 use super::{Lines, Question, Reply, Status};
 use std::alloc::{AllocError, Global};
+use std::process::Abort;
 use std::test::Fail;
 
 /// Each line with one LF behind it.
@@ -88,126 +89,147 @@ fn takes_long_inputs(rt: HostRuntime) -> Result<(), Fail> {
     Ok(())
 }
 
+/// A question: its name, its controlling number, and the numbers of its results and values.
+type Wanted<'a> = (&'a [u8], Option<u16>, &'a [u16], &'a [u16]);
+
+/// The line asks this.
+fn asks(rt: &impl Abort, alloc: Global, line: &[u8], asked: Wanted<'_>) -> Result<(), Fail> {
+    let (name, control, results, values) = asked;
+    let question = Question::parse(alloc, line)?.ok_or("no question")?;
+    assert_eq!(rt; question.name(), name);
+    assert_eq!(rt; question.control_number(), control);
+    assert_eq!(rt; question.result_numbers(alloc)?.as_slice(), results);
+    assert_eq!(rt; question.value_numbers(alloc)?.as_slice(), values);
+    Ok(())
+}
+
 #[test]
-fn reads_questions(rt: HostRuntime) -> Result<(), Fail> {
-    let rows = [
-        (
-            b"accept iadd i32 i32 i32,i32".as_slice(),
-            b"iadd".as_slice(),
-            Some(0x76),
-            [0x76].as_slice(),
-            [0x76, 0x76].as_slice(),
-        ),
-        (
-            b"accept nop - - -".as_slice(),
-            b"nop".as_slice(),
-            None,
-            [].as_slice(),
-            [].as_slice(),
-        ),
-        (
-            b"accept - - - -".as_slice(),
-            b"-".as_slice(),
-            None,
-            [].as_slice(),
-            [].as_slice(),
-        ),
-        (
-            b"accept accept f16 - i8".as_slice(),
-            b"accept".as_slice(),
-            Some(0x79),
-            [].as_slice(),
-            [0x74].as_slice(),
-        ),
-        (
-            b"accept i\tadd i8 - -".as_slice(),
-            b"i\tadd".as_slice(),
-            Some(0x74),
-            [].as_slice(),
-            [].as_slice(),
-        ),
-        (
-            b"accept \0\xff - - -".as_slice(),
-            b"\0\xff".as_slice(),
-            None,
-            [].as_slice(),
-            [].as_slice(),
-        ),
-        (
-            b"accept all f128 i8,i16,i32,i64,i128,f16,f32,f64,f128 f16,i8".as_slice(),
-            b"all".as_slice(),
-            Some(0x7c),
-            [0x74, 0x75, 0x76, 0x77, 0x78, 0x79, 0x7a, 0x7b, 0x7c].as_slice(),
-            [0x79, 0x74].as_slice(),
-        ),
-        (
-            b"accept v i32x4 i32x4xN,i8x256 f16x2".as_slice(),
-            b"v".as_slice(),
-            Some(0x96),
-            [0x116, 0xf4].as_slice(),
-            [0x89].as_slice(),
-        ),
-    ];
-    for (line, name, control, results, values) in rows {
-        let question = Question::parse(rt.alloc(), line)?.ok_or("no question")?;
-        assert_eq!(rt; question.name(), name);
-        assert_eq!(rt; question.control_number(), control);
-        assert_eq!(rt; question.result_numbers(rt.alloc())?.as_slice(), results);
-        assert_eq!(rt; question.value_numbers(rt.alloc())?.as_slice(), values);
+fn reads_names(rt: HostRuntime) -> Result<(), Fail> {
+    asks(
+        &rt,
+        rt.alloc(),
+        b"accept nop - - -",
+        (b"nop", None, &[], &[]),
+    )?;
+    asks(&rt, rt.alloc(), b"accept - - - -", (b"-", None, &[], &[]))?;
+    asks(
+        &rt,
+        rt.alloc(),
+        b"accept accept f16 - i8",
+        (b"accept", Some(0x79), &[], &[0x74]),
+    )?;
+    asks(
+        &rt,
+        rt.alloc(),
+        b"accept i\tadd i8 - -",
+        (b"i\tadd", Some(0x74), &[], &[]),
+    )?;
+    asks(
+        &rt,
+        rt.alloc(),
+        b"accept \0\xff - - -",
+        (b"\0\xff", None, &[], &[]),
+    )
+}
+
+#[test]
+fn reads_types(rt: HostRuntime) -> Result<(), Fail> {
+    let asked: Wanted<'_> = (b"iadd", Some(0x76), &[0x76], &[0x76, 0x76]);
+    asks(&rt, rt.alloc(), b"accept iadd i32 i32 i32,i32", asked)?;
+    let lanes = [0x74, 0x75, 0x76, 0x77, 0x78, 0x79, 0x7a, 0x7b, 0x7c];
+    let asked: Wanted<'_> = (b"all", Some(0x7c), &lanes, &[0x79, 0x74]);
+    asks(
+        &rt,
+        rt.alloc(),
+        b"accept all f128 i8,i16,i32,i64,i128,f16,f32,f64,f128 f16,i8",
+        asked,
+    )?;
+    let asked: Wanted<'_> = (b"v", Some(0x96), &[0x116, 0xf4], &[0x89]);
+    asks(
+        &rt,
+        rt.alloc(),
+        b"accept v i32x4 i32x4xN,i8x256 f16x2",
+        asked,
+    )
+}
+
+/// None of these lines asks anything.
+fn none_ask(rt: &impl Abort, alloc: Global, lines: &[&str]) -> Result<(), Fail> {
+    for line in lines {
+        assert!(rt;
+            Question::parse(alloc, line.as_bytes())?.is_none(),
+            "{line}"
+        );
     }
     Ok(())
 }
 
 #[test]
-fn refuses_other_lines(rt: HostRuntime) -> Result<(), Fail> {
+fn refuses_other_words(rt: HostRuntime) -> Result<(), Fail> {
     let lines = [
-        b"".as_slice(),
-        b" ".as_slice(),
-        b"-".as_slice(),
-        b"accept".as_slice(),
-        b"accept iadd i32 i32".as_slice(),
-        b"accept iadd i32 i32 i32,i32 -".as_slice(),
-        b"Accept iadd i32 i32 i32,i32".as_slice(),
-        b"accepts iadd i32 i32 i32,i32".as_slice(),
-        b"setting iadd i32 i32 i32,i32".as_slice(),
-        b" accept iadd i32 i32 i32,i32".as_slice(),
-        b"accept iadd i32 i32 i32,i32 ".as_slice(),
-        b"accept  iadd i32 i32 i32,i32".as_slice(),
-        b"accept iadd i32  i32 i32,i32".as_slice(),
-        b"accept  i32 i32 i32".as_slice(),
-        b"accept iadd  i32 i32".as_slice(),
-        b"accept iadd i32  i32".as_slice(),
-        b"accept iadd i32 i32 ".as_slice(),
-        b"accept\tiadd i32 i32 i32,i32".as_slice(),
-        b"accept iadd i32 i32 i32,\ti32".as_slice(),
-        b"accept iadd i32\ti32 i32,i32".as_slice(),
-        b"accept iadd i32 i32 i32,i32\r".as_slice(),
-        b"accept iadd i32 i32 i32, i32".as_slice(),
-        b"accept iadd i32 i32 ,".as_slice(),
-        b"accept iadd i32 i32 i32,".as_slice(),
-        b"accept iadd i32 i32 ,i32".as_slice(),
-        b"accept iadd i32 i32 i32,,i32".as_slice(),
-        b"accept iadd i32 -,- i32".as_slice(),
-        b"accept iadd i32 -,i32 i32".as_slice(),
-        b"accept iadd i32 i32,- i32".as_slice(),
-        b"accept iadd i32,i32 i32 i32".as_slice(),
-        b"accept iadd , i32 i32".as_slice(),
-        b"accept iadd -- i32 i32".as_slice(),
-        b"accept iadd i33 i32 i32".as_slice(),
-        b"accept iadd I32 i32 i32".as_slice(),
-        b"accept iadd i i32 i32".as_slice(),
-        b"accept iadd i032 i32 i32".as_slice(),
-        b"accept iadd i32x1 i32 i32".as_slice(),
-        b"accept iadd i32 i32x3 i32".as_slice(),
-        b"accept iadd i32 i32 i32x4xn".as_slice(),
-        b"accept iadd i32\0 i32 i32".as_slice(),
-        b"accept iadd i32 \xff i32".as_slice(),
-        b"accept iadd i32 i32 \xc3\xa9".as_slice(),
-        b"accept iadd\0i32\0i32\0i32".as_slice(),
+        "",
+        " ",
+        "-",
+        "accept",
+        "accept iadd i32 i32",
+        "accept iadd i32 i32 i32,i32 -",
+        "Accept iadd i32 i32 i32,i32",
+        "accepts iadd i32 i32 i32,i32",
+        "setting iadd i32 i32 i32,i32",
+        " accept iadd i32 i32 i32,i32",
+        "accept iadd i32 i32 i32,i32 ",
+        "accept  iadd i32 i32 i32,i32",
+        "accept iadd i32  i32 i32,i32",
+        "accept  i32 i32 i32",
+        "accept iadd  i32 i32",
+        "accept iadd i32  i32",
+        "accept iadd i32 i32 ",
+        "accept\tiadd i32 i32 i32,i32",
+        "accept iadd i32\ti32 i32,i32",
+        "accept iadd i32 i32 i32,i32\r",
+        "accept iadd\0i32\0i32\0i32",
     ];
-    for line in lines {
-        assert!(rt; Question::parse(rt.alloc(), line)?.is_none());
-    }
+    none_ask(&rt, rt.alloc(), lines.as_slice())
+}
+
+#[test]
+fn refuses_other_lists(rt: HostRuntime) -> Result<(), Fail> {
+    let lines = [
+        "accept iadd i32 i32 i32,\ti32",
+        "accept iadd i32 i32 i32, i32",
+        "accept iadd i32 i32 ,",
+        "accept iadd i32 i32 i32,",
+        "accept iadd i32 i32 ,i32",
+        "accept iadd i32 i32 i32,,i32",
+        "accept iadd i32 -,- i32",
+        "accept iadd i32 -,i32 i32",
+        "accept iadd i32 i32,- i32",
+        "accept iadd i32,i32 i32 i32",
+        "accept iadd , i32 i32",
+    ];
+    none_ask(&rt, rt.alloc(), lines.as_slice())
+}
+
+#[test]
+fn refuses_other_types(rt: HostRuntime) -> Result<(), Fail> {
+    let lines = [
+        "accept iadd -- i32 i32",
+        "accept iadd i33 i32 i32",
+        "accept iadd I32 i32 i32",
+        "accept iadd i i32 i32",
+        "accept iadd i032 i32 i32",
+        "accept iadd i32x1 i32 i32",
+        "accept iadd i32 i32x3 i32",
+        "accept iadd i32 i32 i32x4xn",
+        "accept iadd i32\0 i32 i32",
+    ];
+    none_ask(&rt, rt.alloc(), lines.as_slice())
+}
+
+#[test]
+fn refuses_lines_that_are_no_text(rt: HostRuntime) -> Result<(), Fail> {
+    assert!(rt; Question::parse(rt.alloc(), b"accept iadd i32 \xff i32")?.is_none());
+    assert!(rt; Question::parse(rt.alloc(), b"accept iadd i32 i32 \xc3\xa9")?.is_none());
     Ok(())
 }
 
