@@ -9,7 +9,7 @@ use Rattle.meta_settings.specs.Layout.{Layout}
 use Rattle.meta_gen.specs.declared.descriptor.Descriptor.{Descriptor}
 use Rattle.meta_gen.specs.PresetMasks.{AreJoined}
 use Rattle.meta_gen.specs.GroupTables.{GroupContents, IsPresetIn, AreTablesOfGroup, Applies}
-use Rattle.meta_gen.proofs.ListPlaces.{get_take, get_drop}
+use Rattle.meta_types.proofs.ListPlaces.{get_take, get_drop}
 use Rattle.meta_gen.proofs.EntriesRead.{there_is, preset_entry, preset_there, preset_is}
 
 -- a bit of two bytes joined

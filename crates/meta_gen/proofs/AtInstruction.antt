@@ -6,7 +6,8 @@ use Rattle.meta_types.specs.declared.fault.DefinitionError.TheVariants.{BadName,
 use Rattle.meta_inst.specs.Builder.{Builder}
 use Rattle.meta_inst.specs.InstructionSet.{InstructionSet}
 use Rattle.meta_inst.specs.InstructionFaults.{Breaks}
-use Rattle.meta_inst.specs.Faults.{IsAt, names_of, IsDuplicate, OfInstruction, BreaksAt, SharesNameAt, FormatShows, ShowsAt}
+use Rattle.meta_types.specs.SharedNames.{IsDuplicate}
+use Rattle.meta_inst.specs.Faults.{IsAt, names_of, OfInstruction, BreaksAt, SharesNameAt, FormatShows, ShowsAt}
 
 module _ (d : InstructionSet) where
   -- the instruction at the place breaks the rule

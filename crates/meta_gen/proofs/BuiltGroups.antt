@@ -17,7 +17,7 @@ use Rattle.meta_settings.specs.Layout.{PlacedSetting, BuiltPreset, booleans_in}
 use Rattle.meta_settings.specs.LaidOut.{placed_specific, placed_at, in_bytes, in_bits, laid_out, built_of}
 use Rattle.meta_settings.specs.TurnedOn.{built_preset, presets_after, built_presets, booleans_at}
 use Rattle.meta_gen.specs.BuiltLayout.{HaveNumbers, IsBuiltLayout}
-use Rattle.meta_gen.proofs.ListPlaces.{get_left, get_right, get_drop, get_cases}
+use Rattle.meta_types.proofs.ListPlaces.{get_left, get_right, get_drop, get_cases}
 use Rattle.meta_gen.proofs.EntriesRead.{there_is}
 use Rattle.meta_gen.proofs.Joining.{filter_from}
 

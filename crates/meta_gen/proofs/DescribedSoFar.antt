@@ -12,7 +12,7 @@ use Rattle.meta_gen.specs.declared.descriptor.Descriptor.{Descriptor}
 use Rattle.meta_gen.specs.Descriptor.{IsDetailOf, DescribesSetting, setting_descriptor, preset_descriptor}
 use Rattle.meta_gen.specs.EnumeratorList.{enumerators_of, values_of, with_values, StandAt, HasGrown}
 use Rattle.meta_gen.specs.GroupTables.{names_in}
-use Rattle.meta_gen.proofs.ListPlaces.{get_pushed, get_end, get_left}
+use Rattle.meta_types.proofs.ListPlaces.{get_pushed, get_end, get_left}
 
 take_next : {X : Type 0} (xs : List X) (k : ℕ) (x : X) → slice_get xs k ≡ Some x → take (k + 1) xs ≡ take k xs ++ x ∷ []
 take_next xs k x at = take_more xs k x (slice_get_within xs k x at) ∙ ap (λ w. take k xs ++ w ∷ []) (get_or_from_slice_get xs k x x at)

@@ -2,7 +2,7 @@
 use Rattle.std.proofs.Common.{◌≡◌, ℕ, ◌+◌, ◌-◌, ◌/◌, ◌^◌, ◌<◌, ◌≤◌, Bool, false, List, [], ◌∷◌, zero, suc, nat_eq, length, take, slice_get, get_or, Some, None, Option, inl, inr, refl, sym, ap, ◌∙◌, subst, bit_and, arith}
 use Rattle.std.specs.Int.{bit_at}
 use Rattle.std.specs.Option.{option_map}
-use Rattle.std.specs.Cmp.Lexicographic.{pointwise, bytes_decides}
+use Rattle.std.specs.Cmp.Lexicographic.{pointwise}
 use Rattle.std.proofs.lemmas.Bool.{cases_lt}
 use Rattle.std.proofs.lemmas.Nat.Bits.{shr_and_one}
 use Rattle.std.proofs.lemmas.Option.{slice_get-map, slice_get_within, slice_get_past, slice_get-get_or, get_or_from_slice_get, same_Some}
@@ -15,18 +15,15 @@ use Rattle.meta_gen.specs.declared.descriptor.Descriptor.{Descriptor}
 use Rattle.meta_gen.specs.Descriptor.{IsDetailOf, preset_descriptor}
 use Rattle.meta_gen.specs.DefaultBytes.{default_number, HoldsDefault}
 use Rattle.meta_gen.specs.NameSlots.{NameAnswers}
+use Rattle.meta_gen.proofs.Finding.{answers_name}
 use Rattle.meta_gen.specs.GroupTables.{GroupContents, names_in, IsPresetIn, AreTablesOfGroup, IsPresetOf, IsInside, default_in, AnswersDefault}
 
 -- ---- names
 
 pub has_name : (ds : List Descriptor) (index : ℕ) (d : Descriptor) (own name : List ℕ) (b : Bool) → slice_get ds index ≡ Some d → own ≡ d.name → b ≡ pointwise nat_eq own name → NameAnswers 0 (names_in ds) name index b
 has_name ds index d own name b at e test =
-    let there : slice_get (names_in ds) index ≡ Some d.name = slice_get-map (λ (d : Descriptor). d.name) ds index ∙ ap (option_map (λ (d : Descriptor). d.name)) at in (
-      λ t. record { place = index; number_is = omega arith; there = there ∙ ap Some (sym e ∙ (bytes_decides own name).0 (sym test ∙ t)) },
-      λ n. let same : n.place ≡ index = omega (arith, n.number_is) in
-          let one : d.name ≡ name = same_Some d.name name (sym there ∙ ap (slice_get (names_in ds)) (sym same) ∙ n.there) in
-          test ∙ (bytes_decides own name).1 (e ∙ one),
-    )
+    answers_name 0 (names_in ds) index index own name b (omega arith)
+    (slice_get-map (λ (d : Descriptor). d.name) ds index ∙ ap (option_map (λ (d : Descriptor). d.name)) at ∙ ap Some (sym e)) test
 
 pub has_no_name : (ds : List Descriptor) (index : ℕ) (name : List ℕ) → length ds ≤ index → NameAnswers 0 (names_in ds) name index false
 has_no_name ds index name past = (

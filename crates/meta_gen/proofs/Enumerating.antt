@@ -9,7 +9,7 @@ use Rattle.meta_unique.specs.Interning.{pointed_to, IsIndexOf, IsNew, AreDiffere
 use Rattle.meta_unique.specs.Overlap.{stands_at, added, added_at}
 use Rattle.meta_gen.specs.EnumeratorList.{same_text, with_values, values_at, StandAt}
 use Rattle.meta_gen.specs.NumberedTexts.{texts_of, AreNumbered, AreNumbersOf, KeepsNumbers}
-use Rattle.meta_gen.proofs.ListPlaces.{get_take}
+use Rattle.meta_types.proofs.ListPlaces.{get_take}
 use Rattle.meta_gen.proofs.Numbered.{name_pointed}
 use Rattle.meta_gen.proofs.Renaming.{same_added, same_place, place_inside, added_most, added_all}
 

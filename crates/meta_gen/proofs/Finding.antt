@@ -1,13 +1,25 @@
 -- What a lookup finds in the slots of names.
-use Rattle.std.proofs.Common.{◌≡◌, ◌↔◌, ℕ, ◌+◌, ◌<◌, ◌≤◌, Bool, true, false, List, length, slice_get, Some, None, Option, refl, sym, ap, ◌∙◌, subst, inl, inr, arith}
+use Rattle.std.proofs.Common.{◌≡◌, ◌↔◌, ℕ, zero, suc, ◌+◌, ◌<◌, ◌≤◌, Bool, true, false, nat_eq, List, length, slice_get, IfSome, Some, None, Option, refl, sym, ap, ◌∙◌, subst, inl, inr, arith}
+use Rattle.std.specs.Cmp.Lexicographic.{pointwise, bytes_decides}
 use Rattle.std.proofs.lemmas.Bool.{cases_order}
 use Rattle.std.proofs.lemmas.Option.{slice_get_within, same_Some}
+use Rattle.meta_types.specs.SharedNames.{AreDifferentNames}
+use Rattle.meta_meaning.specs.Tables.{TableContents, at_opcode}
 use Rattle.meta_unique.specs.Probing.{slot_at, Holds, IsVacant, IsLookup}
 use Rattle.meta_unique.specs.SimpleHash.{hash_of}
 use Rattle.meta_unique.specs.Slots.{IsFirstFree, IsTakenBefore}
-use Rattle.meta_gen.specs.NameSlots.{IsNumberOf, AreNameSlots, NameAnswers, IsFirstNumberOf}
-use Rattle.meta_gen.specs.FoundSetting.{FindsEntry, AreApart}
+use Rattle.meta_gen.specs.NameSlots.{IsNumberOf, AreNameSlots, NameAnswers, IsNameLookup, IsFirstNumberOf}
+use Rattle.meta_gen.specs.FoundSetting.{FindsEntry}
 use Rattle.meta_gen.proofs.Numbered.{number_at}
+
+-- the number of a name answers whether that name is the one that is looked for
+pub answers_name : (first : ℕ) (names : List (List ℕ)) (place number : ℕ) (own name : List ℕ) (b : Bool) → number ≡ first + place → slice_get names place ≡ Some own → b ≡ pointwise nat_eq own name → NameAnswers first names name number b
+answers_name first names place number own name b is at test = (
+  λ t. record { place = place; number_is = is; there = at ∙ ap Some ((bytes_decides own name).0 (sym test ∙ t)) },
+  λ n. let same : n.place ≡ place = omega (arith, is, n.number_is) in
+      let one : own ≡ name = same_Some own name (sym at ∙ ap (slice_get names) (sym same) ∙ n.there) in
+      test ∙ (bytes_decides own name).1 one,
+)
 
 -- no slot holds two things
 one_held : (slots : List (Option ℕ)) (slot x y : ℕ) → Holds slots slot x → Holds slots slot y → x ≡ y
@@ -84,8 +96,9 @@ module _ (first : ℕ) (names : List (List ℕ)) (slots : List (Option ℕ)) (s 
           ]
         ]
 
--- names that are numbered from 0
-pub finds_entry : (names : List (List ℕ)) (slots : List (Option ℕ)) (name : List ℕ) (found : Option ℕ) (last : ℕ) → AreNameSlots 0 names slots → IsLookup (NameAnswers 0 names name) slots (hash_of name) found last → FindsEntry names name found
+-- ---- names that are numbered from 0
+
+pub finds_entry : (names : List (List ℕ)) (slots : List (Option ℕ)) (name : List ℕ) (found : Option ℕ) (last : ℕ) → AreNameSlots 0 names slots → IsNameLookup 0 names slots name found last → FindsEntry names name found
 finds_entry names slots name None last s l = λ e at. found_none 0 names slots s name last l e (record { place = e; number_is = omega arith; there = at })
 finds_entry names slots name (Some e) last s l =
     let f = found_first 0 names slots s name last e l in
@@ -100,14 +113,52 @@ pub lookup_by : (says other : ℕ → Bool → Type 0) (slots : List (Option ℕ
 lookup_by says other slots start last None so l = record { inside = l.inside; passed = λ k b. let p = l.passed k b in record { number = p.number; taken = p.taken; refused = so p.number false p.refused }; ends = l.ends }
 lookup_by says other slots start last (Some number) so l = record { inside = l.inside; passed = λ k b. let p = l.passed k b in record { number = p.number; taken = p.taken; refused = so p.number false p.refused }; ends = (l.ends.0, so number true l.ends.1) }
 
--- what a probe finds in the slots of names, by a test that says whether a number is that of the name
+-- a lookup by the slots and the hash that were read, and by a test that says whether a number is that of the name
+pub lookup_read : (first : ℕ) (names : List (List ℕ)) (name : List ℕ) (says : ℕ → Bool → Type 0) (own slots : List (Option ℕ)) (start : ℕ) (found : Option ℕ) (last : ℕ) → own ≡ slots → start ≡ hash_of name → ((number : ℕ) (b : Bool) → says number b → NameAnswers first names name number b)
+    → IsLookup says own start found last → IsNameLookup first names slots name found last
+lookup_read first names name says own slots start found last same hashed so l =
+    subst (λ w. IsNameLookup first names w name found last) same
+    (subst (λ h. IsLookup (NameAnswers first names name) own h found last) hashed (lookup_by says (NameAnswers first names name) own start last found so l))
+
+-- what a probe finds in the slots of names
 pub finds_in : (names : List (List ℕ)) (name : List ℕ) (says : ℕ → Bool → Type 0) (own slots : List (Option ℕ)) (start : ℕ) (found : Option ℕ) → AreNameSlots 0 names own → slots ≡ own → start ≡ hash_of name → ((number : ℕ) (b : Bool) → says number b → NameAnswers 0 names name number b)
     → (last : ℕ) × IsLookup says slots start found last → FindsEntry names name found
 finds_in names name says own slots start found s e h so l =
-    finds_entry names slots name found l.0 (subst (AreNameSlots 0 names) (sym e) s) (subst (λ w. IsLookup (NameAnswers 0 names name) slots w found l.0) h (lookup_by says (NameAnswers 0 names name) slots start l.0 found so l.1))
+    finds_entry names own name found l.0 s (lookup_read 0 names name says slots own start found l.0 e h so l.1)
 
 -- where no two names are the same, an entry is found exactly where it has the name
-pub finds_exactly : (names : List (List ℕ)) (name : List ℕ) (found : Option ℕ) → FindsEntry names name found → AreApart names → (e : ℕ) → (found ≡ Some e) ↔ (slice_get names e ≡ Some name)
+pub finds_exactly : (names : List (List ℕ)) (name : List ℕ) (found : Option ℕ) → FindsEntry names name found → AreDifferentNames names → (e : ℕ) → (found ≡ Some e) ↔ (slice_get names e ≡ Some name)
 finds_exactly names name None f apart e = (λ is. absurd (cc), λ at. absurd (f e at))
 finds_exactly names name (Some k) f apart e =
     (λ is. let same : k ≡ e = same_Some k e is in ap (slice_get names) (sym same) ∙ f.there, λ at. ap Some (apart k e name f.there at))
+
+-- ---- names that are numbered from 1, as those of opcodes are
+
+-- an opcode that has the name has its number
+opcode_number : (names : List (List ℕ)) (name : List ℕ) (op : ℕ) → at_opcode names op ≡ Some name → IsNumberOf 1 names name op
+opcode_number names name zero at = absurd (cc)
+opcode_number names name (suc k) at = record { place = k; number_is = omega arith; there = at }
+
+number_opcode : (names : List (List ℕ)) (name : List ℕ) (op : ℕ) → IsNumberOf 1 names name op → at_opcode names op ≡ Some name
+number_opcode names name op n = let e : suc n.place ≡ op = omega (arith, n.number_is) in subst (λ k. at_opcode names k ≡ Some name) e n.there
+
+-- the one opcode that has the name is found
+finds_opcode : (names : List (List ℕ)) (slots : List (Option ℕ)) (name : List ℕ) (found : Option ℕ) (last : ℕ) → AreNameSlots 1 names slots → AreDifferentNames names → IsNameLookup 1 names slots name found last
+    → IfSome found (λ op. at_opcode names op ≡ Some name) × ((op : ℕ) → at_opcode names op ≡ Some name → found ≡ Some op)
+finds_opcode names slots name None last s different l = (tt, λ op at. absurd (found_none 1 names slots s name last l op (opcode_number names name op at)))
+finds_opcode names slots name (Some e) last s different l =
+    let f = found_first 1 names slots s name last e l in (
+      number_opcode names name e f.is_number,
+      λ op at.
+          let n = opcode_number names name op at in
+          let same = different f.is_number.place n.place name f.is_number.there n.there in
+          ap Some (omega (arith, f.is_number.number_is, n.number_is, same)),
+    )
+
+-- a lookup in the slots of the tables finds the one opcode that has the name
+pub look_up : (says : ℕ → Bool → Type 0) (kept tables : TableContents) (own : List (Option ℕ)) (name : List ℕ) (start : ℕ) (found : Option ℕ) (last : ℕ) → kept ≡ tables → AreDifferentNames kept.names → AreNameSlots 1 kept.names kept.opcode_slots → own ≡ kept.opcode_slots → start ≡ hash_of name → ((op : ℕ) (b : Bool) → says op b → NameAnswers 1 tables.names name op b) → IsLookup says own start found last
+    → IfSome found (λ op. at_opcode tables.names op ≡ Some name) × ((op : ℕ) → at_opcode tables.names op ≡ Some name → found ≡ Some op)
+look_up says kept tables own name start found last view different are same hashed so l =
+    let slots = subst (λ (t : TableContents). AreNameSlots 1 t.names t.opcode_slots) view are in
+    let here = lookup_read 1 tables.names name says own tables.opcode_slots start found last (same ∙ ap (λ (t : TableContents). t.opcode_slots) view) hashed so l in
+    finds_opcode tables.names tables.opcode_slots name found last slots (subst (λ (t : TableContents). AreDifferentNames t.names) view different) here

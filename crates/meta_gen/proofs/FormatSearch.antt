@@ -17,7 +17,7 @@ use Rattle.meta_gen.specs.declared.format_fault.UsedFormat.{UsedFormat}
 use Rattle.meta_gen.specs.Searched.{ShowsNoFormatFault, IsFirstFormatFault}
 use Rattle.meta_gen.specs.FormatsUsed.{IsAmong, IsNotAmong, IsOfTable, AreOfTable, ClashIn, ClashesWithNone, IsFirstToClash}
 use Rattle.meta_gen.proofs.AtFormat.{ShowsAtFormat, ABadName, ManyBlocks, AClash, at_format, first_use_of}
-use Rattle.meta_gen.proofs.Pushed.{get_end, get_before, get_pushed}
+use Rattle.meta_types.proofs.ListPlaces.{get_end, get_before, get_pushed}
 
 -- what is declared
 abbrev pub declared : List TypeVarContent → List InstructionFormat → List Builder → InstructionSet

@@ -2,10 +2,11 @@
 use Rattle.std.proofs.Common.{◌≡◌, ◌↔◌, ◌⊎◌, inl, inr, ℕ, ◌<◌, ◌≤◌, List, length, slice_get, Option, None, Some, sym, ◌∙◌, arith}
 use Rattle.std.proofs.lemmas.Bool.{cases_lt}
 use Rattle.std.proofs.lemmas.Option.{slice_get_within, slice_get_past}
+use Rattle.meta_types.specs.SharedNames.{AreDifferentNames}
 use Rattle.meta_settings.specs.Layout.{Layout}
 use Rattle.meta_settings.specs.LaidOut.{built_of}
 use Rattle.meta_gen.specs.AllDeclared.{Declared}
-use Rattle.meta_gen.specs.FoundSetting.{entry_names, AreApart}
+use Rattle.meta_gen.specs.FoundSetting.{entry_names}
 use Rattle.meta_gen.specs.GroupTables.{GroupContents, AreTablesOfGroup}
 use Rattle.meta_gen.specs.WholeTables.{WholeTables, OfGroup, HasNoGroup, AreWholeTablesOf, FindsSetting}
 use Rattle.meta_gen.proofs.BuiltNames.{built_names}
@@ -13,7 +14,7 @@ use Rattle.meta_gen.proofs.EntriesRead.{there_is}
 
 -- the answer is the number of the one entry with the name, in each group that has the tables and whose names are apart
 abbrev pub FindsIn : List ℕ → Option ℕ → GroupContents → Type 0
-FindsIn name answer t = (g : Layout) → AreTablesOfGroup g t → AreApart (entry_names g) → (e : ℕ) → ((answer ≡ Some e) ↔ (slice_get (entry_names g) e ≡ Some name))
+FindsIn name answer t = (g : Layout) → AreTablesOfGroup g t → AreDifferentNames (entry_names g) → (e : ℕ) → ((answer ≡ Some e) ↔ (slice_get (entry_names g) e ≡ Some name))
 
 pub finds_declared_setting : (d : Declared) (t : WholeTables) (group : ℕ) (name : List ℕ) (answer : Option ℕ) → OfGroup t group (FindsIn name answer) → (HasNoGroup t group → answer ≡ None) → AreWholeTablesOf d t → FindsSetting d group name answer
 finds_declared_setting d t group name answer here absent h = record {

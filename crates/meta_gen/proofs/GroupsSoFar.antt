@@ -10,7 +10,7 @@ use Rattle.meta_settings.specs.LaidOut.{built_of}
 use Rattle.meta_gen.specs.AllDeclared.{IsFirstOfGroups}
 use Rattle.meta_gen.specs.GroupTables.{GroupContents, AreTablesOfGroup}
 use Rattle.meta_gen.specs.WholeTables.{AreTablesOfGroups}
-use Rattle.meta_gen.proofs.ListPlaces.{get_pushed}
+use Rattle.meta_types.proofs.ListPlaces.{get_pushed}
 
 -- the first so many groups are valid, and these are their tables
 pub record GroupsTo (groups : List GroupDeclaration) (n : ℕ) (tables : List GroupContents) : Type 0 where

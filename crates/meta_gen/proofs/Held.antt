@@ -24,7 +24,7 @@ use Rattle.meta_gen.specs.ConstraintLists.{same_constraint, three_same, overlapp
 use Rattle.meta_gen.specs.Entries.{StaysIn, IsHeld, HoldNeeded, HoldFree, HasTypeSets, IsDescribedAt, AreDescribed, EntryHolds, IsAdded, AreAdded, IsListOf, IsHeldAt, IsOfRegistry, control_at, set_with}
 use Rattle.meta_gen.proofs.Describing.{mapped, control_is, control_from}
 use Rattle.meta_gen.proofs.Appended.{stays, last, one_longer}
-use Rattle.meta_gen.proofs.Pushed.{get_before, get_pushed_below}
+use Rattle.meta_types.proofs.ListPlaces.{get_before, get_pushed_below}
 use Rattle.meta_gen.proofs.Overlapping.{one_list_more}
 use Rattle.meta_inst.proofs.Places.{slice_get-append_left}
 use Rattle.std.proofs.Math.Seq.{take-append_seam}

@@ -13,7 +13,7 @@ use Rattle.meta_unique.specs.Interning.{IsIndexOf, IsNew}
 use Rattle.meta_inst.proofs.Places.{slice_get-append_left}
 use Rattle.meta_gen.specs.Needed.{NeedsUnder, NeedsInOrder, ComesBefore, IsNeededBefore, AreSetsByNeed}
 use Rattle.meta_gen.specs.Interned.{Adds, AddsSome, AddsEach}
-use Rattle.meta_gen.proofs.Pushed.{get_end, get_pushed_below}
+use Rattle.meta_types.proofs.ListPlaces.{get_end, get_pushed_below}
 
 true_or_false : (b : Bool) → (b ≡ true) ⊎ (b ≡ false)
 true_or_false true = inl refl

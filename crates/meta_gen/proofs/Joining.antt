@@ -16,7 +16,7 @@ use Rattle.meta_settings.specs.declared.setting.SpecificSetting.TheVariants.{Boo
 use Rattle.meta_settings.specs.Layout.{PlacedSetting, Layout, IsSized, booleans_in, default_byte_of, default_of}
 use Rattle.meta_gen.specs.BuiltLayout.{IsBuiltLayout, HasByte, HasBit}
 use Rattle.meta_gen.specs.DefaultBytes.{is_in_byte, joined_at, HoldsDefault, AreDefaultsOf}
-use Rattle.meta_gen.proofs.ListPlaces.{get_set_here, get_set_other, get_drop}
+use Rattle.meta_types.proofs.ListPlaces.{get_set_here, get_set_other, get_drop}
 
 -- ---- one setting more
 

@@ -4,7 +4,6 @@ pub mod Declared
 pub mod Decoded
 pub mod Reading
 pub mod Naming
-pub mod SlotFilling
 pub mod Sameness
 -- the search for the first fault
 mod AtInstruction
@@ -12,9 +11,7 @@ mod AtFormat
 mod AtAll
 mod Rules
 mod NamesSoFar
-pub mod EarlierNames
 pub mod FormatSearch
-pub mod Pushed
 mod Counted
 mod FirstFault
 mod DifferentNames
@@ -32,7 +29,6 @@ mod Made
 pub mod OneFault
 pub mod Derivations
 -- the tables of a settings group
-pub mod ListPlaces
 pub mod Numbered
 pub mod Finding
 mod Renaming

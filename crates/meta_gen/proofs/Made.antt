@@ -17,7 +17,7 @@ use Rattle.meta_gen.specs.Contents.{OpcodeNames, contents_of}
 use Rattle.meta_gen.specs.TablesOf.{IsFormatName, AreFormatNames, AreTablesOf}
 use Rattle.meta_gen.specs.Entries.{IsHeldAt, AreAdded}
 use Rattle.meta_gen.proofs.Held.{instruction_held, are_overlapped}
-use Rattle.meta_gen.specs.OpcodeSlots.{AreOpcodeSlots}
+use Rattle.meta_gen.specs.NameSlots.{AreNameSlots}
 use Rattle.meta_gen.proofs.Appended.{stays, last}
 
 -- one more name is copied
@@ -45,7 +45,7 @@ one_format_more formats instructions old new x place b format added count at is 
     k below c at_k
 
 -- the parts make the tables of the declarations
-pub tables_made : (d : InstructionSet) (names : OpcodeNames) (masks : List Masks) (type_sets : List FourSets) (constraints : List Constraint) (entries : List OpcodeConstraints) (lists : List (List Constraint)) (tables : TableContents) → tables ≡ contents_of names masks constraints entries → AreSetsByNeed d type_sets → StandForSets masks type_sets → names.names ≡ names_of d → AreFormatNames d.formats d.instructions names.formats → AreOpcodeSlots names.names names.slots → length entries ≡ length d.instructions → ((k : ℕ) (b : Builder) → IsAt d k b → IsHeldAt d.vars d.formats type_sets constraints entries k b) → AreAdded d.vars d.formats d.instructions type_sets constraints entries lists → AreTablesOf d tables
+pub tables_made : (d : InstructionSet) (names : OpcodeNames) (masks : List Masks) (type_sets : List FourSets) (constraints : List Constraint) (entries : List OpcodeConstraints) (lists : List (List Constraint)) (tables : TableContents) → tables ≡ contents_of names masks constraints entries → AreSetsByNeed d type_sets → StandForSets masks type_sets → names.names ≡ names_of d → AreFormatNames d.formats d.instructions names.formats → AreNameSlots 1 names.names names.slots → length entries ≡ length d.instructions → ((k : ℕ) (b : Builder) → IsAt d k b → IsHeldAt d.vars d.formats type_sets constraints entries k b) → AreAdded d.vars d.formats d.instructions type_sets constraints entries lists → AreTablesOf d tables
 tables_made d names masks type_sets constraints entries lists tables made needed stand named formatted slots counted holds added = subst (AreTablesOf d) (sym made) (record {
   names = named;
   formats = formatted;

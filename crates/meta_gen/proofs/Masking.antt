@@ -6,8 +6,8 @@ use Rattle.std.proofs.lemmas.List.{length-map}
 use Rattle.std.proofs.lemmas.Option.{slice_get_within, same_Some}
 use Rattle.meta_settings.specs.Layout.{Layout, BuiltPreset}
 use Rattle.meta_settings.specs.PresetLayout.{IsLayoutOf, HasBitsOf}
-use Rattle.meta_gen.specs.PresetMasks.{AreMasksOf}
-use Rattle.meta_gen.proofs.ListPlaces.{get_left, get_right}
+use Rattle.meta_gen.specs.PresetMasks.{ArePresetMasks}
+use Rattle.meta_types.proofs.ListPlaces.{get_left, get_right}
 
 -- these are the masks of the first `count` presets
 pub record AreMasksTo (g : Layout) (count : ℕ) (masks : List ℕ) : Type 0 where
@@ -47,7 +47,7 @@ masks_more g count p layout old new at l so e = record {
   ];
 }
 
-pub masks_all : (g : Layout) (count : ℕ) (masks : List ℕ) → length g.presets ≤ count → count ≤ length g.presets → AreMasksTo g count masks → AreMasksOf g masks
+pub masks_all : (g : Layout) (count : ℕ) (masks : List ℕ) → length g.presets ≤ count → count ≤ length g.presets → AreMasksTo g count masks → ArePresetMasks g masks
 masks_all g count masks most least so =
     let all : count ≡ length g.presets = omega arith in
     record {

@@ -1,71 +1,22 @@
 -- The names of the instructions up to a place.
-use Rattle.std.proofs.Common.{◌≡◌, ◌<◌, ◌+◌, ℕ, zero, suc, List, [], ◌∷◌, ◌++◌, length, take, slice_get, Some, refl, sym, ap, ◌∙◌, subst, arith}
-use Rattle.std.specs.Prelude.{option_map}
-use Rattle.std.proofs.lemmas.Option.{slice_get-map, slice_get_within, get_or_from_slice_get}
-use Rattle.std.proofs.lemmas.List.{take_more, length-take}
-use Rattle.std.specs.BTreeMap.{BTreeMap}
-use Rattle.meta_gen.specs.Searched.{Keeps}
+use Rattle.std.proofs.Common.{◌≡◌, ◌+◌, ℕ, List, [], ◌∷◌, ◌++◌, length, take, slice_get, Some, sym, ap, ◌∙◌}
+use Rattle.meta_types.specs.SharedNames.{IsDuplicate}
+use Rattle.meta_types.proofs.ListPlaces.{get_map}
+use Rattle.meta_types.proofs.NamesSoFar as names
 use Rattle.meta_inst.specs.Builder.{Builder}
 use Rattle.meta_inst.specs.InstructionSet.{InstructionSet}
-use Rattle.meta_inst.specs.Faults.{IsAt, names_of, IsDuplicate}
+use Rattle.meta_inst.specs.Faults.{IsAt, names_of}
 
--- a place of the first n is that place of all
-pub slice_get-take : {X : Type 0} (xs : List X) (n i : ℕ) → i < n → slice_get (take n xs) i ≡ slice_get xs i
-slice_get-take xs zero i l = absurd (omega arith)
-slice_get-take [] (suc n) i l = refl
-slice_get-take (x ∷ xs) (suc n) zero l = refl
-slice_get-take (x ∷ xs) (suc n) (suc i) l = slice_get-take xs n i (omega arith)
+-- what the names before an instruction and its own tell of all names
+module _ (d : InstructionSet) (k : ℕ) (b : Builder) (at : IsAt d k b) (name : List ℕ) (is : name ≡ b.name) (kept : List (List ℕ)) (are : kept ≡ take k (names_of d)) where
+  named : slice_get (names_of d) k ≡ Some name
+  named = get_map (λ (b : Builder). b.name) d.instructions k b at ∙ ap Some (sym is)
 
-module _ (d : InstructionSet) (k : ℕ) (b : Builder) (at : IsAt d k b) where
-  name_at : slice_get (names_of d) k ≡ Some b.name
-  name_at = slice_get-map (λ (b : Builder). b.name) d.instructions k ∙ ap (option_map (λ (b : Builder). b.name)) at
+  pub shared_found : (j : ℕ) → IsDuplicate (kept ++ name ∷ []) (length kept) j → IsDuplicate (names_of d) k j
+  shared_found j h = names.shared_found (names_of d) k name named kept are j h
 
-  within : k < length (names_of d)
-  within = slice_get_within (names_of d) k b.name name_at
+  pub unshared_found : ((j : ℕ) → IsDuplicate (kept ++ name ∷ []) (length kept) j → ⊥) → (j : ℕ) → IsDuplicate (names_of d) k j → ⊥
+  unshared_found never j h = names.unshared_found (names_of d) k name named kept are never j h
 
-  pub one_name_more : take k (names_of d) ++ b.name ∷ [] ≡ take (k + 1) (names_of d)
-  one_name_more = sym (take_more (names_of d) k b.name within ∙ ap (λ n. take k (names_of d) ++ n ∷ []) (get_or_from_slice_get (names_of d) k b.name b.name name_at))
-
-  pub names_so_far : k ≡ length (take k (names_of d))
-  names_so_far = let w = within in omega (arith, length-take k (names_of d))
-
--- a name that is shared among the names up to its place is shared among all, and the other way round
-pub duplicate_of_all : (names : List (List ℕ)) (k j : ℕ) → IsDuplicate (take (k + 1) names) k j → IsDuplicate names k j
-duplicate_of_all names k j h =
-    let before = h.before in
-    record {
-      name = h.name;
-      earlier = h.earlier;
-      is_name = sym (slice_get-take names (k + 1) k (omega arith)) ∙ h.is_name;
-      is_earlier = sym (slice_get-take names (k + 1) j (omega arith)) ∙ h.is_earlier;
-      before = h.before;
-      shares = h.shares;
-      first = λ i other l is s. h.first i other l (slice_get-take names (k + 1) i (omega arith) ∙ is) s;
-    }
-
-pub duplicate_so_far : (names : List (List ℕ)) (k j : ℕ) → IsDuplicate names k j → IsDuplicate (take (k + 1) names) k j
-duplicate_so_far names k j h =
-    let before = h.before in
-    record {
-      name = h.name;
-      earlier = h.earlier;
-      is_name = slice_get-take names (k + 1) k (omega arith) ∙ h.is_name;
-      is_earlier = slice_get-take names (k + 1) j (omega arith) ∙ h.is_earlier;
-      before = h.before;
-      shares = h.shares;
-      first = λ i other l is s. h.first i other l (sym (slice_get-take names (k + 1) i (omega arith)) ∙ is) s;
-    }
-
--- what the names up to a place tell of all names
-module _ (d : InstructionSet) (k : ℕ) (b : Builder) (at : IsAt d k b) (name : List ℕ) (is : name ≡ b.name) where
-  one_more : take k (names_of d) ++ name ∷ [] ≡ take (k + 1) (names_of d)
-  one_more = ap (λ n. take k (names_of d) ++ n ∷ []) is ∙ one_name_more d k b at
-
-  pub shared_found : (j : ℕ) → IsDuplicate (take k (names_of d) ++ name ∷ []) k j → IsDuplicate (names_of d) k j
-  shared_found j h = duplicate_of_all (names_of d) k j (subst (λ ns. IsDuplicate ns k j) one_more h)
-
-  pub unshared_found : ((j : ℕ) → IsDuplicate (take k (names_of d) ++ name ∷ []) k j → ⊥) → (j : ℕ) → IsDuplicate (names_of d) k j → ⊥
-  unshared_found never j h = never j (subst (λ ns. IsDuplicate ns k j) (sym one_more) (duplicate_so_far (names_of d) k j h))
-
-  pub kept_more : (places : BTreeMap (List ℕ) ℕ) → Keeps places (take k (names_of d) ++ name ∷ []) → Keeps places (take (k + 1) (names_of d))
-  kept_more places h = subst (Keeps places) one_more h
+  pub kept_more : (more : List (List ℕ)) → more ≡ kept ++ name ∷ [] → more ≡ take (k + 1) (names_of d)
+  kept_more more e = names.kept_more (names_of d) k name named kept are more e

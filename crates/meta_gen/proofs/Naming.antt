@@ -1,32 +1,26 @@
 -- The opcode that has a name, and the instruction that has it.
-use Rattle.std.proofs.Common.{◌≡◌, ◌≢◌, ℕ, zero, suc, List, [], ◌∷◌, map, Option, None, Some, IfSome, IfNone, slice_get, refl, sym, ap, ◌∙◌, subst, add-one, arith}
-use Rattle.std.specs.Option.{option_map}
-use Rattle.std.proofs.lemmas.Option.{slice_get-map, same_Some}
+use Rattle.std.proofs.Common.{◌≡◌, ◌≢◌, ℕ, zero, suc, List, Option, None, Some, IfSome, IfNone, slice_get, sym, ap, ◌∙◌, subst, add-one, arith}
+use Rattle.std.proofs.lemmas.Option.{same_Some}
+use Rattle.meta_types.proofs.ListPlaces.{get_map, get_mapped}
 use Rattle.meta_inst.specs.Builder.{Builder}
 use Rattle.meta_inst.specs.InstructionSet.{InstructionSet}
 use Rattle.meta_inst.specs.Faults.{IsAt}
 use Rattle.meta_meaning.specs.Tables.{TableContents, at_opcode}
 use Rattle.meta_gen.specs.TablesOf.{AreTablesOf}
-use Rattle.meta_gen.specs.Contents.{IsFirstNamed}
+use Rattle.meta_gen.specs.Contents.{IsFirstOpcodeNamed}
 use Rattle.meta_gen.specs.Found.{IsFirstDeclared, FindsName}
-
--- what stands at a place of a mapped list comes from there
-pub map_place : {X Y : Type 0} (f : X → Y) (xs : List X) (k : ℕ) (y : Y) → slice_get (map f xs) k ≡ Some y → (x : X) × (slice_get xs k ≡ Some x) × (f x ≡ y)
-map_place f [] k y e = absurd (cc)
-map_place f (x ∷ xs) zero y e = (x, refl, cc)
-map_place f (x ∷ xs) (suc k) y e = map_place f xs k y e
 
 -- a declared instruction's name is that of its opcode
 declared_name : (d : InstructionSet) (tables : TableContents) (k : ℕ) (b : Builder) → AreTablesOf d tables → IsAt d k b → slice_get tables.names k ≡ Some b.name
 declared_name d tables k b h at =
-    ap (λ names. slice_get names k) h.names ∙ (slice_get-map (λ (x : Builder). x.name) d.instructions k ∙ ap (option_map (λ (x : Builder). x.name)) at)
+    ap (λ names. slice_get names k) h.names ∙ get_map (λ (x : Builder). x.name) d.instructions k b at
 
 -- a look-up finds each opcode that has the name
 abbrev pub FindsNamed : List (List ℕ) → List ℕ → Option ℕ → Type 0
 FindsNamed names name found = (op : ℕ) → at_opcode names op ≡ Some name → found ≡ Some op
 
 -- what is found is the first that has the name
-pub first_named : (names : List (List ℕ)) (name : List ℕ) (found : Option ℕ) → IfSome found (λ op. at_opcode names op ≡ Some name) → FindsNamed names name found → IfSome found (IsFirstNamed names name)
+pub first_named : (names : List (List ℕ)) (name : List ℕ) (found : Option ℕ) → IfSome found (λ op. at_opcode names op ≡ Some name) → FindsNamed names name found → IfSome found (IsFirstOpcodeNamed names name)
 first_named names name None named finds = tt
 first_named names name (Some op) named finds = record {
   named = named;
@@ -42,7 +36,7 @@ none_named names name (Some op) finds = tt
 first_declared : (d : InstructionSet) (tables : TableContents) (name : List ℕ) (op : ℕ) → AreTablesOf d tables → at_opcode tables.names op ≡ Some name → FindsNamed tables.names name (Some op) → IsFirstDeclared d name op
 first_declared d tables name zero h at finds = absurd (cc)
 first_declared d tables name (suc place) h at finds =
-    let (b, b_at, named) = map_place (λ (x : Builder). x.name) d.instructions place name (subst (λ names. slice_get names place ≡ Some name) h.names at) in
+    let (b, b_at, named) = get_mapped (λ (x : Builder). x.name) d.instructions place name (subst (λ names. slice_get names place ≡ Some name) h.names at) in
     record {
       place = place;
       builder = b;

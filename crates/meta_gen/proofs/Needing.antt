@@ -32,7 +32,7 @@ use Rattle.meta_gen.specs.Needed.{NeedsUnder, NeedsAtPlace, NeedsInOrder, StandF
 use Rattle.std.proofs.lemmas.List.{append-nil}
 use Rattle.meta_unique.specs.Interning.{pointed_to}
 use Rattle.meta_gen.proofs.Appended.{stays, last, one_longer}
-use Rattle.meta_gen.proofs.Pushed.{get_pushed_below}
+use Rattle.meta_types.proofs.ListPlaces.{get_pushed_below}
 use Rattle.meta_gen.specs.Interned.{Adds, AddsSome, AddsEach, AddsNeeded, IsControlSetOf, IsFreeSetOf, IsFreeSetAt}
 use Rattle.meta_gen.proofs.Interning.{adds_none, adds_one, adds_like, each_like, each_behind, IsInterned, needs_more, next_instruction}
 

@@ -1,5 +1,5 @@
 -- Declarations show one first fault at most.
-use Rattle.std.proofs.Common.{◌≡◌, ◌<◌, ◌+◌, ◌⊎◌, inl, inr, ⊎_elim, ℕ, List, refl, sym, ap, ◌∙◌, subst, arith}
+use Rattle.std.proofs.Common.{◌≡◌, ◌<◌, ◌+◌, ◌⊎◌, inl, inr, ⊎_elim, ℕ, refl, sym, ap, ◌∙◌, subst, arith}
 use Rattle.std.proofs.lemmas.Option.{same_Some}
 use Rattle.std.proofs.lemmas.Bool.{cases_lt}
 use Rattle.meta_types.specs.declared.fault.Place.TheVariants.{Instruction as AtInstruction}
@@ -7,7 +7,8 @@ use Rattle.meta_types.specs.declared.fault.DefinitionError.{DefinitionError}
 use Rattle.meta_types.specs.declared.fault.DefinitionError.TheVariants.{DuplicateName, TooManyTypeSets}
 use Rattle.meta_inst.specs.Builder.{Builder}
 use Rattle.meta_inst.specs.InstructionSet.{InstructionSet}
-use Rattle.meta_inst.specs.Faults.{IsAt, SharesName, names_of, IsDuplicate, HasTooManyTypeSets, Position, OfOpcodes, OfInstruction, OfFormat, OfTypeSets, Before, IsEarlier, ShowsAt, IsFirstFault, IsValid}
+use Rattle.meta_types.proofs.SharedNames.{one_earlier}
+use Rattle.meta_inst.specs.Faults.{IsAt, names_of, HasTooManyTypeSets, Position, OfOpcodes, OfInstruction, OfFormat, OfTypeSets, Before, IsEarlier, ShowsAt, IsFirstFault, IsValid}
 use Rattle.meta_gen.proofs.Counted.{one_count}
 use Rattle.meta_inst.specs.InstructionFaults.{Breaks}
 use Rattle.meta_inst.proofs.OneOwnFault.{one_broken, not_second}
@@ -72,13 +73,6 @@ apart OfTypeSets OfTypeSets = inr (inr refl)
 
 -- ---- the numbers of a fault are determined
 
--- the earlier place of a shared name
-one_duplicate : (names : List (List ℕ)) (k i j : ℕ) → IsDuplicate names k i → IsDuplicate names k j → i ≡ j
-one_duplicate names k i j h g = ⊎_elim (λ l. absurd (earlier i j h g l)) (⊎_elim (λ l. absurd (earlier j i g h l)) (λ e. e)) (ordered i j)
-  where
-    earlier : (i j : ℕ) → IsDuplicate names k i → IsDuplicate names k j → i < j → ⊥
-    earlier i j h g l = g.first i h.earlier l h.is_earlier (subst (SharesName h.earlier) (same_Some h.name g.name (sym h.is_name ∙ g.is_name)) h.shares)
-
 module _ (d : InstructionSet) where
   one_at : (k : ℕ) (b c : Builder) → IsAt d k b → IsAt d k c → b ≡ c
   one_at k b c h g = same_Some b c (sym h ∙ g)
@@ -95,7 +89,7 @@ module _ (d : InstructionSet) where
       one_broken d.vars d.formats g.builder (k + 1) rule e f (subst (λ (b : Builder). Breaks d.vars d.formats b (k + 1) rule e) (one_at k h.builder g.builder h.at g.at) h.breaks) g.breaks
   one_at_instruction k rule e f (inl h) (inr g) = absurd (not_second d.vars d.formats h.builder (k + 1) e (subst (λ r. Breaks d.vars d.formats h.builder (k + 1) r e) g.second h.breaks))
   one_at_instruction k rule e f (inr h) (inl g) = absurd (not_second d.vars d.formats g.builder (k + 1) f (subst (λ r. Breaks d.vars d.formats g.builder (k + 1) r f) h.second g.breaks))
-  one_at_instruction k rule e f (inr h) (inr g) = h.is ∙ ap (λ j. DuplicateName (AtInstruction (k + 1)) (j + 1)) (one_duplicate (names_of d) k h.earlier g.earlier h.duplicate g.duplicate) ∙ sym g.is
+  one_at_instruction k rule e f (inr h) (inr g) = h.is ∙ ap (λ j. DuplicateName (AtInstruction (k + 1)) (j + 1)) (one_earlier (names_of d) k h.earlier g.earlier h.duplicate g.duplicate) ∙ sym g.is
 
   -- at one position one fault shows
   one_shown : (p : Position) (e f : DefinitionError) → ShowsAt d e p → ShowsAt d f p → e ≡ f

@@ -9,7 +9,7 @@ use Rattle.std.proofs.lemmas.Option.{slice_get_within, slice_get_past}
 use Rattle.meta_unique.specs.Overlap.{AreAlike, added, added_at, stands_at, IsShortest}
 use Rattle.meta_gen.specs.Entries.{StaysIn}
 use Rattle.meta_gen.specs.ConstraintLists.{same_constraint, three_same, overlapped}
-use Rattle.meta_gen.proofs.NamesSoFar.{slice_get-take}
+use Rattle.meta_types.proofs.ListPlaces.{get_take}
 use Rattle.meta_gen.specs.declared.constraint.Constraint.{Constraint}
 use Rattle.meta_gen.specs.declared.constraint.Constraint.TheVariants.{Concrete, Free, Same, LaneOf, AsTruthy, HalfWidth, DoubleWidth, SplitLanes, MergeLanes, DynamicToVector, Narrower, Wider}
 
@@ -55,14 +55,14 @@ slice_get-drop (x ∷ xs) (suc n) k = let e : suc (n + k) ≡ suc n + k = omega 
 pub kept_stays : (old new : List Constraint) → take (length old) new ≡ old → StaysIn old new
 kept_stays old new kept k x at =
     let inside = slice_get_within old k x at in
-    sym (slice_get-take new (length old) k inside) ∙ ap (λ xs. slice_get xs k) kept ∙ at
+    sym (get_take new (length old) k inside) ∙ ap (λ xs. slice_get xs k) kept ∙ at
 
 -- an element of a list that stands in the table stands there
 pub stands_read : (table list : List Constraint) (place : ℕ) → stands_at same_constraint table list place ≡ true → (k : ℕ) (x : Constraint) → slice_get list k ≡ Some x → slice_get table (place + k) ≡ Some x
 stands_read table list place e k x at =
     let inside = slice_get_within list k x at in
     let same : list ≡ take (length list) (drop place table) = alike list (take (length list) (drop place table)) e in
-    sym (sym at ∙ ap (λ xs. slice_get xs k) same ∙ slice_get-take (drop place table) (length list) k inside ∙ slice_get-drop table place k)
+    sym (sym at ∙ ap (λ xs. slice_get xs k) same ∙ get_take (drop place table) (length list) k inside ∙ slice_get-drop table place k)
 
 -- the table grows by the list at most
 pub grows : (old list new : List Constraint) → IsShortest same_constraint old list new → length new ≤ length old + length list

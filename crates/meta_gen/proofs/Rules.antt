@@ -9,7 +9,8 @@ use Rattle.meta_inst.specs.Builder.{Builder}
 use Rattle.meta_inst.specs.Built.{Built}
 use Rattle.meta_inst.specs.InstructionSet.{InstructionSet}
 use Rattle.meta_inst.specs.InstructionFaults.{Breaks, IsFirstOwnFault, IsWellMade}
-use Rattle.meta_inst.specs.Faults.{IsAt, names_of, IsDuplicate}
+use Rattle.meta_types.specs.SharedNames.{IsDuplicate}
+use Rattle.meta_inst.specs.Faults.{IsAt, names_of}
 use Rattle.meta_inst.proofs.OneOwnFault.{later, first_rule}
 use Rattle.meta_gen.specs.Searched.{ShowsNoInstructionFault, IsFirstInstructionFault}
 use Rattle.meta_gen.proofs.AtInstruction.{BreaksHere, SharesHere, at_instruction, shows_own}

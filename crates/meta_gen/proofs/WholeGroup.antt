@@ -12,10 +12,10 @@ use Rattle.meta_gen.specs.declared.descriptor.Descriptor.{Descriptor}
 use Rattle.meta_gen.specs.BuiltLayout.{HaveNumbers, IsBuiltLayout}
 use Rattle.meta_gen.specs.Descriptor.{IsDetailOf, DescribesSetting, DescribesEntry, preset_descriptor}
 use Rattle.meta_gen.specs.DefaultBytes.{AreDefaultsOf}
-use Rattle.meta_gen.specs.PresetMasks.{AreMasksOf}
+use Rattle.meta_gen.specs.PresetMasks.{ArePresetMasks}
 use Rattle.meta_gen.specs.FoundSetting.{entry_names, entry_count}
 use Rattle.meta_gen.specs.GroupTables.{names_in, IsInside}
-use Rattle.meta_gen.proofs.ListPlaces.{get_left, get_right, get_cases}
+use Rattle.meta_types.proofs.ListPlaces.{get_left, get_right, get_cases}
 use Rattle.meta_gen.proofs.EntriesRead.{there_is}
 use Rattle.meta_gen.proofs.Joining.{placed, byte_inside}
 
@@ -76,7 +76,7 @@ module _ (g : Layout) (enumerators : List (List ℕ)) (settings presets ds : Lis
     inside_as size masks offset before (AnEnum values) detail l small is = subst (IsInside size masks offset) (sym is.is) l
     inside_as size masks offset before (ANum default) detail l small is = subst (IsInside size masks offset) (sym is) l
 
-    pub inside_are : (defaults masks : List ℕ) → AreDefaultsOf g defaults → AreMasksOf g masks → (e : ℕ) (d : Descriptor) → slice_get ds e ≡ Some d → IsInside (length defaults) (length masks) d.offset d.detail
+    pub inside_are : (defaults masks : List ℕ) → AreDefaultsOf g defaults → ArePresetMasks g masks → (e : ℕ) (d : Descriptor) → slice_get ds e ≡ Some d → IsInside (length defaults) (length masks) d.offset d.detail
     inside_are defaults masks def mask e d at = ⊎_elim
         (λ own.
         let count = setting_count in

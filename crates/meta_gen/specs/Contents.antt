@@ -3,12 +3,13 @@
 --     AreIndexed names entries                                        each entry has a name of its own, which the slots find
 --     IsOpcode tables op                                              op is an opcode of the tables
 use Rattle.std.specs.Prelude.{◌≡◌, ◌≢◌, ◌<◌, ◌≤◌, ◌+◌, ℕ, List, length, map, slice_get, Contains, Option, None, Some}
+use Rattle.meta_types.specs.SharedNames.{AreDifferentNames}
 use Rattle.meta_typevar.specs.declared.masks.Masks.{Masks}
 use Rattle.meta_meaning.specs.Tables.{TableContents, at_opcode, PassesAt}
 use Rattle.meta_gen.specs.declared.constraint.Constraint.{Constraint}
 use Rattle.meta_gen.specs.declared.constraint.OpcodeConstraints.{OpcodeConstraints}
 use Rattle.meta_gen.specs.Constraint.{number_constraint_of, entry_of}
-use Rattle.meta_gen.specs.OpcodeSlots.{AreDifferentNames, AreOpcodeSlots}
+use Rattle.meta_gen.specs.NameSlots.{AreNameSlots}
 
 -- what tables have of names: by opcode the name and the name of the format, and the slots of the names
 pub record OpcodeNames : Type 0 where
@@ -34,7 +35,7 @@ pub record AreIndexed (names : OpcodeNames) (constraints : List OpcodeConstraint
   pub formatted : length names.formats ≡ length constraints
   pub few : length constraints ≤ 255
   pub different : AreDifferentNames names.names
-  pub slots : AreOpcodeSlots names.names names.slots
+  pub slots : AreNameSlots 1 names.names names.slots
   pub vacant : Contains names.slots None
 
 -- op is one of the opcodes of the tables, which are numbered from 1
@@ -42,7 +43,7 @@ abbrev pub IsOpcode : TableContents → ℕ → Type 0
 IsOpcode tables op = (0 < op) × (op ≤ length tables.entries)
 
 -- op is the first opcode that has this name
-pub record IsFirstNamed (names : List (List ℕ)) (name : List ℕ) (op : ℕ) : Type 0 where
+pub record IsFirstOpcodeNamed (names : List (List ℕ)) (name : List ℕ) (op : ℕ) : Type 0 where
   pub named : at_opcode names op ≡ Some name
   pub first : (k : ℕ) → k < op → at_opcode names k ≢ Some name
 

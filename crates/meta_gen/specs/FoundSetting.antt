@@ -11,15 +11,11 @@ abbrev pub entry_count : Layout → ℕ
 entry_count g = length g.settings + length g.presets
 
 -- the entry has the name, and none before it has it
-pub record IsFirstNamed (names : List (List ℕ)) (name : List ℕ) (e : ℕ) : Type 0 where
+pub record IsFirstEntryNamed (names : List (List ℕ)) (name : List ℕ) (e : ℕ) : Type 0 where
   pub there : slice_get names e ≡ Some name
   pub is_first : (j : ℕ) → j < e → slice_get names j ≡ Some name → ⊥
 
 -- nothing is found exactly where no entry has the name, and else the first that has it
 abbrev pub FindsEntry : List (List ℕ) → List ℕ → Option ℕ → Type 0
 FindsEntry names name None = (e : ℕ) → slice_get names e ≡ Some name → ⊥
-FindsEntry names name (Some e) = IsFirstNamed names name e
-
--- no two of the names are the same
-abbrev pub AreApart : List (List ℕ) → Type 0
-AreApart names = (i j : ℕ) (name : List ℕ) → slice_get names i ≡ Some name → slice_get names j ≡ Some name → i ≡ j
+FindsEntry names name (Some e) = IsFirstEntryNamed names name e

@@ -10,7 +10,7 @@ use Rattle.meta_gen.specs.declared.descriptor.Descriptor.{Descriptor}
 use Rattle.meta_gen.specs.EnumeratorList.{enumerators_of}
 use Rattle.meta_gen.specs.Descriptor.{DescribesEntry}
 use Rattle.meta_gen.specs.DefaultBytes.{AreDefaultsOf, default_number}
-use Rattle.meta_gen.specs.PresetMasks.{AreMasksOf, TurnsOnOnly}
+use Rattle.meta_gen.specs.PresetMasks.{ArePresetMasks, TurnsOnOnly}
 use Rattle.meta_gen.specs.NameSlots.{AreNameSlots}
 use Rattle.meta_gen.specs.FoundSetting.{entry_names, entry_count}
 
@@ -57,7 +57,7 @@ pub record AreTablesOfGroup (g : Layout) (t : GroupContents) : Type 0 where
   pub entries : (e : ℕ) (d : Descriptor) → slice_get t.descriptors e ≡ Some d → DescribesEntry g t.enumerators e d
   pub enumerators : t.enumerators ≡ enumerators_of g.settings
   pub defaults : AreDefaultsOf g t.defaults
-  pub masks : AreMasksOf g t.preset_masks
+  pub masks : ArePresetMasks g t.preset_masks
   pub slots : AreNameSlots 0 (entry_names g) t.slots
 
 -- entry e of the group is preset p

@@ -1,7 +1,6 @@
 pub mod TablesOf
 pub mod Constraint
 pub mod Contents
-pub mod OpcodeSlots
 pub mod Found
 pub mod Searched
 pub mod FormatsUsed

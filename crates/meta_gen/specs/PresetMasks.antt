@@ -1,5 +1,5 @@
 -- The masks of the presets of a group, and what a preset does to setting bytes.
---     AreMasksOf g masks            the masks of the group
+--     ArePresetMasks g masks        the masks of the presets of the group
 --     AreJoined old masks new       bytes joined with masks
 --     TurnsOnOnly g p old new       the bits of what the preset turns on are on, and no other bit changed
 use Rattle.std.specs.Prelude.{ℕ, ◌≡◌, ◌↔◌, ◌⊎◌, ◌+◌, ◌*◌, ◌<◌, List, length, slice_get, Some}
@@ -10,7 +10,7 @@ use Rattle.meta_settings.specs.PresetLayout.{IsOnAt, HasBitsOf}
 
 -- the group has one mask a preset and setting byte, preset after preset; it has exactly the bits, of those of its byte, of the
 -- booleans that the preset turns on
-pub record AreMasksOf (g : Layout) (masks : List ℕ) : Type 0 where
+pub record ArePresetMasks (g : Layout) (masks : List ℕ) : Type 0 where
   pub size : length masks ≡ length g.presets * g.settings_size
   pub bits : (k byte m : ℕ) (p : BuiltPreset) → slice_get g.presets k ≡ Some p → byte < g.settings_size → slice_get masks (k * g.settings_size + byte) ≡ Some m → HasBitsOf g.bool_start_byte_offset p.booleans byte m
 

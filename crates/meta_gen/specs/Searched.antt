@@ -1,21 +1,8 @@
 -- What the parts of the search for the first fault find.
-use Rattle.std.specs.Prelude.{◌≡◌, ◌==◌, ◌<◌, ℕ, List, Option}
-use Rattle.std.specs.List.{position}
-use Rattle.std.specs.Cmp.Lexicographic.{slice_cmp, pointwise}
-use Rattle.std.specs.Ordering.{nat_cmp}
-use Rattle.std.specs.BTreeMap.{BTreeMap, get}
-use Rattle.meta_types.specs.CamelCase.{camel_case_of}
+use Rattle.std.specs.Prelude.{◌<◌, ℕ}
 use Rattle.meta_types.specs.declared.fault.DefinitionError.{DefinitionError}
 use Rattle.meta_inst.specs.InstructionSet.{InstructionSet}
 use Rattle.meta_inst.specs.Faults.{Position, OfFormat, OfInstruction, OfTypeSets, Before, ShowsAt, IsEarlier}
-
--- the place of the first of the names that has this camel case
-abbrev pub place_of : List ℕ → List (List ℕ) → Option ℕ
-place_of camel names = position (λ name. pointwise ◌==◌ (camel_case_of name) camel) names
-
--- the map leads from a camel case to the place of the first of the names that has it
-abbrev pub Keeps : BTreeMap (List ℕ) ℕ → List (List ℕ) → Type 0
-Keeps places names = (camel : List ℕ) → get (slice_cmp nat_cmp) places camel ≡ place_of camel names
 
 -- no format in use shows a fault
 abbrev pub ShowsNoFormatFault : InstructionSet → Type 0

@@ -10,7 +10,7 @@ use Rattle.meta_inst.specs.InstructionSet.{InstructionSet, root_sets, instructio
 use Rattle.meta_inst.specs.Faults.{IsAt, names_of}
 use Rattle.meta_meaning.specs.Acceptance.{AcceptsNumbers}
 use Rattle.meta_meaning.specs.Tables.{TableContents, Entry, IsEntry}
-use Rattle.meta_gen.specs.OpcodeSlots.{AreOpcodeSlots}
+use Rattle.meta_gen.specs.NameSlots.{AreNameSlots}
 use Rattle.meta_gen.specs.Needed.{AreNeededMasks}
 use Rattle.meta_gen.specs.ConstraintLists.{AreOverlapped}
 
@@ -39,7 +39,7 @@ pub record AreFormatNames (formats : List InstructionFormat) (instructions : Lis
 pub record AreTablesOf (d : InstructionSet) (tables : TableContents) : Type 0 where
   pub names : tables.names ≡ names_of d
   pub formats : AreFormatNames d.formats d.instructions tables.formats
-  pub opcode_slots : AreOpcodeSlots tables.names tables.opcode_slots
+  pub opcode_slots : AreNameSlots 1 tables.names tables.opcode_slots
   pub type_sets : AreNeededMasks d tables.type_sets
   pub operand_constraints : AreOverlapped d tables
   pub count : length tables.entries ≡ length d.instructions

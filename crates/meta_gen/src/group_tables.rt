@@ -1,14 +1,13 @@
 ghost use Rattle.std.specs.Prelude.{◌≡◌, ◌↔◌, ◌+◌, ◌++◌, ◌≤◌, ◌<◌, ℕ, List, [], length, map, take, drop, slice_get, slice_index_or, option_map, Contains, Some, None, false, IsTrue, IsSome, IfSome, IfNone, IfOk, OnOk};
-ghost use Rattle.meta_unique.specs.Probing.{IsLookup};
-ghost use Rattle.meta_unique.specs.SimpleHash.{hash_of};
+ghost use Rattle.meta_types.specs.SharedNames.{AreDifferentNames};
 ghost use Rattle.meta_settings.specs.declared.setting.SpecificSetting.TheVariants.{Enum};
 ghost use Rattle.meta_settings.specs.Layout.{PlacedSetting, BuiltPreset, Layout};
 ghost use Rattle.meta_gen.specs.declared.descriptor.Descriptor.{Descriptor};
 ghost use Rattle.meta_gen.specs.BuiltLayout.{HaveNumbers, IsBuiltLayout};
 ghost use Rattle.meta_gen.specs.Descriptor.{IsDetailOf, DescribesSetting, DescribesEntry, setting_descriptor, preset_descriptor};
 ghost use Rattle.meta_gen.specs.EnumeratorList.{enumerators_of, values_of, with_values, HasGrown};
-ghost use Rattle.meta_gen.specs.NameSlots.{AreNameSlots, NameAnswers};
-ghost use Rattle.meta_gen.specs.FoundSetting.{entry_names, entry_count, FindsEntry, AreApart};
+ghost use Rattle.meta_gen.specs.NameSlots.{AreNameSlots, NameAnswers, IsNameLookup};
+ghost use Rattle.meta_gen.specs.FoundSetting.{entry_names, entry_count, FindsEntry};
 ghost use Rattle.meta_gen.specs.PresetMasks.{AreJoined};
 ghost use Rattle.meta_gen.specs.GroupTables.{names_in, IsPresetIn, AreTablesOfGroup, default_in, AnswersDefault, Applies};
 
@@ -303,7 +302,7 @@ impl GroupTables {
     pub fn find_setting(&self, name: &[u8]) -> Option<u16>
         ensures found { FindsEntry (names_in self.now.descriptors) name.now result }
         ensures meaning { (g : Layout) → AreTablesOfGroup g self.now → FindsEntry (entry_names g) name.now result }
-        ensures exact { (g : Layout) → AreTablesOfGroup g self.now → AreApart (entry_names g) → (e : ℕ) → ((result ≡ Some e) ↔ (slice_get (entry_names g) e ≡ Some name.now)) }
+        ensures exact { (g : Layout) → AreTablesOfGroup g self.now → AreDifferentNames (entry_names g) → (e : ℕ) → ((result ≡ Some e) ↔ (slice_get (entry_names g) e ≡ Some name.now)) }
     {
         probe(self.slots.as_slice(), simple_hash(name), |index| {
             self.is_named(index, name)
@@ -314,8 +313,8 @@ impl GroupTables {
     pub fn find_setting_counted<L: Ledger>(&self, name: &[u8], steps: &mut Steps<L>) -> Option<u16>
         ensures found { FindsEntry (names_in self.now.descriptors) name.now result }
         ensures meaning { (g : Layout) → AreTablesOfGroup g self.now → FindsEntry (entry_names g) name.now result }
-        ensures exact { (g : Layout) → AreTablesOfGroup g self.now → AreApart (entry_names g) → (e : ℕ) → ((result ≡ Some e) ↔ (slice_get (entry_names g) e ≡ Some name.now)) }
-        ensures counted { (last : ℕ) × IsLookup (NameAnswers 0 (names_in self.now.descriptors) name.now) self.now.slots (hash_of name.now) result last × (steps.new ≡ steps.old + (last + 1)) }
+        ensures exact { (g : Layout) → AreTablesOfGroup g self.now → AreDifferentNames (entry_names g) → (e : ℕ) → ((result ≡ Some e) ↔ (slice_get (entry_names g) e ≡ Some name.now)) }
+        ensures counted { (last : ℕ) × IsNameLookup 0 (names_in self.now.descriptors) self.now.slots name.now result last × (steps.new ≡ steps.old + (last + 1)) }
         ensures most { steps.new ≤ steps.old + length self.now.slots }
     {
         probe_counted(

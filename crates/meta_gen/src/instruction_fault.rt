@@ -4,14 +4,12 @@ ghost use Rattle.meta_types.specs.declared.fault.DefinitionError.TheVariants.{Ba
 ghost use Rattle.meta_inst.specs.Built.{Built};
 ghost use Rattle.meta_inst.specs.InstructionSet.{InstructionSet};
 ghost use Rattle.meta_inst.specs.Faults.{names_of};
-ghost use Rattle.meta_gen.specs.Searched.{Keeps, ShowsNoInstructionFault, IsFirstInstructionFault, IsFirstOfInstructions};
+ghost use Rattle.meta_gen.specs.Searched.{ShowsNoInstructionFault, IsFirstInstructionFault, IsFirstOfInstructions};
 
 use super::declared_set::DeclaredSet;
-use super::names::{add_name, no_names};
 use meta_inst::InstructionContent;
-use meta_types::{DefinitionError, Place, Text};
+use meta_types::{DefinitionError, EarlierNames, Place};
 use std::alloc::{AllocError, Global};
-use std::collections::BTreeMap;
 
 /// The fault by which an instruction was refused, or none where it was built.
 fn fault_of(
@@ -37,18 +35,18 @@ fn is_bad_name(fault: &Option<DefinitionError>) -> bool
     }
 }
 
-/// The first fault of the instruction at this place, counted from 0, where `places` keeps the names of the earlier ones.
-/// Where there is none its name is kept too.
-fn instruction_fault(
+/// The first fault of the instruction at this place, counted from 0, where `names` are those of the earlier ones. Where there
+/// is none its name is added.
+fn instruction_fault<'d>(
     alloc: Global,
-    set: &DeclaredSet,
+    set: &'d DeclaredSet,
     place: usize,
-    places: &mut BTreeMap<Text, u64>,
+    names: &mut EarlierNames<'d>,
 ) -> Result<Option<DefinitionError>, AllocError>
     requires few { length set.now.instructions ≤ 255 }
     requires within { place < length set.now.instructions }
-    requires kept { Keeps places.old (take place (names_of set.now)) }
-    ensures kept { IfOk result (λ o. IfNone o (Keeps places.new (take (place + 1) (names_of set.now)))) }
+    requires kept { names.old ≡ take place (names_of set.now) }
+    ensures kept { IfOk result (λ o. IfNone o (names.new ≡ take (place + 1) (names_of set.now))) }
     ensures fault { IfOk result (λ o. MatchOption o (ShowsNoInstructionFault set.now place) (IsFirstInstructionFault set.now place)) }
 {
     let builder = set.instructions().get(place);
@@ -58,8 +56,9 @@ fn instruction_fault(
     if is_bad_name(&own) {
         return Ok(own);
     }
-    if let Some(earlier) = add_name(alloc, places, builder.name(), place as u64)? {
-        return Ok(Some(DefinitionError::DuplicateName(Place::Instruction(number), earlier + 1)));
+    if let Some(earlier) = names.add(alloc, builder.name())? {
+        let place = Place::Instruction(number);
+        return Ok(Some(DefinitionError::DuplicateName(place, earlier as u64 + 1)));
     }
     Ok(own)
 }
@@ -72,9 +71,9 @@ pub(crate) fn instructions_fault(
     requires { length set.now.instructions ≤ 255 }
     ensures { IfOk result (λ o. MatchOption o ((k : ℕ) → k < length set.now.instructions → ShowsNoInstructionFault set.now k) (IsFirstOfInstructions set.now)) }
 {
-    let mut places = no_names(alloc);
+    let mut names = EarlierNames::new(alloc);
     for place in 0..set.instructions().len() {
-        if let Some(fault) = instruction_fault(alloc, set, place, &mut places)? {
+        if let Some(fault) = instruction_fault(alloc, set, place, &mut names)? {
             return Ok(Some(fault));
         }
     }

@@ -1,18 +1,19 @@
-ghost use Rattle.std.specs.Prelude.{◌≡◌, ◌≢◌, ◌↔◌, ◌≤◌, ◌+◌, ◌^◌, ◌<◌, ℕ, List, Option, IsTrue, IsSome, IfSome, IfNone, IfOk, length, map, slice_get, None, Some};
+ghost use Rattle.std.specs.Prelude.{◌≡◌, ◌≢◌, ◌↔◌, ◌≤◌, ◌+◌, ◌^◌, ◌<◌, ℕ, List, Option, IsTrue, IsSome, IfSome, IfNone, IfOk, length, map, slice_get, Contains, None, Some};
 ghost use Rattle.meta_types.specs.DerivedFunc.{function_of};
 ghost use Rattle.meta_types.specs.Function.{StepsNumbers};
+ghost use Rattle.meta_types.specs.SharedNames.{AreDifferentNames};
 ghost use Rattle.meta_typevar.specs.Registry.{HoldTypeSets};
 ghost use Rattle.meta_inst.specs.InstructionSet.{InstructionSet};
 ghost use Rattle.meta_meaning.specs.Tables.{TableContents, at_opcode, Allows, SetContains, ControlNumberFits, NumberPasses, PassesAt};
 ghost use Rattle.meta_gen.specs.TablesOf.{AreTablesOf, AcceptsOpcode};
 ghost use Rattle.meta_gen.specs.Constraint.{number_constraint_of, entry_of};
-ghost use Rattle.meta_gen.specs.Contents.{contents_of, IsOpcode, IsFirstNamed, AllPass};
+ghost use Rattle.meta_gen.specs.Contents.{contents_of, IsOpcode, IsFirstOpcodeNamed, AllPass};
 ghost use Rattle.meta_gen.specs.ConstraintLists.{same_constraint};
-ghost use Rattle.meta_gen.specs.OpcodeSlots.{AreDifferentNames, AreOpcodeSlots, TellsName, IsNameLookup};
+ghost use Rattle.meta_gen.specs.NameSlots.{AreNameSlots, NameAnswers, IsNameLookup};
 ghost use Rattle.meta_gen.specs.Found.{IsDeclaredAs, FindsName};
 
 use super::constraint::{Constraint, NO_TYPE_SET, OpcodeConstraints};
-use super::opcode_slots::opcode_slots;
+use super::name_slots::name_slots;
 use super::same::{same_constraints, same_entries, same_masks, same_slots, same_texts};
 use meta_types::{DerivedFunc, Text};
 use meta_typevar::Masks;
@@ -45,6 +46,22 @@ impl Model for OpcodeTables {
     ghost invariant = { λ t. AreIndexed (record { names = t.names.items; formats = t.formats.items; slots = t.opcode_slots.items }) t.constraints.items };
 }
 
+/// The number of the first opcode.
+const FIRST_OPCODE: u16 = 1;
+
+/// The slots of the names of opcodes.
+fn opcode_slots(alloc: Global, names: &[Text]) -> Result<Vec<Option<u16>>, AllocError>
+    requires { length names.now ≤ 255 }
+    ensures slots { IfOk result (λ v. AreNameSlots 1 names.now v.items) }
+    ensures vacant { IfOk result (λ v. Contains v.items None) }
+{
+    let mut borrowed = Vec::with_capacity(alloc, names.len())?;
+    for name in names {
+        borrowed.push(name)?;
+    }
+    name_slots(alloc, &borrowed, FIRST_OPCODE)
+}
+
 /// Whether there is a controlling number, and the function leads from it to the number.
 fn is_related(ctrl: Option<u16>, derived_func: DerivedFunc, number: u16) -> bool
     ensures { IsTrue result ↔ ((u : ℕ) × (ctrl ≡ Some u) × StepsNumbers (function_of derived_func) u number) }
@@ -70,7 +87,7 @@ impl OpcodeTables {
         requires few { length constraints.items ≤ 255 }
         requires different { AreDifferentNames names.items }
         ensures parts { IfOk result (λ t. t ≡ contents_of (record { names = names.items; formats = formats.items; slots = t.opcode_slots }) type_sets.items operand_constraints.items constraints.items) }
-        ensures slots { IfOk result (λ t. AreOpcodeSlots names.items t.opcode_slots) }
+        ensures slots { IfOk result (λ t. AreNameSlots 1 names.items t.opcode_slots) }
     {
         let opcode_slots = opcode_slots(alloc, &names)?;
         Ok(OpcodeTables {
@@ -168,14 +185,14 @@ impl OpcodeTables {
     /// put it.
     pub fn opcode_slots(&self) -> &[Option<u16>]
         ensures slots { result.now ≡ self.now.opcode_slots }
-        ensures names { AreOpcodeSlots self.now.names self.now.opcode_slots }
+        ensures names { AreNameSlots 1 self.now.names self.now.opcode_slots }
     {
         &self.opcode_slots
     }
 
     /// Whether this is an opcode and has the name.
     fn has_name(&self, opcode: u16, name: &[u8]) -> bool
-        ensures { TellsName self.now.names name.now opcode result }
+        ensures { NameAnswers 1 self.now.names name.now opcode result }
     {
         match self.opcode_name(opcode) {
             Some(own) => own.as_bytes() == name,
@@ -186,7 +203,7 @@ impl OpcodeTables {
     /// The opcode that has the name, of which there is one at most, and `None` exactly where none has it. It costs the length
     /// of the name, and that of the look-up in the slots.
     pub fn find_opcode(&self, name: &[u8]) -> Option<u16>
-        ensures found { IfSome result (IsFirstNamed self.now.names name.now) }
+        ensures found { IfSome result (IsFirstOpcodeNamed self.now.names name.now) }
         ensures finds { (op : ℕ) → at_opcode self.now.names op ≡ Some name.now → result ≡ Some op }
         ensures none { IfNone result ((k : ℕ) → at_opcode self.now.names k ≢ Some name.now) }
         ensures findings { (d : InstructionSet) → AreTablesOf d self.now → FindsName d name.now result }
@@ -200,11 +217,11 @@ impl OpcodeTables {
 
     /// As `find_opcode`, and `steps` rises by the length of the look-up, the number of slots that were looked at.
     pub fn find_opcode_counted<L: Ledger>(&self, name: &[u8], steps: &mut Steps<L>) -> Option<u16>
-        ensures found { IfSome result (IsFirstNamed self.now.names name.now) }
+        ensures found { IfSome result (IsFirstOpcodeNamed self.now.names name.now) }
         ensures finds { (op : ℕ) → at_opcode self.now.names op ≡ Some name.now → result ≡ Some op }
         ensures none { IfNone result ((k : ℕ) → at_opcode self.now.names k ≢ Some name.now) }
         ensures findings { (d : InstructionSet) → AreTablesOf d self.now → FindsName d name.now result }
-        ensures steps { (last : ℕ) × IsNameLookup self.now.names self.now.opcode_slots name.now result last × (steps.new ≡ steps.old + (last + 1)) }
+        ensures steps { (last : ℕ) × IsNameLookup 1 self.now.names self.now.opcode_slots name.now result last × (steps.new ≡ steps.old + (last + 1)) }
         ensures most { steps.new ≤ steps.old + length self.now.opcode_slots }
     {
         probe_counted(

@@ -1,7 +1,7 @@
 ghost use Rattle.std.specs.Prelude.{◌≡◌, ◌++◌, ℕ, length, map, slice_get, Some, IfOk, OnOk};
 ghost use Rattle.meta_settings.specs.Layout.{BuiltPreset};
 ghost use Rattle.meta_settings.specs.PresetLayout.{HasAll};
-ghost use Rattle.meta_gen.specs.PresetMasks.{AreMasksOf, AreJoined};
+ghost use Rattle.meta_gen.specs.PresetMasks.{ArePresetMasks, AreJoined};
 
 use meta_settings::SettingGroup;
 use std::alloc::{AllocError, Global};
@@ -19,7 +19,7 @@ fn add_masks(masks: &mut Vec<u8>, layout: &[(u8, u8)]) -> Result<(), AllocError>
 /// The masks of the presets, which turn on booleans of the group alone: one a preset and setting byte, preset after preset.
 pub(crate) fn preset_masks(alloc: Global, group: &SettingGroup) -> Result<Vec<u8>, AllocError>
     requires { (k : ℕ) (p : BuiltPreset) → slice_get group.now.presets k ≡ Some p → HasAll group.now p }
-    ensures { IfOk result (λ v. AreMasksOf group.now v.items) }
+    ensures { IfOk result (λ v. ArePresetMasks group.now v.items) }
 {
     let mut masks = Vec::new(alloc);
     for preset in group.presets() {

@@ -2,18 +2,15 @@ ghost use Rattle.std.specs.Prelude.{◌≡◌, ◌≢◌, ◌↔◌, ◌≤◌, 
 ghost use Rattle.std.specs.Option.{option_map};
 ghost use Rattle.meta_typevar.specs.Registry.{HoldTypeSets};
 ghost use Rattle.meta_inst.specs.InstructionSet.{InstructionSet};
-ghost use Rattle.meta_unique.specs.Probing.{IsLookup};
-ghost use Rattle.meta_unique.specs.SimpleHash.{hash_of};
 ghost use Rattle.meta_settings.specs.Layout.{Layout};
 ghost use Rattle.meta_meaning.specs.Tables.{at_opcode, Allows};
 ghost use Rattle.meta_gen.specs.TablesOf.{AreTablesOf, AcceptsOpcode};
 ghost use Rattle.meta_gen.specs.Constraint.{number_constraint_of, entry_of};
-ghost use Rattle.meta_gen.specs.Contents.{IsOpcode, IsFirstNamed};
-ghost use Rattle.meta_gen.specs.OpcodeSlots.{AreOpcodeSlots, IsNameLookup};
+ghost use Rattle.meta_gen.specs.Contents.{IsOpcode, IsFirstOpcodeNamed};
 ghost use Rattle.meta_gen.specs.Found.{IsDeclaredAs, FindsName};
 ghost use Rattle.meta_gen.specs.declared.descriptor.Descriptor.{Descriptor};
 ghost use Rattle.meta_gen.specs.Descriptor.{DescribesEntry};
-ghost use Rattle.meta_gen.specs.NameSlots.{AreNameSlots, NameAnswers};
+ghost use Rattle.meta_gen.specs.NameSlots.{AreNameSlots, IsNameLookup};
 ghost use Rattle.meta_gen.specs.FoundSetting.{entry_count, FindsEntry};
 ghost use Rattle.meta_gen.specs.PresetMasks.{AreJoined};
 ghost use Rattle.meta_gen.specs.GroupTables.{names_in, IsPresetIn, AreTablesOfGroup, default_in, AnswersDefault, Applies};
@@ -125,7 +122,7 @@ impl Tables {
     /// put it.
     pub fn opcode_slots(&self) -> &[Option<u16>]
         ensures slots { result.now ≡ self.now.opcodes.opcode_slots }
-        ensures names { AreOpcodeSlots self.now.opcodes.names self.now.opcodes.opcode_slots }
+        ensures names { AreNameSlots 1 self.now.opcodes.names self.now.opcodes.opcode_slots }
     {
         self.opcodes.opcode_slots()
     }
@@ -133,7 +130,7 @@ impl Tables {
     /// The opcode that has the name, of which there is one at most, and `None` exactly where none has it. It costs the length
     /// of the name, and that of the look-up in the slots.
     pub fn find_opcode(&self, name: &[u8]) -> Option<u16>
-        ensures found { IfSome result (IsFirstNamed self.now.opcodes.names name.now) }
+        ensures found { IfSome result (IsFirstOpcodeNamed self.now.opcodes.names name.now) }
         ensures finds { (op : ℕ) → at_opcode self.now.opcodes.names op ≡ Some name.now → result ≡ Some op }
         ensures none { IfNone result ((k : ℕ) → at_opcode self.now.opcodes.names k ≢ Some name.now) }
         ensures findings { (d : InstructionSet) → AreTablesOf d self.now.opcodes → FindsName d name.now result }
@@ -143,11 +140,11 @@ impl Tables {
 
     /// As `find_opcode`, and `steps` rises by the length of the look-up, the number of slots that were looked at.
     pub fn find_opcode_counted<L: Ledger>(&self, name: &[u8], steps: &mut Steps<L>) -> Option<u16>
-        ensures found { IfSome result (IsFirstNamed self.now.opcodes.names name.now) }
+        ensures found { IfSome result (IsFirstOpcodeNamed self.now.opcodes.names name.now) }
         ensures finds { (op : ℕ) → at_opcode self.now.opcodes.names op ≡ Some name.now → result ≡ Some op }
         ensures none { IfNone result ((k : ℕ) → at_opcode self.now.opcodes.names k ≢ Some name.now) }
         ensures findings { (d : InstructionSet) → AreTablesOf d self.now.opcodes → FindsName d name.now result }
-        ensures steps { (last : ℕ) × IsNameLookup self.now.opcodes.names self.now.opcodes.opcode_slots name.now result last × (steps.new ≡ steps.old + (last + 1)) }
+        ensures steps { (last : ℕ) × IsNameLookup 1 self.now.opcodes.names self.now.opcodes.opcode_slots name.now result last × (steps.new ≡ steps.old + (last + 1)) }
         ensures most { steps.new ≤ steps.old + length self.now.opcodes.opcode_slots }
     {
         self.opcodes.find_opcode_counted(name, steps)
@@ -267,7 +264,7 @@ impl Tables {
         ensures found { OfGroup self.now group (λ t. FindsEntry (names_in t.descriptors) name.now result) }
         ensures no_group { HasNoGroup self.now group → (result ≡ None) × (steps.new ≡ steps.old) }
         ensures findings { (d : Declared) → AreWholeTablesOf d self.now → FindsSetting d group name.now result }
-        ensures counted { OfGroup self.now group (λ t. (last : ℕ) × IsLookup (NameAnswers 0 (names_in t.descriptors) name.now) t.slots (hash_of name.now) result last × (steps.new ≡ steps.old + (last + 1))) }
+        ensures counted { OfGroup self.now group (λ t. (last : ℕ) × IsNameLookup 0 (names_in t.descriptors) t.slots name.now result last × (steps.new ≡ steps.old + (last + 1))) }
         ensures most { OfGroup self.now group (λ t. steps.new ≤ steps.old + length t.slots) }
     {
         let tables = self.tables_of(group)?;

@@ -4,7 +4,7 @@ use Rattle.std.specs.List.{filter_map, enumerate_from, cons_option}
 use Rattle.std.proofs.lemmas.List.{take_more, length-take}
 use Rattle.std.proofs.lemmas.List.Elements.{filter_map-append}
 use Rattle.meta_operands.specs.declared.operand.Operand.{Operand}
-use Rattle.meta_inst.specs.Content.{place_where, places_where, with_place}
+use Rattle.meta_inst.specs.Content.{place_where, places_where}
 
 -- what stands behind a list is counted on
 enumerate_from-append : {X : Type 0} (n : ℕ) (xs ys : List X) → enumerate_from n (xs ++ ys) ≡ enumerate_from n xs ++ enumerate_from (n + length xs) ys
@@ -12,6 +12,10 @@ enumerate_from-append n [] ys = ap (λ k. enumerate_from k ys) (omega arith)
 enumerate_from-append n (x ∷ xs) ys = ap (λ rest. (n, x) ∷ rest) (enumerate_from-append (n + 1) xs ys ∙ ap (λ k. enumerate_from (n + 1) xs ++ enumerate_from k ys) (omega arith))
 
 -- one place, where the test holds
+-- places with one more, where the test holds
+abbrev with_place : List ℕ → ℕ → Bool → List ℕ
+with_place places place holds = if holds then (places ++ place ∷ []) else places
+
 one_place : (places : List ℕ) (i : ℕ) (b : Bool) → places ++ cons_option (if b then Some i else None) [] ≡ with_place places i b
 one_place places i true = refl
 one_place places i false = search rules

@@ -27,10 +27,6 @@ place_where test at = if test at.1 then Some at.0 else None
 abbrev pub places_where : (Operand → Bool) → List Operand → List ℕ
 places_where test operands = filter_map (place_where test) (enumerate_from 0 operands)
 
--- places with one more, where the test holds
-abbrev pub with_place : List ℕ → ℕ → Bool → List ℕ
-with_place places place holds = if holds then places ++ place ∷ [] else places
-
 -- the control that is kept, as a variable
 abbrev pub control_kept : List TypeVarContent → Option PolymorphicInfo → Option Variable
 control_kept vars info = option_map (λ (p : PolymorphicInfo). variable_at vars p.ctrl_typevar) info

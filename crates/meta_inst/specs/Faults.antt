@@ -3,8 +3,8 @@
 --     IsFirstFault d e       e is the first fault that they show
 --     IsValid d              they show none
 use Rattle.std.specs.Prelude.{◌≡◌, ◌≢◌, ◌<◌, ◌+◌, ◌⊎◌, ℕ, List, [], length, map, slice_get, Option, Some}
-use Rattle.meta_types.specs.CamelCase.{camel_case_of}
 use Rattle.meta_types.specs.Name.{IsName}
+use Rattle.meta_types.specs.SharedNames.{IsDuplicate}
 use Rattle.meta_types.specs.declared.fault.Place.TheVariants.{Instruction as AtInstruction, Format as AtFormat, Group as AtGroup, Entry as AtEntry}
 use Rattle.meta_types.specs.declared.fault.DefinitionError.{DefinitionError}
 use Rattle.meta_types.specs.declared.fault.DefinitionError.TheVariants.{BadName, DuplicateName, TooManyOpcodes, BadOutput, FormatMismatch, NoControl, BadDerivation, TooManyOperands, BadImmMethod, BadFormat, FormatClash, TooManyTypeSets, BadEnum, BadPreset, TooManySettings, OutOfMemory}
@@ -22,22 +22,9 @@ use Rattle.meta_inst.specs.InstructionSet.{InstructionSet, root_sets, instructio
 abbrev pub IsAt : InstructionSet → ℕ → Builder → Type 0
 IsAt d k b = slice_get d.instructions k ≡ Some b
 
--- two names that can't stand side by side: they are the same, or their camel cases are
-abbrev pub SharesName : List ℕ → List ℕ → Type 0
-SharesName a b = (a ≡ b) ⊎ (camel_case_of a ≡ camel_case_of b)
-
+-- the names of the instructions, in order
 abbrev pub names_of : InstructionSet → List (List ℕ)
 names_of d = map (λ b. b.name) d.instructions
-
--- the name at place k is shared by an earlier one, the first of which is at place j
-pub record IsDuplicate (names : List (List ℕ)) (k j : ℕ) : Type 0 where
-  pub name : List ℕ
-  pub earlier : List ℕ
-  pub is_name : slice_get names k ≡ Some name
-  pub is_earlier : slice_get names j ≡ Some earlier
-  pub before : j < k
-  pub shares : SharesName earlier name
-  pub first : (i : ℕ) (other : List ℕ) → i < j → slice_get names i ≡ Some other → SharesName other name → ⊥
 
 -- more than 255 instructions
 abbrev pub HasTooManyOpcodes : InstructionSet → Type 0

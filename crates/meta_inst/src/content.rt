@@ -1,9 +1,9 @@
-ghost use Rattle.std.specs.Prelude.{◌≡◌, ◌++◌, ◌∷◌, [], IfOk, OnOk, Some};
+ghost use Rattle.std.specs.Prelude.{◌≡◌, ◌++◌, ◌∷◌, [], if◌then◌else◌, IfOk, OnOk, Some};
 ghost use Rattle.std.specs.Option.{option_copied};
 ghost use Rattle.std.specs.Fmt.{DisplaysOnOk};
 ghost use Rattle.meta_operands.specs.Operand.{is_immediate_or_entityref_operand};
 ghost use Rattle.meta_inst.specs.FormatMatch.{is_value_operand};
-ghost use Rattle.meta_inst.specs.Content.{places_where, with_place, snake_name_of, names_text, more_names_text, outputs_text, inputs_text};
+ghost use Rattle.meta_inst.specs.Content.{places_where, snake_name_of, names_text, more_names_text, outputs_text, inputs_text};
 
 use super::marks::Marks;
 use super::polymorphic::PolymorphicInfo;
@@ -42,7 +42,7 @@ impl Model for InstructionContent {
 
 /// Adds the place, where the test holds.
 fn push_place(places: &mut Vec<usize>, place: usize, holds: bool) -> Result<(), AllocError>
-    ensures { OnOk result (places.new.items ≡ with_place places.old.items place holds) }
+    ensures { OnOk result (places.new.items ≡ (if holds then (places.old.items ++ place ∷ []) else places.old.items)) }
 {
     if holds {
         places.push(place)?;

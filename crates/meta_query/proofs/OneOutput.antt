@@ -1,18 +1,20 @@
 -- Valid declarations answer an input with one output at most.
-use Rattle.std.proofs.Common.{◌≡◌, ◌<◌, ◌≤◌, ◌+◌, inl, inr, ⊎_elim, ℕ, zero, suc, List, [], ◌∷◌, ◌++◌, slice_get, Some, refl, sym, ap, ap₂, ◌∙◌, subst, arith}
-use Rattle.std.specs.Prelude.{option_map}
-use Rattle.std.proofs.lemmas.Option.{same_Some, slice_get-map}
-use Rattle.std.proofs.lemmas.Bool.{cases_lt}
+use Rattle.std.proofs.Common.{◌≡◌, ◌+◌, inl, inr, ℕ, List, [], ◌∷◌, ◌++◌, slice_get, Some, refl, sym, ap, ap₂, ◌∙◌, subst}
+use Rattle.std.proofs.lemmas.Option.{same_Some}
 use Rattle.meta_types.specs.declared.fault.Place.TheVariants.{Instruction as AtInstruction}
 use Rattle.meta_types.specs.declared.fault.DefinitionError.TheVariants.{DuplicateName}
 use Rattle.meta_inst.specs.Builder.{Builder}
 use Rattle.meta_inst.specs.InstructionSet.{InstructionSet}
-use Rattle.meta_inst.specs.Faults.{IsAt, SharesName, names_of, IsDuplicate, OfInstruction, IsValid}
+use Rattle.meta_inst.specs.InstructionFaults.{duplicate_rule}
+use Rattle.meta_types.specs.SharedNames.{AreDistinct, AreDifferentNames}
+use Rattle.meta_types.proofs.SharedNames.{distinct_differ}
+use Rattle.meta_types.proofs.ListPlaces.{get_map}
+use Rattle.meta_inst.specs.Faults.{IsAt, names_of, OfInstruction, IsValid}
 use Rattle.meta_query.specs.Lines.{lines_of}
 use Rattle.meta_settings.specs.GroupDeclaration.{GroupDeclaration}
 use Rattle.meta_settings.specs.GroupFaults.{IsValidGroup}
 use Rattle.meta_settings.specs.LaidOut.{built_of}
-use Rattle.meta_gen.specs.FoundSetting.{entry_names, AreApart}
+use Rattle.meta_gen.specs.FoundSetting.{entry_names}
 use Rattle.meta_gen.specs.AllDeclared.{Declared, AreValidGroups, AreValid}
 use Rattle.meta_query.specs.Question.{Question}
 use Rattle.meta_query.specs.Query.{Asked, OfQuestion, OfSetting}
@@ -26,37 +28,16 @@ module _ (d : InstructionSet) (valid : IsValid d) where
   -- ---- two instructions of one name are one
 
   name_at : (k : ℕ) (b : Builder) → IsAt d k b → slice_get (names_of d) k ≡ Some b.name
-  name_at k b at = slice_get-map (λ (b : Builder). b.name) d.instructions k ∙ ap (option_map (λ (b : Builder). b.name)) at
+  name_at k b at = get_map (λ (b : Builder). b.name) d.instructions k b at
 
-  module _ (k : ℕ) (b : Builder) (at : IsAt d k b) where
-    -- no place before n has a name that the instruction shares
-    abbrev Unshared : ℕ → Type 0
-    Unshared n = (j : ℕ) (other : List ℕ) → j < n → slice_get (names_of d) j ≡ Some other → SharesName other b.name → ⊥
-
-    -- the first such place would be a fault
-    not_first : (n : ℕ) → n < k → Unshared n → (other : List ℕ) → slice_get (names_of d) n ≡ Some other → SharesName other b.name → ⊥
-    not_first n l before other is shares =
-        let duplicate : IsDuplicate (names_of d) k n = record { name = b.name; earlier = other; is_name = name_at k b at; is_earlier = is; before = l; shares = shares; first = before } in
-        valid (OfInstruction k 2) (DuplicateName (AtInstruction (k + 1)) (n + 1)) (record { place = k; earlier = n; number = refl; earlier_number = refl; position = refl; duplicate = duplicate })
-
-    unshared : (n : ℕ) → n ≤ k → Unshared n
-    unshared zero within j other l is shares = absurd (omega arith)
-    unshared (suc n) within j other l is shares = ⊎_elim
-        (λ less. unshared n (omega arith) j other less is shares)
-        (λ more. let e : j ≡ n = omega arith in not_first n (omega arith) (unshared n (omega arith)) other (subst (λ j. slice_get (names_of d) j ≡ Some other) e is) shares)
-        (cases_lt j n)
-
-  not_before : (j k : ℕ) (c b : Builder) → IsAt d j c → IsAt d k b → c.name ≡ b.name → j < k → ⊥
-  not_before j k c b c_at b_at e l = unshared k b b_at k (omega arith) j c.name l (name_at j c c_at) (inl e)
+  -- no two names are shared
+  distinct : AreDistinct (names_of d)
+  distinct k j shared = valid (OfInstruction k duplicate_rule) (DuplicateName (AtInstruction (k + 1)) (j + 1)) (record { place = k; earlier = j; number = refl; earlier_number = refl; position = refl; duplicate = shared })
 
   one_named : (j k : ℕ) (c b : Builder) → IsAt d j c → IsAt d k b → c.name ≡ b.name → c ≡ b
-  one_named j k c b c_at b_at e = ⊎_elim
-      (λ l. absurd (not_before j k c b c_at b_at e l))
-      (λ l. ⊎_elim
-      (λ g. absurd (not_before k j b c b_at c_at (sym e) g))
-      (λ g. let same : j ≡ k = omega (arith, l, g) in same_Some c b (sym c_at ∙ ap (slice_get d.instructions) same ∙ b_at))
-      (cases_lt k j))
-      (cases_lt j k)
+  one_named j k c b c_at b_at e =
+      let same : j ≡ k = distinct_differ (names_of d) distinct j k b.name (name_at j c c_at ∙ ap Some e) (name_at k b b_at) in
+      same_Some c b (sym c_at ∙ ap (slice_get d.instructions) same ∙ b_at)
 
   -- ---- a question has one reply
 
@@ -85,7 +66,7 @@ module _ (d : InstructionSet) (valid : IsValid d) where
 
 -- ---- so has the name of a setting
 
-module _ (apart : (g : GroupDeclaration) → IsValidGroup g → AreApart (entry_names (built_of g))) (groups : List GroupDeclaration) (valid : AreValidGroups groups) (name : List ℕ) where
+module _ (apart : (g : GroupDeclaration) → IsValidGroup g → AreDifferentNames (entry_names (built_of g))) (groups : List GroupDeclaration) (valid : AreValidGroups groups) (name : List ℕ) where
   one_line : (a b : List ℕ) → IsLineOfEntry groups name a → IsLineOfEntry groups name b → a ≡ b
   one_line a b h g =
       let group : h.group ≡ g.group = same_Some h.group g.group (sym h.group_is ∙ g.group_is) in
@@ -108,7 +89,7 @@ module _ (apart : (g : GroupDeclaration) → IsValidGroup g → AreApart (entry_
 
 -- ---- so the lines have one answer
 
-module _ (apart : (g : GroupDeclaration) → IsValidGroup g → AreApart (entry_names (built_of g))) (d : Declared) (valid : AreValid d) where
+module _ (apart : (g : GroupDeclaration) → IsValidGroup g → AreDifferentNames (entry_names (built_of g))) (d : Declared) (valid : AreValid d) where
   one_declared : (q : Asked) (r s : Reply) → DeclaredReply d q r → DeclaredReply d q s → r ≡ s
   one_declared (OfQuestion q) r s h g = one_accepted d.set valid.set q r s h g
   one_declared (OfSetting name) r s h g = one_entry apart d.groups valid.groups name r s h g
@@ -128,5 +109,5 @@ module _ (apart : (g : GroupDeclaration) → IsValidGroup g → AreApart (entry_
   one_list (line ∷ lines) a b (first, rest, h, hs, is) (other, others, g, gs, too) = is ∙ ap₂ ◌++◌ (one_answer line first other h g) (one_list lines rest others hs gs) ∙ sym too
 
 -- Valid declarations answer an input with one output at most, where no two entries of a valid group have the same name.
-pub same_output : ((g : GroupDeclaration) → IsValidGroup g → AreApart (entry_names (built_of g))) → (d : Declared) (input a b : List ℕ) → AreValid d → IsOutput d input a → IsOutput d input b → a ≡ b
+pub same_output : ((g : GroupDeclaration) → IsValidGroup g → AreDifferentNames (entry_names (built_of g))) → (d : Declared) (input a b : List ℕ) → AreValid d → IsOutput d input a → IsOutput d input b → a ≡ b
 same_output apart d input a b valid h g = one_list apart d valid (lines_of input) a b h g

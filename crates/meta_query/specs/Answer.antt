@@ -18,7 +18,7 @@ use Rattle.meta_meaning.specs.Tables.{TableContents, at_opcode, Allows}
 use Rattle.meta_settings.specs.GroupDeclaration.{GroupDeclaration}
 use Rattle.meta_settings.specs.LaidOut.{built_of}
 use Rattle.meta_gen.specs.declared.descriptor.Descriptor.{Descriptor}
-use Rattle.meta_gen.specs.Contents.{IsFirstNamed}
+use Rattle.meta_gen.specs.Contents.{IsFirstOpcodeNamed}
 use Rattle.meta_gen.specs.FoundSetting.{entry_names, FindsEntry}
 use Rattle.meta_gen.specs.GroupTables.{GroupContents, names_in}
 use Rattle.meta_gen.specs.AllDeclared.{Declared}
@@ -45,8 +45,8 @@ AllowsAsked tables op q = Allows tables op (option_map number_of q.control) (map
 
 -- whether the decoding allows, for the opcode that has the name, what is asked; `unknown` where no opcode has it
 abbrev pub AllowedReply : TableContents → Question → Reply → Type 0
-AllowedReply tables q Accept = (op : ℕ) × IsFirstNamed tables.names q.name op × AllowsAsked tables op q
-AllowedReply tables q Refuse = (op : ℕ) × IsFirstNamed tables.names q.name op × (AllowsAsked tables op q → ⊥)
+AllowedReply tables q Accept = (op : ℕ) × IsFirstOpcodeNamed tables.names q.name op × AllowsAsked tables op q
+AllowedReply tables q Refuse = (op : ℕ) × IsFirstOpcodeNamed tables.names q.name op × (AllowsAsked tables op q → ⊥)
 AllowedReply tables q Unknown = (op : ℕ) → at_opcode tables.names op ≢ Some q.name
 AllowedReply tables q Bad = ⊥
 AllowedReply tables q (Setting line) = ⊥

@@ -1,5 +1,5 @@
 -- One more boolean turned on in a layout.
-use Rattle.std.proofs.Common.{◌≡◌, ◌≢◌, ◌↔◌, ℕ, ◌+◌, ◌<◌, ◌/◌, ◌%◌, ◌^◌, ◌*◌, List, [], ◌∷◌, ◌++◌, length, length-append, take, drop, All, slice_get, slice_set, slice_index_or, Some, zero, suc, refl, sym, ap, ◌∙◌, subst, arith, inl, inr, ◌⊎◌, ⊎_elim, Contains}
+use Rattle.std.proofs.Common.{◌≡◌, ◌≢◌, ◌↔◌, ℕ, ◌+◌, ◌<◌, ◌/◌, ◌%◌, ◌^◌, ◌*◌, List, [], ◌∷◌, ◌++◌, length, length-append, take, drop, All, slice_get, slice_index_or, Some, zero, suc, refl, sym, ap, ◌∙◌, subst, arith, inl, inr, ◌⊎◌, ⊎_elim, Contains}
 use Rattle.std.specs.Int.{bit_at, w8}
 use Rattle.std.proofs.lemmas.Nat.{or_lt}
 use Rattle.std.proofs.lemmas.Nat.Bits.{bit_at_set_same, bit_at_set_other, bit_at-zero}
@@ -7,23 +7,9 @@ use Rattle.std.proofs.lemmas.Bool.{cases_eq}
 use Rattle.std.proofs.lemmas.List.Elements.{Contains-append_left, Contains-append_right, Contains-append_cases}
 use Rattle.std.proofs.lemmas.Option.{slice_get-get_or, same_Some}
 use Rattle.std.proofs.lemmas.List.{length-set, drop_all, take_all, append-nil}
-use Rattle.meta_settings.proofs.Pushed.{get_pushed}
+use Rattle.meta_types.proofs.ListPlaces.{get_set_here, get_set_other, get_pushed}
 use Rattle.meta_settings.specs.Layout.{Layout, BuiltPreset, IsSized}
 use Rattle.meta_settings.specs.PresetLayout.{HasAll, IsOnAt, HasBitsOf, IsLayoutOn, with_bit, with_bit_at}
-
--- ---- elements of a list of which one is set
-
-pub get_set_same : {X : Type 0} (xs : List X) (i : ℕ) (y : X) → i < length xs → slice_get (slice_set xs i y) i ≡ Some y
-get_set_same [] i y l = absurd (omega arith)
-get_set_same (x ∷ xs) zero y l = refl
-get_set_same (x ∷ xs) (suc i) y l = get_set_same xs i y (omega arith)
-
-pub get_set_other : {X : Type 0} (xs : List X) (i j : ℕ) (y : X) → j ≢ i → slice_get (slice_set xs i y) j ≡ slice_get xs j
-get_set_other [] i j y n = refl
-get_set_other (x ∷ xs) zero zero y n = absurd (n refl)
-get_set_other (x ∷ xs) zero (suc j) y n = refl
-get_set_other (x ∷ xs) (suc i) zero y n = refl
-get_set_other (x ∷ xs) (suc i) (suc j) y n = get_set_other xs i j y (λ e. n (ap suc e))
 
 -- ---- the new boolean
 
@@ -87,7 +73,7 @@ module _ (start : ℕ) (bs : List ℕ) (b : ℕ) where
 
       -- what stands at the byte now
       found : (pair : ℕ × ℕ) → slice_get (with_bit_at layout (start + b / 8) (b % 8)) (start + b / 8) ≡ Some pair → new ≡ pair
-      found pair e = same_Some new pair (sym (get_set_same layout (start + b / 8) new within) ∙ e)
+      found pair e = same_Some new pair (sym (get_set_here layout (start + b / 8) new within) ∙ e)
 
       size_is : length (with_bit_at layout (start + b / 8) (b % 8)) ≡ size
       size_is = length-set layout (start + b / 8) new ∙ h.size_is

@@ -1,7 +1,4 @@
--- names
-mod Pushed
-mod EarlierNames
-mod NamesSoFar
+-- what a search tells
 mod Told
 -- faults
 mod Rules

@@ -1,24 +1,12 @@
 -- A group has one first fault.
-use Rattle.std.proofs.Common.{◌≡◌, ◌<◌, ◌⊎◌, inl, inr, ⊎_elim, ℕ, List, Some, slice_get, refl, sym, ap, ◌∙◌, subst, arith}
+use Rattle.std.proofs.Common.{◌≡◌, ◌⊎◌, inl, inr, ⊎_elim, ℕ, refl, sym, ap, ◌∙◌, subst, arith}
 use Rattle.std.proofs.lemmas.Bool.{cases_order}
-use Rattle.std.proofs.lemmas.Option.{same_Some}
 use Rattle.meta_types.specs.declared.fault.Place.TheVariants.{Entry as AtEntry}
 use Rattle.meta_types.specs.declared.fault.DefinitionError.{DefinitionError}
 use Rattle.meta_types.specs.declared.fault.DefinitionError.TheVariants.{DuplicateName}
-use Rattle.meta_settings.specs.Names.{IsDuplicate, SharesName}
+use Rattle.meta_types.proofs.SharedNames.{one_earlier}
 use Rattle.meta_settings.specs.GroupDeclaration.{GroupDeclaration, names_of}
 use Rattle.meta_settings.specs.GroupFaults.{Rule, NameRule, DuplicateRule, EnumRule, PresetRule, rule_number, Position, OfGroupName, OfEntry, OfCounts, Before, IsFaultOf, IsFirstGroupFault}
-
--- the first of those that share a name is one
-one_earlier : (names : List (List ℕ)) (k j i : ℕ) → IsDuplicate names k j → IsDuplicate names k i → j ≡ i
-one_earlier names k j i a b =
-    let same : a.name ≡ b.name = same_Some a.name b.name (sym a.is_name ∙ b.is_name) in
-    ⊎_elim
-    (λ e. e)
-    (⊎_elim
-    (λ l. absurd (b.first j a.earlier l a.is_earlier (subst (SharesName a.earlier) same a.shares)))
-    (λ l. absurd (a.first i b.earlier l b.is_earlier (subst (SharesName b.earlier) (sym same) b.shares))))
-    (cases_order j i)
 
 module _ (d : GroupDeclaration) (g : ℕ) where
   -- one fault tells of a broken rule

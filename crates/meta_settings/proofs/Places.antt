@@ -1,6 +1,5 @@
 -- The settings by their places.
-use Rattle.std.proofs.Common.{◌≡◌, ◌+◌, ◌/◌, ◌<◌, ℕ, zero, suc, List, [], ◌∷◌, ◌++◌, length, slice_get, Some, refl, ap, ◌∙◌, subst, arith, add-zero}
-use Rattle.std.proofs.lemmas.Option.{slice_get_within}
+use Rattle.std.proofs.Common.{◌≡◌, ◌+◌, ◌/◌, ℕ, zero, suc, List, [], ◌∷◌, ◌++◌, slice_get, Some, ap, ◌∙◌, subst, arith, add-zero}
 use Rattle.meta_settings.specs.GroupDeclaration.{SettingDeclaration, GroupDeclaration, booleans_among, others_among, start_of}
 use Rattle.meta_settings.specs.LaidOut.{placed_at, in_bytes, in_bits, laid_out}
 use Rattle.meta_settings.proofs.Placing.{length-in_bytes}

@@ -1,17 +1,18 @@
 -- The rules for one entry: what it breaks, and which fault is first.
-use Rattle.std.proofs.Common.{◌≡◌, ◌∙◌, ◌<◌, ℕ, Some, IfSome, length, slice_get, refl, sym, ap, subst, arith}
-use Rattle.std.specs.Prelude.{option_map, ◌-◌}
-use Rattle.std.proofs.lemmas.Option.{same_Some, slice_get-map}
+use Rattle.std.proofs.Common.{◌≡◌, ◌∙◌, ◌<◌, ℕ, Some, IfSome, length, slice_get, refl, sym, subst, arith}
+use Rattle.std.specs.Prelude.{◌-◌}
+use Rattle.std.proofs.lemmas.Option.{same_Some}
 use Rattle.meta_types.specs.declared.fault.Place.TheVariants.{Entry as AtEntry}
 use Rattle.meta_types.specs.declared.fault.DefinitionError.TheVariants.{DuplicateName, BadEnum, BadPreset}
-use Rattle.meta_settings.specs.Names.{IsDuplicate}
+use Rattle.meta_types.specs.SharedNames.{IsDuplicate}
+use Rattle.meta_types.proofs.ListPlaces.{get_map}
 use Rattle.meta_settings.specs.GroupDeclaration.{GroupDeclaration, Entry, entries_of, names_of, boolean_count}
 use Rattle.meta_settings.specs.GroupFaults.{IsWellNamed, IsGoodEnum, AreMet, Rule, NameRule, DuplicateRule, EnumRule, PresetRule, rule_number, OfEntry, Breaks, BreaksRule}
 use Rattle.meta_settings.specs.Searched.{KeepsRules, IsFirstEntryFault}
 
 module _ (d : GroupDeclaration) (k : ℕ) (e : Entry) (at : slice_get (entries_of d) k ≡ Some e) where
   pub name_at : slice_get (names_of d) k ≡ Some e.name
-  name_at = slice_get-map (λ (e : Entry). e.name) (entries_of d) k ∙ ap (option_map (λ (e : Entry). e.name)) at
+  name_at = get_map (λ (e : Entry). e.name) (entries_of d) k e at
 
   -- what is broken at the place is broken by the entry
   here : (rule : Rule) → Breaks d (OfEntry k rule) → BreaksRule d k e rule

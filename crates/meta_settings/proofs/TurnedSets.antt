@@ -1,5 +1,5 @@
 -- The laws on what presets turn on.
-use Rattle.std.proofs.Common.{◌≡◌, ◌↔◌, ◌<◌, ◌≤◌, ◌+◌, ◌⊎◌, inl, inr, ⊎_elim, ℕ, List, [], length, take, slice_get, Option, Some, None, Contains, refl, sym, ap, ◌∙◌, subst, arith}
+use Rattle.std.proofs.Common.{◌≡◌, ◌↔◌, ◌<◌, ◌≤◌, ◌+◌, inl, inr, ⊎_elim, ℕ, List, [], length, take, slice_get, Option, Some, Contains, sym, ap, subst, arith}
 use Rattle.std.specs.Prelude.{option_map, unwrap_or}
 use Rattle.std.specs.List.{flat_map}
 use Rattle.std.proofs.lemmas.Bool.{cases_lt}
@@ -9,9 +9,9 @@ use Rattle.meta_settings.specs.declared.index.PresetType.{PresetType}
 use Rattle.meta_settings.specs.declared.index.PresetType.TheVariants.{BoolSetting, OtherPreset}
 use Rattle.meta_settings.specs.GroupDeclaration.{PresetDeclaration}
 use Rattle.meta_settings.specs.Layout.{BuiltPreset}
-use Rattle.meta_settings.specs.TurnedOn.{firsts, booleans_at, meant_by, turned_on, built_preset, built_presets}
+use Rattle.meta_settings.specs.TurnedOn.{booleans_at, meant_by, turned_on, built_preset, built_presets}
 use Rattle.meta_settings.specs.Laws.{TurnsOn, IsNamedIn, IsEachOnce}
-use Rattle.meta_settings.proofs.NamesSoFar.{slice_get-take}
+use Rattle.meta_types.proofs.ListPlaces.{get_take}
 use Rattle.meta_settings.proofs.Turning.{none, parts, front, meant_from, meant_to, built_at}
 use Rattle.meta_settings.proofs.Once.{firsts_from, firsts_to, firsts_once}
 
@@ -31,7 +31,7 @@ module _ (presets : List PresetDeclaration) (k : ℕ) where
 
   -- an earlier preset is among those before
   earlier : (q : ℕ) → q < k → booleans_at before q ≡ booleans_at (built_presets presets) q
-  earlier q l = ap booleans_of (slice_get-take (built_presets presets) k q l)
+  earlier q l = ap booleans_of (get_take (built_presets presets) k q l)
 
   -- a later one isn't
   later : (q : ℕ) → k ≤ q → booleans_at before q ≡ []

@@ -1,20 +1,13 @@
 -- What presets turn on, as a set.
-use Rattle.std.proofs.Common.{◌≡◌, ◌≢◌, ◌↔◌, ◌<◌, ◌≤◌, ◌+◌, ◌⊎◌, inl, inr, ⊎_elim, ℕ, zero, suc, Bool, true, false, not, cond, eqb, List, [], ◌∷◌, ◌++◌, length, length-append, take, slice_get, Some, None, Contains, refl, sym, ap, ◌∙◌, subst, arith}
-use Rattle.std.specs.Prelude.{option_map, unwrap_or}
-use Rattle.std.specs.List.{filter, flat_map, AllPairs}
+use Rattle.std.proofs.Common.{◌≡◌, ◌+◌, ◌⊎◌, inl, inr, ⊎_elim, ℕ, zero, suc, List, [], ◌∷◌, ◌++◌, length, length-append, take, slice_get, Some, Contains, refl, sym, ap, ◌∙◌, subst, arith}
+use Rattle.std.specs.List.{flat_map}
 use Rattle.std.proofs.Math.Seq.{take-append_seam}
 use Rattle.std.proofs.lemmas.List.{append_assoc, append-nil}
-use Rattle.std.proofs.lemmas.Bool.{cases_eq, cases_lt, false≢true}
-use Rattle.std.proofs.lemmas.Bool.Decides.{Decides-eqb}
 use Rattle.std.proofs.lemmas.List.Elements.{Contains-append_left, Contains-append_right, Contains-append_cases}
-use Rattle.std.proofs.lemmas.Option.{same_Some, slice_get_past, slice_get_within}
 use Rattle.meta_settings.specs.declared.index.PresetType.{PresetType}
-use Rattle.meta_settings.specs.declared.index.PresetType.TheVariants.{BoolSetting, OtherPreset}
 use Rattle.meta_settings.specs.GroupDeclaration.{PresetDeclaration}
 use Rattle.meta_settings.specs.Layout.{BuiltPreset}
-use Rattle.meta_settings.specs.TurnedOn.{firsts, booleans_at, meant_by, turned_on, built_preset, presets_after, built_presets}
-use Rattle.meta_settings.specs.Laws.{TurnsOn, IsNamedIn}
-use Rattle.meta_settings.proofs.NamesSoFar.{slice_get-take}
+use Rattle.meta_settings.specs.TurnedOn.{meant_by, built_preset, presets_after}
 
 -- ---- elements
 

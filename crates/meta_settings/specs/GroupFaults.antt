@@ -10,7 +10,7 @@ use Rattle.meta_types.specs.declared.fault.DefinitionError.{DefinitionError}
 use Rattle.meta_types.specs.declared.fault.DefinitionError.TheVariants.{BadName, DuplicateName, BadEnum, BadPreset, TooManySettings}
 use Rattle.meta_settings.specs.declared.index.PresetType.{PresetType}
 use Rattle.meta_settings.specs.declared.index.PresetType.TheVariants.{BoolSetting, OtherPreset}
-use Rattle.meta_settings.specs.Names.{IsDuplicate, AreDistinct}
+use Rattle.meta_types.specs.SharedNames.{IsDuplicate, AreDistinct}
 use Rattle.meta_settings.specs.GroupDeclaration.{GroupDeclaration, Entry, entries_of, names_of, entry_count, boolean_count, byte_count}
 
 -- a byte that a description may have: one of 0x20 to 0x7e, but no double quote and no backslash

@@ -1,9 +1,8 @@
 -- What follows from the definitions of a group.
-use Rattle.std.specs.Prelude.{◌≡◌, ◌≢◌, ◌<◌, ◌⊎◌, ℕ, List, Some, slice_get, Contains}
+use Rattle.std.specs.Prelude.{◌≢◌, ◌<◌, ◌⊎◌, ℕ, List, Contains}
 use Rattle.std.specs.List.{AllPairs}
 use Rattle.meta_settings.specs.declared.index.PresetType.TheVariants.{BoolSetting, OtherPreset}
 use Rattle.meta_settings.specs.GroupDeclaration.{PresetDeclaration}
-use Rattle.meta_settings.specs.Layout.{BuiltPreset}
 use Rattle.meta_settings.specs.TurnedOn.{booleans_at, built_presets}
 
 -- preset k of these turns the boolean b on

@@ -1,6 +1,5 @@
 pub mod GroupDeclaration
 pub mod Declaring
-pub mod Names
 pub mod GroupFaults
 pub mod Searched
 pub mod Layout

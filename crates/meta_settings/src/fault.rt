@@ -1,17 +1,15 @@
 ghost use Rattle.std.specs.Prelude.{◌≡◌, ◌↔◌, ◌<◌, ◌+◌, ◌-◌, ℕ, IsTrue, MatchOption, IfOk, IfNone, IfSome, All, length, take, unwrap_or, []};
 ghost use Rattle.meta_types.specs.Name.{IsName};
+ghost use Rattle.meta_types.specs.SharedNames.{AreDistinct};
 ghost use Rattle.meta_settings.specs.GroupDeclaration.{boolean_count, byte_count, entry_count, names_of};
-ghost use Rattle.meta_settings.specs.Names.{Keeps, AreDistinct};
 ghost use Rattle.meta_settings.specs.GroupFaults.{IsPlainByte, IsWellNamed, IsGoodEnum, IsMet, AreMet, HasTooMany, IsFirstGroupFault, IsValidGroup};
 ghost use Rattle.meta_settings.specs.Searched.{KeepsRules, IsFirstEntryFault, IsFirstOfEntries};
 
 use super::builder::SettingGroupBuilder;
 use super::entry::Entry;
 use super::index::PresetType;
-use super::names::{add_name, no_names};
-use meta_types::{DefinitionError, Place, Text, is_name};
+use meta_types::{DefinitionError, EarlierNames, Place, Text, is_name};
 use std::alloc::{AllocError, Global};
-use std::collections::BTreeMap;
 
 /// The most booleans that a group may have.
 const MAX_BOOLEANS: u64 = 248;
@@ -63,9 +61,9 @@ fn is_well_named(entry: &Entry<'_>) -> bool
 fn are_distinct(alloc: Global, names: &[Text]) -> Result<bool, AllocError>
     ensures { IfOk result (λ b. IsTrue b ↔ AreDistinct names.now) }
 {
-    let mut places = no_names(alloc);
-    for place in 0..names.len() {
-        if add_name(alloc, &mut places, &names[place], place as u64)?.is_some() {
+    let mut earlier = EarlierNames::new(alloc);
+    for name in names {
+        if earlier.add(alloc, name)?.is_some() {
             return Ok(false);
         }
     }
@@ -112,18 +110,18 @@ fn are_met(booleans: u32, earlier: usize, args: &[PresetType]) -> bool
     args.iter().all(|arg| is_met(booleans, earlier, arg))
 }
 
-/// The first fault of the entry at this place, where `places` keeps the names of the earlier ones. Where there is none its
-/// name is kept too.
-fn entry_fault(
+/// The first fault of the entry at this place, where `names` are those of the earlier ones. Where there is none its name is
+/// added.
+fn entry_fault<'b>(
     alloc: Global,
-    builder: &SettingGroupBuilder,
+    builder: &'b SettingGroupBuilder,
     group: u64,
     place: usize,
-    places: &mut BTreeMap<Text, u64>,
+    names: &mut EarlierNames<'b>,
 ) -> Result<Option<DefinitionError>, AllocError>
     requires within { place < entry_count builder.now }
-    requires kept { Keeps places.old (take place (names_of builder.now)) }
-    ensures kept { IfOk result (λ o. IfNone o (Keeps places.new (take (place + 1) (names_of builder.now)))) }
+    requires kept { names.old ≡ take place (names_of builder.now) }
+    ensures kept { IfOk result (λ o. IfNone o (names.new ≡ take (place + 1) (names_of builder.now))) }
     ensures fault { IfOk result (λ o. MatchOption o (KeepsRules builder.now place) (IsFirstEntryFault builder.now group place)) }
 {
     let entry = builder.entry(place);
@@ -131,8 +129,9 @@ fn entry_fault(
     if !is_well_named(&entry) {
         return Ok(Some(DefinitionError::BadName(Place::Entry(group, number))));
     }
-    if let Some(earlier) = add_name(alloc, places, entry.name(), number)? {
-        return Ok(Some(DefinitionError::DuplicateName(Place::Entry(group, number), earlier)));
+    if let Some(earlier) = names.add(alloc, entry.name())? {
+        let fault = DefinitionError::DuplicateName(Place::Entry(group, number), earlier as u64);
+        return Ok(Some(fault));
     }
     if !has_good_values(alloc, &entry)? {
         return Ok(Some(DefinitionError::BadEnum(group, number)));
@@ -152,9 +151,9 @@ fn entries_fault(
 ) -> Result<Option<DefinitionError>, AllocError>
     ensures { IfOk result (λ o. MatchOption o ((k : ℕ) → k < entry_count builder.now → KeepsRules builder.now k) (IsFirstOfEntries builder.now group)) }
 {
-    let mut places = no_names(alloc);
+    let mut names = EarlierNames::new(alloc);
     for place in 0..builder.entry_count() {
-        if let Some(fault) = entry_fault(alloc, builder, group, place, &mut places)? {
+        if let Some(fault) = entry_fault(alloc, builder, group, place, &mut names)? {
             return Ok(Some(fault));
         }
     }

@@ -12,7 +12,6 @@ mod index;
 mod isa;
 mod laws;
 mod layout;
-mod names;
 mod preset;
 mod proto;
 mod setting;

@@ -17,3 +17,8 @@ mod Endings
 mod EqualTypes
 mod Docs
 mod Camel
+-- lists, and names that are shared
+pub mod ListPlaces
+mod KeptNames
+pub mod NamesSoFar
+pub mod SharedNames

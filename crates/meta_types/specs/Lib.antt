@@ -8,6 +8,7 @@ pub mod AllTypes
 pub mod TypeText
 pub mod CamelCase
 pub mod Name
+pub mod SharedNames
 pub mod Fault
 pub mod DerivedFunc
 pub mod Parts

@@ -1,7 +1,8 @@
-ghost use Rattle.std.specs.Prelude.{◌≡◌, ◌↔◌, ℕ, Some, length, Contains};
+ghost use Rattle.std.specs.Prelude.{◌≡◌, ◌↔◌, ℕ, List, Some, length, Contains};
 ghost use Rattle.std.specs.List.{slice_get};
 ghost use Rattle.meta_types.specs.AllTypes.{all_types};
 ghost use Rattle.meta_types.specs.Shape.{Shape, IsType, number_of, name_of};
+ghost use Rattle.meta_types.specs.SharedNames.{AreDistinct, AreDifferentNames};
 ghost use Rattle.meta_types.specs.ValueTypes.{shape_of};
 ghost use Rattle.meta_types.specs.declared.value_type.ValueType.{ValueType};
 
@@ -27,4 +28,9 @@ pub fn there_are_153_types()
     ensures listed { (t : Shape) → (IsType t ↔ Contains all_types t) }
     ensures once { (j k : ℕ) (t : Shape) → slice_get all_types j ≡ Some t → slice_get all_types k ≡ Some t → j ≡ k }
     ensures count { length all_types ≡ 153 }
+{}
+
+/// Names of which none is shared by an earlier one are different.
+pub fn distinct_names_differ()
+    ensures { (names : List (List ℕ)) → AreDistinct names → AreDifferentNames names }
 {}

@@ -4,6 +4,7 @@
 #![tactic(auto)]
 
 mod derived_func;
+mod earlier_names;
 mod fault;
 mod lane;
 mod lane_count;
@@ -19,11 +20,15 @@ mod value_type;
 mod vector;
 
 pub use derived_func::{DerivedFunc, answers_are_one};
+pub use earlier_names::EarlierNames;
 pub use fault::{DefinitionError, Place};
 pub use lane::{Float, Int, LaneType, is_float_width, is_int_width};
 pub use lane_count::is_lane_count;
 pub use lane_iter::{FloatIterator, IntIterator, LaneTypeIterator};
-pub use laws::{each_type_is_one_value, names_differ, numbers_differ, there_are_153_types};
+pub use laws::{
+    distinct_names_differ, each_type_is_one_value, names_differ, numbers_differ,
+    there_are_153_types,
+};
 pub use name::{camel_case, is_name};
 pub use text::Text;
 pub use value_type::ValueType;

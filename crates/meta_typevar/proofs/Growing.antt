@@ -10,7 +10,7 @@ use Rattle.meta_typevar.specs.Registry.{set_of, set_at, sets_of, variable_of, co
 use Rattle.meta_typevar.specs.Children.{IsChild}
 use Rattle.meta_typevar.specs.declared.content.TypeVarContent.{TypeVarContent}
 use Rattle.meta_typevar.specs.declared.content.TypeVarParent.{TypeVarParent}
-use Rattle.meta_typevar.proofs.Places.{push_cases, push_old, push_new}
+use Rattle.meta_types.proofs.ListPlaces.{get_pushed_below, get_kept, get_end}
 
 no_types_is : IsTypeSet no_types
 no_types_is = record {
@@ -42,10 +42,10 @@ hold_more (x ∷ xs) c h s (suc n) = hold_more xs c (λ n. h (suc n)) s n
 
 -- the set of a kept variable stays
 pub sets_more : (vars : List TypeVarContent) (c d : TypeVarContent) (n : ℕ) → IsKept vars n d → sets_of (vars ++ c ∷ []) n ≡ sets_of vars n
-sets_more vars c d n k = ap set_at (push_old vars c n d k) ∙ sym (ap set_at k)
+sets_more vars c d n k = ap set_at (get_kept vars c n d k) ∙ sym (ap set_at k)
 
 root_more : (vars : List TypeVarContent) (c : TypeVarContent) (n : ℕ) → IsRoot vars n → IsRoot (vars ++ c ∷ []) n
-root_more vars c n h = record { content = h.content; kept = push_old vars c n h.content h.kept; without_parent = h.without_parent }
+root_more vars c n h = record { content = h.content; kept = get_kept vars c n h.content h.kept; without_parent = h.without_parent }
 
 placed_more : (vars : List TypeVarContent) (c d : TypeVarContent) (n : ℕ) (b : Option TypeVarParent) → IsRegistry vars → IsPlaced vars n d b → IsPlaced (vars ++ c ∷ []) n d b
 placed_more vars c d n None r h = h
@@ -53,7 +53,7 @@ placed_more vars c d n (Some p) r h =
     let root = (r.variables p.type_var h.parent_content h.kept).root in
     record {
       parent_content = h.parent_content;
-      kept = push_old vars c p.type_var h.parent_content h.kept;
+      kept = get_kept vars c p.type_var h.parent_content h.kept;
       earlier = h.earlier;
       root = h.root;
       chain = h.chain;
@@ -68,12 +68,12 @@ abbrev pub NewParent : List TypeVarContent → TypeVarContent → Type 0
 NewParent vars c = (p : TypeVarParent) (m : ℕ) (d : TypeVarContent) → c.base ≡ Some p → IsKept vars m d → d.base ≡ Some p → ⊥
 
 different_more : (vars : List TypeVarContent) (c : TypeVarContent) → AreDifferent vars → NewParent vars c → AreDifferent (vars ++ c ∷ [])
-different_more vars c h new n m a b p k l e f = elim (push_cases vars c n a k) [
-  | inl x ↦ elim (push_cases vars c m b l) [
+different_more vars c h new n m a b p k l e f = elim (get_pushed_below vars c n a k) [
+  | inl x ↦ elim (get_pushed_below vars c m b l) [
     | inl y ↦ h n m a b p x.1 y.1 e f
     | inr y ↦ absurd (new p n a (ap (λ (z : TypeVarContent). z.base) y.1 ∙ f) x.1 e)
   ]
-  | inr x ↦ elim (push_cases vars c m b l) [
+  | inr x ↦ elim (get_pushed_below vars c m b l) [
     | inl y ↦ absurd (new p m b (ap (λ (z : TypeVarContent). z.base) x.1 ∙ e) y.1 f)
     | inr y ↦ x.0 ∙ sym y.0
   ]
@@ -83,7 +83,7 @@ pub registry_more : (vars : List TypeVarContent) (c : TypeVarContent) → IsRegi
 registry_more vars c r s room v new = record {
   few = omega (arith, length-append {A = TypeVarContent});
   sets = hold_more vars c r.sets s;
-  variables = λ n d k. elim (push_cases vars c n d k) [
+  variables = λ n d k. elim (get_pushed_below vars c n d k) [
     | inl x ↦ variable_more vars c d n r (r.variables n d x.1)
     | inr x ↦ at_new n d x.0 x.1
   ];
@@ -100,7 +100,7 @@ pub registry_root : (vars : List TypeVarContent) (name doc : List ℕ) (s : Four
 registry_root vars name doc s r is room =
     let c : TypeVarContent = root_content name doc s (length vars) in
     registry_more vars c r is room
-    (record { placed = (refl, refl); root = record { content = c; kept = push_new vars c; without_parent = refl } })
+    (record { placed = (refl, refl); root = record { content = c; kept = get_end vars c; without_parent = refl } })
     (λ p m d e k f. (cc))
 
 -- the registry gains a derived variable
@@ -118,7 +118,7 @@ registry_derived vars n f c r k is room new =
     (record {
       placed = record {
         parent_content = c;
-        kept = push_old vars d n c k;
+        kept = get_kept vars d n c k;
         earlier = kept_below vars n c k;
         root = refl;
         chain = refl;

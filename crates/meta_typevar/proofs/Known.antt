@@ -12,7 +12,7 @@ use Rattle.meta_typevar.specs.declared.children.Children.{Children}
 use Rattle.meta_typevar.specs.declared.content.TypeVarContent.{TypeVarContent}
 use Rattle.meta_typevar.specs.declared.content.TypeVarParent.{TypeVarParent}
 use Rattle.meta_typevar.proofs.Growing.{same_parent}
-use Rattle.meta_typevar.proofs.Places.{push_cases, push_old, push_new, set_here, set_other}
+use Rattle.meta_types.proofs.ListPlaces.{get_pushed_below, get_kept, get_end, get_set_here, get_set_other}
 
 -- functions are told apart by their places
 abbrev place : DerivedFunc → ℕ
@@ -79,7 +79,7 @@ known_empty = record {
     nothing n c e = (cc)
 
 child_more : (vars : List TypeVarContent) (d : TypeVarContent) (n : ℕ) (f : DerivedFunc) (m : ℕ) → IsChild vars n f m → IsChild (vars ++ d ∷ []) n f m
-child_more vars d n f m h = record { content = h.content; kept = push_old vars d m h.content h.kept; derived = h.derived }
+child_more vars d n f m h = record { content = h.content; kept = get_kept vars d m h.content h.kept; derived = h.derived }
 
 -- a child stands after its parent
 parent_earlier : (vars : List TypeVarContent) (n m : ℕ) (c : TypeVarContent) (p : TypeVarParent) (b : Option TypeVarParent) → b ≡ Some p → IsPlaced vars m c b → p.type_var < m
@@ -96,7 +96,7 @@ child_later vars n f m r h = (
 
 -- a child in the longer registry is one of the shorter, or the new variable
 child_cases : (vars : List TypeVarContent) (d : TypeVarContent) (n : ℕ) (f : DerivedFunc) (m : ℕ) → IsChild (vars ++ d ∷ []) n f m → IsChild vars n f m ⊎ ((m ≡ length vars) × (d.base ≡ Some (record { type_var = n; derived_func = f })))
-child_cases vars d n f m h = elim (push_cases vars d m h.content h.kept) [
+child_cases vars d n f m h = elim (get_pushed_below vars d m h.content h.kept) [
   | inl x ↦ inl (record { content = h.content; kept = x.1; derived = h.derived })
   | inr x ↦ inr (x.0, ap (λ (z : TypeVarContent). z.base) x.1 ∙ h.derived)
 ]
@@ -107,13 +107,13 @@ module _ (vars : List TypeVarContent) (children : List Children) (d : TypeVarCon
   as_many_more = omega (arith, known.as_many, length-append {A = Children}, length-append {A = TypeVarContent})
 
   sound_more : (n m : ℕ) (c : Children) (f : DerivedFunc) → slice_get (children ++ no_children ∷ []) n ≡ Some c → child_of c f ≡ Some m → IsChild (vars ++ d ∷ []) n f m
-  sound_more n m c f e h = elim (push_cases children no_children n c e) [
+  sound_more n m c f e h = elim (get_pushed_below children no_children n c e) [
     | inl x ↦ child_more vars d n f m (known.sound n m c f x.1 h)
     | inr x ↦ absurd (none_noted c f m x.1 h)
   ]
 
   complete_old : (n m : ℕ) (c : Children) (f : DerivedFunc) → slice_get (children ++ no_children ∷ []) n ≡ Some c → IsChild vars n f m → child_of c f ≡ Some m
-  complete_old n m c f e h = elim (push_cases children no_children n c e) [
+  complete_old n m c f e h = elim (get_pushed_below children no_children n c e) [
     | inl x ↦ known.complete n m c f x.1 h
     | inr x ↦ absurd (past n x.0 (child_later vars n f m r h))
   ]
@@ -138,10 +138,10 @@ module _ (vars : List TypeVarContent) (children : List Children) (d : TypeVarCon
     after = slice_set (children ++ no_children ∷ []) n0 noted
 
     here : slice_get after n0 ≡ Some noted
-    here = set_here (children ++ no_children ∷ []) n0 noted (omega (arith, below, known.as_many, length-append {A = Children}))
+    here = get_set_here (children ++ no_children ∷ []) n0 noted (omega (arith, below, known.as_many, length-append {A = Children}))
 
     other : (n : ℕ) → n ≢ n0 → slice_get after n ≡ slice_get (children ++ no_children ∷ []) n
-    other n h = set_other (children ++ no_children ∷ []) n0 n noted h
+    other n h = get_set_other (children ++ no_children ∷ []) n0 n noted h
 
     is_noted : (n : ℕ) (c : Children) → n ≡ n0 → slice_get after n ≡ Some c → noted ≡ c
     is_noted n c e h =
@@ -149,7 +149,7 @@ module _ (vars : List TypeVarContent) (children : List Children) (d : TypeVarCon
         (cc)
 
     new_child : IsChild (vars ++ d ∷ []) n0 f0 (length vars)
-    new_child = record { content = d; kept = push_new vars d; derived = base }
+    new_child = record { content = d; kept = get_end vars d; derived = base }
 
     sound_here : (m : ℕ) (f : DerivedFunc) → child_of noted f ≡ Some m → IsChild (vars ++ d ∷ []) n0 f m
     sound_here m f h = elim (function_cases f f0) [

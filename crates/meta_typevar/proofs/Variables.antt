@@ -15,7 +15,8 @@ use Rattle.meta_typevar.specs.Children.{IsChild}
 use Rattle.meta_typevar.specs.Derivation.{Derives}
 use Rattle.meta_typevar.specs.declared.content.TypeVarContent.{TypeVarContent}
 use Rattle.meta_typevar.specs.declared.content.TypeVarParent.{TypeVarParent}
-use Rattle.meta_typevar.proofs.Places.{last_same, no_last, push_new}
+use Rattle.meta_typevar.proofs.Places.{last_same, no_last}
+use Rattle.meta_types.proofs.ListPlaces.{get_end}
 use Rattle.meta_typevar.proofs.Growing.{same_parent}
 
 -- what is derived from what function
@@ -200,7 +201,7 @@ derives_failed {E} vars n f (Err e) r l none h = record {
 pub derives_added : {E : Type 0} (vars new : List TypeVarContent) (n : ℕ) (f : DerivedFunc) (d : TypeVarContent) (result : Result ℕ E) → IsRegistry vars → n < length vars → ((m : ℕ) → IsChild vars n f m → ⊥) → IsDerivation vars n f d → IfOk result (λ v. v ≡ length vars) → OnOk result (new ≡ vars ++ d ∷ []) → OnErr result (new ≡ vars) → Derives vars n f result new
 derives_added {E} vars new n f d (Ok v) r l none made number added err =
     let parent = kept_variable vars n made.parent made.kept in
-    let there : slice_get new v ≡ Some d = (λ i. slice_get (added i) (number i)) ∙ push_new vars d in
+    let there : slice_get new v ≡ Some d = (λ i. slice_get (added i) (number i)) ∙ get_end vars d in
     let longest : ◌≡◌ {A = Variable} (record { root = d.root; chain = d.chain }) (longer (variable_at vars n) (function_of f)) = (λ i. record { root = (made.is i).root; chain = (made.is i).chain }) ∙ ap (λ (x : Variable). longer x (function_of f)) (sym parent) in
     record {
       known = λ m j is. absurd (none m (variable_child vars n m f r l j is));

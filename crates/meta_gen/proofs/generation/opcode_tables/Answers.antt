@@ -1,5 +1,5 @@
 use Rattle.std.proofs.Common.{length, map, arith, ap, ◌∙◌, subst, sym}
-use Rattle.meta_gen.specs.OpcodeSlots.{AreDifferentNames}
+use Rattle.meta_types.specs.SharedNames.{AreDifferentNames}
 use Rattle.meta_gen.specs.TablesOf.{AreTablesOf}
 use Rattle.meta_gen.proofs.Made.{tables_made}
 use Rattle.meta_gen.proofs.Decoded.{tables_of_mean}

@@ -1,7 +1,7 @@
 use Rattle.std.proofs.Common.{◌≡◌, ◌↔◌, ◌<◌, ◌≤◌, ℕ, List, length, Bool, Result, Ok, Err, IfOk, IsTrue, arith, eqb, false}
 use Rattle.std.specs.declared.alloc.AllocError.{AllocError}
 use Rattle.std.proofs.lemmas.Bool.Decides.{nat_tests}
-use Rattle.meta_settings.specs.Names.{AreDistinct}
+use Rattle.meta_types.specs.SharedNames.{AreDistinct}
 use Rattle.meta_settings.specs.GroupFaults.{IsGoodEnum}
 use Rattle.meta_settings.proofs.fault.is_good_enum.Goals as goal
 

@@ -1,9 +1,8 @@
-use Rattle.std.proofs.Common.{rules, ap, ◌∙◌, subst, subst₂}
-use Rattle.meta_unique.specs.Probing.{IsLookup}
+use Rattle.std.proofs.Common.{rules, ap, ◌∙◌, subst}
 use Rattle.meta_gen.specs.FoundSetting.{FindsEntry}
-use Rattle.meta_gen.specs.NameSlots.{AreNameSlots, NameAnswers}
+use Rattle.meta_gen.specs.NameSlots.{AreNameSlots}
 use Rattle.meta_gen.specs.GroupTables.{GroupContents, names_in}
-use Rattle.meta_gen.proofs.Finding.{finds_exactly, finds_in, lookup_by}
+use Rattle.meta_gen.proofs.Finding.{finds_exactly, finds_in, lookup_read}
 use Rattle.meta_gen.proofs.group_tables.GroupTables.find_setting_counted.Goals as goal
 
 pub returns-clause-found : goal.returns-clause-found
@@ -19,8 +18,8 @@ returns-clause-meaning g c = λ group t. subst (λ w. FindsEntry w c.args.name.n
 pub returns-clause-counted : goal.returns-clause-counted
 returns-clause-counted g c =
     let l = c.probe_counted.ensures.lookup in
-    let lookup = lookup_by _ (NameAnswers 0 (names_in c.args.self.now.descriptors) c.args.name.now) c.as_slice.result.now c.simple_hash.result l.0 c.probe_counted.result (λ number b says. search rules) l.1 in
-    (l.0, subst₂ (λ w start. IsLookup (NameAnswers 0 (names_in c.args.self.now.descriptors) c.args.name.now) w start c.probe_counted.result l.0) (c.as_slice.ensures.value ∙ ap (λ (t : GroupContents). t.slots) c.self.view_is) c.simple_hash.ensures lookup, l.2)
+    let lookup = lookup_read 0 (names_in c.args.self.now.descriptors) c.args.name.now _ _ c.args.self.now.slots _ _ l.0 (c.as_slice.ensures.value ∙ ap (λ (t : GroupContents). t.slots) c.self.view_is) c.simple_hash.ensures (λ number b says. search rules) l.1 in
+    (l.0, lookup, l.2)
 
 pub returns-clause-exact : goal.returns-clause-exact
 returns-clause-exact g c = λ group t apart. finds_exactly _ c.args.name.now c.probe_counted.result (returns-clause-meaning g c group t) apart

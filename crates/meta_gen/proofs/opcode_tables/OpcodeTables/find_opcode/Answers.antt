@@ -1,5 +1,5 @@
 use Rattle.std.proofs.Common.{rules}
-use Rattle.meta_gen.proofs.SlotFilling.{look_up}
+use Rattle.meta_gen.proofs.Finding.{look_up}
 use Rattle.meta_gen.proofs.Naming.{first_named, none_named, finds_declared}
 use Rattle.meta_gen.proofs.opcode_tables.OpcodeTables.find_opcode.Goals as goal
 

@@ -1,5 +1,6 @@
-use Rattle.std.proofs.Common.{rules}
-use Rattle.meta_gen.proofs.SlotFilling.{look_up}
+use Rattle.std.proofs.Common.{rules, ap, ◌∙◌}
+use Rattle.meta_meaning.specs.Tables.{TableContents}
+use Rattle.meta_gen.proofs.Finding.{look_up, lookup_read}
 use Rattle.meta_gen.proofs.Naming.{first_named, none_named, finds_declared}
 use Rattle.meta_gen.proofs.opcode_tables.OpcodeTables.find_opcode_counted.Goals as goal
 
@@ -19,3 +20,9 @@ pub returns-clause-findings : goal.returns-clause-findings
 returns-clause-findings g c = λ d h.
     let here = look_up _ _ _ _ _ _ _ _ c.self.view_is c.self.invariant.different c.self.invariant.slots c.deref.ensures.value c.simple_hash.ensures (λ op told says. search rules) c.probe_counted.ensures.lookup.1 in
     finds_declared d _ _ _ here.0 here.1 h
+
+pub returns-clause-steps : goal.returns-clause-steps
+returns-clause-steps g c =
+    let l = c.probe_counted.ensures.lookup in
+    let lookup = lookup_read 1 c.args.self.now.names c.args.name.now _ _ c.args.self.now.opcode_slots _ _ l.0 (c.deref.ensures.value ∙ ap (λ (t : TableContents). t.opcode_slots) c.self.view_is) c.simple_hash.ensures (λ number b says. search rules) l.1 in
+    (l.0, lookup, l.2)

@@ -1,4 +1,8 @@
 -- Names that can't stand side by side.
+--     SharesName a b             two names that can't
+--     IsDuplicate names k j      an earlier name is shared by the one at place k, and the first such is at place j
+--     AreDistinct names          no two of the names are shared
+--     Keeps places names         the map finds the places of the names by their camel cases
 use Rattle.std.specs.Prelude.{◌≡◌, ◌==◌, ◌<◌, ◌⊎◌, ℕ, List, Option, Some, slice_get}
 use Rattle.std.specs.List.{position}
 use Rattle.std.specs.Cmp.Lexicographic.{slice_cmp, pointwise}
@@ -23,6 +27,10 @@ pub record IsDuplicate (names : List (List ℕ)) (k j : ℕ) : Type 0 where
 -- no two of the names are shared
 abbrev pub AreDistinct : List (List ℕ) → Type 0
 AreDistinct names = (k j : ℕ) → IsDuplicate names k j → ⊥
+
+-- no name stands twice
+abbrev pub AreDifferentNames : List (List ℕ) → Type 0
+AreDifferentNames names = (j k : ℕ) (name : List ℕ) → slice_get names j ≡ Some name → slice_get names k ≡ Some name → j ≡ k
 
 -- the place of the first of the names that has this camel case
 abbrev pub place_of : List ℕ → List (List ℕ) → Option ℕ

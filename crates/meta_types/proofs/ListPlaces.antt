@@ -1,5 +1,6 @@
 -- Elements of lists by their places.
-use Rattle.std.proofs.Common.{◌≡◌, ◌≢◌, ℕ, ◌+◌, ◌<◌, ◌⊎◌, inl, inr, ⊎_elim, zero, suc, List, [], ◌∷◌, ◌++◌, length, take, drop, slice_get, slice_set, Some, refl, sym, ap, ◌∙◌, suc-add, zero-add, arith}
+use Rattle.std.proofs.Common.{◌≡◌, ◌≢◌, ℕ, ◌+◌, ◌<◌, ◌⊎◌, inl, inr, ⊎_elim, zero, suc, List, [], ◌∷◌, ◌++◌, length, map, take, drop, slice_get, slice_set, option_map, Some, refl, sym, ap, ◌∙◌, suc-add, zero-add, arith}
+use Rattle.std.proofs.lemmas.Option.{slice_get_within, slice_get-map}
 
 -- ---- a list of which one element is set
 
@@ -32,16 +33,29 @@ get_cases [] ys k x e = inr (k, omega arith, e)
 get_cases (z ∷ xs) ys zero x e = inl e
 get_cases (z ∷ xs) ys (suc k) x e = ⊎_elim (λ h. inl h) (λ h. inr (h.0, omega (arith, h.1), h.2)) (get_cases xs ys k x e)
 
--- an element is one of the list, or the one behind it
+-- ---- a list with one more at its end
+
+pub get_end : {X : Type 0} (xs : List X) (y : X) → slice_get (xs ++ y ∷ []) (length xs) ≡ Some y
+get_end [] y = refl
+get_end (x ∷ xs) y = get_end xs y
+
+pub get_before : {X : Type 0} (xs : List X) (y : X) (k : ℕ) → k < length xs → slice_get (xs ++ y ∷ []) k ≡ slice_get xs k
+get_before xs y k l = get_left xs (y ∷ []) k l
+
+-- what stood there stands there still
+pub get_kept : {X : Type 0} (xs : List X) (y : X) (k : ℕ) (x : X) → slice_get xs k ≡ Some x → slice_get (xs ++ y ∷ []) k ≡ Some x
+get_kept xs y k x e = get_before xs y k (slice_get_within xs k x e) ∙ e
+
+-- an element is one of the list, or the new one
 pub get_pushed : {X : Type 0} (xs : List X) (y : X) (k : ℕ) (z : X) → slice_get (xs ++ y ∷ []) k ≡ Some z → (slice_get xs k ≡ Some z) ⊎ ((k ≡ length xs) × (y ≡ z))
 get_pushed [] y zero z e = inr (refl, (cc))
 get_pushed [] y (suc k) z e = absurd (cc)
 get_pushed (x ∷ xs) y zero z e = inl e
 get_pushed (x ∷ xs) y (suc k) z e = ⊎_elim (λ h. inl h) (λ h. inr (omega (arith, h.0), h.1)) (get_pushed xs y k z e)
 
-pub get_end : {X : Type 0} (xs : List X) (y : X) → slice_get (xs ++ y ∷ []) (length xs) ≡ Some y
-get_end [] y = refl
-get_end (x ∷ xs) y = get_end xs y
+-- an element is one of the list, before its end, or the new one
+pub get_pushed_below : {X : Type 0} (xs : List X) (y : X) (k : ℕ) (z : X) → slice_get (xs ++ y ∷ []) k ≡ Some z → ((k < length xs) × (slice_get xs k ≡ Some z)) ⊎ ((k ≡ length xs) × (y ≡ z))
+get_pushed_below xs y k z e = ⊎_elim (λ at. inl (slice_get_within xs k z at, at)) (λ h. inr h) (get_pushed xs y k z e)
 
 -- ---- the first elements, and the others
 
@@ -55,3 +69,14 @@ pub get_drop : {X : Type 0} (xs : List X) (n i : ℕ) → slice_get (drop n xs) 
 get_drop xs zero i = ap (slice_get xs) (sym (zero-add i))
 get_drop [] (suc n) i = refl
 get_drop (x ∷ xs) (suc n) i = get_drop xs n i ∙ ap (slice_get (x ∷ xs)) (sym (suc-add n i))
+
+-- ---- what a function makes of the elements
+
+pub get_map : {X Y : Type 0} (f : X → Y) (xs : List X) (k : ℕ) (x : X) → slice_get xs k ≡ Some x → slice_get (map f xs) k ≡ Some (f x)
+get_map f xs k x e = slice_get-map f xs k ∙ ap (option_map f) e
+
+-- what stands there comes from what stood there
+pub get_mapped : {X Y : Type 0} (f : X → Y) (xs : List X) (k : ℕ) (y : Y) → slice_get (map f xs) k ≡ Some y → (x : X) × (slice_get xs k ≡ Some x) × (f x ≡ y)
+get_mapped f [] k y e = absurd (cc)
+get_mapped f (x ∷ xs) zero y e = (x, refl, cc)
+get_mapped f (x ∷ xs) (suc k) y e = get_mapped f xs k y e

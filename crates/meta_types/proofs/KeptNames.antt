@@ -1,18 +1,19 @@
 -- The names so far, by their camel cases.
-use Rattle.std.proofs.Common.{◌≡◌, ℕ, ◌+◌, ◌<◌, Bool, true, false, cond, eqb, zero, suc, List, [], ◌∷◌, ◌++◌, length, ap, ◌∙◌, sym, refl, subst, arith, inl, inr, add-zero}
+use Rattle.std.proofs.Common.{Bor, map, ◌≡◌, ℕ, ◌+◌, ◌<◌, Bool, true, false, cond, eqb, zero, suc, List, [], ◌∷◌, ◌++◌, length, ap, ◌∙◌, sym, refl, subst, arith, inl, inr, add-zero}
 use Rattle.std.specs.Prelude.{Some, None}
 use Rattle.std.specs.List.{slice_get, position, position_from}
 use Rattle.std.specs.Ordering.{nat_cmp}
 use Rattle.std.specs.Cmp.Lexicographic.{slice_cmp, bytes_decides}
 use Rattle.std.specs.BTreeMap.{BTreeMap, get, Updates}
 use Rattle.std.proofs.lemmas.Bool.{false≢true}
+use Rattle.std.proofs.lemmas.List.{map-append, length-map}
 use Rattle.std.proofs.lemmas.Map.Text.{is_eq-slice_cmp}
 use Rattle.std.proofs.lemmas.Iterator.Adapters.{position_from-zero}
 use Rattle.std.proofs.lemmas.Option.{slice_get_within, same_Some}
 use lib.Pointwise.{pointwise}
 use Rattle.meta_types.specs.CamelCase.{camel_case_of}
-use Rattle.meta_settings.specs.Names.{IsDuplicate, SharesName, Keeps, place_of}
-use Rattle.meta_settings.proofs.Pushed.{get_end, get_before}
+use Rattle.meta_types.specs.SharedNames.{IsDuplicate, SharesName, Keeps, place_of}
+use Rattle.meta_types.proofs.ListPlaces.{get_end, get_before}
 
 -- ---- the first place that passes
 
@@ -121,3 +122,9 @@ shared_name m camel name place j names found e keeps is =
           let at_names : slice_get names i ≡ Some other = sym (get_before names name i (omega arith)) ∙ at in
           false≢true (sym (f.first i other below at_names) ∙ has_shared camel name other e shares);
     })
+
+-- the map with the name that a reference points to, behind those that others point to
+pub added_reference : (m n : BTreeMap (List ℕ) ℕ) (camel : List ℕ) (place : ℕ) (old new : List (Bor (List ℕ))) (r : Bor (List ℕ)) → new ≡ old ++ r ∷ [] → place ≡ length old → Updates (slice_cmp nat_cmp) m n camel (Some place) → get (slice_cmp nat_cmp) m camel ≡ None → camel ≡ camel_case_of r.now → Keeps m (map (λ q. q.now) old) → Keeps n (map (λ q. q.now) new)
+added_reference m n camel place old new r pushed is up none e keeps =
+    subst (Keeps n) (sym (ap (map (λ q. q.now)) pushed ∙ map-append (λ q. q.now) old (r ∷ [])))
+    (added_name m n camel r.now place (map (λ q. q.now) old) up none e keeps (is ∙ sym (length-map old (λ q. q.now))))

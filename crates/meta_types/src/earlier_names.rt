@@ -1,0 +1,96 @@
+ghost use Rattle.std.specs.Prelude.{◌≡◌, ◌++◌, ◌∷◌, [], ℕ, IfOk, IfSome, IfNone, OnErr, length};
+ghost use Rattle.meta_types.specs.SharedNames.{IsDuplicate};
+
+use super::name::camel_case;
+use super::text::Text;
+use std::alloc::{AllocError, Global};
+use std::collections::BTreeMap;
+use std::marker::Model;
+
+/// Names in order, none of which shares one with an earlier one: it is not the same, and neither are their camel cases (this
+/// project's own). They are borrowed.
+#[derive(Drop)]
+pub struct EarlierNames<'n> {
+    names: Vec<&'n Text>,
+    // The place of each, by its camel case.
+    places: BTreeMap<Text, usize>,
+}
+
+impl<'n> Model for EarlierNames<'n> {
+    ghost use Rattle.std.specs.Prelude.{List, ℕ, map};
+    ghost use Rattle.meta_types.specs.SharedNames.{Keeps};
+
+    ghost Value = { List (List ℕ) };
+
+    ghost view = { λ t. map (λ r. r.now) t.names.items };
+
+    ghost invariant = { λ t. Keeps t.places (map (λ r. r.now) t.names.items) };
+}
+
+impl<'n> EarlierNames<'n> {
+    /// No names.
+    pub fn new(alloc: Global) -> EarlierNames<'n>
+        ensures { result ≡ [] }
+    {
+        EarlierNames {
+            names: Vec::new(alloc),
+            places: BTreeMap::new(alloc),
+        }
+    }
+
+    /// Adds the name at the end, or answers the place, from 0, of the first of the names that it shares one with, and then
+    /// they stay as they were. It costs the length of the name, and the logarithm of their count. The only error is want of
+    /// memory.
+    pub fn add(&mut self, alloc: Global, name: &'n Text) -> Result<Option<usize>, AllocError>
+        ensures added { IfOk result (λ o. IfNone o (self.new ≡ self.old ++ name.now ∷ [])) }
+        ensures unshared { IfOk result (λ o. IfNone o ((j : ℕ) → IsDuplicate (self.old ++ name.now ∷ []) (length self.old) j → ⊥)) }
+        ensures shared { IfOk result (λ o. IfSome o (IsDuplicate (self.old ++ name.now ∷ []) (length self.old))) }
+        ensures kept { IfOk result (λ o. IfSome o (λ j. self.new ≡ self.old)) }
+        ensures unchanged { OnErr result (self.new ≡ self.old) }
+    {
+        let camel = camel_case(alloc, name)?;
+        if let Some(&earlier) = self.places.get(&camel) {
+            return Ok(Some(earlier));
+        }
+        let place = self.names.len();
+        self.names.push(name)?;
+        match self.places.insert(camel, place) {
+            Ok(_) => Ok(None),
+            Err(_) => {
+                self.names.pop();
+                Err(AllocError)
+            }
+        }
+    }
+}
+
+#[cfg(test)]
+mod tests {
+    use super::*;
+    use std::test::Fail;
+
+    #[test]
+    fn finds_shared_names(rt: HostRuntime) -> Result<(), Fail> {
+        let alloc = rt.alloc();
+        let mut texts = Vec::new(alloc);
+        for name in ["ab", "a_b", "Ab", "AB", "ab", "a1", "a_1", "a1_", "a11"] {
+            texts.push(Text::new(alloc, name)?)?;
+        }
+        let mut names = EarlierNames::new(alloc);
+        let wanted = [
+            None,
+            None,
+            Some(0),
+            Some(1),
+            Some(0),
+            None,
+            Some(2),
+            Some(2),
+            None,
+        ];
+        for (name, want) in texts.iter().zip(wanted) {
+            assert_eq!(rt; names.add(alloc, name)?, want, "{name:?}");
+        }
+        Ok(())
+    }
+}
