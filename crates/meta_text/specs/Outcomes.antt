@@ -1,5 +1,5 @@
 -- Facts for one outcome of a read or a write.
-use Rattle.std.specs.Prelude.{ℕ, ⊤}
+use Rattle.std.specs.Prelude.{◌≡◌, ℕ, ⊤, List, drop}
 use Rattle.meta_text.specs.Outside.{counted}
 use Rattle.meta_text.specs.declared.outside.ReadOutcome.{ReadOutcome}
 use Rattle.meta_text.specs.declared.outside.ReadOutcome.TheVariants as reads
@@ -23,6 +23,12 @@ abbrev pub OnReadFailed : ReadOutcome → Type 0 → Type 0
 OnReadFailed (reads.Got n) P = ⊤
 OnReadFailed reads.End P = ⊤
 OnReadFailed reads.Failed P = P
+
+-- a read with this outcome changed nothing of the buffer behind the bytes that it gave, and nothing of it at the end or where it failed
+abbrev pub KeepsRest : ReadOutcome → List ℕ → List ℕ → Type 0
+KeepsRest (reads.Got n) old new = drop n new ≡ drop n old
+KeepsRest reads.End old new = new ≡ old
+KeepsRest reads.Failed old new = new ≡ old
 
 -- P of how many bytes were taken, if some were
 abbrev pub IfWrote : WriteOutcome → (ℕ → Type 0) → Type 0

@@ -1,6 +1,6 @@
 ghost use Rattle.std.specs.Prelude.{◌≡◌, ℕ, ◌<◌, ◌≤◌, ◌↔◌, List, [], length, take, Option, Some, IsTrue};
 ghost use Rattle.meta_text.specs.Outside.{Rose, with_front, NothingLeft};
-ghost use Rattle.meta_text.specs.Outcomes.{IfGot, OnEnd, OnReadFailed};
+ghost use Rattle.meta_text.specs.Outcomes.{IfGot, OnEnd, OnReadFailed, KeepsRest};
 ghost use Rattle.meta_text.specs.InMemory.{SourceState, is_listed, given_count, after_read};
 
 use crate::calls::is_listed;
@@ -72,6 +72,7 @@ impl Source for MemorySource {
         // What each source promises.
         ensures in_range { IfGot result (λ n. (1 ≤ n) × (n ≤ length buf.new)) }
         ensures got { IfGot result (λ n. Some self.old.left ≡ with_front (take n buf.new) (Some self.new.left)) }
+        ensures rest { KeepsRest result buf.old buf.new }
         ensures end { OnEnd result (NothingLeft (Some self.old.left)) }
         ensures end_keeps { OnEnd result (Some self.new.left ≡ Some self.old.left) }
         ensures failed_keeps { OnReadFailed result (Some self.new.left ≡ Some self.old.left) }

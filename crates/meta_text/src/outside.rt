@@ -1,6 +1,6 @@
 ghost use Rattle.std.specs.Prelude.{◌≡◌, ℕ, ◌<◌, ◌≤◌, List, length, take, Option};
 ghost use Rattle.meta_text.specs.Outside.{Rose, with_front, with_more, NothingLeft};
-ghost use Rattle.meta_text.specs.Outcomes.{IfGot, OnEnd, OnReadFailed, IfWrote, OnWriteFailed};
+ghost use Rattle.meta_text.specs.Outcomes.{IfGot, OnEnd, OnReadFailed, KeepsRest, IfWrote, OnWriteFailed};
 
 /// What a read did (this project's own).
 #[derive(Clone, Copy, Debug, PartialEq, Eq)]
@@ -33,11 +33,13 @@ pub trait Source {
     // How many faults there were, as far as the source counts them.
     ghost faults: { Self → ℕ };
 
-    /// Reads the next bytes into the front of `buf`, which isn't empty.
+    /// Reads the next bytes into the front of `buf`, which isn't empty, and leaves the rest of it as
+    /// it was.
     fn read(&mut self, buf: &mut [u8]) -> ReadOutcome
         requires { 0 < length buf.old }
         ensures in_range { IfGot result (λ n. (1 ≤ n) × (n ≤ length buf.new)) }
         ensures got { IfGot result (λ n. left self.old ≡ with_front (take n buf.new) (left self.new)) }
+        ensures rest { KeepsRest result buf.old buf.new }
         ensures end { OnEnd result (NothingLeft (left self.old)) }
         ensures end_keeps { OnEnd result (left self.new ≡ left self.old) }
         ensures failed_keeps { OnReadFailed result (left self.new ≡ left self.old) }

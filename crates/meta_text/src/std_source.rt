@@ -2,10 +2,13 @@ ghost use Rattle.std.specs.Prelude.{◌≡◌, ℕ, ◌<◌, ◌≤◌, List, le
 ghost use Rattle.std.specs.Io.KnownBytes.{Consumes, IsAtEnd, Keeps};
 ghost use Rattle.meta_text.specs.Adapters.{reader_of, read_faults};
 ghost use Rattle.meta_text.specs.Outside.{Rose};
-ghost use Rattle.meta_text.specs.Outcomes.{IfGot, OnEnd, OnReadFailed, faults_after_read};
+ghost use Rattle.meta_text.specs.Outcomes.{IfGot, OnEnd, OnReadFailed, KeepsRest, faults_after_read};
 
 use crate::outside::{ReadOutcome, Source};
 use std::io::Read;
+
+// How many bytes a reader is asked for at most at a time.
+const BLOCK: usize = 8_192;
 
 /// A source over any reader, as the standard input (this project's own). It tells no content.
 #[derive(Drop)]
@@ -29,8 +32,11 @@ impl<R: Read> Source for StdSource<R> {
 
     ghost faults = { read_faults };
 
-    /// Reads once. An `Err` of the reader is a fault, which raises the count by one until it
-    /// stands at 2^64 - 1.
+    /// Reads once, at most 8,192 bytes. An `Err` of the reader is a fault, which raises the count by
+    /// one until it stands at 2^64 - 1.
+    ///
+    /// A reader may write behind the bytes that it gives, so it is handed a block of this call's
+    /// own, and what it gave is copied.
     fn read(&mut self, buf: &mut [u8]) -> ReadOutcome
         requires { 0 < length buf.old }
 
@@ -42,12 +48,18 @@ impl<R: Read> Source for StdSource<R> {
 
         // What each source promises.
         ensures in_range { IfGot result (λ n. (1 ≤ n) × (n ≤ length buf.new)) }
+        ensures rest { KeepsRest result buf.old buf.new }
         ensures fault { OnReadFailed result (Rose (read_faults self.old) (read_faults self.new)) }
         ensures counted { read_faults self.old ≤ read_faults self.new }
     {
-        match self.inner.read(buf) {
+        let mut block = [0; BLOCK];
+        let most = buf.len().min(BLOCK);
+        match self.inner.read(&mut block[..most]) {
             Ok(0) => ReadOutcome::End,
-            Ok(count) => ReadOutcome::Got(count),
+            Ok(count) => {
+                buf[..count].copy_from_slice(&block[..count]);
+                ReadOutcome::Got(count)
+            }
             Err(_) => {
                 self.faults = self.faults.saturating_add(1);
                 ReadOutcome::Failed

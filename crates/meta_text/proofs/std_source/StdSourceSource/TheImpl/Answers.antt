@@ -7,6 +7,7 @@ pub read-tells : goal.read-tells
 read-tells g c = record {
   in_range = c.ensures.in_range;
   got = any_got _ _ (λ n. refl);
+  rest = c.ensures.rest;
   end = any_end _ _ tt;
   end_keeps = any_end _ _ refl;
   failed_keeps = any_read_failed _ _ refl;
