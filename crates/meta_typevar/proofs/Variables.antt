@@ -1,4 +1,5 @@
 -- The variables of a registry by what is kept of them.
+use Rattle.std.proofs.lemmas.List.{append-nil}
 use Rattle.std.proofs.Common.{◌≡◌, ℕ, ◌<◌, ◌+◌, ◌↔◌, List, [], ◌∷◌, ◌++◌, length, refl, sym, ap, ◌∙◌, subst, arith, zero, suc, Option, None, Some}
 use Rattle.std.specs.Prelude.{slice_get, Result, Ok, Err, IsErr, IfOk, OnOk, OnErr}
 use Rattle.std.proofs.lemmas.Bool.{false≢true}
@@ -12,7 +13,7 @@ use Rattle.meta_typevar.specs.Image.{image_of}
 use Rattle.meta_typevar.specs.Variable.{Variable, underived, longer}
 use Rattle.meta_typevar.specs.Registry.{set_of, set_at, sets_of, variable_of, variable_at, coded_along, coded_of, coded_at, coded_set, last_image, IsKept, IsRoot, IsDerivedFrom, IsPlaced, IsDerivation, derived_content, IsRegistry}
 use Rattle.meta_typevar.specs.Children.{IsChild}
-use Rattle.meta_typevar.specs.Derivation.{Derives}
+use Rattle.meta_typevar.specs.Derivation.{Derives, GrowsByOne}
 use Rattle.meta_typevar.specs.declared.content.TypeVarContent.{TypeVarContent}
 use Rattle.meta_typevar.specs.declared.content.TypeVarParent.{TypeVarParent}
 use Rattle.meta_typevar.proofs.Places.{last_same, no_last}
@@ -215,3 +216,10 @@ derives_added {E} vars new n f d (Err e) r l none made number added err = record
   answer = tt;
   err = err;
 }
+
+pub grows_none : (vars : List TypeVarContent) → GrowsByOne vars vars
+grows_none vars = record { more = []; is = sym (append-nil vars); few = omega arith }
+
+pub grows_one : {T E : Type 0} (r : Result T E) (old new : List TypeVarContent) (c : TypeVarContent) → OnOk r (new ≡ old ++ c ∷ []) → OnErr r (new ≡ old) → GrowsByOne old new
+grows_one (Ok v) old new c is stays = record { more = c ∷ []; is = is; few = omega arith }
+grows_one (Err e) old new c is stays = subst (GrowsByOne old) (sym stays) (grows_none old)

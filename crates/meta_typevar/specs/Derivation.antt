@@ -1,7 +1,8 @@
 -- What the calls that add a variable do to a registry.
 --     singleton_sets t       the set of a variable that stands for the type t
 --     Derives old n f result new      the registry gains what is derived by f from the variable n, unless it was there
-use Rattle.std.specs.Prelude.{◌≡◌, ◌≢◌, ℕ, ◌<◌, ◌==◌, List, [], ◌∷◌, ◌++◌, length, Result, Ok, IfOk, OnOk, OnErr, if◌then◌else◌}
+--     GrowsByOne old new              the registry gains at most one variable
+use Rattle.std.specs.Prelude.{◌≡◌, ◌≢◌, ℕ, ◌<◌, ◌≤◌, ◌==◌, List, [], ◌∷◌, ◌++◌, length, Result, Ok, IfOk, OnOk, OnErr, if◌then◌else◌}
 use Rattle.meta_types.specs.Shape.{Kind, IntKind, FloatKind, Shape}
 use Rattle.meta_types.specs.DerivedFunc.{function_of}
 use Rattle.meta_types.specs.declared.derived_func.DerivedFunc.{DerivedFunc}
@@ -35,3 +36,9 @@ pub record Derives {E : Type 0} (old : List TypeVarContent) (n : ℕ) (f : Deriv
   pub added : ((m : ℕ) → m < length old → variable_at old m ≢ longer (variable_at old n) (function_of f)) → (c : TypeVarContent) → IsKept old n c → OnOk result (new ≡ old ++ (derived_content old n c f ∷ []))
   pub answer : IfOk result (λ m. (m < length new) × (variable_at new m ≡ longer (variable_at old n) (function_of f)))
   pub err : OnErr result (new ≡ old)
+
+-- new begins with all that old has, and has at most one variable more, at its end
+pub record GrowsByOne (old new : List TypeVarContent) : Type 0 where
+  pub more : List TypeVarContent
+  pub is : new ≡ old ++ more
+  pub few : length more ≤ 1

@@ -10,7 +10,7 @@ ghost use Rattle.meta_typevar.specs.Chained.{functions_of};
 ghost use Rattle.meta_typevar.specs.Image.{can_derive};
 ghost use Rattle.meta_typevar.specs.Variable.{IsOpen, underived};
 ghost use Rattle.meta_typevar.specs.Registry.{root_content, sets_of, variable_at, coded_at, IsRaw};
-ghost use Rattle.meta_typevar.specs.Derivation.{singleton_sets, Derives};
+ghost use Rattle.meta_typevar.specs.Derivation.{singleton_sets, Derives, GrowsByOne};
 
 use super::fixed::fixed_along;
 use super::registry::TypeVars;
@@ -104,7 +104,8 @@ impl TypeVar {
         requires room { length vars.old < 2 ^ 32 - 1 }
         requires of { self < length vars.old }
         requires can { IsTrue (can_derive (function_of derived_func) (coded_at vars.old self)) }
-        ensures { Derives vars.old self derived_func result vars.new }
+        ensures derives { Derives vars.old self derived_func result vars.new }
+        ensures grows { GrowsByOne vars.old vars.new }
     {
         if let Some(known) = vars.find(self, derived_func) {
             return Ok(known);
@@ -119,7 +120,8 @@ impl TypeVar {
     pub fn lane_of(self, vars: &mut TypeVars) -> Result<TypeVar, AllocError>
         requires room { length vars.old < 2 ^ 32 - 1 }
         requires of { self < length vars.old }
-        ensures { Derives vars.old self DerivedFunc.LaneOf result vars.new }
+        ensures derives { Derives vars.old self DerivedFunc.LaneOf result vars.new }
+        ensures grows { GrowsByOne vars.old vars.new }
     {
         self.derived(vars, DerivedFunc::LaneOf)
     }
@@ -128,7 +130,8 @@ impl TypeVar {
     pub fn as_truthy(self, vars: &mut TypeVars) -> Result<TypeVar, AllocError>
         requires room { length vars.old < 2 ^ 32 - 1 }
         requires of { self < length vars.old }
-        ensures { Derives vars.old self DerivedFunc.AsTruthy result vars.new }
+        ensures derives { Derives vars.old self DerivedFunc.AsTruthy result vars.new }
+        ensures grows { GrowsByOne vars.old vars.new }
     {
         self.derived(vars, DerivedFunc::AsTruthy)
     }
@@ -138,7 +141,8 @@ impl TypeVar {
         requires room { length vars.old < 2 ^ 32 - 1 }
         requires of { self < length vars.old }
         requires can { IsTrue (can_derive HalfWidth (coded_at vars.old self)) }
-        ensures { Derives vars.old self DerivedFunc.HalfWidth result vars.new }
+        ensures derives { Derives vars.old self DerivedFunc.HalfWidth result vars.new }
+        ensures grows { GrowsByOne vars.old vars.new }
     {
         self.derived(vars, DerivedFunc::HalfWidth)
     }
@@ -148,7 +152,8 @@ impl TypeVar {
         requires room { length vars.old < 2 ^ 32 - 1 }
         requires of { self < length vars.old }
         requires can { IsTrue (can_derive DoubleWidth (coded_at vars.old self)) }
-        ensures { Derives vars.old self DerivedFunc.DoubleWidth result vars.new }
+        ensures derives { Derives vars.old self DerivedFunc.DoubleWidth result vars.new }
+        ensures grows { GrowsByOne vars.old vars.new }
     {
         self.derived(vars, DerivedFunc::DoubleWidth)
     }
@@ -158,7 +163,8 @@ impl TypeVar {
         requires room { length vars.old < 2 ^ 32 - 1 }
         requires of { self < length vars.old }
         requires can { IsTrue (can_derive SplitLanes (coded_at vars.old self)) }
-        ensures { Derives vars.old self DerivedFunc.SplitLanes result vars.new }
+        ensures derives { Derives vars.old self DerivedFunc.SplitLanes result vars.new }
+        ensures grows { GrowsByOne vars.old vars.new }
     {
         self.derived(vars, DerivedFunc::SplitLanes)
     }
@@ -168,7 +174,8 @@ impl TypeVar {
         requires room { length vars.old < 2 ^ 32 - 1 }
         requires of { self < length vars.old }
         requires can { IsTrue (can_derive MergeLanes (coded_at vars.old self)) }
-        ensures { Derives vars.old self DerivedFunc.MergeLanes result vars.new }
+        ensures derives { Derives vars.old self DerivedFunc.MergeLanes result vars.new }
+        ensures grows { GrowsByOne vars.old vars.new }
     {
         self.derived(vars, DerivedFunc::MergeLanes)
     }
@@ -177,7 +184,8 @@ impl TypeVar {
     pub fn dynamic_to_vector(self, vars: &mut TypeVars) -> Result<TypeVar, AllocError>
         requires room { length vars.old < 2 ^ 32 - 1 }
         requires of { self < length vars.old }
-        ensures { Derives vars.old self DerivedFunc.DynamicToVector result vars.new }
+        ensures derives { Derives vars.old self DerivedFunc.DynamicToVector result vars.new }
+        ensures grows { GrowsByOne vars.old vars.new }
     {
         self.derived(vars, DerivedFunc::DynamicToVector)
     }
@@ -187,7 +195,8 @@ impl TypeVar {
         requires room { length vars.old < 2 ^ 32 - 1 }
         requires of { self < length vars.old }
         requires can { IsTrue (can_derive Narrower (coded_at vars.old self)) }
-        ensures { Derives vars.old self DerivedFunc.Narrower result vars.new }
+        ensures derives { Derives vars.old self DerivedFunc.Narrower result vars.new }
+        ensures grows { GrowsByOne vars.old vars.new }
     {
         self.derived(vars, DerivedFunc::Narrower)
     }
@@ -197,7 +206,8 @@ impl TypeVar {
         requires room { length vars.old < 2 ^ 32 - 1 }
         requires of { self < length vars.old }
         requires can { IsTrue (can_derive Wider (coded_at vars.old self)) }
-        ensures { Derives vars.old self DerivedFunc.Wider result vars.new }
+        ensures derives { Derives vars.old self DerivedFunc.Wider result vars.new }
+        ensures grows { GrowsByOne vars.old vars.new }
     {
         self.derived(vars, DerivedFunc::Wider)
     }
