@@ -1,6 +1,6 @@
 -- The one list of a group that holds the values of all its enums.
 --     enumerators_of settings       the list
---     place_of_values before values where the values of an enum stand, where `before` are the settings before it
+--     values_at enumerators values  where the values of an enum stand once they are added
 use Rattle.std.specs.Prelude.{ℕ, ◌≡◌, ◌==◌, ◌+◌, ◌≤◌, Bool, List, [], length, take, drop, fold}
 use Rattle.std.specs.Cmp.Lexicographic.{pointwise}
 use Rattle.meta_unique.specs.Overlap.{added, added_at}

@@ -24,6 +24,7 @@ abbrev pub NeedsUnder : Sets → Instruction → Option Variable → ℕ → Fou
 NeedsUnder sets i control zero s = IsControlSet sets control s
 NeedsUnder sets i control (suc k) s = (free : IsFreeSet sets i control s) × (free.place ≡ k)
 
+-- the instruction needs the set at this place of its needs, under its control
 pub record NeedsAtPlace (sets : Sets) (i : Instruction) (place : ℕ) (s : FourSets) : Type 0 where
   pub control : Option Variable
   pub is_control : IsControl sets i control

@@ -57,6 +57,7 @@ HasTooManyBlocks d f = (format : InstructionFormat) × (slice_get d.formats f �
 abbrev pub SharesFormat : InstructionFormat → InstructionFormat → Type 0
 SharesFormat a b = (a.name ≡ b.name) ⊎ SharesStructure a b
 
+-- the same of the formats with these numbers
 abbrev pub AreClashing : InstructionSet → ℕ → ℕ → Type 0
 AreClashing d f g = (a : InstructionFormat) × (b : InstructionFormat) × (slice_get d.formats f ≡ Some a) × (slice_get d.formats g ≡ Some b) × SharesFormat a b
 
@@ -115,13 +116,15 @@ pub data Position : Type 0 where
   OfFormat : ℕ → ℕ → Position
   OfTypeSets : Position
 
--- the rules for a format, in order
+-- the rules for a format, in order. The first: its name is a name
 abbrev pub format_name_rule : ℕ
 format_name_rule = 1
 
+-- the second: it has at most two blocks, and at most one raw block
 abbrev pub blocks_rule : ℕ
 blocks_rule = 2
 
+-- the third: no format that is used earlier shares its name or its structure
 abbrev pub clash_rule : ℕ
 clash_rule = 3
 

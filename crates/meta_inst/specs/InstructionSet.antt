@@ -39,6 +39,7 @@ instruction_in vars formats b = record {
   begins_with_value = begins_with_value (outputs_of b);
 }
 
+-- the same of an instruction of these declarations
 abbrev pub instruction_of : InstructionSet → Builder → Instruction
 instruction_of d b = instruction_in d.vars d.formats b
 

@@ -130,7 +130,7 @@ fn run_words<S: Source, K: Sink>(
 }
 
 /// Runs a command over declarations: reads the source, and writes to the sink (this project's own). The words are those
-/// after the program's name, and `query` is the only command: it answers each line of the input, as `answer_line` does.
+/// after the program's name, and `query` is the only command: it answers each line of the input, by the tables alone.
 ///
 /// The order is: the words; the declarations, which are refused by the first fault that they show; the whole input; all
 /// answers, in memory; the writes. `Status` says how it ended, and `OutOfMemory` may come in any case.

@@ -62,12 +62,13 @@ pub record Entry : Type 0 where
   pub values : Option (List (List ℕ))
   pub args : List PresetType
 
--- the values of an enum
+-- the values of an enum, and none of another setting
 abbrev pub values_of : ProtoSpecificSetting → Option (List (List ℕ))
 values_of (ABool default) = None
 values_of (AnEnum values) = Some values
 values_of (ANum default) = None
 
+-- a setting as an entry, and a preset as one
 abbrev pub setting_entry : SettingDeclaration → Entry
 setting_entry s = record { name = s.name; description = s.description; values = values_of s.specific; args = [] }
 

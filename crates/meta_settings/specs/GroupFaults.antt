@@ -1,5 +1,5 @@
 -- The faults of a declared group, and the order in which they are looked for.
---     Breaks d p                 the group breaks the rule that is looked at the position p
+--     Breaks d p                 what is at the position p breaks the rule that is looked at there
 --     IsFaultOf d g p e          e is the fault that tells of it, where g is the group's number
 --     IsFirstGroupFault d g e    e is the first fault of the group
 --     IsValidGroup d             it has none
@@ -37,6 +37,7 @@ abbrev pub IsMet : ℕ → ℕ → PresetType → Type 0
 IsMet booleans earlier (BoolSetting b) = b < booleans
 IsMet booleans earlier (OtherPreset q) = q < earlier
 
+-- each of these names means something
 abbrev pub AreMet : ℕ → ℕ → List PresetType → Type 0
 AreMet booleans earlier args = All (IsMet booleans earlier) args
 
@@ -85,6 +86,7 @@ BreaksRule d k e EnumRule = IfSome e.values IsGoodEnum → ⊥
 -- it is a preset, and names a boolean that the group hasn't, or a preset that isn't earlier
 BreaksRule d k e PresetRule = AreMet (boolean_count d) (k - length d.settings) e.args → ⊥
 
+-- what is at the position breaks the rule that is looked at there
 abbrev pub Breaks : GroupDeclaration → Position → Type 0
 Breaks d OfGroupName = IsName d.name → ⊥
 Breaks d (OfEntry k rule) = (e : Entry) × (slice_get (entries_of d) k ≡ Some e) × BreaksRule d k e rule

@@ -34,5 +34,6 @@ in_bits start k (s ∷ ss) = placed_at s (start + k / 8) k ∷ in_bits start (k 
 abbrev pub laid_out : GroupDeclaration → List PlacedSetting
 laid_out d = in_bytes 0 (others_among d.settings) ++ in_bits (start_of d) 0 (booleans_among d.settings)
 
+-- the group as it is built: with its layout, and what its presets turn on
 abbrev pub built_of : GroupDeclaration → Layout
 built_of d = record { name = d.name; settings = laid_out d; bool_start_byte_offset = start_of d; settings_size = byte_count d; presets = built_presets d.presets }

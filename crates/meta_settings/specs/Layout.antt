@@ -42,5 +42,6 @@ default_of (Bool b) = if b.default then 2 ^ b.bit_offset else 0
 default_of (Enum values) = 0
 default_of (Num default) = default
 
+-- the same of a setting with its place
 abbrev pub default_byte_of : PlacedSetting → ℕ
 default_byte_of s = default_of s.specific

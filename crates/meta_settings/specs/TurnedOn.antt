@@ -24,6 +24,7 @@ meant_by earlier (OtherPreset q) = booleans_at earlier q
 abbrev pub turned_on : List BuiltPreset → List PresetType → List ℕ
 turned_on earlier args = firsts (flat_map (meant_by earlier) args)
 
+-- a preset that is declared behind these, with what it turns on
 abbrev pub built_preset : List BuiltPreset → PresetDeclaration → BuiltPreset
 built_preset earlier p = record { name = p.name; description = p.description; booleans = turned_on earlier p.args }
 

@@ -14,18 +14,21 @@ pub data Function : Type 0 where
   Narrower : Function
   Wider : Function
 
+-- whether two kinds of lane are the same
 abbrev pub same_kind : Kind → Kind → Bool
 same_kind IntKind IntKind = true
 same_kind IntKind FloatKind = false
 same_kind FloatKind IntKind = false
 same_kind FloatKind FloatKind = true
 
+-- whether two dynamic marks are the same
 abbrev pub same_mark : Bool → Bool → Bool
 same_mark true true = true
 same_mark true false = false
 same_mark false true = false
 same_mark false false = true
 
+-- whether a type has one lane, as no dynamic vector has
 abbrev pub is_scalar : Shape → Bool
 is_scalar t = t.lanes == 1
 

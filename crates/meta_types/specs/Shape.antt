@@ -6,6 +6,7 @@
 use Rattle.std.specs.Prelude.{ℕ, ◌+◌, ◌*◌, ◌/◌, ◌==◌, Bool, true, false, List, [], ◌∷◌, ◌++◌, if◌then◌else◌, Contains}
 use Rattle.std.specs.Fmt.{decimal}
 
+-- what a lane holds: an integer or a float
 pub data Kind : Type 0 where
   IntKind : Kind
   FloatKind : Kind

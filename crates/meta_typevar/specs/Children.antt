@@ -19,6 +19,7 @@ child_of c DynamicToVector = c.dynamic_to_vector
 child_of c Narrower = c.narrower
 child_of c Wider = c.wider
 
+-- nothing is derived from a variable yet
 abbrev pub no_children : Children
 no_children = record { lane_of = None; as_truthy = None; half_width = None; double_width = None; split_lanes = None; merge_lanes = None; dynamic_to_vector = None; narrower = None; wider = None }
 
