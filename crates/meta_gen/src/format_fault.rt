@@ -100,6 +100,3 @@ pub(crate) fn format_fault(
     }
     Ok(None)
 }
-
-#[cfg(test)]
-mod tests;

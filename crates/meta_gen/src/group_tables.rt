@@ -357,6 +357,3 @@ impl GroupTables {
         true
     }
 }
-
-#[cfg(test)]
-mod tests;

@@ -33,8 +33,3 @@ pub use generation::generate;
 pub use group_laws::built_groups_have_tables;
 pub use laws::{equal_constraints, one_first_fault, tables_mean_the_declarations};
 pub use tables::Tables;
-
-#[cfg(test)]
-mod derived_tests;
-#[cfg(test)]
-mod tests;

@@ -323,6 +323,3 @@ impl OpcodeTables {
         true
     }
 }
-
-#[cfg(test)]
-mod tests;

@@ -18,8 +18,3 @@ pub use laws::one_own_fault;
 pub use marks::Marks;
 pub use operands::{Control, Operands};
 pub use polymorphic::PolymorphicInfo;
-
-#[cfg(test)]
-mod build_tests;
-#[cfg(test)]
-mod tests;

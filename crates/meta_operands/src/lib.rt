@@ -18,6 +18,3 @@ pub use kind::{OperandKind, OperandKindFields};
 pub use operand::Operand;
 pub use structure::{FieldNames, FormatStructure};
 pub use table::{FormatId, FormatTable};
-
-#[cfg(test)]
-mod tests;

@@ -8,16 +8,10 @@ mod pieces;
 mod query;
 mod question;
 mod reply;
-#[cfg(test)]
-mod run_tests;
 mod running;
 mod setting_line;
-#[cfg(test)]
-mod setting_tests;
 mod start;
 mod status;
-#[cfg(test)]
-mod tests;
 
 pub use answer::answer_line;
 pub use laws::one_output;

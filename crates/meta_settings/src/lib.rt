@@ -26,6 +26,3 @@ pub use preset::{Preset, SettingNames};
 pub use proto::ProtoSpecificSetting;
 pub use setting::{BoolSetting, Setting, SpecificSetting};
 pub use value_names::ValueNames;
-
-#[cfg(test)]
-mod tests;

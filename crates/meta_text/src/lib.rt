@@ -8,8 +8,6 @@ mod memory_source;
 mod outside;
 mod std_sink;
 mod std_source;
-#[cfg(test)]
-mod tests;
 mod whole;
 
 pub use memory_sink::MemorySink;

@@ -243,8 +243,3 @@ impl Parts {
 pub fn answers_are_one()
     ensures { (f : Function) (u s t : Shape) → Answers f u s → Answers f u t → s ≡ t }
 {}
-
-#[cfg(test)]
-mod tables;
-#[cfg(test)]
-mod tests;

@@ -63,34 +63,3 @@ impl<'n> EarlierNames<'n> {
         }
     }
 }
-
-#[cfg(test)]
-mod tests {
-    use super::*;
-    use std::test::Fail;
-
-    #[test]
-    fn finds_shared_names(rt: HostRuntime) -> Result<(), Fail> {
-        let alloc = rt.alloc();
-        let mut texts = Vec::new(alloc);
-        for name in ["ab", "a_b", "Ab", "AB", "ab", "a1", "a_1", "a1_", "a11"] {
-            texts.push(Text::new(alloc, name)?)?;
-        }
-        let mut names = EarlierNames::new(alloc);
-        let wanted = [
-            None,
-            None,
-            Some(0),
-            Some(1),
-            Some(0),
-            None,
-            Some(2),
-            Some(2),
-            None,
-        ];
-        for (name, want) in texts.iter().zip(wanted) {
-            assert_eq!(rt; names.add(alloc, name)?, want, "{name:?}");
-        }
-        Ok(())
-    }
-}

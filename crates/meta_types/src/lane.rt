@@ -247,27 +247,3 @@ impl fmt::Debug for LaneType {
         }
     }
 }
-
-#[cfg(test)]
-mod tests {
-    use super::*;
-    use std::test::Fail;
-
-    #[test]
-    fn shows_lanes(rt: HostRuntime) -> Result<(), Fail> {
-        let alloc = rt.alloc();
-        let int = LaneType::from(Int::I32);
-        let float = LaneType::from(Float::F16);
-        assert_eq!(rt; int.to_string(alloc)?.as_str(), "i32");
-        assert_eq!(rt;
-            format!(in alloc; "{int:?} {float:?}")?.as_str(),
-            "IntType(bits=32) FloatType(bits=16)"
-        );
-        assert_eq!(rt; LaneType::int_from_bits(128).lane_bits(), 128);
-        assert_eq!(rt; LaneType::float_from_bits(64).number(), 0x7b);
-        assert!(rt;
-            !is_int_width(12) && !is_float_width(8) && is_int_width(8) && is_float_width(16)
-        );
-        Ok(())
-    }
-}

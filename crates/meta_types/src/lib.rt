@@ -11,11 +11,7 @@ mod lane_count;
 mod lane_iter;
 mod laws;
 mod name;
-#[cfg(test)]
-mod tests;
 mod text;
-#[cfg(test)]
-mod type_rows;
 mod value_type;
 mod vector;
 

@@ -15,11 +15,7 @@ mod listing;
 mod masks;
 mod part_numbers;
 mod registry;
-#[cfg(test)]
-mod tests;
 mod type_set;
-#[cfg(test)]
-mod type_set_tests;
 mod typevar;
 
 pub use builder::TypeSetBuilder;

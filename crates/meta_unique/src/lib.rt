@@ -5,8 +5,6 @@
 mod constant_hash;
 mod probing;
 mod steps;
-#[cfg(test)]
-mod tests;
 mod unique_seq_table;
 mod unique_table;
 

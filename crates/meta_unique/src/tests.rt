@@ -1,4 +1,0 @@
-mod interning;
-mod overlap;
-mod probing;
-mod slots;

@@ -1,0 +1,122 @@
+use super::escapes::encoded;
+use super::trouble::Trouble;
+use meta_gen::{Declarations, Tables};
+use meta_query::{Lines, Status, answer_line, run};
+use meta_text::{MemorySink, MemorySource, ReadOutcome, Source};
+use meta_types::Text;
+use std::alloc::{AllocError, Global};
+
+/// How the source and the sink of a run behave: the bytes that each call may give or take, the call that fails, 0 for none, and
+/// the room of the sink.
+#[derive(Clone, Copy)]
+pub(crate) struct Outside {
+    pub(crate) source_step: usize,
+    pub(crate) failing_read: u64,
+    pub(crate) room: usize,
+    pub(crate) sink_step: usize,
+    pub(crate) failing_write: u64,
+}
+
+impl Outside {
+    /// Nothing fails, and there is room for 8,192 bytes.
+    pub(crate) fn well() -> Outside {
+        Outside {
+            source_step: 5_000,
+            failing_read: 0,
+            room: 8_192,
+            sink_step: 5_000,
+            failing_write: 0,
+        }
+    }
+
+    fn source(self, alloc: Global, input: &[u8]) -> Result<MemorySource, Trouble> {
+        if self.source_step == 0 {
+            return Err(Trouble::NoCase);
+        }
+        let fails = vec![in alloc; self.failing_read]?;
+        Ok(MemorySource::new(input.to_vec(alloc)?, self.source_step, fails))
+    }
+
+    fn sink(self, alloc: Global) -> Result<MemorySink, Trouble> {
+        if self.sink_step == 0 {
+            return Err(Trouble::NoCase);
+        }
+        let fails = vec![in alloc; self.failing_write]?;
+        Ok(MemorySink::new(alloc, self.room, self.sink_step, fails)?)
+    }
+}
+
+/// How a run ended, what its sink took, and the next byte of its source.
+#[derive(Drop)]
+pub(crate) struct Ran {
+    pub(crate) status: Status,
+    pub(crate) taken: Vec<u8>,
+    pub(crate) next: Option<u8>,
+}
+
+/// The next byte of the source.
+fn next_byte(source: &mut MemorySource) -> Option<u8> {
+    let mut buf = [0; 1];
+    match source.read(&mut buf) {
+        ReadOutcome::Got(_) => Some(buf[0]),
+        ReadOutcome::End | ReadOutcome::Failed => None,
+    }
+}
+
+/// Runs these words over an input.
+pub(crate) fn run_over(
+    alloc: Global,
+    outside: Outside,
+    declarations: &Declarations,
+    words: &[Text],
+    input: &[u8],
+) -> Result<Ran, Trouble> {
+    let mut source = outside.source(alloc, input)?;
+    let mut sink = outside.sink(alloc)?;
+    let status = run(alloc, words, declarations, &mut source, &mut sink);
+    let next = next_byte(&mut source);
+    let taken = sink.bytes().to_vec(alloc)?;
+    Ok(Ran {
+        status,
+        taken,
+        next,
+    })
+}
+
+/// The answers to the lines of an input, one by one, by the tables.
+fn answers_of(alloc: Global, tables: &Tables, input: &[u8]) -> Result<Vec<u8>, AllocError> {
+    let mut out = Vec::new(alloc);
+    for line in Lines::new(input) {
+        if let Some(text) = answer_line(alloc, tables, line)? {
+            out.extend_from_slice(text.as_bytes())?;
+            out.push(b'\n')?;
+        }
+    }
+    Ok(out)
+}
+
+impl Ran {
+    /// The status, what was written, `-` for nothing, and the next byte where one was left.
+    pub(crate) fn text(&self, alloc: Global) -> Result<String, AllocError> {
+        let code = self.status.code();
+        let taken = match self.taken.as_slice() {
+            [] => String::from_str(alloc, "-")?,
+            bytes => encoded(alloc, bytes)?,
+        };
+        match self.next {
+            Some(byte) => format!(in alloc; "{code} {taken} next {}", encoded(alloc, &[byte])?),
+            None => format!(in alloc; "{code} {taken}"),
+        }
+    }
+
+    /// Whether a run that is done wrote what the tables answer to each line of the input.
+    pub(crate) fn is_by(
+        &self,
+        alloc: Global,
+        tables: &Tables,
+        input: &[u8],
+    ) -> Result<bool, AllocError> {
+        let answers = answers_of(alloc, tables, input)?;
+        Ok(self.status != Status::Done || self.taken.as_slice() == answers.as_slice())
+    }
+}

@@ -1,0 +1,24 @@
+use std::alloc::{AllocError, AllocFailed};
+
+/// Why a line has no answer of its own.
+#[derive(Debug, Drop)]
+pub(crate) enum NoAnswer {
+    /// It is no case.
+    NoCase,
+    /// Two calls that have to agree don't.
+    Differ,
+    /// Memory ran out.
+    OutOfMemory,
+}
+
+impl From<AllocError> for NoAnswer {
+    fn from(_e: AllocError) -> NoAnswer {
+        NoAnswer::OutOfMemory
+    }
+}
+
+impl<T: Drop> From<AllocFailed<T>> for NoAnswer {
+    fn from(_e: AllocFailed<T>) -> NoAnswer {
+        NoAnswer::OutOfMemory
+    }
+}

@@ -1,0 +1,13 @@
+//! Tests of `meta_text` that no contract and no stored run replaces.
+#![tactic(auto)]
+
+#[cfg(test)]
+mod adapters;
+#[cfg(test)]
+mod buffers;
+#[cfg(test)]
+mod copies;
+#[cfg(test)]
+mod faults;
+#[cfg(test)]
+mod limits;
