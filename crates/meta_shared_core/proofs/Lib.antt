@@ -1,0 +1,8 @@
+mod Lists
+mod Tests
+mod Parts
+mod Added
+mod Rooted
+pub mod Growing
+pub mod Made
+pub mod Fitting

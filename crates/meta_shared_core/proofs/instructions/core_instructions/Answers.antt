@@ -1,0 +1,21 @@
+use Rattle.std.proofs.Common.{◌∙◌, ◌++◌, length, map, sym, ap, subst}
+use Rattle.std.proofs.lemmas.List.{length-map}
+use Rattle.meta_shared_core.specs.CoreNames.{core_names}
+use Rattle.meta_shared_core.specs.Words.{Meanings, AreMeant}
+use Rattle.meta_shared_core.specs.Rows.{builder_name, row_name, rows_in, FitsNames}
+use Rattle.meta_shared_core.proofs.Fitting.{all_fit, none_fit, names_added}
+use Rattle.meta_shared_core.proofs.instructions.core_instructions.Goals as goal
+
+pub returns-clause-names : goal.returns-clause-names
+returns-clause-names c = names_added c.in_ok-push_tables.ensures.rows
+    ∙ (ap (λ xs. map builder_name xs ++ map row_name (rows_in c.core_tables.result)) c.requires.no_instruction ∙ c.core_tables.ensures.are_named)
+
+pub returns-clause-count : goal.returns-clause-count
+unfolding core_names
+returns-clause-count c = sym (length-map c.push_tables.new.all builder_name) ∙ ap length (returns-clause-names c)
+
+pub returns-clause-fit : goal.returns-clause-fit
+returns-clause-fit c = λ k b at.
+    let meant : AreMeant c.new.new.vars c.new-names.result = subst (AreMeant c.new.new.vars) (sym c.new-names.ensures) (record { immediates = c.requires.immediates; entities = c.requires.entities; roots = c.in_ok-roots.ensures.roots }) in
+    subst (λ f. FitsNames c.push_tables.new.vars f b) (ap (λ (m : Meanings). m.formats) c.new-names.ensures)
+    (all_fit c.in_ok-push_tables.ensures.grows meant c.in_ok-push_tables.ensures.rows (none_fit c.requires.no_instruction) k b at)

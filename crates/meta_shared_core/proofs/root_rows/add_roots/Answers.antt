@@ -1,0 +1,19 @@
+use Rattle.std.proofs.Common.{subst, sym, arith}
+use Rattle.meta_shared_core.specs.RootRows.{AreAdded, can_build_row}
+use Rattle.meta_shared_core.proofs.Tests.{passes_at}
+use Rattle.meta_shared_core.proofs.Rooted.{added_counted, added_more, row_count}
+use Rattle.meta_shared_core.proofs.root_rows.add_roots.Goals as goal
+
+pub add_root-requires-clause-room : goal.add_root-requires-clause-room
+add_root-requires-clause-room c =
+    let rows = row_count c.rows-rows.result.now c.rows-rows.ensures in
+    let count = added_counted _ _ _ _ c.loop-k-test.true c.loop-k.invariant in
+    let within = c.loop-k-test.true in
+    omega (arith, rows, count, within)
+
+pub add_root-requires-clause-buildable : goal.add_root-requires-clause-buildable
+add_root-requires-clause-buildable c = passes_at can_build_row c.rows-rows.result.now c.loop-k.k _ c.rows-rows.ensures.buildable c.loop-k-test.true
+
+pub loop-k-preserved : goal.loop-k-preserved
+loop-k-preserved c = subst (AreAdded _ _) (sym c.in_ok-push.ensures.items)
+    (added_more _ _ _ _ _ _ _ c.loop-k-test.true c.loop-k.invariant c.in_ok-add_root.ensures.number c.in_ok-add_root.ensures.added)

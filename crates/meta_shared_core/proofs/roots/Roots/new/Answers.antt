@@ -1,0 +1,29 @@
+use Rattle.std.proofs.Common.{◌∙◌, ◌+◌, length, subst, sym, ap, arith}
+use Rattle.std.proofs.lemmas.List.{length-append}
+use Rattle.meta_typevar.specs.Variable.{Variable}
+use Rattle.meta_shared_core.specs.Formats.{AreNumbered}
+use Rattle.meta_shared_core.specs.Roots.{IsRootWith, set_of_root}
+use Rattle.meta_shared_core.proofs.Rooted.{vars_counted, mem_root, whole_numbers, number_named, roots_whole}
+use Rattle.meta_shared_core.proofs.roots.Roots.new.Goals as goal
+
+pub copy_from-requires-clause-room : goal.copy_from-requires-clause-room
+copy_from-requires-clause-room c = omega (arith, vars_counted c.in_ok-found.ensures)
+
+pub copy_from-requires-clause-of : goal.copy_from-requires-clause-of
+copy_from-requires-clause-of c = (mem_root c.in_ok-found.ensures _ c.index-mem.ensures).of
+
+pub copy_from-requires-clause-underived : goal.copy_from-requires-clause-underived
+copy_from-requires-clause-underived c = ap (λ (v : Variable). v.chain) (mem_root c.in_ok-found.ensures _ c.index-mem.ensures).root
+
+pub named-requires : goal.named-requires
+named-requires c = ap length (c.deref.ensures.value ∙ c.in_ok-push.ensures.items) ∙ (whole_numbers c.in_ok-found.ensures _ c.in_ok-copy_from.ensures.number).count_is
+
+pub returns-clause-numbers : goal.returns-clause-numbers
+returns-clause-numbers c root = number_named _ root _ (subst (AreNumbered 0 50) (sym (c.deref.ensures.value ∙ c.in_ok-push.ensures.items)) (whole_numbers c.in_ok-found.ensures _ c.in_ok-copy_from.ensures.number)) (c.named.ensures root)
+
+pub returns-clause-roots : goal.returns-clause-roots
+returns-clause-roots c root = subst (λ v. IsRootWith c.copy_from.new.vars v (set_of_root root)) (sym (returns-clause-numbers c root))
+    (roots_whole c.in_ok-found.ensures _ _ _ (mem_root c.in_ok-found.ensures _ c.index-mem.ensures).set_is c.in_ok-copy_from.ensures.added root)
+
+pub returns-clause-count : goal.returns-clause-count
+returns-clause-count c = ap length c.in_ok-copy_from.ensures.added ∙ (length-append c.add_roots.new.vars _ ∙ ap (λ n. n + 1) (vars_counted c.in_ok-found.ensures))

@@ -1,0 +1,49 @@
+ghost use Rattle.std.specs.Prelude.{◌≡◌, ◌≤◌, ℕ, IfOk, OnOk, length, map, slice_get, Some, []};
+ghost use Rattle.meta_inst.specs.Builder.{Builder};
+ghost use Rattle.meta_shared_core.specs.CoreNames.{core_names};
+ghost use Rattle.meta_shared_core.specs.Kinds.{EntitiesHoldNoVariable, ImmediatesHoldNoVariable};
+ghost use Rattle.meta_shared_core.specs.Roots.{AreNumberedRoots, AreRoots};
+ghost use Rattle.meta_shared_core.specs.Rows.{FitsNames, builder_name};
+
+use super::declaring::push_tables;
+use super::entities::EntityRefs;
+use super::formats::Formats;
+use super::immediates::Immediates;
+use super::names::Names;
+use super::roots::Roots;
+use super::tables::core_tables;
+use meta_inst::AllInstructions;
+use meta_typevar::TypeVars;
+use std::alloc::{AllocError, Global};
+
+/// Adds the root variables to a registry without a variable, with those that the instructions derive from them, and the instructions 1
+/// to 72 to a list without an instruction. No kind may be of values. After an error a part of the variables and of the instructions
+/// may have been added (this project's own).
+pub fn core_instructions(
+    alloc: Global,
+    vars: &mut TypeVars,
+    all: &mut AllInstructions,
+    formats: &Formats,
+    imm: &Immediates,
+    entities: &EntityRefs,
+) -> Result<Roots, AllocError>
+    requires no_variable { vars.old ≡ [] }
+    requires no_instruction { all.old ≡ [] }
+    requires immediates { ImmediatesHoldNoVariable imm.now }
+    requires entities { EntitiesHoldNoVariable entities.now }
+
+    // Each root is of the variables, is underived, has its set, and is a variable of its own.
+    ensures roots { IfOk result (AreRoots vars.new) }
+    ensures numbers { IfOk result AreNumberedRoots }
+    ensures few { OnOk result (length vars.new ≤ 100) }
+
+    // The instructions have their names in order, and name these variables and formats alone.
+    ensures names { OnOk result (map builder_name all.new ≡ core_names) }
+    ensures count { OnOk result (length all.new ≡ 72) }
+    ensures fit { OnOk result ((k : ℕ) (b : Builder) → slice_get all.new k ≡ Some b → FitsNames vars.new formats.now b) }
+{
+    let roots = Roots::new(alloc, vars)?;
+    let names = Names::new(formats, imm, entities, &roots);
+    push_tables(alloc, &names, vars, all, &core_tables())?;
+    Ok(roots)
+}

@@ -1,0 +1,99 @@
+ghost use Rattle.std.specs.Prelude.{◌≡◌, IfOk};
+ghost use Rattle.meta_shared_core.specs.Kinds.{kind_of, IsKind};
+
+use super::entities::EntityRefs;
+use super::immediates::Immediates;
+use meta_operands::{OperandKind, OperandKindFields};
+use meta_types::Text;
+use std::alloc::{AllocError, Global};
+
+/// The kinds of operands that are no values, as the tables name them.
+#[derive(Clone, Copy)]
+pub enum Kind {
+    BlockCall,
+    BlockThen,
+    BlockElse,
+    RawBlock,
+    StackSlot,
+    DynamicStackSlot,
+    GlobalValue,
+    SigRef,
+    FuncRef,
+    JumpTable,
+    ExceptionTable,
+    Varargs,
+    PoolConstant,
+    Uimm128,
+    Imm64,
+    Uimm8,
+    Offset32,
+    Ieee16,
+    Ieee32,
+    Ieee64,
+    Intcc,
+    Floatcc,
+    Memflags,
+    Trapcode,
+    AtomicRmwOp,
+}
+
+impl Kind {
+    /// The kind of this name.
+    pub(crate) fn of<'k>(self, imm: &'k Immediates, entities: &'k EntityRefs) -> &'k OperandKind
+        ensures { result.now ≡ kind_of imm.now entities.now self }
+    {
+        match self {
+            Kind::BlockCall => &entities.block_call,
+            Kind::BlockThen => &entities.block_then,
+            Kind::BlockElse => &entities.block_else,
+            Kind::RawBlock => &entities.raw_block,
+            Kind::StackSlot => &entities.stack_slot,
+            Kind::DynamicStackSlot => &entities.dynamic_stack_slot,
+            Kind::GlobalValue => &entities.global_value,
+            Kind::SigRef => &entities.sig_ref,
+            Kind::FuncRef => &entities.func_ref,
+            Kind::JumpTable => &entities.jump_table,
+            Kind::ExceptionTable => &entities.exception_table,
+            Kind::Varargs => &entities.varargs,
+            Kind::PoolConstant => &entities.pool_constant,
+            Kind::Uimm128 => &entities.uimm128,
+            Kind::Imm64 => &imm.imm64,
+            Kind::Uimm8 => &imm.uimm8,
+            Kind::Offset32 => &imm.offset32,
+            Kind::Ieee16 => &imm.ieee16,
+            Kind::Ieee32 => &imm.ieee32,
+            Kind::Ieee64 => &imm.ieee64,
+            Kind::Intcc => &imm.intcc,
+            Kind::Floatcc => &imm.floatcc,
+            Kind::Memflags => &imm.memflags,
+            Kind::Trapcode => &imm.trapcode,
+            Kind::AtomicRmwOp => &imm.atomic_rmw_op,
+        }
+    }
+}
+
+/// A kind with this field name, Rust type and documentation.
+pub(crate) fn make_kind(
+    alloc: Global,
+    field_name: &str,
+    rust_type: &str,
+    fields: OperandKindFields,
+    doc: &str,
+) -> Result<OperandKind, AllocError>
+    ensures { IfOk result (IsKind field_name.now rust_type.now fields doc.now) }
+{
+    let field_name = Text::new(alloc, field_name)?;
+    let rust_type = Text::new(alloc, rust_type)?;
+    let doc = Text::new(alloc, doc)?;
+    Ok(OperandKind::new(field_name, rust_type, fields, doc))
+}
+
+/// A struct of kinds: per field the function that makes it, the field name, the Rust type, the documentation, and for an enum its
+/// values.
+macro_rules! kinds {
+    ($kinds:ident, $alloc:ident; $($field:ident: $make:ident($($part:expr),+);)+) => {
+        $kinds { $($field: $make($alloc, $($part),+)?),+ }
+    };
+}
+
+pub(crate) use kinds;

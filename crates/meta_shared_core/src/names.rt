@@ -1,0 +1,80 @@
+ghost use Rattle.std.specs.Prelude.{◌≡◌, ◌+◌, ◌<◌, ◌-◌, ◌^◌, IfOk, OnOk, length, true};
+ghost use Rattle.meta_shared_core.specs.Formats.{id_of};
+ghost use Rattle.meta_shared_core.specs.Words.{AreMeant, IsKindOfWord, Grows, is_derivable, derived_count};
+
+use super::entities::EntityRefs;
+use super::format::Format;
+use super::formats::Formats;
+use super::immediates::Immediates;
+use super::roots::Roots;
+use super::word::Word;
+use meta_operands::{FormatId, OperandKind};
+use meta_typevar::TypeVars;
+use std::alloc::{AllocError, Global};
+use std::marker::Model;
+
+/// What the words of the tables are looked up in.
+#[derive(Drop)]
+pub struct Names<'n> {
+    formats: &'n Formats,
+    imm: &'n Immediates,
+    entities: &'n EntityRefs,
+    roots: &'n Roots,
+}
+
+impl<'n> Model for Names<'n> {
+    ghost use Rattle.meta_shared_core.specs.Words.{Meanings};
+
+    ghost Value = { Meanings };
+
+    ghost view = { λ n. record { formats = n.formats.now; imm = n.imm.now; entities = n.entities.now; roots = n.roots.now } };
+}
+
+impl<'n> Names<'n> {
+    /// The words that mean these.
+    pub fn new(
+        formats: &'n Formats,
+        imm: &'n Immediates,
+        entities: &'n EntityRefs,
+        roots: &'n Roots,
+    ) -> Names<'n>
+        ensures { result ≡ record { formats = formats.now; imm = imm.now; entities = entities.now; roots = roots.now } }
+    {
+        Names {
+            formats,
+            imm,
+            entities,
+            roots,
+        }
+    }
+
+    /// The number of a format.
+    pub(crate) fn format(&self, format: Format) -> FormatId
+        ensures { result ≡ id_of self.now.formats format }
+    {
+        self.formats.id(format)
+    }
+
+    /// The kind that a word means. What is derived is added to the variables, where it isn't there.
+    pub(crate) fn kind(
+        &self,
+        alloc: Global,
+        vars: &mut TypeVars,
+        word: Word,
+    ) -> Result<OperandKind, AllocError>
+        requires meant { AreMeant vars.old self.now }
+        requires room { length vars.old < 2 ^ 32 - 1 }
+        requires derivable { is_derivable word ≡ true }
+        ensures kind { IfOk result (IsKindOfWord vars.new self.now word) }
+        ensures grows { OnOk result (Grows (derived_count word) vars.old vars.new) }
+    {
+        match word {
+            Word::Kind(kind) => kind.of(self.imm, self.entities).copy(alloc),
+            Word::Root(root) => OperandKind::of(alloc, self.roots.variable(root)),
+            Word::Derived(function, root) => {
+                let variable = self.roots.variable(root).derived(vars, function)?;
+                OperandKind::of(alloc, variable)
+            }
+        }
+    }
+}

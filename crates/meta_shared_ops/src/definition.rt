@@ -1,0 +1,36 @@
+ghost use Rattle.std.specs.Prelude.{◌≡◌, ◌++◌, IfOk, All, length};
+ghost use Rattle.meta_inst.specs.Faults.{names_of};
+ghost use Rattle.meta_shared_core.specs.CoreNames.{core_names};
+ghost use Rattle.meta_shared_core.specs.Settings.{IsSharedGroup};
+ghost use Rattle.meta_shared_ops.specs.OpsNames.{ops_names};
+
+use super::tables::ops_tables;
+use meta_gen::Declarations;
+use meta_inst::AllInstructions;
+use meta_operands::FormatTable;
+use meta_shared_core::{
+    EntityRefs, Formats, Immediates, Names, core_instructions, push_tables, settings,
+};
+use meta_typevar::TypeVars;
+use std::alloc::{AllocError, Global};
+
+/// The shared declarations: 36 formats, 163 instructions, and the group of settings `shared`.
+pub fn define(alloc: Global) -> Result<Declarations, AllocError>
+    ensures formats { IfOk result (λ d. length d.set.formats ≡ 36) }
+    ensures instructions { IfOk result (λ d. length d.set.instructions ≡ 163) }
+    ensures names { IfOk result (λ d. names_of d.set ≡ core_names ++ ops_names) }
+    ensures groups { IfOk result (λ d. length d.groups ≡ 1) }
+    ensures group { IfOk result (λ d. All IsSharedGroup d.groups) }
+{
+    let entities = EntityRefs::new(alloc)?;
+    let imm = Immediates::new(alloc)?;
+    let mut table = FormatTable::new(alloc);
+    let formats = Formats::new(alloc, &mut table, &imm, &entities)?;
+    let (mut vars, mut all) = (TypeVars::new(alloc), AllInstructions::new(alloc));
+    let roots = core_instructions(alloc, &mut vars, &mut all, &formats, &imm, &entities)?;
+    let names = Names::new(&formats, &imm, &entities, &roots);
+    push_tables(alloc, &names, &mut vars, &mut all, &ops_tables())?;
+    let mut groups = Vec::new(alloc);
+    groups.push(settings::define(alloc)?)?;
+    Ok(Declarations::new(vars, table, all, groups))
+}
