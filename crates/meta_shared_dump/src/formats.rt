@@ -1,0 +1,35 @@
+use super::shared::Shared;
+use meta_operands::FormatId;
+use std::io::{self, Write};
+
+/// Writes a format.
+fn write_format<W: Write>(
+    out: &mut W,
+    shared: &Shared,
+    field: &str,
+    id: FormatId,
+) -> io::Result<()> {
+    let table = shared.table();
+    if !table.is_of(id) {
+        return writeln!(out, "no format");
+    }
+    let format = table.get(id);
+    let (number, name, list) = (id.number(), format.name.as_str(), format.has_value_list);
+    write!(out, "{number}\t{field}\t{name}\t{format}\t{list}\t")?;
+    match format.typevar_operand {
+        Some(place) => writeln!(out, "{place}"),
+        None => writeln!(out, "-"),
+    }
+}
+
+/// Writes all formats.
+pub(crate) fn write_formats<W: Write>(out: &mut W, shared: &Shared) -> io::Result<()> {
+    writeln!(
+        out,
+        "number\tstruct_field\tname\tdisplay\tvalue_list\tdesignated"
+    )?;
+    for (field, id) in shared.format_ids() {
+        write_format(out, shared, field, id)?;
+    }
+    Ok(())
+}

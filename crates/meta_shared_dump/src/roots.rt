@@ -1,0 +1,40 @@
+use super::shared::Shared;
+use meta_typevar::TypeVar;
+use std::alloc::Global;
+use std::io::{self, Write};
+
+/// Writes a root variable.
+fn write_root<W: Write>(
+    out: &mut W,
+    alloc: Global,
+    shared: &Shared,
+    token: &str,
+    tv: TypeVar,
+) -> io::Result<()> {
+    let vars = shared.vars();
+    if !vars.is_of(tv) {
+        return writeln!(out, "no variable");
+    }
+    let content = vars.content(tv);
+    let masks = tv.get_typeset(alloc, vars)?.masks();
+    let (lanes, dynamic_lanes, ints, floats) = (
+        masks.lanes,
+        masks.dynamic_lanes,
+        masks.ints,
+        masks.floats,
+    );
+    let (name, doc) = (content.name.as_str(), content.doc.as_str());
+    writeln!(
+        out,
+        "{token}\t{name}\t{lanes}\t{dynamic_lanes}\t{ints}\t{floats}\t{doc}"
+    )
+}
+
+/// Writes all root variables.
+pub(crate) fn write_roots<W: Write>(out: &mut W, alloc: Global, shared: &Shared) -> io::Result<()> {
+    writeln!(out, "token\tname\tlanes\tdynamic_lanes\tints\tfloats\tdoc")?;
+    for (token, tv) in shared.root_variables() {
+        write_root(out, alloc, shared, token, tv)?;
+    }
+    Ok(())
+}
