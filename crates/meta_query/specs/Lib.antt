@@ -3,7 +3,6 @@ pub mod Words
 pub mod Question
 pub mod Query
 pub mod SettingLine
-pub mod Demo
 pub mod Reply
 pub mod Status
 pub mod Answer

@@ -10,7 +10,6 @@ mod question;
 mod reply;
 mod running;
 mod setting_line;
-mod start;
 mod status;
 
 pub use answer::answer_line;
@@ -20,5 +19,4 @@ pub use query::{Query, asks_one_query};
 pub use question::{Question, asks_one_question};
 pub use reply::Reply;
 pub use running::run;
-pub use start::starter;
 pub use status::Status;

@@ -1,17 +1,18 @@
-// Answers the query lines of the standard input over the declarations of `starter`.
+// Answers the query lines of the standard input over the shared instruction set.
 #![tactic(auto)]
 
 mod command;
 
 use command::{Command, about};
-use meta_query::{Status, run, starter};
+use meta_query::{Status, run};
+use meta_shared_ops::define;
 use meta_text::{StdSink, StdSource};
 use meta_types::Text;
 use std::io::{self, ErrorKind};
 use std::process::ExitCode;
 
 const HELP: &str = "\
-Answers questions about the instructions and the settings of a set, one a line, from standard input to standard output.
+Answers questions about the shared instructions and settings of Cranelift, one a line, from standard input to standard output.
 
 Usage: meta_query_cli query < FILE
 
@@ -47,10 +48,10 @@ fn words(rt: &HostRuntime) -> Result<Vec<Text>, Status> {
     Ok(words)
 }
 
-/// Runs the words over the declarations of `starter`.
+/// Runs the words over the shared declarations.
 fn query(rt: &HostRuntime, words: &[Text]) -> Status {
     let alloc = rt.alloc();
-    let Ok(declarations) = starter(alloc) else {
+    let Ok(declarations) = define(alloc) else {
         return Status::OutOfMemory;
     };
     let mut source = StdSource::new(rt.reader());
