@@ -1,5 +1,5 @@
 -- Roots of a registry.
-use Rattle.std.proofs.Common.{◌≡◌, ◌∙◌, ◌<◌, ◌+◌, ◌&&◌, ℕ, true, false, List, [], ◌∷◌, ◌++◌, length, map, take, slice_get, get_or, Some, Bor, zero, suc, sym, ap, subst, refl, nat_le, nat_eq, ⊎_elim, arith}
+use Rattle.std.proofs.Common.{◌≡◌, ◌∙◌, ◌<◌, ◌+◌, ◌&&◌, ℕ, true, false, List, [], ◌∷◌, ◌++◌, length, map, take, slice_get, get_or, Some, zero, suc, sym, ap, subst, refl, nat_le, nat_eq, ⊎_elim, arith}
 use Rattle.std.specs.List.{list_any}
 use Rattle.std.proofs.lemmas.List.{length-append, length-map, length-take-le, map-append, take_more}
 use Rattle.std.proofs.lemmas.Option.{slice_get_within, get_or_from_slice_get}
@@ -14,6 +14,7 @@ use Rattle.meta_shared_core.specs.declared.root.Root.{Root}
 use Rattle.meta_shared_core.specs.declared.root.Root.TheVariants.{ST1, ST2, I32, A1, A2, V1, B1, B2, Int1, Int4, IxN, I8, F16, F32, F64, F128, Int2, NarrowInt, NarrowScalar, IB, Truthy, AtomicMem, IntTo1, IntTo2, Int3, ISwappable, WideInt, V2, Any, Bits, Mem, IExt8, IExt16, I32_64, IExt32, I16x8, I32x4, I64x2, Tx16, I16or32, Float, W, N, FloatScalar, F64x2, F32x4, IntTo3, FloatTo, V3, MemTo}
 use Rattle.meta_shared_core.specs.declared.root_rows.Span.{Span}
 use Rattle.meta_shared_core.specs.declared.root_rows.Span.TheVariants.{Nothing, Everything, Between}
+use Rattle.meta_shared_core.specs.declared.root_rows.SetRow.{SetRow}
 use Rattle.meta_shared_core.specs.declared.root_rows.RootRow.{RootRow}
 use Rattle.meta_shared_core.specs.declared.root_rows.RootRow.TheVariants.{Set, Single}
 use Rattle.meta_shared_core.specs.Formats.{AreNumbered}
@@ -32,19 +33,19 @@ within all (Between low high) e =
     (Contains-from_any eqb-true low all (and_left a (b && nat_le low high) e), Contains-from_any eqb-true high all (and_left b (nat_le low high) rest), leb-true low high (and_right b (nat_le low high) rest))
 
 -- a row that passes the test can be built
-pub buildable : (name doc : Bor (List ℕ)) (lanes dynamic_lanes ints floats : Span) → can_build_row (Set name doc lanes dynamic_lanes ints floats) ≡ true → CanBuild (parts_of lanes dynamic_lanes ints floats)
-buildable name doc lanes dynamic_lanes ints floats e =
-    let a = is_within (widths IntKind) ints in
-    let b = is_within (widths FloatKind) floats in
-    let c = is_within (lane_counts false) lanes in
-    let d = is_within (lane_counts true) dynamic_lanes in
+pub buildable : (row : SetRow) → can_build_row (Set row) ≡ true → CanBuild (parts_of row)
+buildable row e =
+    let a = is_within (widths IntKind) row.ints in
+    let b = is_within (widths FloatKind) row.floats in
+    let c = is_within (lane_counts false) row.lanes in
+    let d = is_within (lane_counts true) row.dynamic_lanes in
     let r1 : (b && (c && d)) ≡ true = and_right a (b && (c && d)) e in
     let r2 : (c && d) ≡ true = and_right b (c && d) r1 in
     record {
-      ints = within (widths IntKind) ints (and_left a (b && (c && d)) e);
-      floats = within (widths FloatKind) floats (and_left b (c && d) r1);
-      simd_lanes = within (lane_counts false) lanes (and_left c d r2);
-      dynamic_simd_lanes = within (lane_counts true) dynamic_lanes (and_right c d r2);
+      ints = within (widths IntKind) row.ints (and_left a (b && (c && d)) e);
+      floats = within (widths FloatKind) row.floats (and_left b (c && d) r1);
+      simd_lanes = within (lane_counts false) row.lanes (and_left c d r2);
+      dynamic_simd_lanes = within (lane_counts true) row.dynamic_lanes (and_right c d r2);
     }
 
 -- the content of one row more
@@ -79,7 +80,7 @@ added_more rows k d vars new found v within held is added =
     }
 
 row_set : (row : RootRow) (n : ℕ) → set_of (content_of row n) ≡ sets_of_row row
-row_set (Set name doc lanes dynamic_lanes ints floats) n = refl
+row_set (Set row) n = refl
 row_set (Single lane) n = refl
 
 contents_sets : (n : ℕ) (rows : List RootRow) → map set_of (contents_of n rows) ≡ map sets_of_row rows
@@ -92,7 +93,7 @@ record IsRootAt (k : ℕ) (c : TypeVarContent) : Type 0 where
   chain : c.chain ≡ []
 
 row_root : (row : RootRow) (n : ℕ) → IsRootAt n (content_of row n)
-row_root (Set name doc lanes dynamic_lanes ints floats) n = record { root = refl; chain = refl }
+row_root (Set row) n = record { root = refl; chain = refl }
 row_root (Single lane) n = record { root = refl; chain = refl }
 
 contents_roots : (n : ℕ) (rows : List RootRow) (k : ℕ) (c : TypeVarContent) → slice_get (contents_of n rows) k ≡ Some c → IsRootAt (n + k) c

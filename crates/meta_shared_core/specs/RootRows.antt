@@ -17,6 +17,7 @@ use Rattle.meta_shared_core.specs.declared.root.Root.{Root}
 use Rattle.meta_shared_core.specs.declared.root.Root.TheVariants.{ST1, ST2, I32, A1, A2, V1, B1, B2, Int1, Int4, IxN, I8, F16, F32, F64, F128, Int2, NarrowInt, NarrowScalar, IB, Truthy, AtomicMem, IntTo1, IntTo2, Int3, ISwappable, WideInt, V2, Any, Bits, Mem, IExt8, IExt16, I32_64, IExt32, I16x8, I32x4, I64x2, Tx16, I16or32, Float, W, N, FloatScalar, F64x2, F32x4, IntTo3, FloatTo, V3}
 use Rattle.meta_shared_core.specs.declared.root_rows.Span.{Span}
 use Rattle.meta_shared_core.specs.declared.root_rows.Span.TheVariants.{Nothing, Everything, Between}
+use Rattle.meta_shared_core.specs.declared.root_rows.SetRow.{SetRow}
 use Rattle.meta_shared_core.specs.declared.root_rows.RootRow.{RootRow}
 use Rattle.meta_shared_core.specs.declared.root_rows.RootRow.TheVariants.{Set, Single}
 use Rattle.meta_shared_core.specs.Formats.{AreNumbered}
@@ -39,17 +40,17 @@ interval_of Everything = Full
 interval_of (Between low high) = Ranged (record { start = low; end = high })
 
 -- the parts of a set
-abbrev pub parts_of : Span → Span → Span → Span → Intervals
-parts_of lanes dynamic_lanes ints floats = record { ints = interval_of ints; floats = interval_of floats; simd_lanes = interval_of lanes; dynamic_simd_lanes = interval_of dynamic_lanes; includes_scalars = true }
+abbrev pub parts_of : SetRow → Intervals
+parts_of row = record { ints = interval_of row.ints; floats = interval_of row.floats; simd_lanes = interval_of row.lanes; dynamic_simd_lanes = interval_of row.dynamic_lanes; includes_scalars = true }
 
 -- the set of a row
 abbrev pub sets_of_row : RootRow → FourSets
-sets_of_row (Set name doc lanes dynamic_lanes ints floats) = sets_between (parts_of lanes dynamic_lanes ints floats)
+sets_of_row (Set row) = sets_between (parts_of row)
 sets_of_row (Single lane) = singleton_sets (lane_shape lane)
 
 -- what is kept of the root that a row describes
 abbrev pub content_of : RootRow → ℕ → TypeVarContent
-content_of (Set name doc lanes dynamic_lanes ints floats) n = root_content name.now doc.now (sets_between (parts_of lanes dynamic_lanes ints floats)) n
+content_of (Set row) n = root_content row.name.now row.doc.now (sets_between (parts_of row)) n
 content_of (Single lane) n = root_content (name_of (lane_shape lane)) (doc_of (lane_shape lane)) (singleton_sets (lane_shape lane)) n
 
 -- the contents of rows, numbered from n
@@ -65,7 +66,7 @@ is_within all (Between low high) = list_any (nat_eq low) all && (list_any (nat_e
 
 -- whether a row can be built
 abbrev pub can_build_row : RootRow → Bool
-can_build_row (Set name doc lanes dynamic_lanes ints floats) = is_within (widths IntKind) ints && (is_within (widths FloatKind) floats && (is_within (lane_counts false) lanes && is_within (lane_counts true) dynamic_lanes))
+can_build_row (Set row) = is_within (widths IntKind) row.ints && (is_within (widths FloatKind) row.floats && (is_within (lane_counts false) row.lanes && is_within (lane_counts true) row.dynamic_lanes))
 can_build_row (Single lane) = true
 
 abbrev pub CanBuildRow : RootRow → Type 0

@@ -1,6 +1,6 @@
 ghost use Rattle.std.specs.Prelude.{◌≡◌, IfOk};
 ghost use Rattle.meta_operands.specs.declared.kind.OperandKindFields.TheVariants.{ImmValue, ImmEnum};
-ghost use Rattle.meta_shared_core.specs.Kinds.{IsKind, values_of, AreNumbers, AreChoices, AreImmediates, ImmediatesHoldNoVariable};
+ghost use Rattle.meta_shared_core.specs.Kinds.{IsKind, values_of, AreNumbers, AreFloats, AreChoices, AreImmediates, ImmediatesHoldNoVariable};
 
 use super::kind::{kinds, make_kind};
 use meta_operands::{EnumValues, OperandKind, OperandKindFields};
@@ -90,6 +90,26 @@ static ATOMIC_RMW_OP: [(&str, &str); 11] = [
     ("smax", "Smax"),
 ];
 
+/// The conditions that compare integers, with their variants.
+fn intcc() -> &'static [(&'static str, &'static str)] {
+    &INTCC
+}
+
+/// The conditions that compare floating-point numbers, with their variants.
+fn floatcc() -> &'static [(&'static str, &'static str)] {
+    &FLOATCC
+}
+
+/// The reasons to trap, with their variants.
+fn trapcode() -> &'static [(&'static str, &'static str)] {
+    &TRAPCODE
+}
+
+/// The operations on memory, with their variants.
+fn atomic_rmw_op() -> &'static [(&'static str, &'static str)] {
+    &ATOMIC_RMW_OP
+}
+
 /// The values of an enum, each with the variant that it stands for.
 fn values(alloc: Global, pairs: &[(&str, &str)]) -> Result<EnumValues, AllocError>
     ensures { IfOk result (λ v. v ≡ values_of pairs.now) }
@@ -139,19 +159,24 @@ fn choice(
     )
 }
 
-/// The kinds of immediates that are numbers.
+/// The kinds of integers, and of flags.
 #[derive(Drop)]
 struct Numbers {
     imm64: OperandKind,
     uimm8: OperandKind,
     offset32: OperandKind,
-    ieee16: OperandKind,
-    ieee32: OperandKind,
-    ieee64: OperandKind,
     memflags: OperandKind,
 }
 
-/// The kinds of immediates that are of an enum.
+/// The kinds of floating-point numbers.
+#[derive(Drop)]
+struct Floats {
+    ieee16: OperandKind,
+    ieee32: OperandKind,
+    ieee64: OperandKind,
+}
+
+/// The kinds of enums.
 #[derive(Drop)]
 struct Choices {
     intcc: OperandKind,
@@ -168,10 +193,19 @@ impl Numbers {
             imm64: number("imm", "ir::immediates::Imm64", "A 64-bit immediate integer.");
             uimm8: number("imm", "ir::immediates::Uimm8", "An 8-bit immediate unsigned integer.");
             offset32: number("offset", "ir::immediates::Offset32", "A 32-bit immediate signed offset.");
+            memflags: number("flags", "ir::MemFlags", "Memory operation flags");
+        })
+    }
+}
+
+impl Floats {
+    fn new(alloc: Global) -> Result<Floats, AllocError>
+        ensures { IfOk result AreFloats }
+    {
+        Ok(kinds! { Floats, alloc;
             ieee16: number("imm", "ir::immediates::Ieee16", "A 16-bit immediate floating point number.");
             ieee32: number("imm", "ir::immediates::Ieee32", "A 32-bit immediate floating point number.");
             ieee64: number("imm", "ir::immediates::Ieee64", "A 64-bit immediate floating point number.");
-            memflags: number("flags", "ir::MemFlags", "Memory operation flags");
         })
     }
 }
@@ -181,10 +215,10 @@ impl Choices {
         ensures { IfOk result AreChoices }
     {
         Ok(kinds! { Choices, alloc;
-            intcc: choice("cond", "ir::condcodes::IntCC", "An integer comparison condition code.", &INTCC);
-            floatcc: choice("cond", "ir::condcodes::FloatCC", "A floating point comparison condition code", &FLOATCC);
-            trapcode: choice("code", "ir::TrapCode", "A trap reason code.", &TRAPCODE);
-            atomic_rmw_op: choice("op", "ir::AtomicRmwOp", "Atomic Read-Modify-Write Ops", &ATOMIC_RMW_OP);
+            intcc: choice("cond", "ir::condcodes::IntCC", "An integer comparison condition code.", intcc());
+            floatcc: choice("cond", "ir::condcodes::FloatCC", "A floating point comparison condition code", floatcc());
+            trapcode: choice("code", "ir::TrapCode", "A trap reason code.", trapcode());
+            atomic_rmw_op: choice("op", "ir::AtomicRmwOp", "Atomic Read-Modify-Write Ops", atomic_rmw_op());
         })
     }
 }
@@ -195,20 +229,35 @@ impl Immediates {
         ensures kinds { IfOk result AreImmediates }
         ensures no_variable { IfOk result ImmediatesHoldNoVariable }
     {
-        let numbers = Numbers::new(alloc)?;
-        let choices = Choices::new(alloc)?;
+        let Numbers {
+            imm64,
+            uimm8,
+            offset32,
+            memflags,
+        } = Numbers::new(alloc)?;
+        let Floats {
+            ieee16,
+            ieee32,
+            ieee64,
+        } = Floats::new(alloc)?;
+        let Choices {
+            intcc,
+            floatcc,
+            trapcode,
+            atomic_rmw_op,
+        } = Choices::new(alloc)?;
         Ok(Immediates {
-            imm64: numbers.imm64,
-            uimm8: numbers.uimm8,
-            offset32: numbers.offset32,
-            ieee16: numbers.ieee16,
-            ieee32: numbers.ieee32,
-            ieee64: numbers.ieee64,
-            intcc: choices.intcc,
-            floatcc: choices.floatcc,
-            memflags: numbers.memflags,
-            trapcode: choices.trapcode,
-            atomic_rmw_op: choices.atomic_rmw_op,
+            imm64,
+            uimm8,
+            offset32,
+            ieee16,
+            ieee32,
+            ieee64,
+            intcc,
+            floatcc,
+            memflags,
+            trapcode,
+            atomic_rmw_op,
         })
     }
 }

@@ -8,16 +8,30 @@ use std::alloc::{AllocError, Global};
 /// Which numbers of a part of a set a row means: none, all, or the powers of two from one to another.
 #[derive(Clone, Copy)]
 pub(crate) enum Span {
+    /// None.
     Nothing,
+    /// Each that the part may have.
     Everything,
+    /// The powers of two from the one to the other.
     Between(u16, u16),
+}
+
+/// A root variable with a set of its own: its name, its documentation, and the parts of its set.
+#[derive(Clone, Copy)]
+pub(crate) struct SetRow {
+    name: &'static str,
+    doc: &'static str,
+    lanes: Span,
+    dynamic_lanes: Span,
+    ints: Span,
+    floats: Span,
 }
 
 /// A row of the table of root variables.
 #[derive(Clone, Copy)]
 pub(crate) enum RootRow {
-    /// A name, a documentation, and the lanes, the dynamic lanes, the int widths and the float widths.
-    Set(&'static str, &'static str, Span, Span, Span, Span),
+    /// A variable with a set of its own.
+    Set(SetRow),
     /// A type, whose name, documentation and set the variable has.
     Single(LaneType),
 }
@@ -33,7 +47,14 @@ macro_rules! span {
 /// A row: a name with its four parts and a documentation, or a type.
 macro_rules! root_row {
     ($name:ident ($lanes:tt, $dynamic_lanes:tt, $ints:tt, $floats:tt) $doc:literal) => {
-        RootRow::Set(stringify!($name), $doc, span!($lanes), span!($dynamic_lanes), span!($ints), span!($floats))
+        RootRow::Set(SetRow {
+            name: stringify!($name),
+            doc: $doc,
+            lanes: span!($lanes),
+            dynamic_lanes: span!($dynamic_lanes),
+            ints: span!($ints),
+            floats: span!($floats),
+        })
     };
     ($kind:ident $width:ident) => { RootRow::Single(LaneType::$kind($kind::$width)) };
 }
@@ -116,15 +137,17 @@ impl Span {
     }
 }
 
-/// The builder of a set of these parts.
-fn builder(lanes: Span, dynamic_lanes: Span, ints: Span, floats: Span) -> TypeSetBuilder
-    ensures { result ≡ parts_of lanes dynamic_lanes ints floats }
-{
-    TypeSetBuilder::new()
-        .simd_lanes(lanes.interval())
-        .dynamic_simd_lanes(dynamic_lanes.interval())
-        .ints(ints.interval())
-        .floats(floats.interval())
+impl SetRow {
+    /// The builder of the set.
+    fn builder(self) -> TypeSetBuilder
+        ensures { result ≡ parts_of self }
+    {
+        TypeSetBuilder::new()
+            .simd_lanes(self.lanes.interval())
+            .dynamic_simd_lanes(self.dynamic_lanes.interval())
+            .ints(self.ints.interval())
+            .floats(self.floats.interval())
+    }
 }
 
 /// Adds the root of a row.
@@ -135,9 +158,10 @@ fn add_root(alloc: Global, vars: &mut TypeVars, row: RootRow) -> Result<TypeVar,
     ensures added { OnOk result (vars.new ≡ vars.old ++ content_of row (length vars.old) ∷ []) }
 {
     match row {
-        RootRow::Set(name, doc, lanes, dynamic_lanes, ints, floats) => {
-            let set = builder(lanes, dynamic_lanes, ints, floats).build(alloc)?;
-            TypeVar::new(vars, Text::new(alloc, name)?, Text::new(alloc, doc)?, set)
+        RootRow::Set(row) => {
+            let set = row.builder().build(alloc)?;
+            let (name, doc) = (Text::new(alloc, row.name)?, Text::new(alloc, row.doc)?);
+            TypeVar::new(vars, name, doc, set)
         }
         RootRow::Single(lane) => TypeVar::new_singleton(vars, ValueType::from(lane)),
     }

@@ -1,14 +1,14 @@
-use super::shared::Shared;
+use super::shared::{FORMATS, Shared};
 use meta_operands::FormatId;
-use std::io::{self, Write};
+use std::alloc::AllocError;
 
 /// Writes a format.
-fn write_format<W: Write>(
-    out: &mut W,
+fn write_format(
+    out: &mut String,
     shared: &Shared,
     field: &str,
     id: FormatId,
-) -> io::Result<()> {
+) -> Result<(), AllocError> {
     let table = shared.table();
     if !table.is_of(id) {
         return writeln!(out, "no format");
@@ -23,12 +23,12 @@ fn write_format<W: Write>(
 }
 
 /// Writes all formats.
-pub(crate) fn write_formats<W: Write>(out: &mut W, shared: &Shared) -> io::Result<()> {
+pub(crate) fn write_formats(out: &mut String, shared: &Shared) -> Result<(), AllocError> {
     writeln!(
         out,
         "number\tstruct_field\tname\tdisplay\tvalue_list\tdesignated"
     )?;
-    for (field, id) in shared.format_ids() {
+    for (field, id) in FORMATS.iter().zip(shared.format_ids()) {
         write_format(out, shared, field, id)?;
     }
     Ok(())

@@ -1,16 +1,15 @@
-use super::shared::Shared;
+use super::shared::{ENTITY_KINDS, IMMEDIATE_KINDS, ROOT_VARIABLES, Shared};
 use meta_gen::{Declarations, Tables};
 use meta_inst::InstructionContent;
 use meta_operands::{Operand, OperandKind};
 use meta_typevar::{TypeVar, TypeVars};
-use std::alloc::Global;
-use std::io::{self, Write};
+use std::alloc::{AllocError, Global};
 
 /// The name of a root variable.
 fn token(shared: &Shared, tv: TypeVar) -> &'static str {
-    for (token, root) in shared.root_variables() {
+    for (token, root) in ROOT_VARIABLES.iter().zip(shared.root_variables()) {
         if root == tv {
-            return token;
+            return *token;
         }
     }
     "no root"
@@ -23,12 +22,12 @@ fn is_alike(kind: &OperandKind, other: &OperandKind) -> bool {
 
 /// The name of a kind that isn't of values.
 fn kind_name(shared: &Shared, kind: &OperandKind) -> &'static str {
-    for (name, entity) in shared.entity_kinds() {
+    for (name, entity) in ENTITY_KINDS.iter().zip(shared.entity_kinds()) {
         if is_alike(kind, entity) {
             return name;
         }
     }
-    for (name, immediate) in shared.immediate_kinds() {
+    for (name, immediate) in IMMEDIATE_KINDS.iter().zip(shared.immediate_kinds()) {
         if is_alike(kind, immediate) {
             return name;
         }
@@ -37,12 +36,12 @@ fn kind_name(shared: &Shared, kind: &OperandKind) -> &'static str {
 }
 
 /// Writes what an operand is: a kind, a root variable, or what is derived from one.
-fn write_word<W: Write>(
-    out: &mut W,
+fn write_word(
+    out: &mut String,
     shared: &Shared,
     vars: &TypeVars,
     operand: &Operand,
-) -> io::Result<()> {
+) -> Result<(), AllocError> {
     let Some(tv) = operand.type_var() else {
         return write!(out, "{}", kind_name(shared, &operand.kind));
     };
@@ -59,12 +58,12 @@ fn write_word<W: Write>(
 }
 
 /// Writes operands with what they are, or `-` for none.
-fn write_operands<W: Write>(
-    out: &mut W,
+fn write_operands(
+    out: &mut String,
     shared: &Shared,
     vars: &TypeVars,
     operands: &[Operand],
-) -> io::Result<()> {
+) -> Result<(), AllocError> {
     for (place, operand) in operands.iter().enumerate() {
         if place > 0 {
             write!(out, "; ")?;
@@ -87,7 +86,7 @@ fn doc<'o>(vars: &'o TypeVars, operand: &'o Operand) -> &'o str {
 }
 
 /// Writes operands with their documentation, or `-` for none.
-fn write_docs<W: Write>(out: &mut W, vars: &TypeVars, operands: &[Operand]) -> io::Result<()> {
+fn write_docs(out: &mut String, vars: &TypeVars, operands: &[Operand]) -> Result<(), AllocError> {
     for (place, operand) in operands.iter().enumerate() {
         if place > 0 {
             write!(out, "; ")?;
@@ -100,39 +99,54 @@ fn write_docs<W: Write>(out: &mut W, vars: &TypeVars, operands: &[Operand]) -> i
     Ok(())
 }
 
+/// The names of the marks.
+const MARKS: [&str; 10] = [
+    "terminator",
+    "branch",
+    "call",
+    "return",
+    "load",
+    "store",
+    "trap",
+    "other",
+    "idempotent",
+    "imm_method",
+];
+
+/// Whether an instruction has each of the marks, in the order of `MARKS`.
+fn marks_of(instruction: &InstructionContent) -> [bool; 10] {
+    [
+        instruction.is_terminator(),
+        instruction.is_branch(),
+        instruction.is_call(),
+        instruction.is_return(),
+        instruction.can_load(),
+        instruction.can_store(),
+        instruction.can_trap(),
+        instruction.other_side_effects(),
+        instruction.side_effects_idempotent(),
+        instruction.inst_builder_imm_method(),
+    ]
+}
+
 /// Writes the marks of an instruction, or `-` for none.
-fn write_marks<W: Write>(out: &mut W, instruction: &InstructionContent) -> io::Result<()> {
-    let marks = [
-        ("terminator", instruction.is_terminator()),
-        ("branch", instruction.is_branch()),
-        ("call", instruction.is_call()),
-        ("return", instruction.is_return()),
-        ("load", instruction.can_load()),
-        ("store", instruction.can_store()),
-        ("trap", instruction.can_trap()),
-        ("other", instruction.other_side_effects()),
-        ("idempotent", instruction.side_effects_idempotent()),
-        ("imm_method", instruction.inst_builder_imm_method()),
-    ];
-    let mut is_first = true;
-    for (name, is_marked) in marks {
-        if !is_marked {
-            continue;
+fn write_marks(out: &mut String, instruction: &InstructionContent) -> Result<(), AllocError> {
+    let mut before = "";
+    for (name, is_marked) in MARKS.iter().zip(marks_of(instruction)) {
+        if is_marked {
+            write!(out, "{before}{name}")?;
+            before = " ";
         }
-        if !is_first {
-            write!(out, " ")?;
-        }
-        write!(out, "{name}")?;
-        is_first = false;
     }
-    if is_first {
-        write!(out, "-")?;
+    if before.is_empty() {
+        out.push('-')
+    } else {
+        Ok(())
     }
-    Ok(())
 }
 
 /// Writes what the tables hold of an opcode: flags, type set and constraint offset.
-fn write_constraints<W: Write>(out: &mut W, tables: &Tables, opcode: u16) -> io::Result<()> {
+fn write_constraints(out: &mut String, tables: &Tables, opcode: u16) -> Result<(), AllocError> {
     let Some(constraints) = tables.constraints(opcode) else {
         return write!(out, "no opcode");
     };
@@ -145,14 +159,14 @@ fn write_constraints<W: Write>(out: &mut W, tables: &Tables, opcode: u16) -> io:
 }
 
 /// Writes an instruction.
-fn write_instruction<W: Write>(
-    out: &mut W,
+fn write_instruction(
+    out: &mut String,
     shared: &Shared,
     vars: &TypeVars,
     tables: &Tables,
     opcode: u16,
     instruction: &InstructionContent,
-) -> io::Result<()> {
+) -> Result<(), AllocError> {
     let Some(format) = tables.opcode_format(opcode) else {
         return writeln!(out, "no opcode");
     };
@@ -178,13 +192,13 @@ fn write_instruction<W: Write>(
 }
 
 /// Writes all instructions.
-pub(crate) fn write_instructions<W: Write>(
-    out: &mut W,
+pub(crate) fn write_instructions(
+    out: &mut String,
     alloc: Global,
     shared: &Shared,
     declarations: &Declarations,
     tables: &Tables,
-) -> io::Result<()> {
+) -> Result<(), AllocError> {
     writeln!(
         out,
         "number\tname\tformat\tinputs\toutputs\tmarks\tflags\ttype_set\tconstraint_offset\tdisplay\tdoc\tinput_docs\toutput_docs"

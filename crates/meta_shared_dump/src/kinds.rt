@@ -1,8 +1,7 @@
-use super::shared::Shared;
+use super::shared::{ENTITY_KINDS, IMMEDIATE_KINDS, Shared};
 use meta_operands::{EnumValues, Operand, OperandKind, OperandKindFields};
 use meta_types::Text;
-use std::alloc::Global;
-use std::io::{self, Write};
+use std::alloc::{AllocError, Global};
 
 /// What the operands of a kind are.
 fn class(kind: &OperandKind) -> &'static str {
@@ -16,7 +15,7 @@ fn class(kind: &OperandKind) -> &'static str {
 }
 
 /// Writes the values of an enum with their variants.
-fn write_values<W: Write>(out: &mut W, values: &EnumValues) -> io::Result<()> {
+fn write_values(out: &mut String, values: &EnumValues) -> Result<(), AllocError> {
     for (place, (name, variant)) in values.iter().enumerate() {
         if place > 0 {
             write!(out, " ")?;
@@ -26,37 +25,50 @@ fn write_values<W: Write>(out: &mut W, values: &EnumValues) -> io::Result<()> {
     Ok(())
 }
 
-/// Writes a kind.
-fn write_kind<W: Write>(
-    out: &mut W,
-    alloc: Global,
-    shared: &Shared,
-    name: &str,
-    kind: &OperandKind,
-) -> io::Result<()> {
-    let (field, rust_type) = (kind.rust_field_name.as_str(), kind.rust_type.as_str());
-    write!(out, "{name}\t{field}\t{rust_type}\t{}\t", class(kind))?;
-    match kind.fields.enum_values() {
-        Some(values) => write_values(out, values)?,
-        None => write!(out, "-")?,
-    }
-    let operand = Operand::new(Text::new(alloc, name)?, kind.copy(alloc)?);
+/// An operand of a kind, which has no documentation of its own.
+fn operand(alloc: Global, name: &str, kind: &OperandKind) -> Result<Operand, AllocError> {
+    Ok(Operand::new(Text::new(alloc, name)?, kind.copy(alloc)?))
+}
+
+/// Writes the documentation of an operand, or `-` for a value.
+fn write_doc(out: &mut String, shared: &Shared, operand: &Operand) -> Result<(), AllocError> {
     match operand.type_var() {
         Some(_) => writeln!(out, "\t-"),
         None => writeln!(out, "\t{}", operand.doc(shared.vars())),
     }
 }
 
+/// Writes a kind.
+fn write_kind(
+    out: &mut String,
+    alloc: Global,
+    shared: &Shared,
+    name: &str,
+    kind: &OperandKind,
+) -> Result<(), AllocError> {
+    let (field, rust_type) = (kind.rust_field_name.as_str(), kind.rust_type.as_str());
+    write!(out, "{name}\t{field}\t{rust_type}\t{}\t", class(kind))?;
+    match kind.fields.enum_values() {
+        Some(values) => write_values(out, values)?,
+        None => write!(out, "-")?,
+    }
+    write_doc(out, shared, &operand(alloc, name, kind)?)
+}
+
 /// Writes all kinds.
-pub(crate) fn write_kinds<W: Write>(out: &mut W, alloc: Global, shared: &Shared) -> io::Result<()> {
+pub(crate) fn write_kinds(
+    out: &mut String,
+    alloc: Global,
+    shared: &Shared,
+) -> Result<(), AllocError> {
     writeln!(
         out,
         "struct_field\tfield_name\trust_type\tfields\tvalues\tdoc"
     )?;
-    for (name, kind) in shared.entity_kinds() {
+    for (name, kind) in ENTITY_KINDS.iter().zip(shared.entity_kinds()) {
         write_kind(out, alloc, shared, name, kind)?;
     }
-    for (name, kind) in shared.immediate_kinds() {
+    for (name, kind) in IMMEDIATE_KINDS.iter().zip(shared.immediate_kinds()) {
         write_kind(out, alloc, shared, name, kind)?;
     }
     Ok(())

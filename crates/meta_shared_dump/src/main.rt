@@ -18,12 +18,12 @@ use meta_shared_ops::define;
 use roots::write_roots;
 use settings::write_settings;
 use shared::Shared;
-use std::alloc::Global;
-use std::io::{self, BufWriter, Write};
+use std::alloc::{AllocError, Global};
+use std::io;
 use tables::{write_opcode_slots, write_operand_constraints, write_setting_slots, write_type_sets};
 
 /// Writes what is declared.
-fn write_declared<W: Write>(out: &mut W, alloc: Global, shared: &Shared) -> io::Result<()> {
+fn write_declared(out: &mut String, alloc: Global, shared: &Shared) -> Result<(), AllocError> {
     writeln!(out, "# kinds")?;
     write_kinds(out, alloc, shared)?;
     writeln!(out, "# formats")?;
@@ -33,7 +33,7 @@ fn write_declared<W: Write>(out: &mut W, alloc: Global, shared: &Shared) -> io::
 }
 
 /// Writes what the tables hold.
-fn write_tables<W: Write>(out: &mut W, alloc: Global, tables: &Tables) -> io::Result<()> {
+fn write_tables(out: &mut String, alloc: Global, tables: &Tables) -> Result<(), AllocError> {
     writeln!(out, "# type sets")?;
     write_type_sets(out, tables)?;
     writeln!(out, "# operand constraints")?;
@@ -47,7 +47,11 @@ fn write_tables<W: Write>(out: &mut W, alloc: Global, tables: &Tables) -> io::Re
 }
 
 /// Writes everything, or the first fault of the declarations.
-fn write_all<W: Write>(out: &mut W, alloc: Global, declarations: &Declarations) -> io::Result<()> {
+fn write_all(
+    out: &mut String,
+    alloc: Global,
+    declarations: &Declarations,
+) -> Result<(), AllocError> {
     let shared = Shared::new(alloc)?;
     write_declared(out, alloc, &shared)?;
     match generate(alloc, declarations) {
@@ -62,8 +66,8 @@ fn write_all<W: Write>(out: &mut W, alloc: Global, declarations: &Declarations) 
 
 fn main(rt: HostRuntime) -> io::Result<()> {
     let alloc = rt.alloc();
-    let mut out = BufWriter::new(alloc, io::writer(&rt))?;
     let declarations = define(alloc)?;
+    let mut out = String::new(alloc);
     write_all(&mut out, alloc, &declarations)?;
-    out.flush()
+    print!(rt; "{out}")
 }

@@ -1,16 +1,15 @@
-use super::shared::Shared;
+use super::shared::{ROOT_VARIABLES, Shared};
 use meta_typevar::TypeVar;
-use std::alloc::Global;
-use std::io::{self, Write};
+use std::alloc::{AllocError, Global};
 
 /// Writes a root variable.
-fn write_root<W: Write>(
-    out: &mut W,
+fn write_root(
+    out: &mut String,
     alloc: Global,
     shared: &Shared,
     token: &str,
     tv: TypeVar,
-) -> io::Result<()> {
+) -> Result<(), AllocError> {
     let vars = shared.vars();
     if !vars.is_of(tv) {
         return writeln!(out, "no variable");
@@ -31,9 +30,13 @@ fn write_root<W: Write>(
 }
 
 /// Writes all root variables.
-pub(crate) fn write_roots<W: Write>(out: &mut W, alloc: Global, shared: &Shared) -> io::Result<()> {
+pub(crate) fn write_roots(
+    out: &mut String,
+    alloc: Global,
+    shared: &Shared,
+) -> Result<(), AllocError> {
     writeln!(out, "token\tname\tlanes\tdynamic_lanes\tints\tfloats\tdoc")?;
-    for (token, tv) in shared.root_variables() {
+    for (token, tv) in ROOT_VARIABLES.iter().zip(shared.root_variables()) {
         write_root(out, alloc, shared, token, tv)?;
     }
     Ok(())

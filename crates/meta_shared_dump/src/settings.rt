@@ -1,8 +1,8 @@
 use meta_gen::{Descriptor, Detail, Tables};
-use std::io::{self, Write};
+use std::alloc::AllocError;
 
 /// Writes what a setting is.
-fn write_detail<W: Write>(out: &mut W, detail: Detail) -> io::Result<()> {
+fn write_detail(out: &mut String, detail: Detail) -> Result<(), AllocError> {
     match detail {
         Detail::Bool { bit } => write!(out, "bool {bit}"),
         Detail::Enum { last, enumerators } => write!(out, "enum {last} {enumerators}"),
@@ -12,12 +12,12 @@ fn write_detail<W: Write>(out: &mut W, detail: Detail) -> io::Result<()> {
 }
 
 /// Writes a setting.
-fn write_setting<W: Write>(
-    out: &mut W,
+fn write_setting(
+    out: &mut String,
     tables: &Tables,
     index: u16,
     descriptor: &Descriptor,
-) -> io::Result<()> {
+) -> Result<(), AllocError> {
     write!(
         out,
         "{index}\t{}\t{}\t",
@@ -33,7 +33,7 @@ fn write_setting<W: Write>(
 }
 
 /// Writes all settings, by their entries.
-pub(crate) fn write_settings<W: Write>(out: &mut W, tables: &Tables) -> io::Result<()> {
+pub(crate) fn write_settings(out: &mut String, tables: &Tables) -> Result<(), AllocError> {
     writeln!(out, "index\tname\toffset\tdetail\tdefault\tdescription")?;
     for index in 0..u16::MAX {
         let Some(descriptor) = tables.descriptor(0, index) else {

@@ -1,10 +1,9 @@
 use meta_gen::{Constraint, Tables};
 use meta_types::ValueType;
-use std::alloc::Global;
-use std::io::{self, Write};
+use std::alloc::{AllocError, Global};
 
 /// Writes all type sets.
-pub(crate) fn write_type_sets<W: Write>(out: &mut W, tables: &Tables) -> io::Result<()> {
+pub(crate) fn write_type_sets(out: &mut String, tables: &Tables) -> Result<(), AllocError> {
     writeln!(out, "index\tlanes\tdynamic_lanes\tints\tfloats")?;
     for (index, set) in tables.type_sets().iter().enumerate() {
         writeln!(
@@ -17,7 +16,7 @@ pub(crate) fn write_type_sets<W: Write>(out: &mut W, tables: &Tables) -> io::Res
 }
 
 /// Writes the constraint of one type, by its Rust name.
-fn write_concrete<W: Write>(out: &mut W, alloc: Global, number: u16) -> io::Result<()> {
+fn write_concrete(out: &mut String, alloc: Global, number: u16) -> Result<(), AllocError> {
     match ValueType::from_number(number) {
         Some(value_type) => writeln!(out, "Concrete({})", value_type.rust_name(alloc)?.as_str()),
         None => writeln!(out, "no type"),
@@ -25,11 +24,11 @@ fn write_concrete<W: Write>(out: &mut W, alloc: Global, number: u16) -> io::Resu
 }
 
 /// Writes an operand constraint.
-fn write_constraint<W: Write>(
-    out: &mut W,
+fn write_constraint(
+    out: &mut String,
     alloc: Global,
     constraint: Constraint,
-) -> io::Result<()> {
+) -> Result<(), AllocError> {
     match constraint {
         Constraint::Concrete(number) => write_concrete(out, alloc, number),
         Constraint::Free(place) => writeln!(out, "Free({place})"),
@@ -38,11 +37,11 @@ fn write_constraint<W: Write>(
 }
 
 /// Writes all operand constraints.
-pub(crate) fn write_operand_constraints<W: Write>(
-    out: &mut W,
+pub(crate) fn write_operand_constraints(
+    out: &mut String,
     alloc: Global,
     tables: &Tables,
-) -> io::Result<()> {
+) -> Result<(), AllocError> {
     writeln!(out, "place\tconstraint")?;
     for (place, constraint) in tables.operand_constraints().iter().enumerate() {
         write!(out, "{place}\t")?;
@@ -52,7 +51,7 @@ pub(crate) fn write_operand_constraints<W: Write>(
 }
 
 /// Writes slots.
-fn write_slots<W: Write>(out: &mut W, slots: &[Option<u16>]) -> io::Result<()> {
+fn write_slots(out: &mut String, slots: &[Option<u16>]) -> Result<(), AllocError> {
     for (slot, entry) in slots.iter().enumerate() {
         match entry {
             Some(number) => writeln!(out, "{slot}\t{number}")?,
@@ -63,13 +62,13 @@ fn write_slots<W: Write>(out: &mut W, slots: &[Option<u16>]) -> io::Result<()> {
 }
 
 /// Writes the slots of the names of the instructions.
-pub(crate) fn write_opcode_slots<W: Write>(out: &mut W, tables: &Tables) -> io::Result<()> {
+pub(crate) fn write_opcode_slots(out: &mut String, tables: &Tables) -> Result<(), AllocError> {
     writeln!(out, "slot\topcode")?;
     write_slots(out, tables.opcode_slots())
 }
 
 /// Writes the slots of the names of the settings.
-pub(crate) fn write_setting_slots<W: Write>(out: &mut W, tables: &Tables) -> io::Result<()> {
+pub(crate) fn write_setting_slots(out: &mut String, tables: &Tables) -> Result<(), AllocError> {
     writeln!(out, "slot\tindex")?;
     write_slots(out, tables.setting_slots(0).unwrap_or(&[]))
 }

@@ -5,4 +5,4 @@ use Rattle.meta_shared_core.proofs.Rooted.{buildable}
 use Rattle.meta_shared_core.proofs.root_rows.add_root.Goals as goal
 
 pub build-requires : goal.build-requires
-build-requires c = subst CanBuild (sym c.builder.ensures) (buildable c.in-Set.name c.in-Set.doc _ _ _ _ (ap can_build_row (sym c.in-Set.is) ∙ c.requires.buildable))
+build-requires c = subst CanBuild (sym c.builder.ensures) (buildable c.in-Set.row (ap can_build_row (sym c.in-Set.is) ∙ c.requires.buildable))
