@@ -1,4 +1,4 @@
-use Rattle.rows_unique.proofs.lookups.looked_at.Given as goal
+use Rattle.rows_base.proofs.lookups.looked_at.Given as goal
 
 abbrev pub ghosts-found : goal.ghosts-found
 ghosts-found a = record { name = a.blank.name; parts = a.blank.parts }

@@ -2,8 +2,8 @@ ghost use Rattle.std.specs.Prelude.{◌≡◌, ℕ, length, Contains, None};
 ghost use Rattle.std.specs.Int.{IsPowerOfTwo};
 
 use super::no_answer::NoAnswer;
-use super::slots::{hashes_of, slots_of};
-use super::words::{first_of, items_of, number_of, number_or_none, yes_or_no};
+use super::slots::{slots_of_count, slots_of_names};
+use super::words::{items_of, pair_of, separate, write_number, write_yes_or_no};
 use meta_unique::{Steps, can_probe, probe, probe_counted, simple_hash};
 use std::alloc::Global;
 use std::cell::Cell;
@@ -14,88 +14,97 @@ use std::sync::ledger::{Blank, Ledger};
 fn listed(alloc: Global, list: &str) -> Result<Vec<Option<u16>>, NoAnswer> {
     let mut slots = Vec::new(alloc);
     for item in items_of(alloc, list)?.iter() {
-        let slot = if *item == "-" {
-            None
-        } else {
-            Some(number_of(item)?)
-        };
-        slots.push(slot)?;
+        slots.push(slot_of(item)?)?;
     }
     Ok(slots)
 }
 
+/// The slot of this number, and a vacant one for `-`.
+fn slot_of(item: &str) -> Result<Option<u16>, NoAnswer> {
+    if item == "-" {
+        Ok(None)
+    } else {
+        Ok(Some(item.parse()?))
+    }
+}
+
 /// Whether slots can be looked through.
-pub(crate) fn can(alloc: Global, list: &str) -> Result<String, NoAnswer> {
-    yes_or_no(alloc, can_probe(listed(alloc, list)?.as_slice()))
+pub(crate) fn can(alloc: Global, out: &mut String, list: &str) -> Result<(), NoAnswer> {
+    write_yes_or_no(out, can_probe(listed(alloc, list)?.as_slice()))
 }
 
 /// What is found of a number from a start on; `any` is every number.
-pub(crate) fn numbers(alloc: Global, words: &str) -> Result<String, NoAnswer> {
-    let (list, words) = first_of(words)?;
-    let (start, wanted) = first_of(words)?;
+pub(crate) fn numbers(alloc: Global, out: &mut String, words: &str) -> Result<(), NoAnswer> {
+    let (list, words) = pair_of(words, ' ')?;
+    let (start, wanted) = pair_of(words, ' ')?;
+    let start = start.parse()?;
+    let wanted = slot_of(if wanted == "any" { "-" } else { wanted })?;
     let slots = listed(alloc, list)?;
-    let start = usize::from(number_of(start)?);
-    if !can_probe(slots.as_slice()) {
+    write_number(out, found_from(slots.as_slice(), start, wanted)?)
+}
+
+/// What is found of the number wanted, or of every number, from a start on.
+fn found_from(
+    slots: &[Option<u16>],
+    start: usize,
+    wanted: Option<u16>,
+) -> Result<Option<u16>, NoAnswer> {
+    if !can_probe(slots) {
         return Err(NoAnswer::NoCase);
     }
-    let found = if wanted == "any" {
-        probe(slots.as_slice(), start, |_| true)
-    } else {
-        let wanted = number_of(wanted)?;
-        probe(slots.as_slice(), start, |number| number == wanted)
-    };
-    number_or_none(alloc, found)
+    Ok(probe(slots, start, |number| match wanted {
+        Some(wanted) => number == wanted,
+        None => true,
+    }))
 }
 
 /// The place of each name among the names of a list, and how many names it was compared with.
-pub(crate) fn names(alloc: Global, words: &str) -> Result<String, NoAnswer> {
-    let (list, wanted) = first_of(words)?;
+pub(crate) fn names(alloc: Global, out: &mut String, words: &str) -> Result<(), NoAnswer> {
+    let (list, wanted) = pair_of(words, ' ')?;
     let names = items_of(alloc, list)?;
-    let hashes = hashes_of(alloc, names.as_slice())?;
-    let slots = slots_of(alloc, hashes.as_slice())?;
-    let mut answers = Vec::new(alloc);
-    for name in items_of(alloc, wanted)?.iter() {
-        answers.push(find(alloc, slots.as_slice(), names.as_slice(), name)?)?;
+    let slots = slots_of_names(alloc, names.as_slice())?;
+    for name in wanted.split(',') {
+        separate(out, ' ')?;
+        write_find(out, slots.as_slice(), names.as_slice(), name)?;
     }
-    Ok(answers.join(alloc, " ")?)
+    Ok(())
 }
 
-/// The place of one name, and how many names it was compared with.
-fn find(
-    alloc: Global,
+/// Writes the place of one name, and how many names it was compared with.
+fn write_find(
+    out: &mut String,
     slots: &[Option<u16>],
     names: &[&str],
     wanted: &str,
-) -> Result<String, NoAnswer> {
+) -> Result<(), NoAnswer> {
     if !can_probe(slots) {
         return Err(NoAnswer::NoCase);
     }
     let compared = Cell::new(0u16);
     let place = probe(slots, simple_hash(wanted.as_bytes()), |place| {
         compared.set(compared.get().saturating_add(1));
-        names
-            .get(usize::from(place))
-            .is_some_and(|name| *name == wanted)
+        match names.get(usize::from(place)) {
+            Some(name) => *name == wanted,
+            None => false,
+        }
     });
-    let place = number_or_none(alloc, place)?;
-    Ok(format!(in alloc; "{place}:{}", compared.get())?)
+    write_number(out, place)?;
+    Ok(write!(out, ":{}", compared.get())?)
 }
 
 /// How many items were looked at for each of so many items that all have the hash 0.
-pub(crate) fn colliding(alloc: Global, count: &str) -> Result<String, NoAnswer> {
-    let count = number_of(count)?;
-    let hashes = vec![in alloc; 0usize; usize::from(count)]?;
-    let slots = slots_of(alloc, hashes.as_slice())?;
-    let mut counts = Vec::new(alloc);
+pub(crate) fn colliding(alloc: Global, out: &mut String, count: &str) -> Result<(), NoAnswer> {
+    let count = count.parse()?;
+    let slots = slots_of_count(alloc, count, 0)?;
+    write!(out, "{} slots:", slots.len())?;
     for item in 0..count {
-        counts.push(looked_at(alloc, slots.as_slice(), item)?)?;
+        write!(out, " {}", looked_at(slots.as_slice(), item)?)?;
     }
-    let counts = counts.join(alloc, " ")?;
-    Ok(format!(in alloc; "{} slots: {counts}", slots.len())?)
+    Ok(())
 }
 
 /// How many items were looked at until this one was found.
-fn looked_at(alloc: Global, slots: &[Option<u16>], item: u16) -> Result<String, NoAnswer> {
+fn looked_at(slots: &[Option<u16>], item: u16) -> Result<u16, NoAnswer> {
     if !can_probe(slots) {
         return Err(NoAnswer::NoCase);
     }
@@ -107,7 +116,7 @@ fn looked_at(alloc: Global, slots: &[Option<u16>], item: u16) -> Result<String, 
     if found::<_, Brand>(slots, matches, Blank::new(1)) != Some(item) {
         return Err(NoAnswer::Differ);
     }
-    Ok(count.get().to_string(alloc)?)
+    Ok(count.get())
 }
 
 /// What is found from the first slot on. The slots looked at are counted in a new ledger.

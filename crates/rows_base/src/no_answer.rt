@@ -1,7 +1,8 @@
 use std::alloc::{AllocError, AllocFailed};
+use std::num::ParseIntError;
 
 /// Why a line has no answer of its own.
-#[derive(Debug, Drop)]
+#[derive(Drop)]
 pub(crate) enum NoAnswer {
     /// It is no case.
     NoCase,
@@ -20,5 +21,11 @@ impl From<AllocError> for NoAnswer {
 impl<T: Drop> From<AllocFailed<T>> for NoAnswer {
     fn from(_e: AllocFailed<T>) -> NoAnswer {
         NoAnswer::OutOfMemory
+    }
+}
+
+impl From<ParseIntError> for NoAnswer {
+    fn from(_e: ParseIntError) -> NoAnswer {
+        NoAnswer::NoCase
     }
 }

@@ -1,0 +1,99 @@
+use super::asked::{ASKED, Asked};
+use super::lists::Lists;
+use super::no_answer::NoAnswer;
+use super::words::named;
+use super::{faults, functions, interning, lanes, lookups, slots, texts, types, vectors};
+use std::alloc::{AllocError, Global};
+
+/// The answers to all lines, one a line.
+pub(crate) fn answers_to(alloc: Global, input: &str) -> Result<String, AllocError> {
+    let mut answers = String::new(alloc);
+    // Lists of texts outlive the lines that they come from.
+    let mut lists = Lists::new(alloc);
+    for line in input.lines() {
+        add_answer(alloc, &mut lists, line, &mut answers)?;
+    }
+    Ok(answers)
+}
+
+/// Adds the answer to a line.
+fn add_answer<'a>(
+    alloc: Global,
+    lists: &mut Lists<'a>,
+    line: &'a str,
+    answers: &mut String,
+) -> Result<(), AllocError> {
+    let mut answer = String::new(alloc);
+    let text = match write_answer(alloc, lists, line, &mut answer) {
+        Ok(()) => answer.as_str(),
+        Err(NoAnswer::NoCase) => "no case",
+        Err(NoAnswer::Differ) => "differ",
+        Err(NoAnswer::OutOfMemory) => return Err(AllocError),
+    };
+    writeln!(answers, "{text}")
+}
+
+/// Writes the answer to a line: a comment is its own. The first word of a case says what is asked.
+fn write_answer<'a>(
+    alloc: Global,
+    lists: &mut Lists<'a>,
+    line: &'a str,
+    out: &mut String,
+) -> Result<(), NoAnswer> {
+    if line.starts_with('#') {
+        return Ok(out.push_str(line)?);
+    }
+    let (word, rest) = line.split_once(' ').unwrap_or((line, ""));
+    match named(&ASKED, word) {
+        Some(asked) => answer(alloc, lists, asked, rest, out),
+        None => functions::row(alloc, out, word, rest),
+    }
+}
+
+/// Writes the answer to a case.
+fn answer<'a>(
+    alloc: Global,
+    lists: &mut Lists<'a>,
+    asked: Asked,
+    rest: &'a str,
+    out: &mut String,
+) -> Result<(), NoAnswer> {
+    match asked {
+        Asked::Type => types::named(alloc, out, rest),
+        Asked::Number => types::numbered(out, rest),
+        Asked::Numbers => types::how_many(out),
+        Asked::Debug => types::debug(out, rest),
+        Asked::Lane => lanes::named(alloc, out, rest),
+        Asked::AllLaneTypes => lanes::all(out),
+        Asked::LaneTypes => lanes::lane_types(out),
+        Asked::Ints => lanes::ints(out),
+        Asked::Floats => lanes::floats(out),
+        Asked::Int => lanes::int(alloc, out, rest),
+        Asked::Float => lanes::float(alloc, out, rest),
+        Asked::By => vectors::by(alloc, out, rest),
+        Asked::ToDynamic => vectors::to_dynamic(alloc, out, rest),
+        Asked::LaneCount => lanes::lane_count(out, rest),
+        Asked::LaneCounts => lanes::lane_counts(out),
+        Asked::ApplyNumber => functions::apply_number(out, rest),
+        Asked::RelatesNumber => functions::relates_number(out, rest),
+        Asked::CamelCase => texts::camel(alloc, out, rest),
+        Asked::IsName => texts::name(alloc, out, rest),
+        Asked::EarlierNames => texts::earlier(alloc, out, rest),
+        Asked::Fault => faults::line(alloc, out, rest),
+        Asked::Place => faults::place(out, rest),
+        Asked::Hash => slots::hash(out, rest),
+        Asked::Slots => slots::named(alloc, out, rest),
+        Asked::Fill => slots::fill(alloc, out, rest),
+        Asked::Size => slots::size(alloc, out, rest),
+        Asked::CanProbe => lookups::can(alloc, out, rest),
+        Asked::Probe => lookups::numbers(alloc, out, rest),
+        Asked::Find => lookups::names(alloc, out, rest),
+        Asked::Collide => lookups::colliding(alloc, out, rest),
+        Asked::Intern => interning::names(alloc, out, rest),
+        Asked::InternNumbers => interning::numbers(alloc, out, rest),
+        Asked::New => lists.clear(alloc, out),
+        Asked::Add => lists.add(alloc, out, rest),
+        Asked::All => lists.all(out),
+        Asked::Texts => texts::pair(alloc, out, rest),
+    }
+}
