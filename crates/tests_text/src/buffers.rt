@@ -1,3 +1,4 @@
+use super::expect::expect;
 use meta_text::{MemorySource, ReadOutcome, Source, StdSource};
 use std::io;
 use std::io::Read;
@@ -28,17 +29,20 @@ impl Read for Scribbles {
     }
 }
 
+/// What four reads give, and what stands in the buffer then.
+const READS: [(ReadOutcome, &[u8; 8]); 4] = [
+    (ReadOutcome::Got(3), b"rea....."),
+    (ReadOutcome::Failed, b"rea....."),
+    (ReadOutcome::Got(1), b"dea....."),
+    (ReadOutcome::End, b"dea....."),
+];
+
 /// Reads four times into one buffer, and compares what each read leaves in it.
 fn compare_reads<S: Source>(rt: &impl Abort, source: &mut S) {
     let mut buffer = *b"........";
-    for (outcome, left) in [
-        (ReadOutcome::Got(3), b"rea....."),
-        (ReadOutcome::Failed, b"rea....."),
-        (ReadOutcome::Got(1), b"dea....."),
-        (ReadOutcome::End, b"dea....."),
-    ] {
-        assert_eq!(rt; source.read(&mut buffer), outcome);
-        assert_eq!(rt; buffer.as_slice(), left.as_slice(), "{outcome:?}");
+    for (number, (outcome, left)) in READS.iter().enumerate() {
+        let is_wanted = source.read(&mut buffer) == *outcome;
+        expect(rt, is_wanted && buffer == **left, (number, 4));
     }
 }
 

@@ -1,6 +1,7 @@
 ghost use Rattle.std.specs.Prelude.{◌≡◌, ℕ, ◌≤◌, ◌++◌, List, length, Some, OnOk, IsOkUnless};
 ghost use Rattle.meta_text.specs.Outside.{Rose};
 
+use super::expect::expect;
 use meta_text::{
     MemorySink, MemorySource, ReadError, Sink, Source, WriteError, read_whole, write_whole,
 };
@@ -8,7 +9,7 @@ use std::alloc::Global;
 use std::test::Fail;
 
 /// Why nothing was copied, or not all.
-#[derive(Clone, Copy, Debug, PartialEq, Eq)]
+#[derive(Drop)]
 enum CopyError {
     Read(ReadError),
     Write(WriteError),
@@ -38,24 +39,25 @@ fn copies_from_memory_to_memory(rt: HostRuntime) -> Result<(), Fail> {
     let text = b"accept iadd i32 i32 i32,i32\nsetting a\n\n".as_slice();
     let mut source = MemorySource::new(text.to_vec(rt.alloc())?, 3, Vec::new(rt.alloc()));
     let mut sink = MemorySink::new(rt.alloc(), 64, 5, Vec::new(rt.alloc()))?;
-    assert_eq!(rt; copy(rt.alloc(), &mut source, &mut sink), Ok(()));
-    assert_eq!(rt; sink.bytes(), text);
+    let is_copied = copy(rt.alloc(), &mut source, &mut sink).is_ok();
+    expect(&rt, is_copied && sink.bytes() == text, (3, 5));
     Ok(())
 }
 
 #[test]
 fn errors_are_shown_by_their_names(rt: HostRuntime) -> Result<(), Fail> {
-    let shown = format!(in rt.alloc();
-        "{} {} {} {} {}",
+    let mut shown = String::new(rt.alloc());
+    for error in [
         ReadError::ReadFault,
         ReadError::TooLong,
         ReadError::OutOfMemory,
-        WriteError::WriteFault,
-        WriteError::OutOfMemory
-    )?;
-    assert_eq!(rt;
-        shown.as_str(),
-        "ReadFault TooLong OutOfMemory WriteFault OutOfMemory"
-    );
+    ] {
+        write!(shown, "{error} ")?;
+    }
+    for error in [WriteError::WriteFault, WriteError::OutOfMemory] {
+        write!(shown, "{error} ")?;
+    }
+    let names = "ReadFault TooLong OutOfMemory WriteFault OutOfMemory ";
+    expect(&rt, shown.as_str() == names, (3, 2));
     Ok(())
 }

@@ -1,8 +1,8 @@
 ghost use Rattle.std.specs.Prelude.{◌≤◌};
 
+use super::expect::expect;
 use meta_text::{MemorySink, MemorySource, ReadError, WriteError, read_whole, write_whole};
 use std::alloc::{AllocError, Global};
-use std::process::Abort;
 use std::test::Fail;
 
 // 39 bytes.
@@ -15,31 +15,22 @@ fn bytes_in(calls: usize, step: usize) -> usize
     calls.saturating_mul(step).min(39)
 }
 
-/// Reads by this step where the call of this number fails, and then what is left. No call has the
-/// number 0.
-fn read_twice(
-    rt: &impl Abort,
-    alloc: Global,
-    step: usize,
-    fail: usize,
-    calls: usize,
-) -> Result<(), AllocError> {
+/// Whether a read by this step, where the call of this number fails, and then one of what is left, are as wanted. No call has
+/// the number 0.
+fn reads_twice(alloc: Global, step: usize, fail: usize, calls: usize) -> Result<bool, AllocError> {
     let fails = vec![in alloc; fail as u64]?;
     let mut source = MemorySource::new(TEXT.to_vec(alloc)?, step.max(1), fails);
     let mut rest = TEXT;
     if fail > 0 && fail <= calls {
-        let answer = read_whole(alloc, &mut source);
-        assert!(rt;
-            matches!(answer, Err(ReadError::ReadFault)),
-            "step {step}, fail {fail}"
-        );
+        if !matches!(read_whole(alloc, &mut source), Err(ReadError::ReadFault)) {
+            return Ok(false);
+        }
         rest = TEXT.split_at(bytes_in(fail - 1, step)).1;
     }
     match read_whole(alloc, &mut source) {
-        Ok(bytes) => assert_eq!(rt; bytes.as_slice(), rest, "step {step}, fail {fail}"),
-        Err(error) => panic!(rt; "{error}, step {step}, fail {fail}"),
+        Ok(bytes) => Ok(bytes.as_slice() == rest),
+        Err(_) => Ok(false),
     }
-    Ok(())
 }
 
 #[test]
@@ -47,20 +38,15 @@ fn each_read_fails_in_turn(rt: HostRuntime) -> Result<(), Fail> {
     for step in 1..17usize {
         let calls = TEXT.len().div_ceil(step) + 1;
         for fail in 0..calls + 2 {
-            read_twice(&rt, rt.alloc(), step, fail, calls)?;
+            let is_wanted = reads_twice(rt.alloc(), step, fail, calls)?;
+            expect(&rt, is_wanted, (step, fail));
         }
     }
     Ok(())
 }
 
-/// Writes by this step where the call of this number fails. No call has the number 0.
-fn write_once(
-    rt: &impl Abort,
-    alloc: Global,
-    step: usize,
-    fail: usize,
-    calls: usize,
-) -> Result<(), AllocError> {
+/// Whether a write by this step, where the call of this number fails, is as wanted. No call has the number 0.
+fn writes_once(alloc: Global, step: usize, fail: usize, calls: usize) -> Result<bool, AllocError> {
     let fails = vec![in alloc; fail as u64]?;
     let mut sink = MemorySink::new(alloc, TEXT.len(), step.max(1), fails)?;
     let mut answer = Ok(());
@@ -69,13 +55,7 @@ fn write_once(
         answer = Err(WriteError::WriteFault);
         taken = TEXT.split_at(bytes_in(fail - 1, step)).0;
     }
-    assert_eq!(rt;
-        write_whole(&mut sink, TEXT),
-        answer,
-        "step {step}, fail {fail}"
-    );
-    assert_eq!(rt; sink.bytes(), taken, "step {step}, fail {fail}");
-    Ok(())
+    Ok(write_whole(&mut sink, TEXT) == answer && sink.bytes() == taken)
 }
 
 #[test]
@@ -83,7 +63,8 @@ fn each_write_fails_in_turn(rt: HostRuntime) -> Result<(), Fail> {
     for step in 1..17usize {
         let calls = TEXT.len().div_ceil(step);
         for fail in 0..calls + 2 {
-            write_once(&rt, rt.alloc(), step, fail, calls)?;
+            let is_wanted = writes_once(rt.alloc(), step, fail, calls)?;
+            expect(&rt, is_wanted, (step, fail));
         }
     }
     Ok(())

@@ -8,6 +8,8 @@ mod buffers;
 #[cfg(test)]
 mod copies;
 #[cfg(test)]
+mod expect;
+#[cfg(test)]
 mod faults;
 #[cfg(test)]
 mod limits;
