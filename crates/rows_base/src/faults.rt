@@ -1,5 +1,5 @@
 use super::no_answer::NoAnswer;
-use super::words::{named, pair_of};
+use super::words::{named, pair_of, write_text};
 use meta_types::{DefinitionError, Place};
 use std::alloc::Global;
 use std::str::Split;
@@ -100,9 +100,7 @@ fn numbered(kind: DefinitionError, words: &str) -> Result<DefinitionError, NoAns
 pub(crate) fn line(alloc: Global, out: &mut String, words: &str) -> Result<(), NoAnswer> {
     let (kind, words) = words.split_once(' ').unwrap_or((words, "0"));
     let kind = named(&FAULTS, kind).ok_or(NoAnswer::NoCase)?;
-    let fault = fault_of(kind, words)?;
-    out.push_str(fault.line(alloc)?.as_str())?;
-    Ok(())
+    write_text(out, fault_of(kind, words)?.line(alloc))
 }
 
 /// The text of a place.

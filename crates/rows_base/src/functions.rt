@@ -99,10 +99,15 @@ fn relates(func: DerivedFunc, from: ValueType, number: u16) -> Result<bool, NoAn
     }
 }
 
+/// The function of the first word, and the words behind it.
+fn called(words: &str) -> Result<(DerivedFunc, &str), NoAnswer> {
+    let (name, words) = pair_of(words, ' ')?;
+    Ok((function_of(name)?, words))
+}
+
 /// Where the function leads from each of the numbers.
 pub(crate) fn apply_number(out: &mut String, words: &str) -> Result<(), NoAnswer> {
-    let (name, numbers) = pair_of(words, ' ')?;
-    let func = function_of(name)?;
+    let (func, numbers) = called(words)?;
     for number in numbers.split(' ') {
         separate(out, ' ')?;
         write_number(out, func.apply_number(number.parse()?))?;
@@ -110,14 +115,19 @@ pub(crate) fn apply_number(out: &mut String, words: &str) -> Result<(), NoAnswer
     Ok(())
 }
 
+/// The two numbers of a pair.
+fn numbers_of(pair: &str) -> Result<(u16, u16), NoAnswer> {
+    let (from, to) = pair_of(pair, ',')?;
+    Ok((from.parse()?, to.parse()?))
+}
+
 /// Whether the function relates the numbers of each pair.
 pub(crate) fn relates_number(out: &mut String, words: &str) -> Result<(), NoAnswer> {
-    let (name, pairs) = pair_of(words, ' ')?;
-    let func = function_of(name)?;
+    let (func, pairs) = called(words)?;
     for pair in pairs.split(' ') {
-        let (from, to) = pair_of(pair, ',')?;
+        let (from, to) = numbers_of(pair)?;
         separate(out, ' ')?;
-        write_yes_or_no(out, func.relates_number(from.parse()?, to.parse()?))?;
+        write_yes_or_no(out, func.relates_number(from, to))?;
     }
     Ok(())
 }

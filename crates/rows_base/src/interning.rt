@@ -17,6 +17,11 @@ fn intern(alloc: Global, out: &mut String, names: &[&str]) -> Result<(), NoAnswe
         separate(out, ',')?;
         write!(out, "{index}")?;
     }
+    write_entries(out, &table)
+}
+
+/// Writes how many entries there are, and the entries.
+fn write_entries(out: &mut String, table: &UniqueTable<'_, &str>) -> Result<(), NoAnswer> {
     write!(out, "|{}", table.len())?;
     let mut between = '|';
     for entry in table.iter() {

@@ -1,5 +1,5 @@
 use super::no_answer::NoAnswer;
-use super::words::{separate, write_yes_or_no};
+use super::words::{separate, write_text, write_yes_or_no};
 use meta_types::{
     FloatIterator, IntIterator, LaneType, LaneTypeIterator, ValueType, is_float_width,
     is_int_width, is_lane_count,
@@ -16,15 +16,8 @@ pub(crate) fn lane_of(name: &str) -> Result<LaneType, NoAnswer> {
 
 /// Writes what is said of a lane: name, number, lane bits and documentation.
 pub(crate) fn write_row(alloc: Global, out: &mut String, lane: LaneType) -> Result<(), NoAnswer> {
-    let doc = lane.doc(alloc)?;
-    write!(
-        out,
-        "{lane}|{}|{}|{}",
-        lane.number(),
-        lane.lane_bits(),
-        doc.as_str()
-    )?;
-    Ok(())
+    write!(out, "{lane}|{}|{}|", lane.number(), lane.lane_bits())?;
+    write_text(out, lane.doc(alloc))
 }
 
 /// What is said of the lane of this name.

@@ -42,10 +42,22 @@ impl<'a> Lists<'a> {
         list: &'a str,
     ) -> Result<(), NoAnswer> {
         let items = items_of(alloc, list)?;
-        let place = self.texts.add(items.as_slice())?;
+        self.add_items(alloc, out, items.as_slice())
+    }
+
+    /// Adds the items of a list: writes where it stands, and how many elements there are then.
+    fn add_items(
+        &mut self,
+        alloc: Global,
+        out: &mut String,
+        items: &[&'a str],
+    ) -> Result<(), NoAnswer> {
+        let place = self.texts.add(items)?;
+        let as_numbers = self.add_numbers(alloc, items)?;
+        let as_elements = self.add_elements(alloc, items)?;
         let len = self.texts.len();
-        if self.add_numbers(alloc, items.as_slice())? != place
-            || self.add_elements(alloc, items.as_slice())? != place
+        if as_numbers != place
+            || as_elements != place
             || self.numbers.len() != len
             || self.elements.len() != len
         {

@@ -63,9 +63,19 @@ pub(crate) fn names(alloc: Global, out: &mut String, words: &str) -> Result<(), 
     let (list, wanted) = pair_of(words, ' ')?;
     let names = items_of(alloc, list)?;
     let slots = slots_of_names(alloc, names.as_slice())?;
+    write_finds(out, slots.as_slice(), names.as_slice(), wanted)
+}
+
+/// Writes the place of each name of a list, and how many names it was compared with.
+fn write_finds(
+    out: &mut String,
+    slots: &[Option<u16>],
+    names: &[&str],
+    wanted: &str,
+) -> Result<(), NoAnswer> {
     for name in wanted.split(',') {
         separate(out, ' ')?;
-        write_find(out, slots.as_slice(), names.as_slice(), name)?;
+        write_find(out, slots, names, name)?;
     }
     Ok(())
 }
@@ -96,9 +106,14 @@ fn write_find(
 pub(crate) fn colliding(alloc: Global, out: &mut String, count: &str) -> Result<(), NoAnswer> {
     let count = count.parse()?;
     let slots = slots_of_count(alloc, count, 0)?;
+    write_looked_at(out, slots.as_slice(), count)
+}
+
+/// Writes how many slots there are, and how many items were looked at until each was found.
+fn write_looked_at(out: &mut String, slots: &[Option<u16>], count: u16) -> Result<(), NoAnswer> {
     write!(out, "{} slots:", slots.len())?;
     for item in 0..count {
-        write!(out, " {}", looked_at(slots.as_slice(), item)?)?;
+        write!(out, " {}", looked_at(slots, item)?)?;
     }
     Ok(())
 }

@@ -1,5 +1,5 @@
 use super::no_answer::NoAnswer;
-use super::words::{pair_of, separate, write_number, write_yes_or_no};
+use super::words::{pair_of, separate, write_field, write_text, write_yes_or_no, yes_or_no};
 use meta_types::{EarlierNames, Text, camel_case, is_name};
 use std::alloc::Global;
 use std::cmp::Ordering;
@@ -7,9 +7,7 @@ use std::hash::{DefaultHasher, Hash, Hasher};
 
 /// The camel case of a name.
 pub(crate) fn camel(alloc: Global, out: &mut String, name: &str) -> Result<(), NoAnswer> {
-    let name = Text::new(alloc, name)?;
-    out.push_str(camel_case(alloc, &name)?.as_str())?;
-    Ok(())
+    write_text(out, camel_case(alloc, &Text::new(alloc, name)?))
 }
 
 /// Whether a text is a name.
@@ -43,26 +41,28 @@ fn write_earlier(alloc: Global, out: &mut String, texts: &[Text]) -> Result<(), 
 /// equal, whether the first has the hash of its `str`, and whether the two have one hash.
 pub(crate) fn pair(alloc: Global, out: &mut String, pair: &str) -> Result<(), NoAnswer> {
     let (one, other) = pair_of(pair, ',')?;
-    let (text, other) = (Text::new(alloc, one)?, Text::new(alloc, other)?);
+    let text = Text::new(alloc, one)?;
+    let other = Text::new(alloc, other)?;
     let copy = text.copy(alloc)?;
-    let hash = hash_of(&text);
-    write!(out, "{}|", copy.as_str())?;
-    write_yes_or_no(out, text == copy)?;
-    out.push_str(order_of(&text, &other))?;
-    write_yes_or_no(out, text == other)?;
-    out.push('|')?;
-    write_yes_or_no(out, hash == hash_of(&one))?;
-    out.push('|')?;
-    write_yes_or_no(out, hash == hash_of(&other))
+    out.push_str(copy.as_str())?;
+    write_pair(out, &text, &other, text == copy)
 }
 
-/// How two texts are ordered.
-fn order_of(text: &Text, other: &Text) -> &'static str {
-    match text.cmp(other) {
-        Ordering::Less => "|less|",
-        Ordering::Equal => "|equal|",
-        Ordering::Greater => "|greater|",
+/// Writes what is said of two texts behind the copy of the first, which equals it or not.
+fn write_pair(out: &mut String, text: &Text, other: &Text, is_copy: bool) -> Result<(), NoAnswer> {
+    let hash = hash_of(text);
+    let has_own_hash = hash == hash_of(&text.as_str());
+    let order = match text.cmp(other) {
+        Ordering::Less => "less",
+        Ordering::Equal => "equal",
+        Ordering::Greater => "greater",
+    };
+    write_field(out, yes_or_no(is_copy))?;
+    write_field(out, order)?;
+    for is_so in [text == other, has_own_hash, hash == hash_of(other)] {
+        write_field(out, yes_or_no(is_so))?;
     }
+    Ok(())
 }
 
 /// The hash of a value.

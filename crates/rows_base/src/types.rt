@@ -1,5 +1,5 @@
 use super::no_answer::NoAnswer;
-use super::words::write_fields;
+use super::words::{write_fields, write_text};
 use meta_types::ValueType;
 use std::alloc::Global;
 
@@ -23,9 +23,10 @@ fn write_row(alloc: Global, out: &mut String, t: ValueType) -> Result<(), NoAnsw
     write!(out, "{t}|{number}")?;
     let fields = [t.lane_bits(), t.lane_count(), t.width(), t.membytes()];
     write_fields(out, &fields)?;
-    write!(out, "|{}", t.rust_name(alloc)?.as_str())?;
-    write!(out, "|{}", t.doc(alloc)?.as_str())?;
-    Ok(())
+    out.push('|')?;
+    write_text(out, t.rust_name(alloc))?;
+    out.push('|')?;
+    write_text(out, t.doc(alloc))
 }
 
 /// Adds the bytes of a text, in which `%` and two hexadecimal digits stand for any byte.

@@ -1,6 +1,6 @@
 use super::lanes::{lane_of, write_row};
 use super::no_answer::NoAnswer;
-use super::words::{pair_of, write_fields};
+use super::words::{pair_of, write_fields, write_text};
 use meta_types::{DynamicVectorType, LaneType, ValueType, VectorType, is_lane_count};
 use std::alloc::Global;
 
@@ -40,9 +40,8 @@ fn write_one(alloc: Global, out: &mut String, lane: LaneType) -> Result<(), NoAn
 fn write_vector(alloc: Global, out: &mut String, vector: VectorType) -> Result<(), NoAnswer> {
     write!(out, "{vector}|{}", vector.number())?;
     write_fields(out, &[vector.lane_bits(), vector.lane_count()])?;
-    let doc = vector.doc(alloc)?;
-    write!(out, "|{}|{}", vector.lane_type(), doc.as_str())?;
-    Ok(())
+    write!(out, "|{}|", vector.lane_type())?;
+    write_text(out, vector.doc(alloc))
 }
 
 /// What is said of the dynamic vector of at least so many lanes of a type.
@@ -67,7 +66,6 @@ fn write_dynamic(
 ) -> Result<(), NoAnswer> {
     write!(out, "{vector}|{}", vector.number())?;
     write_fields(out, &[vector.lane_bits(), vector.minimum_lane_count()])?;
-    let doc = vector.doc(alloc)?;
-    write!(out, "|{}|{}", vector.lane_type(), doc.as_str())?;
-    Ok(())
+    write!(out, "|{}|", vector.lane_type())?;
+    write_text(out, vector.doc(alloc))
 }

@@ -1,4 +1,5 @@
 use super::no_answer::NoAnswer;
+use meta_types::Text;
 use std::alloc::{AllocError, Global};
 
 /// What stands beside the name in a table.
@@ -35,9 +36,24 @@ pub(crate) fn separate(out: &mut String, between: char) -> Result<(), AllocError
     out.push(between)
 }
 
+/// The answer to a question of yes or no.
+pub(crate) fn yes_or_no(is_so: bool) -> &'static str {
+    if is_so { "yes" } else { "no" }
+}
+
 /// Writes the answer to a question of yes or no.
 pub(crate) fn write_yes_or_no(out: &mut String, is_so: bool) -> Result<(), NoAnswer> {
-    Ok(out.push_str(if is_so { "yes" } else { "no" })?)
+    Ok(out.push_str(yes_or_no(is_so))?)
+}
+
+/// Writes a text that was made, where there was memory.
+pub(crate) fn write_text(out: &mut String, text: Result<Text, AllocError>) -> Result<(), NoAnswer> {
+    Ok(out.push_str(text?.as_str())?)
+}
+
+/// Writes the next field of a row.
+pub(crate) fn write_field(out: &mut String, field: &str) -> Result<(), AllocError> {
+    write!(out, "|{field}")
 }
 
 /// Writes a number, or `-` for none.
