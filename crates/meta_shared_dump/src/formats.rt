@@ -1,4 +1,4 @@
-use super::shared::{FORMATS, Shared};
+use super::shared::Shared;
 use meta_operands::FormatId;
 use std::alloc::AllocError;
 
@@ -28,7 +28,7 @@ pub(crate) fn write_formats(out: &mut String, shared: &Shared) -> Result<(), All
         out,
         "number\tstruct_field\tname\tdisplay\tvalue_list\tdesignated"
     )?;
-    for (field, id) in FORMATS.iter().zip(shared.format_ids()) {
+    for (field, id) in shared.format_ids() {
         write_format(out, shared, field, id)?;
     }
     Ok(())

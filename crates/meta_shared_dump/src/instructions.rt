@@ -1,4 +1,4 @@
-use super::shared::{ENTITY_KINDS, IMMEDIATE_KINDS, ROOT_VARIABLES, Shared};
+use super::shared::Shared;
 use meta_gen::{Declarations, Tables};
 use meta_inst::InstructionContent;
 use meta_operands::{Operand, OperandKind};
@@ -7,9 +7,9 @@ use std::alloc::{AllocError, Global};
 
 /// The name of a root variable.
 fn token(shared: &Shared, tv: TypeVar) -> &'static str {
-    for (token, root) in ROOT_VARIABLES.iter().zip(shared.root_variables()) {
+    for (token, root) in shared.root_variables() {
         if root == tv {
-            return *token;
+            return token;
         }
     }
     "no root"
@@ -22,12 +22,12 @@ fn is_alike(kind: &OperandKind, other: &OperandKind) -> bool {
 
 /// The name of a kind that isn't of values.
 fn kind_name(shared: &Shared, kind: &OperandKind) -> &'static str {
-    for (name, entity) in ENTITY_KINDS.iter().zip(shared.entity_kinds()) {
+    for (name, entity) in shared.entity_kinds() {
         if is_alike(kind, entity) {
             return name;
         }
     }
-    for (name, immediate) in IMMEDIATE_KINDS.iter().zip(shared.immediate_kinds()) {
+    for (name, immediate) in shared.immediate_kinds() {
         if is_alike(kind, immediate) {
             return name;
         }
@@ -99,50 +99,35 @@ fn write_docs(out: &mut String, vars: &TypeVars, operands: &[Operand]) -> Result
     Ok(())
 }
 
-/// The names of the marks.
-const MARKS: [&str; 10] = [
-    "terminator",
-    "branch",
-    "call",
-    "return",
-    "load",
-    "store",
-    "trap",
-    "other",
-    "idempotent",
-    "imm_method",
-];
-
-/// Whether an instruction has each of the marks, in the order of `MARKS`.
-fn marks_of(instruction: &InstructionContent) -> [bool; 10] {
-    [
-        instruction.is_terminator(),
-        instruction.is_branch(),
-        instruction.is_call(),
-        instruction.is_return(),
-        instruction.can_load(),
-        instruction.can_store(),
-        instruction.can_trap(),
-        instruction.other_side_effects(),
-        instruction.side_effects_idempotent(),
-        instruction.inst_builder_imm_method(),
-    ]
-}
-
 /// Writes the marks of an instruction, or `-` for none.
 fn write_marks(out: &mut String, instruction: &InstructionContent) -> Result<(), AllocError> {
-    let mut before = "";
-    for (name, is_marked) in MARKS.iter().zip(marks_of(instruction)) {
-        if is_marked {
-            write!(out, "{before}{name}")?;
-            before = " ";
+    let marks = [
+        ("terminator", instruction.is_terminator()),
+        ("branch", instruction.is_branch()),
+        ("call", instruction.is_call()),
+        ("return", instruction.is_return()),
+        ("load", instruction.can_load()),
+        ("store", instruction.can_store()),
+        ("trap", instruction.can_trap()),
+        ("other", instruction.other_side_effects()),
+        ("idempotent", instruction.side_effects_idempotent()),
+        ("imm_method", instruction.inst_builder_imm_method()),
+    ];
+    let mut is_first = true;
+    for (name, is_marked) in marks {
+        if !is_marked {
+            continue;
         }
+        if !is_first {
+            write!(out, " ")?;
+        }
+        write!(out, "{name}")?;
+        is_first = false;
     }
-    if before.is_empty() {
-        out.push('-')
-    } else {
-        Ok(())
+    if is_first {
+        write!(out, "-")?;
     }
+    Ok(())
 }
 
 /// Writes what the tables hold of an opcode: flags, type set and constraint offset.

@@ -1,4 +1,4 @@
-use super::shared::{ENTITY_KINDS, IMMEDIATE_KINDS, Shared};
+use super::shared::Shared;
 use meta_operands::{EnumValues, Operand, OperandKind, OperandKindFields};
 use meta_types::Text;
 use std::alloc::{AllocError, Global};
@@ -65,10 +65,10 @@ pub(crate) fn write_kinds(
         out,
         "struct_field\tfield_name\trust_type\tfields\tvalues\tdoc"
     )?;
-    for (name, kind) in ENTITY_KINDS.iter().zip(shared.entity_kinds()) {
+    for (name, kind) in shared.entity_kinds() {
         write_kind(out, alloc, shared, name, kind)?;
     }
-    for (name, kind) in IMMEDIATE_KINDS.iter().zip(shared.immediate_kinds()) {
+    for (name, kind) in shared.immediate_kinds() {
         write_kind(out, alloc, shared, name, kind)?;
     }
     Ok(())

@@ -1,4 +1,4 @@
-use super::shared::{ROOT_VARIABLES, Shared};
+use super::shared::Shared;
 use meta_typevar::TypeVar;
 use std::alloc::{AllocError, Global};
 
@@ -36,7 +36,7 @@ pub(crate) fn write_roots(
     shared: &Shared,
 ) -> Result<(), AllocError> {
     writeln!(out, "token\tname\tlanes\tdynamic_lanes\tints\tfloats\tdoc")?;
-    for (token, tv) in ROOT_VARIABLES.iter().zip(shared.root_variables()) {
+    for (token, tv) in shared.root_variables() {
         write_root(out, alloc, shared, token, tv)?;
     }
     Ok(())
