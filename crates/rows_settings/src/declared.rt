@@ -1,90 +1,102 @@
-use crate::case::{Entry, Kind, Many};
+use crate::line::{Line, MANY, OTHERS, Sort, find, number};
+use crate::named::{named_in_order, nothing_named};
+use crate::trouble::Trouble;
 use meta_settings::{BoolSettingIndex, PresetIndex, PresetType, SettingGroup, SettingGroupBuilder};
 use meta_types::{DefinitionError, Text};
 use std::alloc::{AllocError, Global};
-use std::collections::BTreeMap;
+
+/// What an entry is declared as.
+#[derive(Drop)]
+enum Kind {
+    Bool(bool),
+    Num(u8),
+    Enum(Vec<Text>),
+    Preset(Vec<PresetType>),
+}
+
+/// The number that a declaration answered: that of a boolean or of a preset, which a preset may name, or none.
+#[derive(Clone, Copy)]
+enum Added {
+    Boolean(BoolSettingIndex),
+    Preset(PresetIndex),
+    Other,
+}
+
+impl Added {
+    /// The number of a boolean.
+    fn boolean(self) -> Result<BoolSettingIndex, Trouble> {
+        match self {
+            Added::Boolean(index) => Ok(index),
+            _ => Err(Trouble::NoCase),
+        }
+    }
+
+    /// The number of a preset.
+    fn preset(self) -> Result<PresetIndex, Trouble> {
+        match self {
+            Added::Preset(index) => Ok(index),
+            _ => Err(Trouble::NoCase),
+        }
+    }
+
+    /// What a preset names by it.
+    fn meant(self) -> Result<PresetType, Trouble> {
+        match self {
+            Added::Boolean(index) => Ok(PresetType::from(index)),
+            Added::Preset(index) => Ok(PresetType::from(index)),
+            Added::Other => Err(Trouble::NoCase),
+        }
+    }
+}
 
 /// A group while it is declared, with the numbers of the booleans and presets that a preset may name.
 #[derive(Drop)]
 pub(crate) struct Declared {
     alloc: Global,
     builder: SettingGroupBuilder,
-    booleans: BTreeMap<String, BoolSettingIndex>,
-    presets: BTreeMap<String, PresetIndex>,
-}
-
-/// What came of a declaration; the number that was answered, if there is one.
-#[derive(Clone, Copy)]
-pub(crate) enum Added {
-    Boolean(u32),
-    Preset(u32),
-    Other,
-    /// There was no room, or a name means nothing.
-    No,
+    named: Vec<(Text, Added)>,
 }
 
 /// The texts that are parted by commas, none for an empty list.
-fn texts(alloc: Global, list: &str) -> Result<Vec<Text>, AllocError> {
+pub(crate) fn texts(alloc: Global, list: &str) -> Result<Vec<Text>, AllocError> {
     let mut texts = Vec::new(alloc);
-    if list.is_empty() {
-        return Ok(texts);
-    }
-    for text in list.split(',') {
-        texts.push(Text::new(alloc, text)?)?;
+    if !list.is_empty() {
+        for text in list.split(',') {
+            texts.push(Text::new(alloc, text)?)?;
+        }
     }
     Ok(texts)
 }
 
-/// `v0`, `v1` and so on: so many texts.
-fn numbered(alloc: Global, count: usize) -> Result<Vec<Text>, AllocError> {
-    let mut texts = Vec::new(alloc);
+/// An entry of a sort that gives and names nothing.
+fn plain(alloc: Global, sort: Sort) -> Kind {
+    match sort {
+        Sort::Bool => Kind::Bool(false),
+        Sort::Num => Kind::Num(0),
+        Sort::Enum => Kind::Enum(Vec::new(alloc)),
+        Sort::Preset => Kind::Preset(nothing_named(alloc)),
+    }
+}
+
+/// An enum of so many values, `v0`, `v1` and so on.
+fn enum_of(alloc: Global, count: u16) -> Result<Kind, AllocError> {
+    let mut values = Vec::new(alloc);
     for k in 0..count {
-        let text = format!(in alloc; "v{k}")?;
-        texts.push(Text::new(alloc, text.as_str())?)?;
+        let value = format!(in alloc; "v{k}")?;
+        values.push(Text::new(alloc, value.as_str())?)?;
     }
-    Ok(texts)
+    Ok(Kind::Enum(values))
 }
 
-/// The number of a boolean of another group, behind so many others; `None` where there is no room.
-fn other_boolean(alloc: Global, number: u16) -> Result<Option<BoolSettingIndex>, AllocError> {
-    let mut other = SettingGroupBuilder::new(alloc, Text::new(alloc, "other")?);
-    let mut last = None;
-    for _ in 0..=number {
-        if !other.has_room() {
-            return Ok(None);
-        }
-        let name = Text::new(alloc, "b")?;
-        let index = other.add_bool(name, Text::new(alloc, "")?, Text::new(alloc, "")?, false)?;
-        last = Some(index);
+/// What a word such as `boolean:3` or `preset:1` means: an index of another group, behind so many others.
+fn of_other_group(alloc: Global, word: &str, count: &str) -> Result<Added, Trouble> {
+    let (sort, count) = (find(&OTHERS, word)?, number::<u16>(count)?);
+    let mut other = Declared::new(alloc, "other")?;
+    let mut last = Added::Other;
+    for _ in 0..=count {
+        last = other.add(&Line::of("other"), plain(alloc, sort))?;
     }
     Ok(last)
-}
-
-/// The number of a preset of another group, behind so many others; `None` where there is no room.
-fn other_preset(alloc: Global, number: u16) -> Result<Option<PresetIndex>, AllocError> {
-    let mut other = SettingGroupBuilder::new(alloc, Text::new(alloc, "other")?);
-    let mut last = None;
-    for _ in 0..=number {
-        if !other.has_room() {
-            return Ok(None);
-        }
-        let name = Text::new(alloc, "p")?;
-        let index = other.add_preset(name, Text::new(alloc, "")?, Vec::new(alloc))?;
-        last = Some(index);
-    }
-    Ok(last)
-}
-
-/// What a name such as `boolean:3` or `preset:1` means: an index of another group.
-fn other_named(alloc: Global, kind: &str, number: &str) -> Result<Option<PresetType>, AllocError> {
-    let Ok(number) = number.parse::<u16>() else {
-        return Ok(None);
-    };
-    match kind {
-        "boolean" => Ok(other_boolean(alloc, number)?.map(PresetType::from)),
-        "preset" => Ok(other_preset(alloc, number)?.map(PresetType::from)),
-        _ => Ok(None),
-    }
 }
 
 impl Declared {
@@ -93,8 +105,7 @@ impl Declared {
         Ok(Declared {
             alloc,
             builder: SettingGroupBuilder::new(alloc, Text::new(alloc, name)?),
-            booleans: BTreeMap::new(alloc),
-            presets: BTreeMap::new(alloc),
+            named: Vec::new(alloc),
         })
     }
 
@@ -103,131 +114,117 @@ impl Declared {
         self.builder.build(self.alloc, number)
     }
 
-    /// Adds a setting.
-    pub(crate) fn add_setting(
-        &mut self,
-        entry: &Entry<'_>,
-        kind: Kind<'_>,
-    ) -> Result<Added, AllocError> {
+    /// Adds an entry with the name, the description and the comment of a line; of a preset the comment counts for nothing.
+    fn add(&mut self, line: &Line<'_>, kind: Kind) -> Result<Added, Trouble> {
         if !self.builder.has_room() {
-            return Ok(Added::No);
+            return Err(Trouble::NoCase);
         }
-        let alloc = self.alloc;
-        let name = Text::new(alloc, entry.name)?;
-        let description = Text::new(alloc, entry.description)?;
-        let comment = Text::new(alloc, entry.comment)?;
+        let name = Text::new(self.alloc, line.name)?;
+        let description = Text::new(self.alloc, line.description)?;
+        let comment = Text::new(self.alloc, line.comment)?;
         match kind {
             Kind::Bool(default) => {
                 let index = self.builder.add_bool(name, description, comment, default)?;
-                let key = String::from_str(alloc, entry.name)?;
-                self.booleans.insert(key, index)?;
-                return Ok(Added::Boolean(index.number()));
+                return Ok(Added::Boolean(index));
             }
             Kind::Num(default) => self.builder.add_num(name, description, comment, default)?,
-            Kind::Enum(values) => {
-                let values = texts(alloc, values)?;
-                self.builder.add_enum(name, description, comment, values)?;
+            Kind::Enum(values) => self.builder.add_enum(name, description, comment, values)?,
+            Kind::Preset(args) => {
+                let index = self.builder.add_preset(name, description, args)?;
+                return Ok(Added::Preset(index));
             }
         }
         Ok(Added::Other)
     }
 
-    /// What a name means: a boolean or a preset of this group, or an index of another one. `None` where it means nothing.
-    fn meant(&self, name: &str) -> Result<Option<PresetType>, AllocError> {
-        if let Some((kind, number)) = name.split_once(':') {
-            return other_named(self.alloc, kind, number);
+    /// What was added under this name, the first of it.
+    fn find(&self, name: &str) -> Result<Added, Trouble> {
+        for (known, added) in &self.named {
+            if known.as_str() == name {
+                return Ok(*added);
+            }
         }
-        if let Some(index) = self.booleans.get(name) {
-            return Ok(Some(PresetType::from(*index)));
-        }
-        if let Some(index) = self.presets.get(name) {
-            return Ok(Some(PresetType::from(*index)));
-        }
-        Ok(None)
+        Err(Trouble::NoCase)
     }
 
-    /// What the names mean, none for an empty list. `None` where one means nothing.
-    fn all_meant(&self, names: &str) -> Result<Option<Vec<PresetType>>, AllocError> {
+    /// What the names mean, which are parted by commas, none for an empty list: booleans and presets of this group, or an
+    /// index of another one.
+    fn meant(&self, names: &str) -> Result<Vec<PresetType>, Trouble> {
         let mut args = Vec::new(self.alloc);
-        if names.is_empty() {
-            return Ok(Some(args));
-        }
-        for name in names.split(',') {
-            match self.meant(name)? {
-                Some(arg) => args.push(arg)?,
-                None => return Ok(None),
+        if !names.is_empty() {
+            for name in names.split(',') {
+                let added = match name.split_once(':') {
+                    Some((word, count)) => of_other_group(self.alloc, word, count)?,
+                    None => self.find(name)?,
+                };
+                args.push(added.meant()?)?;
             }
         }
-        Ok(Some(args))
+        Ok(args)
     }
 
-    /// Adds a preset of these names.
-    pub(crate) fn add_preset(
+    /// What a line declares.
+    fn kind(&self, sort: Sort, value: &str) -> Result<Kind, Trouble> {
+        match sort {
+            Sort::Bool => Ok(Kind::Bool(number::<bool>(value)?)),
+            Sort::Num => Ok(Kind::Num(number::<u8>(value)?)),
+            Sort::Enum => Ok(Kind::Enum(texts(self.alloc, value)?)),
+            Sort::Preset => Ok(Kind::Preset(self.meant(value)?)),
+        }
+    }
+
+    /// Declares an entry, and writes its number or `Ok`.
+    pub(crate) fn add_entry(
         &mut self,
-        entry: &Entry<'_>,
-        names: &str,
-    ) -> Result<Added, AllocError> {
-        let Some(args) = self.all_meant(names)? else {
-            return Ok(Added::No);
-        };
-        if !self.builder.has_room() {
-            return Ok(Added::No);
+        sort: Sort,
+        line: &Line<'_>,
+        out: &mut String,
+    ) -> Result<(), Trouble> {
+        let kind = self.kind(sort, line.value)?;
+        let added = self.add(line, kind)?;
+        self.named.push((Text::new(self.alloc, line.name)?, added))?;
+        match added {
+            Added::Boolean(index) => write!(out, "boolean {}", index.number())?,
+            Added::Preset(index) => write!(out, "preset {}", index.number())?,
+            Added::Other => out.push_str("Ok")?,
         }
-        let alloc = self.alloc;
-        let name = Text::new(alloc, entry.name)?;
-        let description = Text::new(alloc, entry.description)?;
-        let index = self.builder.add_preset(name, description, args)?;
-        let key = String::from_str(alloc, entry.name)?;
-        self.presets.insert(key, index)?;
-        Ok(Added::Preset(index.number()))
+        Ok(())
     }
 
-    /// Adds one of many, with this number behind the letter of its name.
-    fn add_one(&mut self, many: Many, number: usize) -> Result<Added, AllocError> {
-        let alloc = self.alloc;
-        let letter = match many {
-            Many::Bools => 'b',
-            Many::Nums => 'n',
-            Many::Presets => 'p',
-            Many::Values => 'e',
-        };
-        let name = format!(in alloc; "{letter}{number}")?;
-        let entry = Entry {
-            name: name.as_str(),
-            description: "",
-            comment: "",
-        };
-        match many {
-            Many::Bools => self.add_setting(&entry, Kind::Bool(false)),
-            Many::Nums => self.add_setting(&entry, Kind::Num(0)),
-            Many::Presets => self.add_preset(&entry, ""),
-            Many::Values => Ok(Added::No),
+    /// Adds so many of a sort, named by a letter and their numbers from 0, or an enum `e` of so many values.
+    pub(crate) fn add_many(&mut self, line: &Line<'_>) -> Result<(), Trouble> {
+        let ((letter, sort), count) = (find(&MANY, line.name)?, number::<u16>(line.value)?);
+        if let Sort::Enum = sort {
+            let kind = enum_of(self.alloc, count)?;
+            self.add(&Line::of("enum e"), kind)?;
+            return Ok(());
         }
+        for place in 0..count {
+            let text = format!(in self.alloc; "many {letter}{place}")?;
+            self.add(&Line::of(text.as_str()), plain(self.alloc, sort))?;
+        }
+        Ok(())
     }
 
-    /// Adds an enum `e` of so many values.
-    fn add_values(&mut self, count: usize) -> Result<Added, AllocError> {
-        if !self.builder.has_room() {
-            return Ok(Added::No);
-        }
-        let alloc = self.alloc;
-        let (name, empty) = (Text::new(alloc, "e")?, Text::new(alloc, "")?);
-        let values = numbered(alloc, count)?;
-        self.builder
-            .add_enum(name, empty.copy(alloc)?, empty, values)?;
-        Ok(Added::Other)
+    /// What `preset!` makes of the boolean, the preset and the boolean of these names, which are parted by commas.
+    fn in_order(&self, names: &str) -> Result<Vec<PresetType>, Trouble> {
+        let mut names = names.split(',');
+        let first = self.find(names.next().unwrap_or(""))?.boolean()?;
+        let between = self.find(names.next().unwrap_or(""))?.preset()?;
+        let last = self.find(names.next().unwrap_or(""))?.boolean()?;
+        Ok(named_in_order(self.alloc, first, between, last)?)
     }
 
-    /// Adds so many, named by a letter and their numbers from 0.
-    pub(crate) fn add_many(&mut self, many: Many, count: usize) -> Result<Added, AllocError> {
-        if let Many::Values = many {
-            return self.add_values(count);
-        }
-        for number in 0..count {
-            if let Added::No = self.add_one(many, number)? {
-                return Ok(Added::No);
-            }
-        }
-        Ok(Added::Other)
+    /// Adds a preset of what `preset!` makes, and writes that, and whether it is what the names mean.
+    pub(crate) fn add_in_order(
+        &mut self,
+        line: &Line<'_>,
+        out: &mut String,
+    ) -> Result<(), Trouble> {
+        let args = self.in_order(line.value)?;
+        let is_meant = args.as_slice() == self.meant(line.value)?.as_slice();
+        write!(out, "{args:?} {is_meant}")?;
+        self.add(line, Kind::Preset(args))?;
+        Ok(())
     }
 }

@@ -2,27 +2,32 @@
 //! A line that begins with `#` is written as it is; each other line has its answer.
 #![tactic(auto)]
 
-mod case;
+mod built;
+mod compared;
 mod declared;
+mod line;
+mod named;
 mod session;
-mod shown;
+mod trouble;
 
 use session::Session;
-use std::io::{self, BufRead, BufReader, BufWriter, Write};
+use std::alloc::{AllocError, Global};
+use std::io::{self, Write};
+
+/// The answers to the lines.
+fn answers(alloc: Global, input: &str) -> Result<String, AllocError> {
+    let mut session = Session::new(alloc)?;
+    let mut answers = String::new(alloc);
+    for line in input.lines() {
+        session.answer_line(line, &mut answers)?;
+    }
+    Ok(answers)
+}
 
 /// Answers the lines of the standard input on the standard output.
 fn main(rt: HostRuntime) -> io::Result<()> {
     let alloc = rt.alloc();
-    let mut output = BufWriter::new(alloc, io::writer(&rt))?;
-    let mut session = Session::new(alloc)?;
-    for line in BufReader::new(alloc, rt.reader())?.lines(alloc) {
-        let line = line?;
-        if line.starts_with('#') {
-            writeln!(output, "{line}")?;
-        } else {
-            let answer = session.answer(line.as_str())?;
-            writeln!(output, "{answer}")?;
-        }
-    }
-    output.flush()
+    let input = io::read_to_string(alloc, rt.reader())?;
+    let text = answers(alloc, input.as_str())?;
+    io::writer(&rt).write_all(text.as_bytes())
 }

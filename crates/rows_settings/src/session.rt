@@ -1,6 +1,9 @@
-use crate::case::{Case, Question};
-use crate::declared::{Added, Declared};
-use crate::shown::{bytes, layout, presets};
+use crate::built::{preset_of, write_bytes, write_layout, write_names, write_presets};
+use crate::compared::{write_alike, write_which};
+use crate::declared::Declared;
+use crate::line::{ASKED, Asked, Line, find, number};
+use crate::named::nothing_named;
+use crate::trouble::Trouble;
 use meta_settings::{SettingGroup, TargetIsa};
 use meta_types::Text;
 use std::alloc::{AllocError, Global};
@@ -24,107 +27,94 @@ impl Session {
     }
 
     /// The built group of this name, the last of them.
-    fn group(&self, name: &str) -> Option<&SettingGroup> {
-        self.built
-            .iter()
-            .rev()
-            .find(|group| group.name().as_str() == name)
+    fn group(&self, name: &str) -> Result<&SettingGroup, Trouble> {
+        for group in self.built.iter().rev() {
+            if group.name().as_str() == name {
+                return Ok(group);
+            }
+        }
+        Err(Trouble::NoCase)
     }
 
     /// Begins a group.
-    fn begin(&mut self, name: &str) -> Result<Added, AllocError> {
+    fn begin(&mut self, name: &str, out: &mut String) -> Result<(), Trouble> {
         self.declared = Declared::new(self.alloc, name)?;
-        Ok(Added::Other)
+        Ok(out.push_str("Ok")?)
     }
 
-    /// Builds the group: `Ok`, or the line of its first fault.
-    fn build(&mut self, number: u64) -> Result<String, AllocError> {
-        match self.declared.build(number) {
+    /// Declares many.
+    fn add_many(&mut self, line: &Line<'_>, out: &mut String) -> Result<(), Trouble> {
+        self.declared.add_many(line)?;
+        Ok(out.push_str("Ok")?)
+    }
+
+    /// Builds the group, and writes `Ok`, or the line of its first fault.
+    fn build(&mut self, line: &Line<'_>, out: &mut String) -> Result<(), Trouble> {
+        match self.declared.build(number::<u64>(line.name)?) {
             Ok(group) => {
                 self.built.push(group)?;
-                String::from_str(self.alloc, "Ok")
+                out.push_str("Ok")?;
             }
-            Err(fault) => String::from_str(self.alloc, fault.line(self.alloc)?.as_str()),
+            Err(fault) => out.push_str(fault.line(self.alloc)?.as_str())?,
         }
+        Ok(())
     }
 
-    /// The target of this name, its group and how many bytes that takes.
-    fn target(&self, name: &str) -> Result<Option<String>, AllocError> {
-        let alloc = self.alloc;
-        let Ok(group) = self.declared.build(0) else {
-            return Ok(None);
-        };
-        let isa = TargetIsa::new(Text::new(alloc, name)?, group);
+    /// The group as it is built once more.
+    fn built_again(&self) -> Result<SettingGroup, Trouble> {
+        self.declared.build(1).map_err(|_| Trouble::NoCase)
+    }
+
+    /// Writes the target of this name, its group and how many bytes that takes.
+    fn write_target(&self, name: &str, out: &mut String) -> Result<(), Trouble> {
+        let isa = TargetIsa::new(Text::new(self.alloc, name)?, self.built_again()?);
         let (name, group) = (isa.name.as_str(), isa.settings.name().as_str());
-        let size = isa.settings.byte_size();
-        Ok(Some(format!(in alloc; "{name} {group} byte size {size}")?))
+        Ok(write!(out, "{name} {group} byte size {}", isa.settings.byte_size())?)
     }
 
-    /// Whether the preset of a group is one of another.
-    fn has(
-        &self,
-        group: &SettingGroup,
-        preset: &str,
-        other: &str,
-    ) -> Result<Option<String>, AllocError> {
-        let alloc = self.alloc;
-        let mut presets = group.presets().iter();
-        match (
-            self.group(other),
-            presets.find(|p| p.name().as_str() == preset),
-        ) {
-            (Some(other), Some(preset)) => Ok(Some(format!(in alloc; "{}", other.has(preset))?)),
-            _ => Ok(None),
+    /// Writes whether the preset of a group is one of another.
+    fn write_has(&self, line: &Line<'_>, out: &mut String) -> Result<(), Trouble> {
+        let preset = preset_of(self.group(line.name)?, line.value)?;
+        Ok(write!(out, "{}", self.group(line.third)?.has(preset))?)
+    }
+
+    /// Writes which settings and presets of a built group are as those of the same that is built once more.
+    fn write_alike(&self, name: &str, out: &mut String) -> Result<(), Trouble> {
+        let again = self.built_again()?;
+        Ok(write_alike(self.group(name)?, &again, out)?)
+    }
+
+    /// Writes the answer to a line.
+    fn answer(&mut self, line: &Line<'_>, out: &mut String) -> Result<(), Trouble> {
+        match find(&ASKED, line.asked)? {
+            Asked::Group => self.begin(line.name, out),
+            Asked::Entry(sort) => self.declared.add_entry(sort, line, out),
+            Asked::Many => self.add_many(line, out),
+            Asked::InOrder => self.declared.add_in_order(line, out),
+            Asked::Nothing => Ok(write!(out, "{:?}", nothing_named(self.alloc))?),
+            Asked::Build => self.build(line, out),
+            Asked::Target => self.write_target(line.name, out),
+            Asked::Layout => write_layout(self.group(line.name)?, out),
+            Asked::Bytes => write_bytes(self.alloc, self.group(line.name)?, out),
+            Asked::Presets => write_presets(self.alloc, self.group(line.name)?, out),
+            Asked::Has => self.write_has(line, out),
+            Asked::Names => write_names(self.group(line.name)?, line.value, out),
+            Asked::Alike => self.write_alike(line.name, out),
+            Asked::Which => write_which(self.alloc, self.group(line.name)?, line, out),
         }
     }
 
-    /// What is answered to a declaration.
-    fn told(&self, added: Added) -> Result<Option<String>, AllocError> {
-        let alloc = self.alloc;
-        match added {
-            Added::Boolean(number) => Ok(Some(format!(in alloc; "boolean {number}")?)),
-            Added::Preset(number) => Ok(Some(format!(in alloc; "preset {number}")?)),
-            Added::Other => Ok(Some(String::from_str(alloc, "Ok")?)),
-            Added::No => Ok(None),
+    /// Writes the answer to a line and a line feed: `no case` where it asks nothing, or what can't be asked.
+    pub(crate) fn answer_line(&mut self, line: &str, out: &mut String) -> Result<(), AllocError> {
+        if line.starts_with('#') {
+            out.push_str(line)?;
+        } else {
+            match self.answer(&Line::of(line), out) {
+                Ok(()) => {}
+                Err(Trouble::NoCase) => out.push_str("no case")?,
+                Err(Trouble::OutOfMemory) => return Err(AllocError),
+            }
         }
-    }
-
-    /// What is answered of the built group of this name, if there is one.
-    fn asked(&self, name: &str, question: &Question<'_>) -> Result<Option<String>, AllocError> {
-        let Some(group) = self.group(name) else {
-            return Ok(None);
-        };
-        match question {
-            Question::Layout => Ok(Some(layout(self.alloc, group)?)),
-            Question::Bytes => Ok(Some(bytes(self.alloc, group)?)),
-            Question::Presets => presets(self.alloc, group),
-            Question::Has { preset, other } => self.has(group, preset, other),
-        }
-    }
-
-    /// What is answered to a case, or `None` where it asks what can't be asked.
-    fn answer_case(&mut self, case: &Case<'_>) -> Result<Option<String>, AllocError> {
-        let added = match *case {
-            Case::Group(name) => self.begin(name)?,
-            Case::Setting(entry, kind) => self.declared.add_setting(&entry, kind)?,
-            Case::Preset(entry, names) => self.declared.add_preset(&entry, names)?,
-            Case::Many(many, count) => self.declared.add_many(many, count)?,
-            Case::Build(number) => return Ok(Some(self.build(number)?)),
-            Case::Target(name) => return self.target(name),
-            Case::Ask(name, question) => return self.asked(name, &question),
-        };
-        self.told(added)
-    }
-
-    /// The answer to a line: `no case` where it asks nothing, or what can't be asked.
-    pub(crate) fn answer(&mut self, line: &str) -> Result<String, AllocError> {
-        let answer = match Case::of(self.alloc, line)? {
-            Some(case) => self.answer_case(&case)?,
-            None => None,
-        };
-        match answer {
-            Some(answer) => Ok(answer),
-            None => String::from_str(self.alloc, "no case"),
-        }
+        out.push('\n')
     }
 }

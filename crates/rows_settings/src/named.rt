@@ -6,7 +6,7 @@ use std::alloc::{AllocError, Global};
 
 /// What `preset!` makes of two booleans and a preset between them: these three, in this order. It makes them for any others
 /// alike.
-pub fn named_in_order(
+pub(crate) fn named_in_order(
     alloc: Global,
     a: BoolSettingIndex,
     p: PresetIndex,
@@ -18,7 +18,7 @@ pub fn named_in_order(
 }
 
 /// What `preset!` makes of no names: nothing.
-pub fn nothing_named(alloc: Global) -> Vec<PresetType>
+pub(crate) fn nothing_named(alloc: Global) -> Vec<PresetType>
     ensures { result.items ≡ [] }
 {
     preset!(alloc;)
