@@ -1,0 +1,40 @@
+//! Reads type variables, kinds of operands, formats and instructions line by line, and writes what each shows: its text, its
+//! parts, or the first fault of an instruction. A line that begins with `#` is written as it is; each other line has its
+//! answer. The first lines ask about sets and variables; those from the first `ints ..` on about instructions.
+#![tactic(auto)]
+
+mod content;
+mod described;
+mod equal;
+mod formats;
+mod instructions;
+mod kinds;
+mod on_instructions;
+mod on_variables;
+mod session;
+mod sets;
+mod trouble;
+mod variables;
+mod words;
+
+use session::Session;
+use std::alloc::{AllocError, Global};
+use std::io::{self, Write};
+
+/// The answers to the lines.
+fn answers(alloc: Global, input: &str) -> Result<String, AllocError> {
+    let mut session = Session::new(alloc);
+    let mut answers = String::new(alloc);
+    for line in input.lines() {
+        session.answer_line(line, &mut answers)?;
+    }
+    Ok(answers)
+}
+
+/// Answers the lines of the standard input on the standard output.
+fn main(rt: HostRuntime) -> io::Result<()> {
+    let alloc = rt.alloc();
+    let input = io::read_to_string(alloc, rt.reader())?;
+    let text = answers(alloc, input.as_str())?;
+    io::writer(&rt).write_all(text.as_bytes())
+}
