@@ -1,3 +1,4 @@
+mod Kinded
 mod Lists
 mod Tests
 mod Parts

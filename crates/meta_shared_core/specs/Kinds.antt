@@ -11,9 +11,6 @@ use Rattle.meta_operands.specs.declared.kind.OperandKindFields.{OperandKindField
 use Rattle.meta_operands.specs.declared.kind.OperandKindFields.TheVariants.{EntityRef, VariableArgs, ImmValue, ImmEnum}
 use Rattle.meta_shared_core.specs.declared.entities.EntityRefs.{EntityRefs}
 use Rattle.meta_shared_core.specs.declared.immediates.Immediates.{Immediates}
-use Rattle.meta_shared_core.specs.declared.immediates.Numbers.{Numbers}
-use Rattle.meta_shared_core.specs.declared.immediates.Floats.{Floats}
-use Rattle.meta_shared_core.specs.declared.immediates.Choices.{Choices}
 use Rattle.meta_shared_core.specs.declared.kind.Kind.{Kind}
 use Rattle.meta_shared_core.specs.declared.kind.Kind.TheVariants.{BlockCall, BlockThen, BlockElse, RawBlock, StackSlot, DynamicStackSlot, GlobalValue, SigRef, FuncRef, JumpTable, ExceptionTable, Varargs, PoolConstant, Uimm128, Imm64, Uimm8, Offset32, Ieee16, Ieee32, Ieee64, Intcc, Floatcc, Memflags, Trapcode, AtomicRmwOp}
 
@@ -72,24 +69,6 @@ pub record AreImmediates (i : Immediates) : Type 0 where
   pub intcc : IsEnum (codes "cond") (codes "ir::condcodes::IntCC") i.intcc
   pub floatcc : IsEnum (codes "cond") (codes "ir::condcodes::FloatCC") i.floatcc
   pub memflags : IsKindOf ImmValue (codes "flags") (codes "ir::MemFlags") i.memflags
-  pub trapcode : IsEnum (codes "code") (codes "ir::TrapCode") i.trapcode
-  pub atomic_rmw_op : IsEnum (codes "op") (codes "ir::AtomicRmwOp") i.atomic_rmw_op
-
--- the same of a part of them
-pub record AreNumbers (i : Numbers) : Type 0 where
-  pub imm64 : IsKindOf ImmValue (codes "imm") (codes "ir::immediates::Imm64") i.imm64
-  pub uimm8 : IsKindOf ImmValue (codes "imm") (codes "ir::immediates::Uimm8") i.uimm8
-  pub offset32 : IsKindOf ImmValue (codes "offset") (codes "ir::immediates::Offset32") i.offset32
-  pub memflags : IsKindOf ImmValue (codes "flags") (codes "ir::MemFlags") i.memflags
-
-pub record AreFloats (i : Floats) : Type 0 where
-  pub ieee16 : IsKindOf ImmValue (codes "imm") (codes "ir::immediates::Ieee16") i.ieee16
-  pub ieee32 : IsKindOf ImmValue (codes "imm") (codes "ir::immediates::Ieee32") i.ieee32
-  pub ieee64 : IsKindOf ImmValue (codes "imm") (codes "ir::immediates::Ieee64") i.ieee64
-
-pub record AreChoices (i : Choices) : Type 0 where
-  pub intcc : IsEnum (codes "cond") (codes "ir::condcodes::IntCC") i.intcc
-  pub floatcc : IsEnum (codes "cond") (codes "ir::condcodes::FloatCC") i.floatcc
   pub trapcode : IsEnum (codes "code") (codes "ir::TrapCode") i.trapcode
   pub atomic_rmw_op : IsEnum (codes "op") (codes "ir::AtomicRmwOp") i.atomic_rmw_op
 

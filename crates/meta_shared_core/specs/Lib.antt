@@ -1,4 +1,5 @@
 pub mod Kinds
+pub mod KindRows
 pub mod Formats
 pub mod Roots
 pub mod RootRows

@@ -1,9 +1,9 @@
-ghost use Rattle.std.specs.Prelude.{IfOk};
-ghost use Rattle.meta_operands.specs.declared.kind.OperandKindFields.TheVariants.{EntityRef, VariableArgs};
-ghost use Rattle.meta_shared_core.specs.Kinds.{IsKind, AreEntities, EntitiesHoldNoVariable};
+ghost use Rattle.std.specs.Prelude.{◌≡◌, IfOk, length};
+ghost use Rattle.meta_shared_core.specs.Kinds.{AreEntities, EntitiesHoldNoVariable};
+ghost use Rattle.meta_shared_core.specs.KindRows.{BeginWith, AreEntityRows, kinds_of_entities};
 
-use super::kind::{kinds, make_kind};
-use meta_operands::{OperandKind, OperandKindFields};
+use super::kind_rows::{Class, KindRow, kind_rows, make_kinds, next};
+use meta_operands::OperandKind;
 use std::alloc::{AllocError, Global};
 
 /// The kinds of references to entities of the function, and of a variable number of values (`shared/entities.rs`).
@@ -39,40 +39,53 @@ pub struct EntityRefs {
     pub uimm128: OperandKind,
 }
 
-/// A kind of references to entities.
-fn entity(
-    alloc: Global,
-    field_name: &str,
-    rust_type: &str,
-    doc: &str,
-) -> Result<OperandKind, AllocError>
-    ensures { IfOk result (IsKind field_name.now rust_type.now EntityRef doc.now) }
+/// The kinds, in the order of the fields.
+static ENTITIES: [KindRow; 14] = kind_rows! {
+    block_call: Entity("destination", "ir::BlockCall", "a basic block in the same function, with its arguments provided.");
+    block_then: Entity("block_then", "ir::BlockCall", "a basic block in the same function, with its arguments provided.");
+    block_else: Entity("block_else", "ir::BlockCall", "a basic block in the same function, with its arguments provided.");
+    raw_block: Entity("raw_block", "ir::Block", "a basic block in the same function, with no arguments provided.");
+    stack_slot: Entity("stack_slot", "ir::StackSlot", "A stack slot");
+    dynamic_stack_slot: Entity("dynamic_stack_slot", "ir::DynamicStackSlot", "A dynamic stack slot");
+    global_value: Entity("global_value", "ir::GlobalValue", "A global value.");
+    sig_ref: Entity("sig_ref", "ir::SigRef", "A function signature.");
+    func_ref: Entity("func_ref", "ir::FuncRef", "An external function.");
+    jump_table: Entity("table", "ir::JumpTable", "A jump table.");
+    exception_table: Entity("exception", "ir::ExceptionTable", "An exception table.");
+    varargs: Varargs("", "&[Value]", "A variable size list of `value` operands.");
+    pool_constant: Entity("constant_handle", "ir::Constant", "A constant stored in the constant pool.");
+    uimm128: Entity("imm", "ir::Immediate", "A 128-bit immediate unsigned integer.");
+};
+
+/// The rows of the table.
+fn rows() -> &'static [KindRow]
+    ensures { AreEntityRows result.now }
 {
-    make_kind(
-        alloc,
-        field_name,
-        rust_type,
-        OperandKindFields::EntityRef,
-        doc,
-    )
+    &ENTITIES
 }
 
-/// A kind of a variable number of values.
-fn varargs(
-    alloc: Global,
-    field_name: &str,
-    rust_type: &str,
-    doc: &str,
-) -> Result<OperandKind, AllocError>
-    ensures { IfOk result (IsKind field_name.now rust_type.now VariableArgs doc.now) }
+/// The kinds by their names.
+fn named(kinds: Vec<OperandKind>) -> EntityRefs
+    requires { length kinds.items ≡ 14 }
+    ensures { BeginWith (kinds_of_entities result) kinds.items }
 {
-    make_kind(
-        alloc,
-        field_name,
-        rust_type,
-        OperandKindFields::VariableArgs,
-        doc,
-    )
+    let mut kinds = kinds.into_iter();
+    EntityRefs {
+        block_call: next(&mut kinds),
+        block_then: next(&mut kinds),
+        block_else: next(&mut kinds),
+        raw_block: next(&mut kinds),
+        stack_slot: next(&mut kinds),
+        dynamic_stack_slot: next(&mut kinds),
+        global_value: next(&mut kinds),
+        sig_ref: next(&mut kinds),
+        func_ref: next(&mut kinds),
+        jump_table: next(&mut kinds),
+        exception_table: next(&mut kinds),
+        varargs: next(&mut kinds),
+        pool_constant: next(&mut kinds),
+        uimm128: next(&mut kinds),
+    }
 }
 
 impl EntityRefs {
@@ -81,21 +94,6 @@ impl EntityRefs {
         ensures kinds { IfOk result AreEntities }
         ensures no_variable { IfOk result EntitiesHoldNoVariable }
     {
-        Ok(kinds! { EntityRefs, alloc;
-            block_call: entity("destination", "ir::BlockCall", "a basic block in the same function, with its arguments provided.");
-            block_then: entity("block_then", "ir::BlockCall", "a basic block in the same function, with its arguments provided.");
-            block_else: entity("block_else", "ir::BlockCall", "a basic block in the same function, with its arguments provided.");
-            raw_block: entity("raw_block", "ir::Block", "a basic block in the same function, with no arguments provided.");
-            stack_slot: entity("stack_slot", "ir::StackSlot", "A stack slot");
-            dynamic_stack_slot: entity("dynamic_stack_slot", "ir::DynamicStackSlot", "A dynamic stack slot");
-            global_value: entity("global_value", "ir::GlobalValue", "A global value.");
-            sig_ref: entity("sig_ref", "ir::SigRef", "A function signature.");
-            func_ref: entity("func_ref", "ir::FuncRef", "An external function.");
-            jump_table: entity("table", "ir::JumpTable", "A jump table.");
-            exception_table: entity("exception", "ir::ExceptionTable", "An exception table.");
-            varargs: varargs("", "&[Value]", "A variable size list of `value` operands.");
-            pool_constant: entity("constant_handle", "ir::Constant", "A constant stored in the constant pool.");
-            uimm128: entity("imm", "ir::Immediate", "A 128-bit immediate unsigned integer.");
-        })
+        Ok(named(make_kinds(alloc, rows())?))
     }
 }

@@ -1,10 +1,9 @@
-ghost use Rattle.std.specs.Prelude.{◌≡◌, IfOk};
-ghost use Rattle.meta_operands.specs.declared.kind.OperandKindFields.TheVariants.{ImmValue, ImmEnum};
-ghost use Rattle.meta_shared_core.specs.Kinds.{IsKind, values_of, AreNumbers, AreFloats, AreChoices, AreImmediates, ImmediatesHoldNoVariable};
+ghost use Rattle.std.specs.Prelude.{◌≡◌, IfOk, length};
+ghost use Rattle.meta_shared_core.specs.Kinds.{AreImmediates, ImmediatesHoldNoVariable};
+ghost use Rattle.meta_shared_core.specs.KindRows.{BeginWith, AreImmediateRows, kinds_of_immediates};
 
-use super::kind::{kinds, make_kind};
-use meta_operands::{EnumValues, OperandKind, OperandKindFields};
-use meta_types::Text;
+use super::kind_rows::{Class, KindRow, kind_rows, make_kinds, next};
+use meta_operands::OperandKind;
 use std::alloc::{AllocError, Global};
 
 /// The kinds of immediates (`shared/immediates.rs`).
@@ -35,7 +34,7 @@ pub struct Immediates {
 }
 
 /// The conditions that compare integers.
-static INTCC: [(&str, &str); 10] = [
+const INTCC: [(&str, &str); 10] = [
     ("eq", "Equal"),
     ("ne", "NotEqual"),
     ("sge", "SignedGreaterThanOrEqual"),
@@ -49,7 +48,7 @@ static INTCC: [(&str, &str); 10] = [
 ];
 
 /// The conditions that compare floating-point numbers.
-static FLOATCC: [(&str, &str); 14] = [
+const FLOATCC: [(&str, &str); 14] = [
     ("ord", "Ordered"),
     ("uno", "Unordered"),
     ("eq", "Equal"),
@@ -67,7 +66,7 @@ static FLOATCC: [(&str, &str); 14] = [
 ];
 
 /// The reasons to trap.
-static TRAPCODE: [(&str, &str); 5] = [
+const TRAPCODE: [(&str, &str); 5] = [
     ("stk_ovf", "STACK_OVERFLOW"),
     ("heap_oob", "HEAP_OUT_OF_BOUNDS"),
     ("int_ovf", "INTEGER_OVERFLOW"),
@@ -76,7 +75,7 @@ static TRAPCODE: [(&str, &str); 5] = [
 ];
 
 /// The operations on memory.
-static ATOMIC_RMW_OP: [(&str, &str); 11] = [
+const ATOMIC_RMW_OP: [(&str, &str); 11] = [
     ("add", "Add"),
     ("sub", "Sub"),
     ("and", "And"),
@@ -90,136 +89,46 @@ static ATOMIC_RMW_OP: [(&str, &str); 11] = [
     ("smax", "Smax"),
 ];
 
-/// The conditions that compare integers, with their variants.
-fn intcc() -> &'static [(&'static str, &'static str)] {
-    &INTCC
-}
+/// The kinds, in the order of the fields.
+static IMMEDIATES: [KindRow; 11] = kind_rows! {
+    imm64: Number("imm", "ir::immediates::Imm64", "A 64-bit immediate integer.");
+    uimm8: Number("imm", "ir::immediates::Uimm8", "An 8-bit immediate unsigned integer.");
+    offset32: Number("offset", "ir::immediates::Offset32", "A 32-bit immediate signed offset.");
+    ieee16: Number("imm", "ir::immediates::Ieee16", "A 16-bit immediate floating point number.");
+    ieee32: Number("imm", "ir::immediates::Ieee32", "A 32-bit immediate floating point number.");
+    ieee64: Number("imm", "ir::immediates::Ieee64", "A 64-bit immediate floating point number.");
+    intcc: Choice("cond", "ir::condcodes::IntCC", "An integer comparison condition code.", &INTCC);
+    floatcc: Choice("cond", "ir::condcodes::FloatCC", "A floating point comparison condition code", &FLOATCC);
+    memflags: Number("flags", "ir::MemFlags", "Memory operation flags");
+    trapcode: Choice("code", "ir::TrapCode", "A trap reason code.", &TRAPCODE);
+    atomic_rmw_op: Choice("op", "ir::AtomicRmwOp", "Atomic Read-Modify-Write Ops", &ATOMIC_RMW_OP);
+};
 
-/// The conditions that compare floating-point numbers, with their variants.
-fn floatcc() -> &'static [(&'static str, &'static str)] {
-    &FLOATCC
-}
-
-/// The reasons to trap, with their variants.
-fn trapcode() -> &'static [(&'static str, &'static str)] {
-    &TRAPCODE
-}
-
-/// The operations on memory, with their variants.
-fn atomic_rmw_op() -> &'static [(&'static str, &'static str)] {
-    &ATOMIC_RMW_OP
-}
-
-/// The values of an enum, each with the variant that it stands for.
-fn values(alloc: Global, pairs: &[(&str, &str)]) -> Result<EnumValues, AllocError>
-    ensures { IfOk result (λ v. v ≡ values_of pairs.now) }
+/// The rows of the table.
+fn rows() -> &'static [KindRow]
+    ensures { AreImmediateRows result.now }
 {
-    let mut values = EnumValues::new(alloc);
-    for (name, variant) in pairs {
-        values.insert(Text::new(alloc, name)?, Text::new(alloc, variant)?)?;
-    }
-    Ok(values)
+    &IMMEDIATES
 }
 
-/// A kind of immediates that are numbers.
-fn number(
-    alloc: Global,
-    field_name: &str,
-    rust_type: &str,
-    doc: &str,
-) -> Result<OperandKind, AllocError>
-    ensures { IfOk result (IsKind field_name.now rust_type.now ImmValue doc.now) }
+/// The kinds by their names.
+fn named(kinds: Vec<OperandKind>) -> Immediates
+    requires { length kinds.items ≡ 11 }
+    ensures { BeginWith (kinds_of_immediates result) kinds.items }
 {
-    make_kind(
-        alloc,
-        field_name,
-        rust_type,
-        OperandKindFields::ImmValue,
-        doc,
-    )
-}
-
-/// A kind of immediates that are of an enum with these values.
-fn choice(
-    alloc: Global,
-    field_name: &str,
-    rust_type: &str,
-    doc: &str,
-    pairs: &[(&str, &str)],
-) -> Result<OperandKind, AllocError>
-    ensures { IfOk result (IsKind field_name.now rust_type.now (ImmEnum (values_of pairs.now)) doc.now) }
-{
-    let values = values(alloc, pairs)?;
-    make_kind(
-        alloc,
-        field_name,
-        rust_type,
-        OperandKindFields::ImmEnum(values),
-        doc,
-    )
-}
-
-/// The kinds of integers, and of flags.
-#[derive(Drop)]
-struct Numbers {
-    imm64: OperandKind,
-    uimm8: OperandKind,
-    offset32: OperandKind,
-    memflags: OperandKind,
-}
-
-/// The kinds of floating-point numbers.
-#[derive(Drop)]
-struct Floats {
-    ieee16: OperandKind,
-    ieee32: OperandKind,
-    ieee64: OperandKind,
-}
-
-/// The kinds of enums.
-#[derive(Drop)]
-struct Choices {
-    intcc: OperandKind,
-    floatcc: OperandKind,
-    trapcode: OperandKind,
-    atomic_rmw_op: OperandKind,
-}
-
-impl Numbers {
-    fn new(alloc: Global) -> Result<Numbers, AllocError>
-        ensures { IfOk result AreNumbers }
-    {
-        Ok(kinds! { Numbers, alloc;
-            imm64: number("imm", "ir::immediates::Imm64", "A 64-bit immediate integer.");
-            uimm8: number("imm", "ir::immediates::Uimm8", "An 8-bit immediate unsigned integer.");
-            offset32: number("offset", "ir::immediates::Offset32", "A 32-bit immediate signed offset.");
-            memflags: number("flags", "ir::MemFlags", "Memory operation flags");
-        })
-    }
-}
-
-impl Floats {
-    fn new(alloc: Global) -> Result<Floats, AllocError>
-        ensures { IfOk result AreFloats }
-    {
-        Ok(kinds! { Floats, alloc;
-            ieee16: number("imm", "ir::immediates::Ieee16", "A 16-bit immediate floating point number.");
-            ieee32: number("imm", "ir::immediates::Ieee32", "A 32-bit immediate floating point number.");
-            ieee64: number("imm", "ir::immediates::Ieee64", "A 64-bit immediate floating point number.");
-        })
-    }
-}
-
-impl Choices {
-    fn new(alloc: Global) -> Result<Choices, AllocError>
-        ensures { IfOk result AreChoices }
-    {
-        Ok(kinds! { Choices, alloc;
-            intcc: choice("cond", "ir::condcodes::IntCC", "An integer comparison condition code.", intcc());
-            floatcc: choice("cond", "ir::condcodes::FloatCC", "A floating point comparison condition code", floatcc());
-            trapcode: choice("code", "ir::TrapCode", "A trap reason code.", trapcode());
-            atomic_rmw_op: choice("op", "ir::AtomicRmwOp", "Atomic Read-Modify-Write Ops", atomic_rmw_op());
-        })
+    let mut kinds = kinds.into_iter();
+    Immediates {
+        imm64: next(&mut kinds),
+        uimm8: next(&mut kinds),
+        offset32: next(&mut kinds),
+        ieee16: next(&mut kinds),
+        ieee32: next(&mut kinds),
+        ieee64: next(&mut kinds),
+        intcc: next(&mut kinds),
+        floatcc: next(&mut kinds),
+        memflags: next(&mut kinds),
+        trapcode: next(&mut kinds),
+        atomic_rmw_op: next(&mut kinds),
     }
 }
 
@@ -229,35 +138,6 @@ impl Immediates {
         ensures kinds { IfOk result AreImmediates }
         ensures no_variable { IfOk result ImmediatesHoldNoVariable }
     {
-        let Numbers {
-            imm64,
-            uimm8,
-            offset32,
-            memflags,
-        } = Numbers::new(alloc)?;
-        let Floats {
-            ieee16,
-            ieee32,
-            ieee64,
-        } = Floats::new(alloc)?;
-        let Choices {
-            intcc,
-            floatcc,
-            trapcode,
-            atomic_rmw_op,
-        } = Choices::new(alloc)?;
-        Ok(Immediates {
-            imm64,
-            uimm8,
-            offset32,
-            ieee16,
-            ieee32,
-            ieee64,
-            intcc,
-            floatcc,
-            memflags,
-            trapcode,
-            atomic_rmw_op,
-        })
+        Ok(named(make_kinds(alloc, rows())?))
     }
 }

@@ -87,13 +87,3 @@ pub(crate) fn make_kind(
     let doc = Text::new(alloc, doc)?;
     Ok(OperandKind::new(field_name, rust_type, fields, doc))
 }
-
-/// A struct of kinds: per field the function that makes it, the field name, the Rust type, the documentation, and for an enum its
-/// values.
-macro_rules! kinds {
-    ($kinds:ident, $alloc:ident; $($field:ident: $make:ident($($part:expr),+);)+) => {
-        $kinds { $($field: $make($alloc, $($part),+)?),+ }
-    };
-}
-
-pub(crate) use kinds;

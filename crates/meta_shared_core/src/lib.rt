@@ -11,6 +11,7 @@ mod formats;
 mod immediates;
 mod instructions;
 mod kind;
+mod kind_rows;
 mod names;
 mod root;
 mod root_rows;

@@ -5,23 +5,23 @@ use Rattle.meta_shared_core.proofs.Growing.{meant_grows, grows_more, operands_gr
 use Rattle.meta_shared_core.proofs.declaring.instruction.Goals as goal
 
 pub operands-requires-2-clause-meant : goal.operands-requires-2-clause-meant
-operands-requires-2-clause-meant c = meant_grows c.in_ok-operands.ensures.grows c.requires.meant
+operands-requires-2-clause-meant c = meant_grows c.in_ok-inputs.ensures.grows c.requires.meant
 
 pub returns-clause-grows : goal.returns-clause-grows
-returns-clause-grows c = grows_more c.in_ok-operands.ensures.grows c.in_ok-operands-2.ensures.grows
+returns-clause-grows c = grows_more c.in_ok-inputs.ensures.grows c.in_ok-outputs.ensures.grows
 
 pub returns-clause-builder : goal.returns-clause-builder
 returns-clause-builder c = subst (IsBuilderOf c.operands-2.new.vars c.args.names.now c.args.row.now)
     (sym (c.with_marks.ensures
     ∙ ap (λ (b : Builder). record b { marks = marks_added b.marks c.args.row.now.marks.now })
     (c.operands_out-builder.ensures
-    ∙ ap (λ (b : Builder). record b { operands_out = Some c.in_ok-operands-2.field-0.items })
-    (c.operands_in-builder.ensures ∙ ap (λ (b : Builder). record b { operands_in = Some c.in_ok-operands.field-0.items }) c.new-builder.ensures))))
+    ∙ ap (λ (b : Builder). record b { operands_out = Some c.in_ok-outputs.outputs.items })
+    (c.operands_in.ensures ∙ ap (λ (b : Builder). record b { operands_in = Some c.in_ok-inputs.inputs.items }) c.in_ok-builder.ensures))))
     (record {
-      name = c.in_ok-name.ensures;
-      doc = c.in_ok-doc.ensures;
-      format = c.format.ensures;
-      inputs = operands_grow _ _ _ c.in_ok-operands-2.ensures.grows c.in_ok-operands.ensures.operands;
-      outputs = c.in_ok-operands-2.ensures.operands;
+      name = refl;
+      doc = refl;
+      format = refl;
+      inputs = operands_grow _ _ _ c.in_ok-outputs.ensures.grows c.in_ok-inputs.ensures.operands;
+      outputs = c.in_ok-outputs.ensures.operands;
       marks = refl;
     })

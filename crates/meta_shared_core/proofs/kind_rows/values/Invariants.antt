@@ -1,6 +1,6 @@
 use Rattle.std.proofs.Common.{◌≡◌, drop}
 use Rattle.meta_shared_core.specs.Kinds.{with_values, values_of}
-use Rattle.meta_shared_core.proofs.immediates.values.Given as goal
+use Rattle.meta_shared_core.proofs.kind_rows.values.Given as goal
 
 -- with the values that are left there are all
 abbrev pub invariant-loop-name : goal.invariant-loop-name
