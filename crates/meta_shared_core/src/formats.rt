@@ -340,7 +340,7 @@ impl Formats {
     }
 
     /// The number of the format of this name.
-    pub(crate) fn id(&self, format: Format) -> FormatId
+    pub fn id(&self, format: Format) -> FormatId
         ensures { result ≡ id_of self.now format }
     {
         match format {

@@ -39,7 +39,7 @@ pub enum Kind {
 
 impl Kind {
     /// The kind of this name.
-    pub(crate) fn of<'k>(self, imm: &'k Immediates, entities: &'k EntityRefs) -> &'k OperandKind
+    pub fn of<'k>(self, imm: &'k Immediates, entities: &'k EntityRefs) -> &'k OperandKind
         ensures { result.now ≡ kind_of imm.now entities.now self }
     {
         match self {

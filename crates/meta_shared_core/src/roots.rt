@@ -194,7 +194,7 @@ impl Roots {
     }
 
     /// The variable of this name.
-    pub(crate) fn variable(&self, root: Root) -> TypeVar
+    pub fn variable(&self, root: Root) -> TypeVar
         ensures { result ≡ root_of self.now root }
     {
         match root {

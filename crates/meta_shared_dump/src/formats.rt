@@ -1,6 +1,15 @@
+use super::names::formats;
 use super::shared::Shared;
 use meta_operands::FormatId;
 use std::alloc::AllocError;
+
+/// Writes which value is designated, or `-` for none.
+fn write_designated(out: &mut String, designated: Option<usize>) -> Result<(), AllocError> {
+    match designated {
+        Some(place) => writeln!(out, "{place}"),
+        None => writeln!(out, "-"),
+    }
+}
 
 /// Writes a format.
 fn write_format(
@@ -16,10 +25,7 @@ fn write_format(
     let format = table.get(id);
     let (number, name, list) = (id.number(), format.name.as_str(), format.has_value_list);
     write!(out, "{number}\t{field}\t{name}\t{format}\t{list}\t")?;
-    match format.typevar_operand {
-        Some(place) => writeln!(out, "{place}"),
-        None => writeln!(out, "-"),
-    }
+    write_designated(out, format.typevar_operand)
 }
 
 /// Writes all formats.
@@ -28,8 +34,8 @@ pub(crate) fn write_formats(out: &mut String, shared: &Shared) -> Result<(), All
         out,
         "number\tstruct_field\tname\tdisplay\tvalue_list\tdesignated"
     )?;
-    for (field, id) in shared.format_ids() {
-        write_format(out, shared, field, id)?;
+    for (field, format) in formats() {
+        write_format(out, shared, field, shared.format(*format))?;
     }
     Ok(())
 }

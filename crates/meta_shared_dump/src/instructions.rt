@@ -1,15 +1,17 @@
+use super::names::{kinds, marks, roots};
 use super::shared::Shared;
 use meta_gen::{Declarations, Tables};
-use meta_inst::InstructionContent;
+use meta_inst::{InstructionBuilder, InstructionContent};
 use meta_operands::{Operand, OperandKind};
+use meta_shared_core::Mark;
 use meta_typevar::{TypeVar, TypeVars};
 use std::alloc::{AllocError, Global};
 
 /// The name of a root variable.
 fn token(shared: &Shared, tv: TypeVar) -> &'static str {
-    for (token, root) in shared.root_variables() {
-        if root == tv {
-            return token;
+    for (token, root) in roots() {
+        if shared.root(*root) == tv {
+            return *token;
         }
     }
     "no root"
@@ -22,14 +24,9 @@ fn is_alike(kind: &OperandKind, other: &OperandKind) -> bool {
 
 /// The name of a kind that isn't of values.
 fn kind_name(shared: &Shared, kind: &OperandKind) -> &'static str {
-    for (name, entity) in shared.entity_kinds() {
-        if is_alike(kind, entity) {
-            return name;
-        }
-    }
-    for (name, immediate) in shared.immediate_kinds() {
-        if is_alike(kind, immediate) {
-            return name;
+    for (name, known) in kinds() {
+        if is_alike(kind, shared.kind(*known)) {
+            return *name;
         }
     }
     "no kind"
@@ -57,6 +54,11 @@ fn write_word(
     }
 }
 
+/// What stands before a part of a column: a tab before the first, and else this.
+fn before(place: usize, between: &'static str) -> &'static str {
+    if place == 0 { "\t" } else { between }
+}
+
 /// Writes operands with what they are, or `-` for none.
 fn write_operands(
     out: &mut String,
@@ -64,15 +66,12 @@ fn write_operands(
     vars: &TypeVars,
     operands: &[Operand],
 ) -> Result<(), AllocError> {
-    for (place, operand) in operands.iter().enumerate() {
-        if place > 0 {
-            write!(out, "; ")?;
-        }
-        write!(out, "{}:", operand.name.as_str())?;
-        write_word(out, shared, vars, operand)?;
-    }
     if operands.is_empty() {
-        write!(out, "-")?;
+        return write!(out, "\t-");
+    }
+    for (place, operand) in operands.iter().enumerate() {
+        write!(out, "{}{}:", before(place, "; "), operand.name.as_str())?;
+        write_word(out, shared, vars, operand)?;
     }
     Ok(())
 }
@@ -87,60 +86,77 @@ fn doc<'o>(vars: &'o TypeVars, operand: &'o Operand) -> &'o str {
 
 /// Writes operands with their documentation, or `-` for none.
 fn write_docs(out: &mut String, vars: &TypeVars, operands: &[Operand]) -> Result<(), AllocError> {
-    for (place, operand) in operands.iter().enumerate() {
-        if place > 0 {
-            write!(out, "; ")?;
-        }
-        write!(out, "{}={}", operand.name.as_str(), doc(vars, operand))?;
-    }
     if operands.is_empty() {
-        write!(out, "-")?;
+        return write!(out, "\t-");
+    }
+    for (place, operand) in operands.iter().enumerate() {
+        let (before, name) = (before(place, "; "), operand.name.as_str());
+        write!(out, "{before}{name}={}", doc(vars, operand))?;
     }
     Ok(())
 }
 
+/// Whether the instruction has this mark.
+fn is_marked(instruction: &InstructionContent, mark: Mark) -> bool {
+    match mark {
+        Mark::Branch => instruction.is_branch(),
+        Mark::Terminator => instruction.is_terminator(),
+        Mark::Call => instruction.is_call(),
+        Mark::Return => instruction.is_return(),
+        Mark::Load => instruction.can_load(),
+        Mark::Store => instruction.can_store(),
+        Mark::Trap => instruction.can_trap(),
+        Mark::OtherEffect => instruction.other_side_effects(),
+        Mark::Idempotent => instruction.side_effects_idempotent(),
+        Mark::ImmMethod => instruction.inst_builder_imm_method(),
+    }
+}
+
 /// Writes the marks of an instruction, or `-` for none.
 fn write_marks(out: &mut String, instruction: &InstructionContent) -> Result<(), AllocError> {
-    let marks = [
-        ("terminator", instruction.is_terminator()),
-        ("branch", instruction.is_branch()),
-        ("call", instruction.is_call()),
-        ("return", instruction.is_return()),
-        ("load", instruction.can_load()),
-        ("store", instruction.can_store()),
-        ("trap", instruction.can_trap()),
-        ("other", instruction.other_side_effects()),
-        ("idempotent", instruction.side_effects_idempotent()),
-        ("imm_method", instruction.inst_builder_imm_method()),
-    ];
-    let mut is_first = true;
-    for (name, is_marked) in marks {
-        if !is_marked {
-            continue;
+    let mut between = "\t";
+    for (name, mark) in marks() {
+        if is_marked(instruction, *mark) {
+            write!(out, "{between}{name}")?;
+            between = " ";
         }
-        if !is_first {
-            write!(out, " ")?;
-        }
-        write!(out, "{name}")?;
-        is_first = false;
     }
-    if is_first {
-        write!(out, "-")?;
+    if between == "\t" {
+        return write!(out, "\t-");
     }
     Ok(())
+}
+
+/// Writes the place of a type set, or `-` for none.
+fn write_type_set(out: &mut String, place: u8) -> Result<(), AllocError> {
+    match place {
+        255 => write!(out, "-"),
+        place => write!(out, "{place}"),
+    }
 }
 
 /// Writes what the tables hold of an opcode: flags, type set and constraint offset.
 fn write_constraints(out: &mut String, tables: &Tables, opcode: u16) -> Result<(), AllocError> {
     let Some(constraints) = tables.constraints(opcode) else {
-        return write!(out, "no opcode");
+        return write!(out, "\tno opcode");
     };
-    write!(out, "0x{:02x}\t", constraints.flags)?;
-    match constraints.typeset_offset {
-        255 => write!(out, "-")?,
-        place => write!(out, "{place}")?,
-    }
+    write!(out, "\t0x{:02x}\t", constraints.flags)?;
+    write_type_set(out, constraints.typeset_offset)?;
     write!(out, "\t{}", constraints.constraint_offset)
+}
+
+/// Writes the number, the name and the format of an instruction.
+fn write_name(
+    out: &mut String,
+    tables: &Tables,
+    opcode: u16,
+    instruction: &InstructionContent,
+) -> Result<(), AllocError> {
+    let name = instruction.name().as_str();
+    match tables.opcode_format(opcode) {
+        Some(format) => write!(out, "{opcode}\t{name}\t{}", format.as_str()),
+        None => write!(out, "{opcode}\t{name}\tno opcode"),
+    }
 }
 
 /// Writes an instruction.
@@ -152,28 +168,35 @@ fn write_instruction(
     opcode: u16,
     instruction: &InstructionContent,
 ) -> Result<(), AllocError> {
-    let Some(format) = tables.opcode_format(opcode) else {
-        return writeln!(out, "no opcode");
-    };
-    let (inputs, outputs) = (instruction.operands_in(), instruction.operands_out());
-    write!(
-        out,
-        "{opcode}\t{}\t{}\t",
-        instruction.name().as_str(),
-        format.as_str()
-    )?;
-    write_operands(out, shared, vars, inputs)?;
-    write!(out, "\t")?;
-    write_operands(out, shared, vars, outputs)?;
-    write!(out, "\t")?;
+    write_name(out, tables, opcode, instruction)?;
+    write_operands(out, shared, vars, instruction.operands_in())?;
+    write_operands(out, shared, vars, instruction.operands_out())?;
     write_marks(out, instruction)?;
-    write!(out, "\t")?;
     write_constraints(out, tables, opcode)?;
-    write!(out, "\t{instruction}\t{}\t", instruction.doc().as_str())?;
-    write_docs(out, vars, inputs)?;
-    write!(out, "\t")?;
-    write_docs(out, vars, outputs)?;
+    write!(out, "\t{instruction}\t{}", instruction.doc().as_str())?;
+    write_docs(out, vars, instruction.operands_in())?;
+    write_docs(out, vars, instruction.operands_out())?;
     writeln!(out)
+}
+
+/// Writes an instruction as it is declared.
+fn write_builder(
+    out: &mut String,
+    alloc: Global,
+    shared: &Shared,
+    declarations: &Declarations,
+    tables: &Tables,
+    opcode: u16,
+    builder: &InstructionBuilder,
+) -> Result<(), AllocError> {
+    let (vars, formats) = (declarations.vars(), declarations.formats());
+    if !builder.fits(vars, formats) {
+        return writeln!(out, "{opcode}\tno instruction");
+    }
+    match builder.build(alloc, vars, formats, u64::from(opcode)) {
+        Ok(content) => write_instruction(out, shared, vars, tables, opcode, &content),
+        Err(_) => writeln!(out, "{opcode}\trefused"),
+    }
 }
 
 /// Writes all instructions.
@@ -188,19 +211,11 @@ pub(crate) fn write_instructions(
         out,
         "number\tname\tformat\tinputs\toutputs\tmarks\tflags\ttype_set\tconstraint_offset\tdisplay\tdoc\tinput_docs\toutput_docs"
     )?;
-    let (vars, formats) = (declarations.vars(), declarations.formats());
     let instructions = declarations.instructions();
     for k in 0..instructions.len() {
-        let builder = instructions.get(k);
         let opcode = (k % 255) as u16 + 1;
-        if !builder.fits(vars, formats) {
-            writeln!(out, "{opcode}\tno instruction")?;
-            continue;
-        }
-        match builder.build(alloc, vars, formats, u64::from(opcode)) {
-            Ok(content) => write_instruction(out, shared, vars, tables, opcode, &content)?,
-            Err(_) => writeln!(out, "{opcode}\trefused")?,
-        }
+        let builder = instructions.get(k);
+        write_builder(out, alloc, shared, declarations, tables, opcode, builder)?;
     }
     Ok(())
 }

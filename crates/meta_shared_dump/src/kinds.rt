@@ -1,3 +1,4 @@
+use super::names::kinds;
 use super::shared::Shared;
 use meta_operands::{EnumValues, Operand, OperandKind, OperandKindFields};
 use meta_types::Text;
@@ -17,10 +18,8 @@ fn class(kind: &OperandKind) -> &'static str {
 /// Writes the values of an enum with their variants.
 fn write_values(out: &mut String, values: &EnumValues) -> Result<(), AllocError> {
     for (place, (name, variant)) in values.iter().enumerate() {
-        if place > 0 {
-            write!(out, " ")?;
-        }
-        write!(out, "{}={}", name.as_str(), variant.as_str())?;
+        let before = if place == 0 { "" } else { " " };
+        write!(out, "{before}{}={}", name.as_str(), variant.as_str())?;
     }
     Ok(())
 }
@@ -38,6 +37,18 @@ fn write_doc(out: &mut String, shared: &Shared, operand: &Operand) -> Result<(),
     }
 }
 
+/// Writes the documentation of an operand that may have been made.
+fn write_operand(
+    out: &mut String,
+    shared: &Shared,
+    operand: Result<Operand, AllocError>,
+) -> Result<(), AllocError> {
+    match operand {
+        Ok(operand) => write_doc(out, shared, &operand),
+        Err(error) => Err(error),
+    }
+}
+
 /// Writes a kind.
 fn write_kind(
     out: &mut String,
@@ -52,7 +63,7 @@ fn write_kind(
         Some(values) => write_values(out, values)?,
         None => write!(out, "-")?,
     }
-    write_doc(out, shared, &operand(alloc, name, kind)?)
+    write_operand(out, shared, operand(alloc, name, kind))
 }
 
 /// Writes all kinds.
@@ -65,11 +76,8 @@ pub(crate) fn write_kinds(
         out,
         "struct_field\tfield_name\trust_type\tfields\tvalues\tdoc"
     )?;
-    for (name, kind) in shared.entity_kinds() {
-        write_kind(out, alloc, shared, name, kind)?;
-    }
-    for (name, kind) in shared.immediate_kinds() {
-        write_kind(out, alloc, shared, name, kind)?;
+    for (name, kind) in kinds() {
+        write_kind(out, alloc, shared, name, shared.kind(*kind))?;
     }
     Ok(())
 }

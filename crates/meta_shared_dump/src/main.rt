@@ -5,6 +5,7 @@
 mod formats;
 mod instructions;
 mod kinds;
+mod names;
 mod roots;
 mod settings;
 mod shared;

@@ -1,3 +1,4 @@
+use super::names::roots;
 use super::shared::Shared;
 use meta_typevar::TypeVar;
 use std::alloc::{AllocError, Global};
@@ -36,8 +37,8 @@ pub(crate) fn write_roots(
     shared: &Shared,
 ) -> Result<(), AllocError> {
     writeln!(out, "token\tname\tlanes\tdynamic_lanes\tints\tfloats\tdoc")?;
-    for (token, tv) in shared.root_variables() {
-        write_root(out, alloc, shared, token, tv)?;
+    for (token, root) in roots() {
+        write_root(out, alloc, shared, token, shared.root(*root))?;
     }
     Ok(())
 }
