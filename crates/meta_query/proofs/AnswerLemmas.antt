@@ -1,16 +1,50 @@
 -- The answers of lines, one line after another.
-use Rattle.std.proofs.Common.{◌≡◌, ℕ, List, [], ◌∷◌, ◌++◌, append_assoc, refl, sym, subst}
+use Rattle.std.proofs.Common.{◌≡◌, ℕ, ◌==◌, false, List, [], ◌∷◌, ◌++◌, length, append_assoc, inl, inr, refl, sym, ap, ◌∙◌, subst}
+use Rattle.std.specs.Prelude.{Result, Ok, Err, OnOk, is_ok, if◌then◌else◌}
 use Rattle.std.proofs.lemmas.List.{append-nil}
-use Rattle.meta_query.specs.Answer.{IsAnswered, AreAnswers}
+use Rattle.meta_gen.specs.WholeTables.{WholeTables}
+use Rattle.meta_query.specs.Words.{AreWords}
+use Rattle.meta_query.specs.Question.{Question, IsQuestion}
+use Rattle.meta_query.specs.Query.{Asked, OfQuestion, OfSetting, setting_words, Asks}
+use Rattle.meta_query.specs.Reply.{reply_text}
+use Rattle.meta_query.specs.Answer.{AllowedReply, SettingReply, IsTableReply, reply_line, IsWrittenAnswer, AreWrittenAnswers}
 use Rattle.meta_query.specs.declared.reply.Reply.{Reply}
+use Rattle.meta_query.specs.declared.reply.Reply.TheVariants.{Bad}
+
+module _ (tables : WholeTables) (line : List ℕ) where
+  -- the reply to the setting that a line asks for is the reply to the line
+  pub of_setting : (name old new : List ℕ) → AreWords line (setting_words name) → (reply : Reply) × SettingReply tables name reply × (new ≡ old ++ reply_text reply) → (reply : Reply) × IsTableReply tables line reply × (new ≡ old ++ reply_text reply)
+  of_setting name old new words h = (h.0, inl (OfSetting name, words, h.1), h.2)
+
+  -- so is the reply to its question
+  pub of_question : (q : Question) (reply : Reply) → IsQuestion line q → AllowedReply tables.opcodes q reply → IsTableReply tables line reply
+  of_question q reply asks allowed = inl (OfQuestion q, asks, allowed)
+
+  -- and a line that asks neither is bad
+  pub of_nothing : ((q : Question) → IsQuestion line q → ⊥) → ((name : List ℕ) → Asks line (OfSetting name) → ⊥) → IsTableReply tables line Bad
+  of_nothing question setting = inr (refl, by_case)
+    where
+      by_case : (q : Asked) → Asks line q → ⊥
+      by_case (OfQuestion q) asks = question q asks
+      by_case (OfSetting name) asks = setting name asks
+
+-- a text is pushed where that is said to be done
+pub pushed : {T E : Type 0} (r : Result T E) (old new text : List ℕ) → new ≡ (if is_ok r then old ++ text else old) → OnOk r (new ≡ old ++ text)
+pushed (Ok x) old new text e = e
+pushed (Err x) old new text e = tt
+
+-- a line that isn't empty is answered by its reply and LF
+pub written : (R : List ℕ → Reply → Type 0) (line old more new : List ℕ) → false ≡ (length line == 0) → (reply : Reply) × R line reply × (more ≡ old ++ reply_text reply) → new ≡ more ++ 10 ∷ [] → (text : List ℕ) × IsWrittenAnswer R line text × (new ≡ old ++ text)
+written R [] old more new some h e = absurd (cc)
+written R (c ∷ cs) old more new some (reply, is, added) e = (reply_line reply, (reply, is, refl), e ∙ ap (λ m. m ++ 10 ∷ []) added ∙ append_assoc old (reply_text reply) (10 ∷ []))
 
 -- one more line is answered
-pub more_answers : (R : List ℕ → Reply → Type 0) (all lines left : List (List ℕ)) (line out more : List ℕ) → lines ≡ line ∷ left → (text : List ℕ) × IsAnswered R line text × (more ≡ out ++ text) → ((rest : List ℕ) → AreAnswers R lines rest → AreAnswers R all (out ++ rest)) → (rest : List ℕ) → AreAnswers R left rest → AreAnswers R all (more ++ rest)
+pub more_answers : (R : List ℕ → Reply → Type 0) (all lines left : List (List ℕ)) (line out more : List ℕ) → lines ≡ line ∷ left → (text : List ℕ) × IsWrittenAnswer R line text × (more ≡ out ++ text) → ((rest : List ℕ) → AreWrittenAnswers R lines rest → AreWrittenAnswers R all (out ++ rest)) → (rest : List ℕ) → AreWrittenAnswers R left rest → AreWrittenAnswers R all (more ++ rest)
 more_answers R all lines left line out more e h before rest answers =
-    let whole : AreAnswers R lines (h.0 ++ rest) = subst (λ ls. AreAnswers R ls (h.0 ++ rest)) (sym e) (h.0, rest, h.1, answers, refl) in
+    let whole : AreWrittenAnswers R lines (h.0 ++ rest) = subst (λ ls. AreWrittenAnswers R ls (h.0 ++ rest)) (sym e) (h.0, rest, h.1, answers, refl) in
     let pushed = h.2 in
     rw (pushed, append_assoc) (before (h.0 ++ rest) whole)
 
 -- all lines are answered
-pub all_answers : (R : List ℕ → Reply → Type 0) (all lines : List (List ℕ)) (out : List ℕ) → lines ≡ [] → ((rest : List ℕ) → AreAnswers R lines rest → AreAnswers R all (out ++ rest)) → AreAnswers R all out
-all_answers R all lines out e before = subst (AreAnswers R all) (append-nil out) (before [] (subst (λ ls. AreAnswers R ls []) (sym e) refl))
+pub all_answers : (R : List ℕ → Reply → Type 0) (all lines : List (List ℕ)) (out : List ℕ) → lines ≡ [] → ((rest : List ℕ) → AreWrittenAnswers R lines rest → AreWrittenAnswers R all (out ++ rest)) → AreWrittenAnswers R all out
+all_answers R all lines out e before = subst (AreWrittenAnswers R all) (append-nil out) (before [] (subst (λ ls. AreWrittenAnswers R ls []) (sym e) refl))

@@ -1,6 +1,7 @@
 mod PieceLemmas
 mod LineLemmas
 mod NameLemmas
+mod TypeNumbers
 mod QuestionLemmas
 mod QueryLemmas
 mod AnswerLemmas

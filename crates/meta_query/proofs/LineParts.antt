@@ -14,7 +14,7 @@ use Rattle.meta_gen.specs.declared.descriptor.Descriptor.{Descriptor}
 use Rattle.meta_gen.specs.FoundSetting.{FindsEntry}
 use Rattle.meta_gen.specs.GroupTables.{GroupContents, names_in, default_in}
 use Rattle.meta_gen.specs.WholeTables.{WholeTables, OfGroup, HasNoGroup}
-use Rattle.meta_query.specs.SettingLine.{ToldBool, ToldNum, ToldEnum, ToldPreset, told_line, listed, is_setting_detail, settings_in, is_on_at, names_on, detail_told, line_in}
+use Rattle.meta_query.specs.SettingLine.{BoolFacts, NumFacts, EnumFacts, PresetFacts, line_of_facts, listed, is_setting_detail, settings_in, is_on_at, names_on, facts_in, line_in}
 use Rattle.meta_query.specs.Answer.{IsLineInTables}
 
 -- ---- lists of names
@@ -105,21 +105,21 @@ module _ (masks : List ℕ) (start : ℕ) where
 
 module _ (g : GroupContents) (d : Descriptor) where
   module _ (r : Option ℕ) (default : ℕ) (answered : r ≡ default_in (get_or g.defaults d.offset 0) d.detail) (is : default ≡ unwrap_or r 0) where
-    pub bool_told : (bit : ℕ) → d.detail ≡ BoolDetail bit → told_line d.name (ToldBool d.offset bit (default == 1)) ≡ line_in g d
-    bool_told bit detail =
+    pub bool_line : (bit : ℕ) → d.detail ≡ BoolDetail bit → line_of_facts d.name (BoolFacts d.offset bit (default == 1)) ≡ line_in g d
+    bool_line bit detail =
         let own : default ≡ bit_at (get_or g.defaults d.offset 0) bit = is ∙ ap (λ o. unwrap_or o 0) (answered ∙ ap (default_in (get_or g.defaults d.offset 0)) detail) in
-        ap (λ n. told_line d.name (ToldBool d.offset bit (n == 1))) own ∙ ap (λ e. told_line d.name (detail_told g d.offset e)) (sym detail)
+        ap (λ n. line_of_facts d.name (BoolFacts d.offset bit (n == 1))) own ∙ ap (λ e. line_of_facts d.name (facts_in g d.offset e)) (sym detail)
 
-    pub num_told : d.detail ≡ NumDetail → told_line d.name (ToldNum d.offset default) ≡ line_in g d
-    num_told detail =
+    pub num_line : d.detail ≡ NumDetail → line_of_facts d.name (NumFacts d.offset default) ≡ line_in g d
+    num_line detail =
         let own : default ≡ get_or g.defaults d.offset 0 = is ∙ ap (λ o. unwrap_or o 0) (answered ∙ ap (default_in (get_or g.defaults d.offset 0)) detail) in
-        ap (λ n. told_line d.name (ToldNum d.offset n)) own ∙ ap (λ e. told_line d.name (detail_told g d.offset e)) (sym detail)
+        ap (λ n. line_of_facts d.name (NumFacts d.offset n)) own ∙ ap (λ e. line_of_facts d.name (facts_in g d.offset e)) (sym detail)
 
-  pub enum_told : (last place : ℕ) (values : List (List ℕ)) → d.detail ≡ EnumDetail last place → values ≡ take (last + 1) (drop place g.enumerators) → told_line d.name (ToldEnum d.offset values) ≡ line_in g d
-  enum_told last place values detail is = ap (λ v. told_line d.name (ToldEnum d.offset v)) is ∙ ap (λ e. told_line d.name (detail_told g d.offset e)) (sym detail)
+  pub enum_line : (last place : ℕ) (values : List (List ℕ)) → d.detail ≡ EnumDetail last place → values ≡ take (last + 1) (drop place g.enumerators) → line_of_facts d.name (EnumFacts d.offset values) ≡ line_in g d
+  enum_line last place values detail is = ap (λ v. line_of_facts d.name (EnumFacts d.offset v)) is ∙ ap (λ e. line_of_facts d.name (facts_in g d.offset e)) (sym detail)
 
-  pub preset_told : (names : List (List ℕ)) → d.detail ≡ Preset → names ≡ names_on g d.offset → told_line d.name (ToldPreset names) ≡ line_in g d
-  preset_told names detail is = ap (λ n. told_line d.name (ToldPreset n)) is ∙ ap (λ e. told_line d.name (detail_told g d.offset e)) (sym detail)
+  pub preset_line_in : (names : List (List ℕ)) → d.detail ≡ Preset → names ≡ names_on g d.offset → line_of_facts d.name (PresetFacts names) ≡ line_in g d
+  preset_line_in names detail is = ap (λ n. line_of_facts d.name (PresetFacts n)) is ∙ ap (λ e. line_of_facts d.name (facts_in g d.offset e)) (sym detail)
 
 -- ---- the entry that has the name
 
@@ -131,11 +131,11 @@ module _ (tables : WholeTables) (name : List ℕ) (number : ℕ) (found : Option
   finds_number : (g : GroupContents) → slice_get tables.groups 0 ≡ Some g → FindsEntry (names_in g.descriptors) name (Some number)
   finds_number g at = subst (FindsEntry (names_in g.descriptors) name) is_found (finds g at)
 
-  -- its line is that in the tables
-  pub line_found : (d : Descriptor) (line : List ℕ) → OfGroup tables 0 (λ g. Some d ≡ slice_get g.descriptors number) → OfGroup tables 0 (λ g. slice_get g.descriptors number ≡ Some d → line ≡ line_in g d) → IsLineInTables tables name line
-  line_found d line there is =
+  -- its line, which was added, is that in the tables
+  pub line_added : (d : Descriptor) (old new : List ℕ) → OfGroup tables 0 (λ g. Some d ≡ slice_get g.descriptors number) → OfGroup tables 0 (λ g. slice_get g.descriptors number ≡ Some d → new ≡ old ++ line_in g d) → (line : List ℕ) × IsLineInTables tables name line × (new ≡ old ++ line)
+  line_added d old new there is =
       let (g, at) = first_group tables.groups refl in
-      record { group = g; group_is = at; entry = number; named = finds_number g at; descriptor = d; there = sym (there g at); line_is = is g at (sym (there g at)) }
+      (line_in g d, record { group = g; group_is = at; entry = number; named = finds_number g at; descriptor = d; there = sym (there g at); line_is = refl }, is g at (sym (there g at)))
 
   -- it has a descriptor
   pub has_descriptor : OfGroup tables 0 (λ g. None ≡ slice_get g.descriptors number) → ⊥

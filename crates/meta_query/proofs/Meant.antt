@@ -17,7 +17,7 @@ use Rattle.meta_gen.specs.WholeTables.{WholeTables, AreTablesOfGroups, AreWholeT
 use Rattle.meta_settings.specs.GroupDeclaration.{GroupDeclaration}
 use Rattle.meta_query.specs.Question.{Question, IsQuestion}
 use Rattle.meta_query.specs.Query.{Asked, OfQuestion, OfSetting, Asks}
-use Rattle.meta_query.specs.Answer.{AllowsAsked, AllowedReply, IsLineInTables, SettingReply, TablesReply, IsTableReply, AcceptsAsked, AcceptedReply, IsLineOfEntry, EntryReply, DeclaredReply, IsReply, IsAnswered, AreAnswers}
+use Rattle.meta_query.specs.Answer.{AllowsAsked, AllowedReply, IsLineInTables, SettingReply, TablesReply, IsTableReply, AcceptsAsked, AcceptedReply, IsLineOfEntry, EntryReply, DeclaredReply, IsReply, IsWrittenAnswer, AreWrittenAnswers}
 use Rattle.meta_query.specs.declared.reply.Reply.{Reply}
 use Rattle.meta_query.specs.declared.reply.Reply.TheVariants.{Accept, Refuse, Unknown, Bad, Setting}
 use Rattle.meta_query.proofs.SettingLines.{same_line}
@@ -179,11 +179,11 @@ module _ (d : Declared) (tables : WholeTables) (made : AreWholeTablesOf d tables
   reply_means line reply (inl (q, asks, h)) = inl (q, asks, query_means line q asks reply h)
   reply_means line reply (inr h) = inr h
 
-  answer_means : (line text : List ℕ) → IsAnswered (IsTableReply tables) line text → IsAnswered (IsReply d) line text
+  answer_means : (line text : List ℕ) → IsWrittenAnswer (IsTableReply tables) line text → IsWrittenAnswer (IsReply d) line text
   answer_means [] text h = h
   answer_means (c ∷ cs) text (reply, is, e) = (reply, reply_means (c ∷ cs) reply is, e)
 
   -- what the tables answer to lines is what the declarations mean
-  pub answers_mean : (lines : List (List ℕ)) (out : List ℕ) → AreAnswers (IsTableReply tables) lines out → AreAnswers (IsReply d) lines out
+  pub answers_mean : (lines : List (List ℕ)) (out : List ℕ) → AreWrittenAnswers (IsTableReply tables) lines out → AreWrittenAnswers (IsReply d) lines out
   answers_mean [] out h = h
   answers_mean (line ∷ lines) out (first, rest, is, others, e) = (first, rest, answer_means line first is, answers_mean lines rest others, e)

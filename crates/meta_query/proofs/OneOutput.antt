@@ -19,7 +19,7 @@ use Rattle.meta_gen.specs.AllDeclared.{Declared, AreValidGroups, AreValid}
 use Rattle.meta_query.specs.Question.{Question}
 use Rattle.meta_query.specs.Query.{Asked, OfQuestion, OfSetting}
 use Rattle.meta_query.specs.SettingLine.{entry_lines}
-use Rattle.meta_query.specs.Answer.{AcceptsAsked, IsAskedFor, AcceptedReply, IsLineOfEntry, EntryReply, DeclaredReply, IsReply, reply_line, IsAnswered, AreAnswers, IsOutput}
+use Rattle.meta_query.specs.Answer.{AcceptsAsked, IsAskedFor, AcceptedReply, IsLineOfEntry, EntryReply, DeclaredReply, IsReply, reply_line, IsWrittenAnswer, AreWrittenAnswers, IsOutput}
 use Rattle.meta_query.specs.declared.reply.Reply.{Reply}
 use Rattle.meta_query.specs.declared.reply.Reply.TheVariants.{Accept, Refuse, Unknown, Bad, Setting}
 use Rattle.meta_query.proofs.QueryLemmas.{one_query}
@@ -100,11 +100,11 @@ module _ (apart : (g : GroupDeclaration) → IsValidGroup g → AreDifferentName
   one_reply line r s (inr (bad, none)) (inl (q, asks, h)) = absurd (none q asks)
   one_reply line r s (inr (bad, none)) (inr (too, nothing)) = bad ∙ sym too
 
-  one_answer : (line a b : List ℕ) → IsAnswered (IsReply d) line a → IsAnswered (IsReply d) line b → a ≡ b
+  one_answer : (line a b : List ℕ) → IsWrittenAnswer (IsReply d) line a → IsWrittenAnswer (IsReply d) line b → a ≡ b
   one_answer [] a b h g = h ∙ sym g
   one_answer (x ∷ xs) a b (r, is, text) (s, other, written) = text ∙ ap reply_line (one_reply (x ∷ xs) r s is other) ∙ sym written
 
-  one_list : (lines : List (List ℕ)) (a b : List ℕ) → AreAnswers (IsReply d) lines a → AreAnswers (IsReply d) lines b → a ≡ b
+  one_list : (lines : List (List ℕ)) (a b : List ℕ) → AreWrittenAnswers (IsReply d) lines a → AreWrittenAnswers (IsReply d) lines b → a ≡ b
   one_list [] a b h g = h ∙ sym g
   one_list (line ∷ lines) a b (first, rest, h, hs, is) (other, others, g, gs, too) = is ∙ ap₂ ◌++◌ (one_answer line first other h g) (one_list lines rest others hs gs) ∙ sym too
 

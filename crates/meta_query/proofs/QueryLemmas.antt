@@ -20,7 +20,7 @@ asks_setting line name pieces named =
     }
 
 -- a line of other words asks for none
-no_setting : (line : List ℕ) → ((name : List ℕ) → 0 < length name → pieces_of 32 line ≢ setting_words name) → (name : List ℕ) → AreWords line (setting_words name) → ⊥
+pub no_setting : (line : List ℕ) → ((name : List ℕ) → 0 < length name → pieces_of 32 line ≢ setting_words name) → (name : List ℕ) → AreWords line (setting_words name) → ⊥
 no_setting line none name h = none name (All-head IsWord name [] (All-tail IsWord (codes "setting") (name ∷ []) h.each)).has_bytes (pieces_of-words line _ _ h)
 
 -- so a line that asks no question either asks nothing

@@ -6,13 +6,11 @@ use Rattle.std.proofs.lemmas.Bool.{false≢true}
 use Rattle.std.specs.Option.{option_map}
 use Rattle.std.proofs.lemmas.List.Splits.{join_with_byte-slice_split}
 use Rattle.meta_types.specs.Shape.{Shape, IsType, name_of, number_of}
-use Rattle.meta_types.specs.ValueTypes.{shape_of}
-use Rattle.meta_types.specs.declared.value_type.ValueType.{ValueType}
 use Rattle.meta_query.specs.Words.{IsWord, AreWords, pieces_of}
+use Rattle.meta_query.specs.TypeNumber.{type_with, IsTypeNumber}
 use Rattle.meta_query.specs.Question.{Question, IsQuestion, control_text, types_text, words_of}
 use Rattle.meta_query.proofs.PieceLemmas.{slice_split_cons, All-slice_split, pieces_of-join}
 use Rattle.meta_types.proofs.Names.{one_name}
-use Rattle.meta_types.proofs.Typed.{typed}
 use Rattle.meta_query.proofs.NameLemmas.{has_no_comma, no_dash}
 
 -- the words of a line are its pieces between spaces
@@ -69,9 +67,15 @@ one_question line q p h k =
 
 -- ---- from words to types
 
-pub all_named : (ts : List ValueType) → All IsType (map shape_of ts)
-all_named [] = All-nil IsType
-all_named (t ∷ ts) = All-cons IsType (shape_of t) (map shape_of ts) (typed t) (all_named ts)
+-- numbers of types name types
+pub all_types : (ns : List ℕ) → All IsTypeNumber ns → All IsType (map type_with ns)
+all_types [] h = All-nil IsType
+all_types (n ∷ ns) h = All-cons IsType (type_with n) (map type_with ns) (All-head IsTypeNumber n ns h).is_type (all_types ns (All-tail IsTypeNumber n ns h))
+
+-- and are those of the types
+pub numbers_back : (ns : List ℕ) → All IsTypeNumber ns → map number_of (map type_with ns) ≡ ns
+numbers_back [] h = refl
+numbers_back (n ∷ ns) h = ap₂ ◌∷◌ (All-head IsTypeNumber n ns h).numbered (numbers_back ns (All-tail IsTypeNumber n ns h))
 
 -- names that stand in a list are those of types
 refused_names : (xs ts : List Shape) (name : List ℕ) (rest : List (List ℕ)) → All IsType ts → map name_of xs ++ name ∷ rest ≡ map name_of ts → ((u : Shape) → IsType u → name_of u ≢ name) → ⊥
@@ -96,9 +100,10 @@ listed (t ∷ ts) word left h l =
     let names : map name_of (t ∷ ts) ≡ pieces_of 44 word = sym (append-nil (map name_of (t ∷ ts))) ∙ ap (λ ns. map name_of (t ∷ ts) ++ ns) (sym l) ∙ h in
     ap (join_with_byte 44) names ∙ join_with_byte-slice_split 44 word
 
-pub shown_numbers : (ts : List ValueType) → map (λ t. number_of (shape_of t)) ts ≡ map number_of (map shape_of ts)
-shown_numbers [] = refl
-shown_numbers (t ∷ ts) = ap (λ ns. number_of (shape_of t) ∷ ns) (shown_numbers ts)
+-- one more name is the number's
+pub one_more : (ns : List ℕ) (n : ℕ) (name : List ℕ) (left rest all : List (List ℕ)) → map name_of (map type_with ns) ++ left ≡ all → left ≡ name ∷ rest → name_of (type_with n) ≡ name → map name_of (map type_with (ns ++ n ∷ [])) ++ rest ≡ all
+one_more [] n name left rest all h l e = ap (λ x. x ∷ rest) e ∙ sym l ∙ h
+one_more (m ∷ ns) n name left rest all h l e = ap (λ xs. name_of (type_with m) ∷ xs) (one_more ns n name left rest _ refl l e) ∙ h
 
 -- ---- from a line to its question
 
@@ -138,33 +143,33 @@ types_have_bytes [] = omega arith
 types_have_bytes (t ∷ []) = omega arith
 types_have_bytes (t ∷ u ∷ ts) = omega arith
 
-control_named : (c : Option ValueType) → IfSome (option_map shape_of c) IsType
-control_named None = tt
-control_named (Some t) = typed t
+control_type : (c : Option ℕ) → IfSome c IsTypeNumber → IfSome (option_map type_with c) IsType
+control_type None h = tt
+control_type (Some n) h = h.is_type
 
 -- the line whose pieces are the words of q asks q
-pub asks : (line name control results values : List ℕ) (c : Option ValueType) (rs vs : List ValueType) → pieces_of 32 line ≡ codes "accept" ∷ name ∷ control ∷ results ∷ values ∷ [] → 0 < length name
-    → control_text (option_map shape_of c) ≡ control → types_text (map shape_of rs) ≡ results → types_text (map shape_of vs) ≡ values
-    → IsQuestion line (record { name = name; control = option_map shape_of c; results = map shape_of rs; values = map shape_of vs })
-asks line name control results values c rs vs h n ce re ve =
+pub asks : (line name control results values : List ℕ) (c : Option ℕ) (rs vs : List ℕ) → IfSome c IsTypeNumber → All IsTypeNumber rs → All IsTypeNumber vs → pieces_of 32 line ≡ codes "accept" ∷ name ∷ control ∷ results ∷ values ∷ [] → 0 < length name
+    → control_text (option_map type_with c) ≡ control → types_text (map type_with rs) ≡ results → types_text (map type_with vs) ≡ values
+    → IsQuestion line (record { name = name; control = option_map type_with c; results = map type_with rs; values = map type_with vs })
+asks line name control results values c rs vs ck rk vk h n ce re ve =
     let P : List ℕ → Type 0 = λ w. 0 < length w in
-    let cw = control_text (option_map shape_of c) in
-    let rw' = types_text (map shape_of rs) in
-    let vw = types_text (map shape_of vs) in
+    let cw = control_text (option_map type_with c) in
+    let rw' = types_text (map type_with rs) in
+    let vw = types_text (map type_with vs) in
     let words : List (List ℕ) = codes "accept" ∷ name ∷ cw ∷ rw' ∷ vw ∷ [] in
     let pieces : pieces_of 32 line ≡ words = cc in
     let some : All P words =
     All-cons P (codes "accept") (name ∷ cw ∷ rw' ∷ vw ∷ []) (omega arith)
     (All-cons P name (cw ∷ rw' ∷ vw ∷ []) n
-    (All-cons P cw (rw' ∷ vw ∷ []) (control_has_bytes (option_map shape_of c))
-    (All-cons P rw' (vw ∷ []) (types_have_bytes (map shape_of rs))
-    (All-cons P vw [] (types_have_bytes (map shape_of vs)) (All-nil P))))) in
+    (All-cons P cw (rw' ∷ vw ∷ []) (control_has_bytes (option_map type_with c))
+    (All-cons P rw' (vw ∷ []) (types_have_bytes (map type_with rs))
+    (All-cons P vw [] (types_have_bytes (map type_with vs)) (All-nil P))))) in
     record {
       words = record {
         parted = sym (join_with_byte-slice_split 32 line) ∙ ap (join_with_byte 32) pieces;
         each = words_from words some (All-same (λ w. All (λ b. (b == 32) ≡ false) w) words (pieces_of 32 line) (sym pieces) (All-slice_split (λ b. b == 32) line));
       };
-      control = control_named c;
-      results = all_named rs;
-      values = all_named vs;
+      control = control_type c ck;
+      results = all_types rs rk;
+      values = all_types vs vk;
     }

@@ -1,5 +1,5 @@
 -- From the parts of a run to the whole.
-use Rattle.std.proofs.Common.{◌≡◌, ◌↔◌, ◌<◌, ◌≤◌, ℕ, List, [], ◌++◌, length, length-append, Option, None, Some, refl, sym, ap, ◌∙◌, subst, arith}
+use Rattle.std.proofs.Common.{◌≡◌, ◌≢◌, ◌↔◌, ◌<◌, ◌≤◌, ℕ, List, [], ◌++◌, length, length-append, Option, None, Some, refl, sym, ap, ◌∙◌, subst, arith}
 use Rattle.std.proofs.lemmas.List.{append-nil}
 use Rattle.meta_types.specs.declared.fault.DefinitionError.{DefinitionError}
 use Rattle.meta_meaning.specs.Tables.{Allows}
@@ -9,7 +9,7 @@ use Rattle.meta_gen.specs.WholeTables.{WholeTables, AreWholeTablesOf}
 use Rattle.meta_text.specs.Outside.{Rose, with_front, with_more, NothingLeft, longest_input, GaveMore, GaveAtMost}
 use Rattle.meta_query.specs.Lines.{lines_of}
 use Rattle.meta_query.specs.Answer.{IsOutput, refusal}
-use Rattle.meta_query.specs.Run.{IsCommand, IsAnsweredWhole, IsRefusedWhole, IsAnsweredInPart, IsWritten, IsWrittenInPart, Answers, Refuses}
+use Rattle.meta_query.specs.Run.{IsCommand, IsAnsweredWhole, IsRefusedWhole, IsAnsweredInPart, IsWritten, IsWrittenInPart, AnswersInput, RefusesDeclarations}
 use Rattle.meta_query.specs.declared.status.Status.{Status}
 use Rattle.meta_query.specs.declared.status.Status.TheVariants.{Done, Refused, Usage, ReadFault, WriteFault, OutOfMemory, TooLong}
 use Rattle.meta_query.proofs.Meant.{answers_mean}
@@ -51,7 +51,7 @@ gave_within input left' few h = within left' h.given
 -- where declarations show one first fault at most, and valid ones show none
 module _ (one_fault : (d : Declared) (e f : DefinitionError) → ShowsFirst d e → ShowsFirst d f → e ≡ f) (no_fault : (d : Declared) (e : DefinitionError) → AreValid d → ShowsFirst d e → ⊥) (d : Declared) (words : List (List ℕ)) (left left' taken taken' : Option (List ℕ)) (reads reads' writes writes' : ℕ) where
   -- from the causes of each ending, that valid declarations are answered
-  pub headline : (status : Status) → (status ≡ Usage → IsCommand words → ⊥) → (status ≡ Done → IsCommand words × IsAnsweredWhole d left left' taken taken') → (status ≡ Refused → IsCommand words × IsRefusedWhole d taken taken') → (status ≡ ReadFault → IsCommand words × AreValid d × Rose reads reads') → (status ≡ WriteFault → IsCommand words × Rose writes writes') → (status ≡ TooLong → IsCommand words × AreValid d × GaveMore longest_input left left') → Answers d words left reads reads' taken taken' writes writes' status
+  headline : (status : Status) → (status ≡ Usage → IsCommand words → ⊥) → (status ≡ Done → IsCommand words × IsAnsweredWhole d left left' taken taken') → (status ≡ Refused → IsCommand words × IsRefusedWhole d taken taken') → (status ≡ ReadFault → IsCommand words × AreValid d × Rose reads reads') → (status ≡ WriteFault → IsCommand words × Rose writes writes') → (status ≡ TooLong → IsCommand words × AreValid d × GaveMore longest_input left left') → AnswersInput d words left reads reads' taken taken' writes writes' status
   headline Done usage done refused read write long command valid memory input before told few no_read taken_is no_write =
       let h = (done refl).1 in
       let all = read_all input h.input left' (sym told ∙ h.read) h.end in
@@ -67,7 +67,7 @@ module _ (one_fault : (d : Declared) (e f : DefinitionError) → ShowsFirst d e 
       absurd (gave_within input left' few (subst (λ l. GaveMore longest_input l left') told (long refl).2))
 
   -- and that others are refused
-  pub refuses : (status : Status) → (status ≡ Usage → IsCommand words → ⊥) → (status ≡ Done → IsCommand words × IsAnsweredWhole d left left' taken taken') → (status ≡ Refused → IsCommand words × IsRefusedWhole d taken taken') → (status ≡ ReadFault → IsCommand words × AreValid d × Rose reads reads') → (status ≡ WriteFault → IsCommand words × Rose writes writes') → (status ≡ TooLong → IsCommand words × AreValid d × GaveMore longest_input left left') → Refuses d words taken taken' writes writes' status
+  refuses : (status : Status) → (status ≡ Usage → IsCommand words → ⊥) → (status ≡ Done → IsCommand words × IsAnsweredWhole d left left' taken taken') → (status ≡ Refused → IsCommand words × IsRefusedWhole d taken taken') → (status ≡ ReadFault → IsCommand words × AreValid d × Rose reads reads') → (status ≡ WriteFault → IsCommand words × Rose writes writes') → (status ≡ TooLong → IsCommand words × AreValid d × GaveMore longest_input left left') → RefusesDeclarations d words taken taken' writes writes' status
   refuses Done usage done refused read write long command e first memory before taken_is no_write = absurd (no_fault d e (done refl).1.valid first)
   refuses Refused usage done refused read write long command e first memory before taken_is no_write =
       let h = (refused refl).1 in
@@ -77,3 +77,24 @@ module _ (one_fault : (d : Declared) (e f : DefinitionError) → ShowsFirst d e 
   refuses WriteFault usage done refused read write long command e first memory before taken_is no_write = absurd (no_write (write refl).1)
   refuses OutOfMemory usage done refused read write long command e first memory before taken_is no_write = absurd (memory refl)
   refuses TooLong usage done refused read write long command e first memory before taken_is no_write = absurd (no_fault d e (long refl).1 first)
+
+  -- an answer to the words of no command
+  pub of_usage : (IsCommand words → ⊥) → AnswersInput d words left reads reads' taken taken' writes writes' Usage × RefusesDeclarations d words taken taken' writes writes' Usage
+  of_usage no_command = (
+    headline Usage (λ e. no_command) (λ e. absurd (cc)) (λ e. absurd (cc)) (λ e. absurd (cc)) (λ e. absurd (cc)) (λ e. absurd (cc)),
+    refuses Usage (λ e. no_command) (λ e. absurd (cc)) (λ e. absurd (cc)) (λ e. absurd (cc)) (λ e. absurd (cc)) (λ e. absurd (cc)),
+  )
+
+  -- to a command over declarations that are valid
+  pub of_query : (status : Status) → IsCommand words → AreValid d → (status ≢ Refused) × (status ≢ Usage) → (status ≡ Done → IsAnsweredWhole d left left' taken taken') → (status ≡ ReadFault → Rose reads reads') → (status ≡ WriteFault → Rose writes writes') → (status ≡ TooLong → GaveMore longest_input left left') → AnswersInput d words left reads reads' taken taken' writes writes' status × RefusesDeclarations d words taken taken' writes writes' status
+  of_query status command valid only done read write long = (
+    headline status (λ e. absurd (only.1 e)) (λ e. (command, done e)) (λ e. absurd (only.0 e)) (λ e. (command, valid, read e)) (λ e. (command, write e)) (λ e. (command, valid, long e)),
+    refuses status (λ e. absurd (only.1 e)) (λ e. (command, done e)) (λ e. absurd (only.0 e)) (λ e. (command, valid, read e)) (λ e. (command, write e)) (λ e. (command, valid, long e)),
+  )
+
+  -- and to one over others
+  pub of_fault : (status : Status) → IsCommand words → (status ≢ Done) × (status ≢ Usage) × (status ≢ ReadFault) × (status ≢ TooLong) → (status ≡ Refused → IsRefusedWhole d taken taken') → (status ≡ WriteFault → Rose writes writes') → AnswersInput d words left reads reads' taken taken' writes writes' status × RefusesDeclarations d words taken taken' writes writes' status
+  of_fault status command only refused write = (
+    headline status (λ e. absurd (only.1 e)) (λ e. absurd (only.0 e)) (λ e. (command, refused e)) (λ e. absurd (only.2 e)) (λ e. (command, write e)) (λ e. absurd (only.3 e)),
+    refuses status (λ e. absurd (only.1 e)) (λ e. absurd (only.0 e)) (λ e. (command, refused e)) (λ e. absurd (only.2 e)) (λ e. (command, write e)) (λ e. absurd (only.3 e)),
+  )

@@ -23,7 +23,7 @@ use Rattle.meta_gen.specs.declared.descriptor.Descriptor.{Descriptor}
 use Rattle.meta_gen.specs.DefaultBytes.{HoldsDefault}
 use Rattle.meta_gen.specs.Descriptor.{IsDetailOf}
 use Rattle.meta_gen.specs.GroupTables.{GroupContents, AreTablesOfGroup}
-use Rattle.meta_query.specs.SettingLine.{ToldBool, ToldNum, ToldEnum, ToldPreset, told_line, setting_told, is_one_of, names_enabled, setting_line, preset_line, entry_lines, is_setting_detail, settings_in, is_on_at, names_on, detail_told, line_in}
+use Rattle.meta_query.specs.SettingLine.{BoolFacts, NumFacts, EnumFacts, PresetFacts, line_of_facts, setting_facts, is_one_of, names_enabled, setting_line, preset_line, entry_lines, is_setting_detail, settings_in, is_on_at, names_on, facts_in, line_in}
 
 -- ---- truth values and numbers
 
@@ -35,9 +35,9 @@ same_truth false true f g = g refl
 same_truth false false f g = refl
 
 -- a digit that says whether something is true tells it back
-told_back : (default : Bool) (bit : ℕ) → bit ≡ (if default then 1 else 0) → (bit == 1) ≡ default
-told_back true bit e = ap (λ n. n == 1) e
-told_back false bit e = ap (λ n. n == 1) e
+default_back : (default : Bool) (bit : ℕ) → bit ≡ (if default then 1 else 0) → (bit == 1) ≡ default
+default_back true bit e = ap (λ n. n == 1) e
+default_back false bit e = ap (λ n. n == 1) e
 
 stands_from_get : (n : ℕ) (numbers : List ℕ) (k : ℕ) → slice_get numbers k ≡ Some n → stands_in n numbers ≡ true
 stands_from_get n [] k e = absurd (cc)
@@ -114,14 +114,14 @@ in_place g k s b e is = ⊎_elim
 
 module _ (t : GroupContents) (before : List PlacedSetting) where
   -- the tables tell of a setting what it is
-  same_told : (byte : ℕ) (specific : SpecificSetting) (detail : Detail) (value : ℕ) → IsDetailOf t.enumerators before specific detail → slice_get t.defaults byte ≡ Some value → HoldsDefault value specific → setting_told byte specific ≡ detail_told t byte detail
-  same_told byte (ABool b) detail value is there holds =
+  same_facts : (byte : ℕ) (specific : SpecificSetting) (detail : Detail) (value : ℕ) → IsDetailOf t.enumerators before specific detail → slice_get t.defaults byte ≡ Some value → HoldsDefault value specific → setting_facts byte specific ≡ facts_in t byte detail
+  same_facts byte (ABool b) detail value is there holds =
       let read : get_or t.defaults byte 0 ≡ value = get_or_from_slice_get t.defaults byte value 0 there in
-      ap (ToldBool byte b.bit_offset) (sym (ap (λ n. bit_at n b.bit_offset == 1) read ∙ told_back b.default (bit_at value b.bit_offset) holds)) ∙ ap (detail_told t byte) (sym is)
-  same_told byte (AnEnum values) detail value is there holds =
-      ap (ToldEnum byte) (sym (ap (λ n. take n (drop is.place t.enumerators)) (sym is.count) ∙ is.stand.values_are)) ∙ ap (detail_told t byte) (sym is.is)
-  same_told byte (ANum default) detail value is there holds =
-      ap (ToldNum byte) (sym (get_or_from_slice_get t.defaults byte value 0 there ∙ holds)) ∙ ap (detail_told t byte) (sym is)
+      ap (BoolFacts byte b.bit_offset) (sym (ap (λ n. bit_at n b.bit_offset == 1) read ∙ default_back b.default (bit_at value b.bit_offset) holds)) ∙ ap (facts_in t byte) (sym is)
+  same_facts byte (AnEnum values) detail value is there holds =
+      ap (EnumFacts byte) (sym (ap (λ n. take n (drop is.place t.enumerators)) (sym is.count) ∙ is.stand.values_are)) ∙ ap (facts_in t byte) (sym is.is)
+  same_facts byte (ANum default) detail value is there holds =
+      ap (NumFacts byte) (sym (get_or_from_slice_get t.defaults byte value 0 there ∙ holds)) ∙ ap (facts_in t byte) (sym is)
 
   is_setting : (specific : SpecificSetting) (detail : Detail) → IsDetailOf t.enumerators before specific detail → is_setting_detail detail ≡ true
   is_setting (ABool b) detail is = ap is_setting_detail is
@@ -258,7 +258,7 @@ module _ (g : GroupDeclaration) (t : GroupContents) (made : AreTablesOfGroup (bu
           let says = (made.entries e d at).setting s s_at in
           let held = made.defaults.hold e s s_at in
           let line : setting_line s ≡ line_in t d =
-          ap₂ told_line (sym says.name) (same_told t (take e layout.settings) s.byte_offset s.specific d.detail held.byte says.detail held.there held.holds ∙ ap (λ offset. detail_told t offset d.detail) (sym says.offset)) in
+          ap₂ line_of_facts (sym says.name) (same_facts t (take e layout.settings) s.byte_offset s.specific d.detail held.byte says.detail held.there held.holds ∙ ap (λ offset. facts_in t offset d.detail) (sym says.offset)) in
           slice_get-append_left (map setting_line layout.settings) (map (preset_line layout) layout.presets) e (setting_line s) (slice_get-map setting_line layout.settings e ∙ ap (option_map setting_line) s_at) ∙ ap (λ l. Some l) line
 
       of_preset : (k : ℕ) → e ≡ length layout.settings + k → slice_get (entry_lines layout) e ≡ Some (line_in t d)
@@ -270,7 +270,7 @@ module _ (g : GroupDeclaration) (t : GroupContents) (made : AreTablesOfGroup (bu
           let p_at : slice_get layout.presets k ≡ Some p = slice_get-get_or layout.presets k none (omega (arith, within, count, behind)) in
           let is = (made.entries e d at).preset k p behind p_at in
           let line : preset_line layout p ≡ line_in t d =
-          ap (λ names. told_line p.name (ToldPreset names)) (sym (same_enabled_names k p p_at)) ∙ ap (line_in t) (sym is) in
+          ap (λ names. line_of_facts p.name (PresetFacts names)) (sym (same_enabled_names k p p_at)) ∙ ap (line_in t) (sym is) in
           ap (slice_get (entry_lines layout)) (behind ∙ ap (λ n. n + k) (sym (length-map layout.settings setting_line)))
           ∙ slice_get-append_right (map setting_line layout.settings) (map (preset_line layout) layout.presets) k
           ∙ slice_get-map (preset_line layout) layout.presets k ∙ ap (option_map (preset_line layout)) p_at ∙ ap (λ l. Some l) line

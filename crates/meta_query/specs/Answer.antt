@@ -1,7 +1,7 @@
 -- The answers to the lines of an input.
 --     IsTableReply tables line reply     the reply of tables, read by the decoding
 --     IsReply d line reply               the reply of declarations, as they mean
---     AreAnswers R lines out             out is the answers of the lines in order, each with LF
+--     AreWrittenAnswers R lines out             out is the answers of the lines in order, each with LF
 --     IsOutput d input out               out answers the whole input as the declarations mean
 use Rattle.std.specs.Prelude.{◌≡◌, ◌≢◌, ℕ, List, [], ◌∷◌, ◌++◌, ◌⊎◌, map, slice_get, Option, None, Some, codes}
 use Rattle.std.specs.Option.{option_map}
@@ -132,23 +132,23 @@ abbrev pub reply_line : Reply → List ℕ
 reply_line reply = reply_text reply ++ 10 ∷ []
 
 -- what a line is answered with: nothing where it is empty, and else its reply's line
-abbrev pub IsAnswered : (List ℕ → Reply → Type 0) → List ℕ → List ℕ → Type 0
-IsAnswered R [] text = text ≡ []
-IsAnswered R (c ∷ cs) text = (reply : Reply) × R (c ∷ cs) reply × (text ≡ reply_line reply)
+abbrev pub IsWrittenAnswer : (List ℕ → Reply → Type 0) → List ℕ → List ℕ → Type 0
+IsWrittenAnswer R [] text = text ≡ []
+IsWrittenAnswer R (c ∷ cs) text = (reply : Reply) × R (c ∷ cs) reply × (text ≡ reply_line reply)
 
 -- the answers of the lines, in order
-abbrev pub AreAnswers : (List ℕ → Reply → Type 0) → List (List ℕ) → List ℕ → Type 0
-AreAnswers R [] out = out ≡ []
-AreAnswers R (line ∷ lines) out = (first : List ℕ) × (rest : List ℕ) × IsAnswered R line first × AreAnswers R lines rest × (out ≡ first ++ rest)
+abbrev pub AreWrittenAnswers : (List ℕ → Reply → Type 0) → List (List ℕ) → List ℕ → Type 0
+AreWrittenAnswers R [] out = out ≡ []
+AreWrittenAnswers R (line ∷ lines) out = (first : List ℕ) × (rest : List ℕ) × IsWrittenAnswer R line first × AreWrittenAnswers R lines rest × (out ≡ first ++ rest)
 
 -- the output for an input: the answers of its lines, as the declarations mean
 abbrev pub IsOutput : Declared → List ℕ → List ℕ → Type 0
-IsOutput d input out = AreAnswers (IsReply d) (lines_of input) out
+IsOutput d input out = AreWrittenAnswers (IsReply d) (lines_of input) out
 
 -- what answers one line: none where it is empty, and else the text of its reply
-abbrev pub IsAnswer : (List ℕ → Reply → Type 0) → List ℕ → Option (List ℕ) → Type 0
-IsAnswer R [] answer = answer ≡ None
-IsAnswer R (c ∷ cs) answer = (reply : Reply) × R (c ∷ cs) reply × (answer ≡ Some (reply_text reply))
+abbrev pub IsLineAnswer : (List ℕ → Reply → Type 0) → List ℕ → Option (List ℕ) → Type 0
+IsLineAnswer R [] answer = answer ≡ None
+IsLineAnswer R (c ∷ cs) answer = (reply : Reply) × R (c ∷ cs) reply × (answer ≡ Some (reply_text reply))
 
 -- what is written where declarations are refused: `refused: `, the fault and LF
 abbrev pub refusal : DefinitionError → List ℕ

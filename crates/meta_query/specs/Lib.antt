@@ -1,5 +1,6 @@
 pub mod Lines
 pub mod Words
+pub mod TypeNumber
 pub mod Question
 pub mod Query
 pub mod SettingLine

@@ -5,7 +5,7 @@ use Rattle.meta_text.specs.Outside.{Rose, with_front, with_more, NothingLeft, lo
 use Rattle.meta_gen.specs.AllDeclared.{Declared, ShowsFirst, AreValid}
 use Rattle.meta_gen.specs.WholeTables.{WholeTables}
 use Rattle.meta_query.specs.Lines.{lines_of}
-use Rattle.meta_query.specs.Answer.{IsTableReply, AreAnswers, IsOutput, refusal}
+use Rattle.meta_query.specs.Answer.{IsTableReply, AreWrittenAnswers, IsOutput, refusal}
 use Rattle.meta_query.specs.declared.status.Status.{Status}
 use Rattle.meta_query.specs.declared.status.Status.TheVariants.{Done, Refused, Usage, ReadFault, TooLong, OutOfMemory}
 
@@ -58,7 +58,7 @@ pub record IsWritten (tables : WholeTables) (left left' taken taken' : Option (L
   pub read : left ≡ with_front input left'
   pub end : NothingLeft left'
   pub within : length input ≤ longest_input
-  pub answers : AreAnswers (IsTableReply tables) (lines_of input) output
+  pub answers : AreWrittenAnswers (IsTableReply tables) (lines_of input) output
   pub took : taken' ≡ with_more taken output
 
 -- the whole input was read, up to its end, and the sink took a part of the answers of the tables to its lines, and not all
@@ -67,21 +67,21 @@ pub record IsWrittenInPart (tables : WholeTables) (left left' taken taken' : Opt
   pub output : List ℕ
   pub read : left ≡ with_front input left'
   pub end : NothingLeft left'
-  pub answers : AreAnswers (IsTableReply tables) (lines_of input) output
+  pub answers : AreWrittenAnswers (IsTableReply tables) (lines_of input) output
   pub took : TookPart output taken taken'
 
 -- Where the words are a command and the declarations valid, memory didn't run out, the source told its bytes and gave at
 -- most the limit, and no count rose: the run is done, and the sink took exactly the output of all that was left.
-abbrev pub Answers : Declared → List (List ℕ) → Option (List ℕ) → ℕ → ℕ → Option (List ℕ) → Option (List ℕ) → ℕ → ℕ → Status → Type 0
-Answers d words left reads reads' taken taken' writes writes' status =
+abbrev pub AnswersInput : Declared → List (List ℕ) → Option (List ℕ) → ℕ → ℕ → Option (List ℕ) → Option (List ℕ) → ℕ → ℕ → Status → Type 0
+AnswersInput d words left reads reads' taken taken' writes writes' status =
     IsCommand words → AreValid d → status ≢ OutOfMemory → (input before : List ℕ) → left ≡ Some input → length input ≤ longest_input
     → (Rose reads reads' → ⊥) → taken ≡ Some before → (Rose writes writes' → ⊥)
     → (status ≡ Done) × (output : List ℕ) × IsOutput d input output × (taken' ≡ Some (before ++ output))
 
 -- Where the words are a command and the declarations show a fault, memory didn't run out and the sink's count didn't rise:
 -- the declarations are refused, and the sink took exactly the line that says so, by the first fault.
-abbrev pub Refuses : Declared → List (List ℕ) → Option (List ℕ) → Option (List ℕ) → ℕ → ℕ → Status → Type 0
-Refuses d words taken taken' writes writes' status =
+abbrev pub RefusesDeclarations : Declared → List (List ℕ) → Option (List ℕ) → Option (List ℕ) → ℕ → ℕ → Status → Type 0
+RefusesDeclarations d words taken taken' writes writes' status =
     IsCommand words → (e : DefinitionError) → ShowsFirst d e → status ≢ OutOfMemory → (before : List ℕ) → taken ≡ Some before
     → (Rose writes writes' → ⊥)
     → (status ≡ Refused) × (taken' ≡ Some (before ++ refusal e))

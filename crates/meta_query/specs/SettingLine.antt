@@ -18,11 +18,11 @@ use Rattle.meta_gen.specs.GroupTables.{GroupContents}
 
 -- What the line of an entry tells beside its name: the byte, the bit and the default of a boolean; the byte and the default of a
 -- number; the byte and the values of an enum, the first of which is its default; the names of the booleans that a preset enables.
-pub data Told : Type 0 where
-  ToldBool : ℕ → ℕ → Bool → Told
-  ToldNum : ℕ → ℕ → Told
-  ToldEnum : ℕ → List (List ℕ) → Told
-  ToldPreset : List (List ℕ) → Told
+pub data EntryFacts : Type 0 where
+  BoolFacts : ℕ → ℕ → Bool → EntryFacts
+  NumFacts : ℕ → ℕ → EntryFacts
+  EnumFacts : ℕ → List (List ℕ) → EntryFacts
+  PresetFacts : List (List ℕ) → EntryFacts
 
 -- a list of names: `-` for none, or the names, parted by commas
 abbrev pub listed : List (List ℕ) → List ℕ
@@ -36,19 +36,19 @@ first_of (name ∷ names) = name
 
 -- the line: `NAME bool byte B bit K default true` (or `false`), `NAME num byte B default D`, `NAME enum byte B default V values V,W`
 -- or `NAME preset enables X,Y`
-abbrev pub told_line : List ℕ → Told → List ℕ
-told_line name (ToldBool byte bit default) = name ++ (codes " bool byte " ++ (decimal byte ++ (codes " bit " ++ (decimal bit ++ (codes " default " ++ (if default then codes "true" else codes "false"))))))
-told_line name (ToldNum byte default) = name ++ (codes " num byte " ++ (decimal byte ++ (codes " default " ++ decimal default)))
-told_line name (ToldEnum byte values) = name ++ (codes " enum byte " ++ (decimal byte ++ (codes " default " ++ (first_of values ++ (codes " values " ++ listed values)))))
-told_line name (ToldPreset names) = name ++ (codes " preset enables " ++ listed names)
+abbrev pub line_of_facts : List ℕ → EntryFacts → List ℕ
+line_of_facts name (BoolFacts byte bit default) = name ++ (codes " bool byte " ++ (decimal byte ++ (codes " bit " ++ (decimal bit ++ (codes " default " ++ (if default then codes "true" else codes "false"))))))
+line_of_facts name (NumFacts byte default) = name ++ (codes " num byte " ++ (decimal byte ++ (codes " default " ++ decimal default)))
+line_of_facts name (EnumFacts byte values) = name ++ (codes " enum byte " ++ (decimal byte ++ (codes " default " ++ (first_of values ++ (codes " values " ++ listed values)))))
+line_of_facts name (PresetFacts names) = name ++ (codes " preset enables " ++ listed names)
 
 -- ---- what the layout of a group means
 
 -- what is told of a setting in this byte
-abbrev pub setting_told : ℕ → SpecificSetting → Told
-setting_told byte (ABool b) = ToldBool byte b.bit_offset b.default
-setting_told byte (AnEnum values) = ToldEnum byte values
-setting_told byte (ANum default) = ToldNum byte default
+abbrev pub setting_facts : ℕ → SpecificSetting → EntryFacts
+setting_facts byte (ABool b) = BoolFacts byte b.bit_offset b.default
+setting_facts byte (AnEnum values) = EnumFacts byte values
+setting_facts byte (ANum default) = NumFacts byte default
 
 -- whether it is a boolean whose number is one of these
 abbrev pub is_one_of : List ℕ → SpecificSetting → Bool
@@ -62,11 +62,11 @@ names_enabled g p = map (λ s. s.name) (filter (λ s. is_one_of p.booleans s.spe
 
 -- the line of a setting
 abbrev pub setting_line : PlacedSetting → List ℕ
-setting_line s = told_line s.name (setting_told s.byte_offset s.specific)
+setting_line s = line_of_facts s.name (setting_facts s.byte_offset s.specific)
 
 -- the line of a preset of the group
 abbrev pub preset_line : Layout → BuiltPreset → List ℕ
-preset_line g p = told_line p.name (ToldPreset (names_enabled g p))
+preset_line g p = line_of_facts p.name (PresetFacts (names_enabled g p))
 
 -- the lines of the entries: of the settings, then of the presets
 abbrev pub entry_lines : Layout → List (List ℕ)
@@ -97,12 +97,12 @@ abbrev pub names_on : GroupContents → ℕ → List (List ℕ)
 names_on t start = map (λ d. d.name) (filter (λ d. is_on_at t.preset_masks (start + d.offset) d.detail) (settings_in t.descriptors))
 
 -- what is told of an entry with this offset, by the defaults, the enumerators and the masks
-abbrev pub detail_told : GroupContents → ℕ → Detail → Told
-detail_told t offset (BoolDetail bit) = ToldBool offset bit (bit_at (slice_index_or t.defaults offset 0) bit == 1)
-detail_told t offset (EnumDetail last enumerators) = ToldEnum offset (take (last + 1) (drop enumerators t.enumerators))
-detail_told t offset NumDetail = ToldNum offset (slice_index_or t.defaults offset 0)
-detail_told t offset Preset = ToldPreset (names_on t offset)
+abbrev pub facts_in : GroupContents → ℕ → Detail → EntryFacts
+facts_in t offset (BoolDetail bit) = BoolFacts offset bit (bit_at (slice_index_or t.defaults offset 0) bit == 1)
+facts_in t offset (EnumDetail last enumerators) = EnumFacts offset (take (last + 1) (drop enumerators t.enumerators))
+facts_in t offset NumDetail = NumFacts offset (slice_index_or t.defaults offset 0)
+facts_in t offset Preset = PresetFacts (names_on t offset)
 
 -- the line of the entry with this descriptor
 abbrev pub line_in : GroupContents → Descriptor → List ℕ
-line_in t d = told_line d.name (detail_told t d.offset d.detail)
+line_in t d = line_of_facts d.name (facts_in t d.offset d.detail)

@@ -1,103 +1,124 @@
-ghost use Rattle.std.specs.Prelude.{◌≡◌, ◌++◌, ℕ, List, IfOk, OnOk};
+ghost use Rattle.std.specs.Prelude.{◌≡◌, ◌++◌, ℕ, List, IfOk, OnOk, string_bytes};
 ghost use Rattle.meta_query.specs.Lines.{lines_of};
-ghost use Rattle.meta_query.specs.Query.{asked_by};
-ghost use Rattle.meta_query.specs.Answer.{AllowedReply, SettingReply, TablesReply, IsTableReply, IsAnswer, IsAnswered, AreAnswers};
+ghost use Rattle.meta_query.specs.Query.{OfSetting, Asks};
+ghost use Rattle.meta_query.specs.Reply.{reply_text};
+ghost use Rattle.meta_query.specs.Answer.{AllowedReply, SettingReply, IsTableReply, IsLineAnswer, IsWrittenAnswer, AreWrittenAnswers};
+ghost use Rattle.meta_query.specs.declared.reply.Reply.{Reply};
 
 use super::lines::Lines;
-use super::query::Query;
+use super::query::setting_name;
 use super::question::Question;
 use super::reply::Reply;
-use super::setting_line::setting_line;
+use super::setting_line::push_setting_line;
 use meta_gen::Tables;
 use meta_types::Text;
 use std::alloc::{AllocError, Global};
 
 /// The reply of the tables to a question.
-fn accept_reply(
-    alloc: Global,
-    tables: &Tables,
-    question: &Question<'_>,
-) -> Result<Reply, AllocError>
-    ensures { IfOk result (λ r. AllowedReply tables.now.opcodes question.now r) }
+fn accept_reply(tables: &Tables, question: &Question<'_>) -> Reply
+    ensures { AllowedReply tables.now.opcodes question.now result }
 {
     let Some(opcode) = tables.find_opcode(question.name()) else {
-        return Ok(Reply::Unknown);
+        return Reply::Unknown;
     };
-    let results = question.result_numbers(alloc)?;
-    let values = question.value_numbers(alloc)?;
-    if tables.accepts(opcode, question.control_number(), &results, &values) {
-        return Ok(Reply::Accept);
-    }
-    Ok(Reply::Refuse)
-}
-
-/// The reply of the tables to the name of a setting.
-fn setting_reply(alloc: Global, tables: &Tables, name: &[u8]) -> Result<Reply, AllocError>
-    ensures { IfOk result (λ r. SettingReply tables.now name.now r) }
-{
-    match setting_line(alloc, tables, name)? {
-        Some(line) => Ok(Reply::Setting(line)),
-        None => Ok(Reply::Unknown),
+    if tables.accepts(
+        opcode,
+        question.control_number(),
+        question.results(),
+        question.values(),
+    ) {
+        Reply::Accept
+    } else {
+        Reply::Refuse
     }
 }
 
-/// The reply of the tables to a query.
-fn query_reply(alloc: Global, tables: &Tables, query: &Query<'_>) -> Result<Reply, AllocError>
-    ensures { IfOk result (λ r. TablesReply tables.now (asked_by query.now) r) }
+/// Adds the reply of the tables to the name of a setting.
+fn push_setting_reply(
+    alloc: Global,
+    out: &mut String,
+    tables: &Tables,
+    name: &[u8],
+) -> Result<(), AllocError>
+    ensures { OnOk result ((reply : Reply) × SettingReply tables.now name.now reply × (string_bytes out.new ≡ string_bytes out.old ++ reply_text reply)) }
 {
-    match query {
-        Query::Accept(question) => accept_reply(alloc, tables, question),
-        Query::Setting(name) => setting_reply(alloc, tables, name),
+    match push_setting_line(alloc, out, tables, name)? {
+        true => Ok(()),
+        false => out.push_str(Reply::Unknown.text()),
     }
 }
 
-/// The reply of the tables to a line.
-fn reply(alloc: Global, tables: &Tables, line: &[u8]) -> Result<Reply, AllocError>
-    ensures { IfOk result (λ r. IsTableReply tables.now line.now r) }
+/// The reply of the tables to a line that asks for no setting. The question is one to read the line's into.
+fn question_reply<'l>(
+    tables: &Tables,
+    question: &mut Question<'l>,
+    line: &'l [u8],
+) -> Result<Reply, AllocError>
+    ensures { IfOk result (λ reply. ((name : List ℕ) → ¬ Asks line.now (OfSetting name)) → IsTableReply tables.now line.now reply) }
 {
-    match Query::parse(alloc, line)? {
-        Some(query) => query_reply(alloc, tables, &query),
-        None => Ok(Reply::Bad),
+    if question.read(line)? {
+        Ok(accept_reply(tables, question))
+    } else {
+        Ok(Reply::Bad)
     }
+}
+
+/// Adds the reply of the tables to a line. The question is one to read the line's into.
+fn push_reply<'l>(
+    alloc: Global,
+    out: &mut String,
+    tables: &Tables,
+    question: &mut Question<'l>,
+    line: &'l [u8],
+) -> Result<(), AllocError>
+    ensures { OnOk result ((reply : Reply) × IsTableReply tables.now line.now reply × (string_bytes out.new ≡ string_bytes out.old ++ reply_text reply)) }
+{
+    if let Some(name) = setting_name(line) {
+        return push_setting_reply(alloc, out, tables, name);
+    }
+    let reply = question_reply(tables, question, line)?;
+    out.push_str(reply.text())
 }
 
 /// The answer to one line, without its LF and the CR before it, by the tables alone. `None` is for an empty line. Beside the look-up
 /// of a name it costs the length of the line and that of the answer, and for a preset one pass over the settings of its group.
 pub fn answer_line(alloc: Global, tables: &Tables, line: &[u8]) -> Result<Option<Text>, AllocError>
-    ensures { IfOk result (λ answer. IsAnswer (IsTableReply tables.now) line.now answer) }
+    ensures { IfOk result (λ answer. IsLineAnswer (IsTableReply tables.now) line.now answer) }
 {
     if line.is_empty() {
         return Ok(None);
     }
-    let reply = reply(alloc, tables, line)?;
-    Ok(Some(Text::new(alloc, reply.text())?))
+    let mut text = String::new(alloc);
+    let mut question = Question::empty(alloc);
+    push_reply(alloc, &mut text, tables, &mut question, line)?;
+    Ok(Some(Text::new(alloc, text.as_str())?))
 }
 
-/// Adds what a line is answered with, and its LF.
-fn push_answer(
+/// Adds what a line is answered with, and its LF. The question is one to read the line's into.
+fn push_answer<'l>(
     alloc: Global,
-    out: &mut Vec<u8>,
+    out: &mut String,
     tables: &Tables,
-    line: &[u8],
+    question: &mut Question<'l>,
+    line: &'l [u8],
 ) -> Result<(), AllocError>
-    ensures { OnOk result ((text : List ℕ) × IsAnswered (IsTableReply tables.now) line.now text × (out.new.items ≡ out.old.items ++ text)) }
+    ensures { OnOk result ((text : List ℕ) × IsWrittenAnswer (IsTableReply tables.now) line.now text × (string_bytes out.new ≡ string_bytes out.old ++ text)) }
 {
     if line.is_empty() {
         return Ok(());
     }
-    let reply = reply(alloc, tables, line)?;
-    out.extend_from_slice(reply.text().as_bytes())?;
-    out.push(b'\n')?;
-    Ok(())
+    push_reply(alloc, out, tables, question, line)?;
+    out.push_str("\n")
 }
 
-/// The answers to the lines of an input, each with LF.
-pub(crate) fn answers(alloc: Global, tables: &Tables, input: &[u8]) -> Result<Vec<u8>, AllocError>
-    ensures { IfOk result (λ out. AreAnswers (IsTableReply tables.now) (lines_of input.now) out.items) }
+/// The answers to the lines of an input, each with LF. One question serves for all lines.
+pub(crate) fn answers(alloc: Global, tables: &Tables, input: &[u8]) -> Result<String, AllocError>
+    ensures { IfOk result (λ out. AreWrittenAnswers (IsTableReply tables.now) (lines_of input.now) (string_bytes out)) }
 {
-    let mut out = Vec::new(alloc);
+    let mut out = String::new(alloc);
+    let mut question = Question::empty(alloc);
     for line in Lines::new(input) {
-        push_answer(alloc, &mut out, tables, line)?;
+        push_answer(alloc, &mut out, tables, &mut question, line)?;
     }
     Ok(out)
 }

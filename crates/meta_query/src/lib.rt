@@ -11,6 +11,7 @@ mod reply;
 mod running;
 mod setting_line;
 mod status;
+mod type_name;
 
 pub use answer::answer_line;
 pub use laws::one_output;

@@ -7,18 +7,18 @@ use super::question::Question;
 use std::alloc::{AllocError, Global};
 
 /// The word behind `setting` in a line of these two words.
-fn setting_name(line: &[u8]) -> Option<&[u8]>
+pub(crate) fn setting_name(line: &[u8]) -> Option<&[u8]>
     ensures words { IfSome result (λ name. pieces_of 32 line.now ≡ setting_words name.now) }
     ensures named { IfSome result (λ name. 0 < length name.now) }
     ensures none { IfNone result ((name : List ℕ) → 0 < length name → pieces_of 32 line.now ≢ setting_words name) }
 {
     let mut words = Pieces::new(line, b' ');
     let command = words.next()?;
-    let name = words.next()?;
-    if words.next().is_some() {
+    if command != b"setting".as_slice() {
         return None;
     }
-    if command != b"setting".as_slice() {
+    let name = words.next()?;
+    if words.next().is_some() {
         return None;
     }
     if name.is_empty() {

@@ -1,12 +1,12 @@
-ghost use Rattle.std.specs.Prelude.{◌≡◌, ◌≢◌, ℕ, ◌<◌, List, [], ◌∷◌, length, map, All, Option, IfOk, IfSome, IfNone, codes};
+ghost use Rattle.std.specs.Prelude.{◌≡◌, ◌≢◌, ℕ, ◌<◌, true, false, List, [], ◌∷◌, length, map, All, Option, IfOk, IfSome, IfNone, codes};
 ghost use Rattle.std.specs.Option.{option_map};
 ghost use Rattle.meta_types.specs.Shape.{Shape, IsType, number_of};
-ghost use Rattle.meta_types.specs.ValueTypes.{shape_of};
+ghost use Rattle.meta_query.specs.TypeNumber.{type_with, IsTypeNumber};
 ghost use Rattle.meta_query.specs.Words.{pieces_of};
 ghost use Rattle.meta_query.specs.Question.{Question, IsQuestion, control_text, types_text};
 
 use super::pieces::Pieces;
-use meta_types::ValueType;
+use super::type_name::type_number;
 use std::alloc::{AllocError, Global};
 use std::marker::Model;
 
@@ -29,17 +29,17 @@ fn accept_words(line: &[u8]) -> Option<AcceptWords<'_>>
 {
     let mut words = Pieces::new(line, b' ');
     let command = words.next()?;
+    if command != b"accept".as_slice() {
+        return None;
+    }
     let name = words.next()?;
+    if name.is_empty() {
+        return None;
+    }
     let control = words.next()?;
     let results = words.next()?;
     let values = words.next()?;
     if words.next().is_some() {
-        return None;
-    }
-    if command != b"accept".as_slice() {
-        return None;
-    }
-    if name.is_empty() {
         return None;
     }
     Some(AcceptWords {
@@ -50,87 +50,106 @@ fn accept_words(line: &[u8]) -> Option<AcceptWords<'_>>
     })
 }
 
-/// The control that the word means, and `None` where it means none.
-fn parse_control(word: &[u8]) -> Option<Option<ValueType>>
-    ensures found { IfSome result (λ c. control_text (option_map shape_of c) ≡ word.now) }
+/// The number of the control that the word means, and `None` where it means none.
+fn parse_control(word: &[u8]) -> Option<Option<u16>>
+    ensures found { IfSome result (λ c. control_text (option_map type_with c) ≡ word.now) }
+    ensures known { IfSome result (λ c. IfSome c IsTypeNumber) }
     ensures none { IfNone result ((c : Option Shape) → IfSome c IsType → control_text c ≢ word.now) }
 {
     if word == b"-".as_slice() {
         return Some(None);
     }
-    let t = ValueType::parse(word)?;
-    Some(Some(t))
+    let number = type_number(word)?;
+    Some(Some(number))
 }
 
-/// The types that the word lists, and `None` where it is no list of types.
-fn parse_types(alloc: Global, word: &[u8]) -> Result<Option<Vec<ValueType>>, AllocError>
-    ensures found { IfOk result (λ o. IfSome o (λ v. types_text (map shape_of v.items) ≡ word.now)) }
-    ensures none { IfOk result (λ o. IfNone o ((ts : List Shape) → All IsType ts → types_text ts ≢ word.now)) }
+/// Reads the types that the word lists into a list of their numbers, in place of what was there. It is false where the word is no
+/// list of types.
+fn read_types(numbers: &mut Vec<u16>, word: &[u8]) -> Result<bool, AllocError>
+    ensures known { All IsTypeNumber numbers.new.items }
+    ensures found { IfOk result (λ read. read ≡ true → types_text (map type_with numbers.new.items) ≡ word.now) }
+    ensures none { IfOk result (λ read. read ≡ false → (ts : List Shape) → All IsType ts → types_text ts ≢ word.now) }
 {
-    let mut types = Vec::new(alloc);
+    numbers.clear();
     if word == b"-".as_slice() {
-        return Ok(Some(types));
+        return Ok(true);
     }
     for name in Pieces::new(word, b',') {
-        match ValueType::parse(name) {
-            Some(t) => types.push(t)?,
-            None => return Ok(None),
-        }
+        let Some(number) = type_number(name) else {
+            return Ok(false);
+        };
+        numbers.push(number)?;
     }
-    Ok(Some(types))
+    Ok(true)
 }
 
-/// The numbers of the types, by which tables name them.
-fn type_numbers(alloc: Global, types: &[ValueType]) -> Result<Vec<u16>, AllocError>
-    ensures { IfOk result (λ v. v.items ≡ map (λ t. number_of (shape_of t)) types.now) }
-{
-    types.iter().map(|t| t.number()).collect(alloc)
-}
-
-/// A question whether an instruction accepts types: `accept NAME CTRL RESULTS VALUES` (this project's own).
+/// A question whether an instruction accepts types: `accept NAME CTRL RESULTS VALUES` (this project's own). It holds the types by
+/// their numbers, as tables name them.
 #[derive(Drop)]
 pub struct Question<'a> {
     name: &'a [u8],
-    control: Option<ValueType>,
-    results: Vec<ValueType>,
-    values: Vec<ValueType>,
+    control: Option<u16>,
+    results: Vec<u16>,
+    values: Vec<u16>,
 }
 
 impl<'a> Model for Question<'a> {
-    ghost use Rattle.std.specs.Prelude.{map};
+    ghost use Rattle.std.specs.Prelude.{map, All, IfSome};
     ghost use Rattle.std.specs.Option.{option_map};
-    ghost use Rattle.meta_types.specs.ValueTypes.{shape_of};
+    ghost use Rattle.meta_query.specs.TypeNumber.{type_with, IsTypeNumber};
     ghost use Rattle.meta_query.specs.Question.{Question};
 
     ghost Value = { Question };
 
-    ghost view = { λ q. record { name = q.name.now; control = option_map shape_of q.control; results = map shape_of q.results.items; values = map shape_of q.values.items } };
+    ghost view = { λ q. record { name = q.name.now; control = option_map type_with q.control; results = map type_with q.results.items; values = map type_with q.values.items } };
+
+    ghost invariant = { λ q. IfSome q.control IsTypeNumber × All IsTypeNumber q.results.items × All IsTypeNumber q.values.items };
 }
 
 impl<'a> Question<'a> {
+    /// A question of no types, to read others into.
+    pub(crate) fn empty(alloc: Global) -> Self {
+        Question {
+            name: &[],
+            control: None,
+            results: Vec::new(alloc),
+            values: Vec::new(alloc),
+        }
+    }
+
+    /// Reads the question that the line asks, in place of this one, and is false exactly where the line asks none. The lists of this
+    /// one are used again.
+    pub(crate) fn read(&mut self, line: &'a [u8]) -> Result<bool, AllocError>
+        ensures found { IfOk result (λ read. read ≡ true → IsQuestion line.now self.new) }
+        ensures none { IfOk result (λ read. read ≡ false → (q : Question) → ¬ IsQuestion line.now q) }
+    {
+        let Some(words) = accept_words(line) else {
+            return Ok(false);
+        };
+        let Some(control) = parse_control(words.control) else {
+            return Ok(false);
+        };
+        if !read_types(&mut self.results, words.results)? {
+            return Ok(false);
+        }
+        if !read_types(&mut self.values, words.values)? {
+            return Ok(false);
+        }
+        self.name = words.name;
+        self.control = control;
+        Ok(true)
+    }
+
     /// The question that the line asks, and `None` exactly where it asks none.
     pub fn parse(alloc: Global, line: &'a [u8]) -> Result<Option<Question<'a>>, AllocError>
         ensures found { IfOk result (λ o. IfSome o (λ q. IsQuestion line.now q)) }
         ensures none { IfOk result (λ o. IfNone o ((q : Question) → ¬ IsQuestion line.now q)) }
     {
-        let Some(words) = accept_words(line) else {
+        let mut question = Question::empty(alloc);
+        if !question.read(line)? {
             return Ok(None);
-        };
-        let Some(control) = parse_control(words.control) else {
-            return Ok(None);
-        };
-        let Some(results) = parse_types(alloc, words.results)? else {
-            return Ok(None);
-        };
-        let Some(values) = parse_types(alloc, words.values)? else {
-            return Ok(None);
-        };
-        Ok(Some(Question {
-            name: words.name,
-            control,
-            results,
-            values,
-        }))
+        }
+        Ok(Some(question))
     }
 
     /// The name of the instruction, as it stands in the line: any bytes but spaces.
@@ -144,23 +163,35 @@ impl<'a> Question<'a> {
     pub fn control_number(&self) -> Option<u16>
         ensures { result ≡ option_map number_of self.now.control }
     {
-        self.control.map(|t| t.number())
+        self.control
+    }
+
+    /// The numbers of the results' types, in place.
+    pub(crate) fn results(&self) -> &[u16]
+        ensures { result.now ≡ map number_of self.now.results }
+    {
+        &self.results
+    }
+
+    /// The numbers of the value operands' types, in place.
+    pub(crate) fn values(&self) -> &[u16]
+        ensures { result.now ≡ map number_of self.now.values }
+    {
+        &self.values
     }
 
     /// The numbers of the results' types.
-    #[tactic(auto, using(crate::proofs::QuestionLemmas::shown_numbers))]
     pub fn result_numbers(&self, alloc: Global) -> Result<Vec<u16>, AllocError>
         ensures { IfOk result (λ v. v.items ≡ map number_of self.now.results) }
     {
-        type_numbers(alloc, self.results.as_slice())
+        Vec::from_slice(alloc, self.results())
     }
 
     /// The numbers of the value operands' types.
-    #[tactic(auto, using(crate::proofs::QuestionLemmas::shown_numbers))]
     pub fn value_numbers(&self, alloc: Global) -> Result<Vec<u16>, AllocError>
         ensures { IfOk result (λ v. v.items ≡ map number_of self.now.values) }
     {
-        type_numbers(alloc, self.values.as_slice())
+        Vec::from_slice(alloc, self.values())
     }
 }
 

@@ -3,7 +3,7 @@ ghost use Rattle.meta_types.specs.declared.fault.DefinitionError.{DefinitionErro
 ghost use Rattle.meta_text.specs.Outside.{Rose, with_more, longest_input, GaveMore, GaveAtMost, TookPart};
 ghost use Rattle.meta_gen.specs.AllDeclared.{AreValid};
 ghost use Rattle.meta_query.specs.Answer.{IsOutput, refusal};
-ghost use Rattle.meta_query.specs.Run.{IsCommand, IsAnsweredWhole, IsRefusedWhole, IsRefusedInPart, IsAnsweredInPart, IsWritten, IsWrittenInPart, WritesNothing, Answers, Refuses};
+ghost use Rattle.meta_query.specs.Run.{IsCommand, IsAnsweredWhole, IsRefusedWhole, IsRefusedInPart, IsAnsweredInPart, IsWritten, IsWrittenInPart, WritesNothing, AnswersInput, RefusesDeclarations};
 
 use super::answer::answers;
 use super::status::Status;
@@ -86,46 +86,9 @@ fn query<S: Source, K: Sink>(alloc: Global, tables: &Tables, source: &mut S, sin
     let Ok(output) = answers(alloc, tables, &input) else {
         return Status::OutOfMemory;
     };
-    match write_whole(sink, &output) {
+    match write_whole(sink, output.as_bytes()) {
         Ok(()) => Status::Done,
         Err(_) => Status::WriteFault,
-    }
-}
-
-/// What `run` does, by its causes.
-fn run_words<S: Source, K: Sink>(
-    alloc: Global,
-    words: &[Text],
-    declarations: &Declarations,
-    source: &mut S,
-    sink: &mut K,
-) -> Status
-    // The words decide whether it is a usage error, and then nothing was read or written.
-    ensures usage { result ≡ Status.Usage → ¬ IsCommand words.now }
-    ensures no_command { ¬ IsCommand words.now → result ≡ Status.Usage }
-
-    ensures done { result ≡ Status.Done → IsCommand words.now × IsAnsweredWhole declarations.now (S.left source.old) (S.left source.new) (K.taken sink.old) (K.taken sink.new) }
-    ensures refused { result ≡ Status.Refused → IsCommand words.now × IsRefusedWhole declarations.now (K.taken sink.old) (K.taken sink.new) }
-    ensures read_fault { result ≡ Status.ReadFault → IsCommand words.now × AreValid declarations.now × Rose (S.faults source.old) (S.faults source.new) }
-    ensures write_fault { result ≡ Status.WriteFault → IsCommand words.now × Rose (K.faults sink.old) (K.faults sink.new) }
-    ensures written_in_part { result ≡ Status.WriteFault
-        → IsRefusedInPart declarations.now (K.taken sink.old) (K.taken sink.new)
-        ⊎ IsAnsweredInPart declarations.now (S.left source.old) (S.left source.new) (K.taken sink.old) (K.taken sink.new) }
-    ensures too_long { result ≡ Status.TooLong → IsCommand words.now × AreValid declarations.now × GaveMore longest_input (S.left source.old) (S.left source.new) }
-    ensures else_within { result ≢ Status.TooLong → GaveAtMost longest_input (S.left source.old) (S.left source.new) }
-
-    ensures untouched { WritesNothing result → sink.new ≡ sink.old }
-    ensures usage_unread { result ≡ Status.Usage → source.new ≡ source.old }
-    ensures refused_unread { result ≡ Status.Refused → source.new ≡ source.old }
-    ensures read_counted { S.faults source.old ≤ S.faults source.new }
-    ensures write_counted { K.faults sink.old ≤ K.faults sink.new }
-{
-    if !is_command(words) {
-        return Status::Usage;
-    }
-    match generate(alloc, declarations) {
-        Ok(tables) => query(alloc, &tables, source, sink),
-        Err(fault) => refuse(alloc, &fault, sink),
     }
 }
 
@@ -142,8 +105,8 @@ pub fn run<S: Source, K: Sink>(
     sink: &mut K,
 ) -> Status
     // Each query of a command over valid declarations is answered as they mean, and others are refused.
-    ensures headline { Answers declarations.now words.now (S.left source.old) (S.faults source.old) (S.faults source.new) (K.taken sink.old) (K.taken sink.new) (K.faults sink.old) (K.faults sink.new) result }
-    ensures refuses { Refuses declarations.now words.now (K.taken sink.old) (K.taken sink.new) (K.faults sink.old) (K.faults sink.new) result }
+    ensures headline { AnswersInput declarations.now words.now (S.left source.old) (S.faults source.old) (S.faults source.new) (K.taken sink.old) (K.taken sink.new) (K.faults sink.old) (K.faults sink.new) result }
+    ensures refuses { RefusesDeclarations declarations.now words.now (K.taken sink.old) (K.taken sink.new) (K.faults sink.old) (K.faults sink.new) result }
 
     // The words decide whether it is a usage error, and then nothing was read or written.
     ensures usage { result ≡ Status.Usage → ¬ IsCommand words.now }
@@ -166,5 +129,11 @@ pub fn run<S: Source, K: Sink>(
     ensures write_counted { K.faults sink.old ≤ K.faults sink.new }
 {
     one_first_fault();
-    run_words(alloc, words, declarations, source, sink)
+    if !is_command(words) {
+        return Status::Usage;
+    }
+    match generate(alloc, declarations) {
+        Ok(tables) => query(alloc, &tables, source, sink),
+        Err(fault) => refuse(alloc, &fault, sink),
+    }
 }

@@ -1,9 +1,9 @@
-ghost use Rattle.std.specs.Prelude.{◌≡◌, ◌+◌, ℕ, List, map, take, drop, slice_get, string_bytes, IfOk, IfSome, IfNone, Some};
+ghost use Rattle.std.specs.Prelude.{◌≡◌, ◌+◌, ◌++◌, ℕ, true, false, List, map, take, drop, slice_get, string_bytes, IfOk, OnOk, Some};
 ghost use Rattle.meta_gen.specs.declared.descriptor.Descriptor.{Descriptor};
 ghost use Rattle.meta_gen.specs.declared.descriptor.Detail.TheVariants.{Preset};
 ghost use Rattle.meta_gen.specs.GroupTables.{IsPresetIn};
 ghost use Rattle.meta_gen.specs.WholeTables.{OfGroup};
-ghost use Rattle.meta_query.specs.SettingLine.{ToldBool, ToldNum, ToldEnum, ToldPreset, told_line, listed, first_of, is_on_at, names_on, line_in};
+ghost use Rattle.meta_query.specs.SettingLine.{BoolFacts, NumFacts, EnumFacts, PresetFacts, line_of_facts, listed, first_of, is_on_at, names_on, line_in};
 ghost use Rattle.meta_query.specs.Answer.{IsLineInTables, SettingReply};
 ghost use Rattle.meta_query.specs.declared.reply.Reply.TheVariants.{Unknown};
 
@@ -21,22 +21,25 @@ fn listed(alloc: Global, names: &[&str]) -> Result<String, AllocError>
     names.join(alloc, ",")
 }
 
-/// The line of a boolean.
-fn bool_line(alloc: Global, entry: &Descriptor, bit: u8, default: bool) -> Result<Text, AllocError>
-    ensures { IfOk result (λ t. t ≡ told_line entry.now.name (ToldBool entry.now.offset bit default)) }
+/// Adds the line of a boolean.
+fn push_bool_line(
+    out: &mut String,
+    entry: &Descriptor,
+    bit: u8,
+    default: bool,
+) -> Result<(), AllocError>
+    ensures { OnOk result (string_bytes out.new ≡ string_bytes out.old ++ line_of_facts entry.now.name (BoolFacts entry.now.offset bit default)) }
 {
     let (name, byte) = (entry.name.as_str(), entry.offset);
-    let line = format!(in alloc; "{name} bool byte {byte} bit {bit} default {default}")?;
-    Text::new(alloc, line.as_str())
+    write!(out, "{name} bool byte {byte} bit {bit} default {default}")
 }
 
-/// The line of a number.
-fn num_line(alloc: Global, entry: &Descriptor, default: u8) -> Result<Text, AllocError>
-    ensures { IfOk result (λ t. t ≡ told_line entry.now.name (ToldNum entry.now.offset default)) }
+/// Adds the line of a number.
+fn push_num_line(out: &mut String, entry: &Descriptor, default: u8) -> Result<(), AllocError>
+    ensures { OnOk result (string_bytes out.new ≡ string_bytes out.old ++ line_of_facts entry.now.name (NumFacts entry.now.offset default)) }
 {
     let (name, byte) = (entry.name.as_str(), entry.offset);
-    let line = format!(in alloc; "{name} num byte {byte} default {default}")?;
-    Text::new(alloc, line.as_str())
+    write!(out, "{name} num byte {byte} default {default}")
 }
 
 /// The texts as they are.
@@ -60,28 +63,39 @@ fn first_of(texts: &[Text]) -> &str
     }
 }
 
-/// The line of an enum with these values.
-fn enum_line(alloc: Global, entry: &Descriptor, values: &[Text]) -> Result<Text, AllocError>
-    ensures { IfOk result (λ t. t ≡ told_line entry.now.name (ToldEnum entry.now.offset values.now)) }
+/// Adds the line of an enum with these values.
+fn push_enum_line(
+    alloc: Global,
+    out: &mut String,
+    entry: &Descriptor,
+    values: &[Text],
+) -> Result<(), AllocError>
+    ensures { OnOk result (string_bytes out.new ≡ string_bytes out.old ++ line_of_facts entry.now.name (EnumFacts entry.now.offset values.now)) }
 {
     let (name, byte) = (entry.name.as_str(), entry.offset);
     let default = first_of(values);
     let strs = strs_of(alloc, values)?;
     let all = listed(alloc, strs.as_slice())?;
     let all = all.as_str();
-    let line = format!(in alloc; "{name} enum byte {byte} default {default} values {all}")?;
-    Text::new(alloc, line.as_str())
+    write!(
+        out,
+        "{name} enum byte {byte} default {default} values {all}"
+    )
 }
 
-/// The line of a preset that enables booleans of these names.
-fn preset_line(alloc: Global, entry: &Descriptor, names: &[&str]) -> Result<Text, AllocError>
-    ensures { IfOk result (λ t. t ≡ told_line entry.now.name (ToldPreset (map (λ name. name.now) names.now))) }
+/// Adds the line of a preset that enables booleans of these names.
+fn push_preset_line(
+    alloc: Global,
+    out: &mut String,
+    entry: &Descriptor,
+    names: &[&str],
+) -> Result<(), AllocError>
+    ensures { OnOk result (string_bytes out.new ≡ string_bytes out.old ++ line_of_facts entry.now.name (PresetFacts (map (λ name. name.now) names.now))) }
 {
     let name = entry.name.as_str();
     let names = listed(alloc, names)?;
     let names = names.as_str();
-    let line = format!(in alloc; "{name} preset enables {names}")?;
-    Text::new(alloc, line.as_str())
+    write!(out, "{name} preset enables {names}")
 }
 
 /// So many of the texts, or those that there are, from this place on.
@@ -150,46 +164,50 @@ fn names_on<'t>(
     Ok(names)
 }
 
-/// The line of the entry of group 0 with this number and descriptor, by the defaults, the enumerators and the masks of the
+/// Adds the line of the entry of group 0 with this number and descriptor, by the defaults, the enumerators and the masks of the
 /// tables.
-fn line_of(
+fn push_line_of(
     alloc: Global,
+    out: &mut String,
     tables: &Tables,
     number: u16,
     entry: &Descriptor,
-) -> Result<Text, AllocError>
-    ensures { OfGroup tables.now 0 (λ g. slice_get g.descriptors number ≡ Some entry.now → IfOk result (λ t. t ≡ line_in g entry.now)) }
+) -> Result<(), AllocError>
+    ensures { OfGroup tables.now 0 (λ g. slice_get g.descriptors number ≡ Some entry.now → OnOk result (string_bytes out.new ≡ string_bytes out.old ++ line_in g entry.now)) }
 {
     let default = tables.default_value(0, number).unwrap_or(0);
     match entry.detail {
-        Detail::Bool { bit } => bool_line(alloc, entry, bit, default == 1),
+        Detail::Bool { bit } => push_bool_line(out, entry, bit, default == 1),
         Detail::Enum { last, enumerators } => {
             let values = part(texts_of(tables), enumerators, u16::from(last) + 1);
-            enum_line(alloc, entry, values)
+            push_enum_line(alloc, out, entry, values)
         }
-        Detail::Num => num_line(alloc, entry, default),
+        Detail::Num => push_num_line(out, entry, default),
         Detail::Preset => {
             let names = names_on(alloc, tables, number, entry.offset)?;
-            preset_line(alloc, entry, names.as_slice())
+            push_preset_line(alloc, out, entry, names.as_slice())
         }
     }
 }
 
-/// The line of the entry of group 0 that has the name, and `None` exactly where none has it or there is no such group.
-pub(crate) fn setting_line(
+/// Adds the line of the entry of group 0 that has the name, and is false, with nothing added, exactly where none has it or there is no
+/// such group.
+pub(crate) fn push_setting_line(
     alloc: Global,
+    out: &mut String,
     tables: &Tables,
     name: &[u8],
-) -> Result<Option<Text>, AllocError>
-    ensures found { IfOk result (λ o. IfSome o (λ line. IsLineInTables tables.now name.now line)) }
-    ensures none { IfOk result (λ o. IfNone o (SettingReply tables.now name.now Unknown)) }
+) -> Result<bool, AllocError>
+    ensures found { IfOk result (λ there. there ≡ true → (line : List ℕ) × IsLineInTables tables.now name.now line × (string_bytes out.new ≡ string_bytes out.old ++ line)) }
+    ensures none { IfOk result (λ there. there ≡ false → SettingReply tables.now name.now Unknown) }
+    ensures kept { IfOk result (λ there. there ≡ false → string_bytes out.new ≡ string_bytes out.old) }
 {
     let Some(number) = tables.find_setting(0, name) else {
-        return Ok(None);
+        return Ok(false);
     };
     let Some(entry) = tables.descriptor(0, number) else {
-        return Ok(None);
+        return Ok(false);
     };
-    let line = line_of(alloc, tables, number, entry)?;
-    Ok(Some(line))
+    push_line_of(alloc, out, tables, number, entry)?;
+    Ok(true)
 }
