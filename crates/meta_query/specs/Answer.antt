@@ -1,7 +1,7 @@
 -- The answers to the lines of an input.
 --     IsTableReply tables line reply     the reply of tables, read by the decoding
 --     IsReply d line reply               the reply of declarations, as they mean
---     AreWrittenAnswers R lines out             out is the answers of the lines in order, each with LF
+--     AreWrittenAnswers R lines out      out is the answers of the lines in order, each with LF
 --     IsOutput d input out               out answers the whole input as the declarations mean
 use Rattle.std.specs.Prelude.{◌≡◌, ◌≢◌, ℕ, List, [], ◌∷◌, ◌++◌, ◌⊎◌, map, slice_get, Option, None, Some, codes}
 use Rattle.std.specs.Option.{option_map}
