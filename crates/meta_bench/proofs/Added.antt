@@ -26,3 +26,8 @@ are_of_more vars operands o tv is within held k n at =
 pub fits_more : (vars : List TypeVarContent) (formats : List InstructionFormat) (instructions : List Builder) (b : Builder) → FitsBuilder vars formats b → Fits vars formats instructions → Fits vars formats (instructions ++ b ∷ [])
 fits_more vars formats instructions b fits held k c at =
     ⊎_elim (λ e. held k c e) (λ e. subst (FitsBuilder vars formats) (only b c e.0 e.1) fits) (slice_get-append_cases instructions (b ∷ []) k c at)
+
+-- and so they do where it is the first
+pub one_fits : (vars : List TypeVarContent) (formats : List InstructionFormat) (before after : List Builder) (b : Builder) → before ≡ [] → after ≡ before ++ b ∷ [] → FitsBuilder vars formats b → Fits vars formats after
+one_fits vars formats before after b none added fits =
+    subst (Fits vars formats) (sym (added ∙ ap (λ bs. bs ++ b ∷ []) none)) (fits_more vars formats [] b fits (λ k c at. absurd (cc)))

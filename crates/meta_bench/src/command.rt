@@ -1,5 +1,6 @@
 ghost use Rattle.std.specs.Prelude.{◌≡◌, ◌<◌, IfSome, length};
 
+use super::inputs::Shown;
 use meta_types::Text;
 
 /// What is declared, and how much of it.
@@ -9,6 +10,8 @@ pub(crate) enum Subject {
     Instructions(u8),
     /// One group of so many settings and presets.
     Settings(u16),
+    /// One instruction with inputs of so many variables, which shows a fault.
+    Inputs(Shown, u32),
 }
 
 /// What the words ask for: that `generate` is called so many times over one subject.
@@ -24,7 +27,7 @@ impl Subject {
         match name {
             "instructions" => Some(Subject::Instructions(size.parse().ok()?)),
             "settings" => Some(Subject::Settings(size.parse().ok()?)),
-            _ => None,
+            _ => Some(Subject::Inputs(Shown::of(name)?, size.parse().ok()?)),
         }
     }
 }

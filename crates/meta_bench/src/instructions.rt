@@ -1,4 +1,4 @@
-ghost use Rattle.std.specs.Prelude.{◌≡◌, ◌<◌, ◌+◌, ◌++◌, ◌∷◌, [], List, IfOk, OnOk, length};
+ghost use Rattle.std.specs.Prelude.{◌≡◌, ◌<◌, ◌+◌, ◌-◌, ◌^◌, ◌++◌, ◌∷◌, [], List, IfOk, OnOk, length};
 ghost use Rattle.meta_typevar.specs.declared.content.TypeVarContent.{TypeVarContent};
 ghost use Rattle.meta_operands.specs.declared.format.InstructionFormat.{InstructionFormat};
 ghost use Rattle.meta_operands.specs.Operand.{variables_of};
@@ -13,10 +13,11 @@ use meta_types::Text;
 use meta_typevar::{Interval, TypeSetBuilder, TypeVar, TypeVars};
 use std::alloc::{AllocError, Global};
 
-/// The variable `Int` of all scalar integer types.
-fn int(alloc: Global, vars: &mut TypeVars) -> Result<TypeVar, AllocError>
-    requires { length vars.old ≡ 0 }
-    ensures { IfOk result (λ tv. tv < length vars.new) }
+/// A variable `Int` of all scalar integer types, which is added.
+pub(crate) fn int(alloc: Global, vars: &mut TypeVars) -> Result<TypeVar, AllocError>
+    requires { length vars.old < 2 ^ 32 - 1 }
+    ensures of_registry { IfOk result (λ tv. tv < length vars.new) }
+    ensures added { OnOk result (length vars.new ≡ length vars.old + 1) }
 {
     let ints = TypeSetBuilder::new().ints(Interval::All).build(alloc)?;
     let doc = Text::new(alloc, "A scalar integer type")?;
@@ -34,7 +35,7 @@ fn seven(alloc: Global, formats: &mut FormatTable) -> Result<FormatId, AllocErro
 }
 
 /// An operand of the variable.
-fn value(alloc: Global, tv: TypeVar) -> Result<Operand, AllocError>
+pub(crate) fn value(alloc: Global, tv: TypeVar) -> Result<Operand, AllocError>
     ensures { IfOk result (λ o. variables_of (o ∷ []) ≡ tv ∷ []) }
 {
     let kind = OperandKind::of(alloc, tv)?;
@@ -68,7 +69,10 @@ fn instruction(
 }
 
 /// Adds an instruction at the end.
-fn push(instructions: &mut AllInstructions, builder: InstructionBuilder) -> Result<(), AllocError>
+pub(crate) fn push(
+    instructions: &mut AllInstructions,
+    builder: InstructionBuilder,
+) -> Result<(), AllocError>
     ensures { OnOk result (instructions.new ≡ instructions.old ++ builder ∷ []) }
 {
     let mut group = InstructionGroupBuilder::new(instructions);

@@ -4,6 +4,7 @@
 ghost use Rattle.std.specs.Prelude.{◌<◌};
 
 mod command;
+mod inputs;
 mod instructions;
 mod measure;
 mod names;
@@ -37,16 +38,25 @@ fn words(rt: &HostRuntime) -> Result<Vec<Text>, Status> {
     Ok(words)
 }
 
-/// Does what the command says, and prints what the tables hold.
+/// Prints the line, and answers with the status where that succeeds.
+fn printed(rt: &HostRuntime, line: &str, status: Status) -> Status {
+    match println!(rt; "{line}") {
+        Ok(()) => status,
+        Err(_) => Status::WriteFault,
+    }
+}
+
+/// Does what the command says, and prints what the tables hold, or the fault by which the declarations are refused.
 fn run(rt: &HostRuntime, command: &Command) -> Status
     requires { 0 < command.now.times }
 {
-    match measured(rt.alloc(), command) {
-        Ok(line) => match println!(rt; "{line}") {
-            Ok(()) => Status::Done,
-            Err(_) => Status::WriteFault,
+    let alloc = rt.alloc();
+    match measured(alloc, command) {
+        Ok(line) => printed(rt, &line, Status::Done),
+        Err(fault) => match fault.line(alloc) {
+            Ok(line) => printed(rt, line.as_str(), Status::of(&fault)),
+            Err(_) => Status::OutOfMemory,
         },
-        Err(fault) => Status::of(&fault),
     }
 }
 

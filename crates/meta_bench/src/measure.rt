@@ -4,13 +4,14 @@ ghost use Rattle.meta_gen.specs.AllDeclared.{ShowsFirst};
 ghost use Rattle.meta_gen.specs.WholeTables.{AreWholeTablesOf};
 
 use super::command::{Command, Subject};
+use super::inputs::input_declarations;
 use super::instructions::instruction_declarations;
 use super::settings::setting_declarations;
 use meta_gen::{Declarations, Tables, generate};
 use meta_types::DefinitionError;
 use std::alloc::{AllocError, Global};
 
-/// The tables of the declarations, which are made so many times.
+/// The tables of the declarations, or their fault, for which `generate` is called so many times.
 fn generated(
     alloc: Global,
     declarations: &Declarations,
@@ -21,7 +22,7 @@ fn generated(
     ensures tables { IfOk result (λ t. AreWholeTablesOf declarations.now t) }
 {
     for _ in 1..times {
-        let _tables = generate(alloc, declarations)?;
+        let _tables = generate(alloc, declarations);
     }
     generate(alloc, declarations)
 }
@@ -60,6 +61,11 @@ pub(crate) fn measured(alloc: Global, command: &Command) -> Result<String, Defin
             let declarations = setting_declarations(alloc, count)?;
             let tables = generated(alloc, &declarations, command.times)?;
             Ok(about_settings(alloc, count, &tables)?)
+        }
+        Subject::Inputs(shown, count) => {
+            let declarations = input_declarations(alloc, shown, count)?;
+            let tables = generated(alloc, &declarations, command.times)?;
+            Ok(about_instructions(alloc, 1, &tables)?)
         }
     }
 }

@@ -18,8 +18,8 @@ use Rattle.meta_inst.specs.Operands.{OperandList, instruction_with, AreOf}
 use Rattle.meta_inst.specs.Control.{HasNoControl}
 use Rattle.meta_inst.specs.FoundControl.{IsFound, control_in, IsOf}
 use Rattle.meta_inst.specs.Faults.{IsAt, IsControlSet, IsFreeSet}
-use Rattle.meta_inst.specs.declared.operands.Control.{Control}
-use Rattle.meta_inst.specs.declared.operands.Control.TheVariants.{By}
+use Rattle.meta_inst.specs.declared.operands.Controlling.{Controlling}
+use Rattle.meta_inst.specs.declared.operands.Controlling.TheVariants.{By}
 use Rattle.meta_typevar.proofs.Variables.{one_variable, underived_told}
 use Rattle.meta_inst.proofs.OneType.{one_told}
 use Rattle.meta_inst.proofs.Derived.{by_control}
@@ -36,7 +36,7 @@ use Rattle.meta_types.proofs.ListPlaces.{get_pushed_below}
 use Rattle.meta_gen.specs.Interned.{Adds, AddsSome, AddsEach, AddsNeeded, IsControlSetOf, IsFreeSetOf, IsFreeSetAt}
 use Rattle.meta_gen.proofs.Interning.{adds_none, adds_one, adds_like, each_like, each_behind, IsInterned, needs_more, next_instruction}
 
-module _ (vars : List TypeVarContent) (o : OperandList) (within : o.result_count ≤ length o.variables) (c : Control) (found : IsFound vars (instruction_with vars o) c) (controlled : HasNoControl (sets_of vars) (instruction_with vars o) → ⊥) (registry : IsRegistry vars) (are : AreOf vars o.variables) (of : IsOf vars c) where
+module _ (vars : List TypeVarContent) (o : OperandList) (within : o.result_count ≤ length o.variables) (c : Controlling) (found : IsFound vars (instruction_with vars o) c) (controlled : HasNoControl (sets_of vars) (instruction_with vars o) → ⊥) (registry : IsRegistry vars) (are : AreOf vars o.variables) (of : IsOf vars c) where
   abbrev i : Instruction
   i = instruction_with vars o
 
@@ -114,7 +114,7 @@ module _ (vars : List TypeVarContent) (o : OperandList) (within : o.result_count
   }
 
 -- the same of the declared instruction
-pub adds_declared : (vars : List TypeVarContent) (o : OperandList) (declared : Instruction) (c : Control) (a b d : List FourSets) → instruction_with vars o ≡ declared → o.result_count ≤ length o.variables → IsFound vars (instruction_with vars o) c → (HasNoControl (sets_of vars) declared → ⊥) → IsRegistry vars → AreOf vars o.variables → IsOf vars c → AddsSome (IsControlSetOf vars c) a b → AddsEach (IsFreeSetAt vars c o.variables) (length o.variables) b d → AddsNeeded (sets_of vars) declared a d
+pub adds_declared : (vars : List TypeVarContent) (o : OperandList) (declared : Instruction) (c : Controlling) (a b d : List FourSets) → instruction_with vars o ≡ declared → o.result_count ≤ length o.variables → IsFound vars (instruction_with vars o) c → (HasNoControl (sets_of vars) declared → ⊥) → IsRegistry vars → AreOf vars o.variables → IsOf vars c → AddsSome (IsControlSetOf vars c) a b → AddsEach (IsFreeSetAt vars c o.variables) (length o.variables) b d → AddsNeeded (sets_of vars) declared a d
 adds_declared vars o declared c a b d e within found controlled registry are of h g =
     subst (λ (i : Instruction). AddsNeeded (sets_of vars) i a d) e
     (adds_needed vars o within c found (λ missing. controlled (subst (HasNoControl (sets_of vars)) e missing)) registry are of a b d h g)
@@ -143,21 +143,21 @@ root_raw vars r e = sym (ap (coded_of vars) e)
 pub set_is : (vars : List TypeVarContent) (n r : ℕ) (x : FourSets) → r ≡ (variable_at vars n).root → variable_at vars r ≡ underived r → x ≡ coded_at vars r → x ≡ sets_of vars (variable_at vars n).root
 set_is vars n r x at e is = is ∙ sym (root_raw vars r e) ∙ ap (sets_of vars) at
 
-same_variable : (c : Control) (v w : ℕ) → c ≡ By v → c ≡ By w → v ≡ w
+same_variable : (c : Controlling) (v w : ℕ) → c ≡ By v → c ≡ By w → v ≡ w
 same_variable c v w e f = let h : By v ≡ By w = sym e ∙ f in cc
 
 -- the set of the variable that controls
-pub adds_control : (vars : List TypeVarContent) (c : Control) (v : ℕ) (a b : List FourSets) → c ≡ By v → Adds (sets_of vars (variable_at vars v).root) a b → AddsSome (IsControlSetOf vars c) a b
+pub adds_control : (vars : List TypeVarContent) (c : Controlling) (v : ℕ) (a b : List FourSets) → c ≡ By v → Adds (sets_of vars (variable_at vars v).root) a b → AddsSome (IsControlSetOf vars c) a b
 adds_control vars c v a b is = adds_one (IsControlSetOf vars c) (sets_of vars (variable_at vars v).root) a b
     (record { variable = v; controls = is; set = refl })
     (λ s h. h.set ∙ ap (λ n. sets_of vars (variable_at vars n).root) (same_variable c h.variable v h.controls is))
 
 -- the variable controls
-pub adds_controlling : (vars : List TypeVarContent) (c : Control) (n : ℕ) (sets : List FourSets) → c ≡ By n → AddsSome (IsFreeSetOf vars c n) sets sets
+pub adds_controlling : (vars : List TypeVarContent) (c : Controlling) (n : ℕ) (sets : List FourSets) → c ≡ By n → AddsSome (IsFreeSetOf vars c n) sets sets
 adds_controlling vars c n sets is = adds_none (IsFreeSetOf vars c n) sets (λ s h. h.other is)
 
 -- the variable is derived
-pub adds_derived : (vars : List TypeVarContent) (c : Control) (n : ℕ) (d : TypeVarContent) (sets : List FourSets) (r : Bool) → IsRegistry vars → IsKept vars n d → r ≡ is_some d.base → r ≡ true → AddsSome (IsFreeSetOf vars c n) sets sets
+pub adds_derived : (vars : List TypeVarContent) (c : Controlling) (n : ℕ) (d : TypeVarContent) (sets : List FourSets) (r : Bool) → IsRegistry vars → IsKept vars n d → r ≡ is_some d.base → r ≡ true → AddsSome (IsFreeSetOf vars c n) sets sets
 adds_derived vars c n d sets r registry kept is some = adds_none (IsFreeSetOf vars c n) sets
     (λ s h. let none = (underived_told vars n d registry kept).1 h.underived in false≢true (sym (ap is_some none) ∙ sym is ∙ some))
 
@@ -169,7 +169,7 @@ nothing_there (Some x) e = absurd (cc)
 pub underived_by : (vars : List TypeVarContent) (n : ℕ) (d : TypeVarContent) (r : Bool) → IsRegistry vars → IsKept vars n d → r ≡ is_some d.base → r ≡ false → (variable_at vars n).chain ≡ []
 underived_by vars n d r registry kept is none = (underived_told vars n d registry kept).0 (nothing_there d.base (sym is ∙ none))
 
-module _ (vars : List TypeVarContent) (c : Control) (n : ℕ) (o : Option ValueType) (r : Bool) (found : IfSome o (λ t. IsFixed (sets_of vars (variable_at vars n).root) (variable_at vars n).chain (shape_of t))) (nowhere : IfNone o (IsOpen (sets_of vars) (variable_at vars n))) (is : r ≡ is_some o) (underived : (variable_at vars n).chain ≡ []) where
+module _ (vars : List TypeVarContent) (c : Controlling) (n : ℕ) (o : Option ValueType) (r : Bool) (found : IfSome o (λ t. IsFixed (sets_of vars (variable_at vars n).root) (variable_at vars n).chain (shape_of t))) (nowhere : IfNone o (IsOpen (sets_of vars) (variable_at vars n))) (is : r ≡ is_some o) (underived : (variable_at vars n).chain ≡ []) where
   abbrev own_set : FourSets
   own_set = sets_of vars (variable_at vars n).root
 
@@ -195,7 +195,7 @@ module _ (vars : List TypeVarContent) (c : Control) (n : ℕ) (o : Option ValueT
       (λ s h. h.set)
 
 -- one variable more
-pub one_place_more : (vars : List TypeVarContent) (c : Control) (numbers : List ℕ) (k n : ℕ) (a b d : List FourSets) → slice_get numbers k ≡ Some n → AddsEach (IsFreeSetAt vars c numbers) k a b → AddsSome (IsFreeSetOf vars c n) b d → AddsEach (IsFreeSetAt vars c numbers) (k + 1) a d
+pub one_place_more : (vars : List TypeVarContent) (c : Controlling) (numbers : List ℕ) (k n : ℕ) (a b d : List FourSets) → slice_get numbers k ≡ Some n → AddsEach (IsFreeSetAt vars c numbers) k a b → AddsSome (IsFreeSetOf vars c n) b d → AddsEach (IsFreeSetAt vars c numbers) (k + 1) a d
 one_place_more vars c numbers k n a b d at h g =
     subst (λ m. AddsEach (IsFreeSetAt vars c numbers) m a d) (sym (add-one k)) (
       b,

@@ -9,8 +9,8 @@ use Rattle.meta_typevar.specs.Variable.{Sets}
 use Rattle.meta_typevar.specs.Registry.{sets_of, variable_at}
 use Rattle.meta_typevar.specs.declared.content.TypeVarContent.{TypeVarContent}
 use Rattle.meta_inst.specs.Instruction.{Instruction}
-use Rattle.meta_inst.specs.declared.operands.Control.{Control}
-use Rattle.meta_inst.specs.declared.operands.Control.TheVariants.{By}
+use Rattle.meta_inst.specs.declared.operands.Controlling.{Controlling}
+use Rattle.meta_inst.specs.declared.operands.Controlling.TheVariants.{By}
 use Rattle.meta_unique.specs.Interning.{IsIndexOf, IsNew}
 use Rattle.meta_gen.specs.Needed.{NeedsAtPlace}
 
@@ -32,20 +32,20 @@ abbrev pub IsSetOf : List TypeVarContent → ℕ → FourSets → Type 0
 IsSetOf vars n s = s ≡ sets_of vars (variable_at vars n).root
 
 -- s is the set of the variable that controls
-pub record IsControlSetOf (vars : List TypeVarContent) (control : Control) (s : FourSets) : Type 0 where
+pub record IsControlSetOf (vars : List TypeVarContent) (control : Controlling) (s : FourSets) : Type 0 where
   pub variable : ℕ
   pub controls : control ≡ By variable
   pub set : IsSetOf vars variable s
 
 -- s is the set of the variable with the number n, which is underived and doesn't control, and s hasn't exactly one type
-pub record IsFreeSetOf (vars : List TypeVarContent) (control : Control) (n : ℕ) (s : FourSets) : Type 0 where
+pub record IsFreeSetOf (vars : List TypeVarContent) (control : Controlling) (n : ℕ) (s : FourSets) : Type 0 where
   pub other : control ≢ By n
   pub underived : (variable_at vars n).chain ≡ []
   pub set : IsSetOf vars n s
   pub several : HasOne s → ⊥
 
 -- s is such a set of the variable at this place
-pub record IsFreeSetAt (vars : List TypeVarContent) (control : Control) (numbers : List ℕ) (place : ℕ) (s : FourSets) : Type 0 where
+pub record IsFreeSetAt (vars : List TypeVarContent) (control : Controlling) (numbers : List ℕ) (place : ℕ) (s : FourSets) : Type 0 where
   pub variable : ℕ
   pub at : slice_get numbers place ≡ Some variable
   pub free : IsFreeSetOf vars control variable s

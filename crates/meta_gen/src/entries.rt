@@ -15,7 +15,7 @@ ghost use Rattle.meta_gen.specs.Needed.{AllControlled, AllDerived, AllSmall};
 
 use super::constraint::{Constraint, NO_TYPE_SET, OpcodeConstraints};
 use super::describe::{constraints_of, is_control, set_place};
-use meta_inst::{AllInstructions, Control, InstructionBuilder, Operands};
+use meta_inst::{AllInstructions, Controlling, InstructionBuilder, Operands};
 use meta_operands::FormatTable;
 use meta_typevar::{TypeSet, TypeVar, TypeVars};
 use meta_unique::{UniqueSeqTable, UniqueTable};
@@ -29,9 +29,9 @@ fn control_of(vars: &TypeVars, operands: &Operands) -> Option<TypeVar>
     ensures of_registry { IfSome result (λ v. v < length vars.now) }
 {
     match operands.control(vars) {
-        Control::By(v) => Some(v),
-        Control::NotPolymorphic => None,
-        Control::Missing => unreachable!(),
+        Controlling::By(v) => Some(v),
+        Controlling::NotPolymorphic => None,
+        Controlling::Missing => unreachable!(),
     }
 }
 

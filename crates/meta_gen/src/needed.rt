@@ -7,7 +7,7 @@ ghost use Rattle.meta_inst.specs.InstructionSet.{Fits, FitsBuilder, instruction_
 ghost use Rattle.meta_gen.specs.Interned.{Adds, AddsSome, AddsEach, AddsNeeded, IsControlSetOf, IsFreeSetOf, IsFreeSetAt};
 ghost use Rattle.meta_gen.specs.Needed.{AllControlled, AreSetsByNeed, StandForSets};
 
-use meta_inst::{AllInstructions, Control, InstructionBuilder, Operands};
+use meta_inst::{AllInstructions, Controlling, InstructionBuilder, Operands};
 use meta_operands::FormatTable;
 use meta_typevar::{Masks, TypeSet, TypeVar, TypeVars};
 use meta_unique::UniqueTable;
@@ -31,24 +31,24 @@ fn intern_set<'d>(
 fn intern_control<'d>(
     type_sets: &mut UniqueTable<'d, TypeSet>,
     vars: &'d TypeVars,
-    control: &Control,
+    control: &Controlling,
 ) -> Result<(), AllocError>
     requires { IsOf vars.now control.now }
     ensures { OnOk result (AddsSome (IsControlSetOf vars.now control.now) type_sets.old type_sets.new) }
 {
     match control {
-        Control::By(v) => intern_set(type_sets, vars, *v),
-        Control::NotPolymorphic | Control::Missing => Ok(()),
+        Controlling::By(v) => intern_set(type_sets, vars, *v),
+        Controlling::NotPolymorphic | Controlling::Missing => Ok(()),
     }
 }
 
 /// Whether the variable controls.
-fn controls(control: &Control, tv: TypeVar) -> bool
-    ensures { IsTrue result ↔ (control.now ≡ Control.By tv) }
+fn controls(control: &Controlling, tv: TypeVar) -> bool
+    ensures { IsTrue result ↔ (control.now ≡ Controlling.By tv) }
 {
     match control {
-        Control::By(v) => *v == tv,
-        Control::NotPolymorphic | Control::Missing => false,
+        Controlling::By(v) => *v == tv,
+        Controlling::NotPolymorphic | Controlling::Missing => false,
     }
 }
 
@@ -56,7 +56,7 @@ fn controls(control: &Control, tv: TypeVar) -> bool
 fn intern_operand<'d>(
     type_sets: &mut UniqueTable<'d, TypeSet>,
     vars: &'d TypeVars,
-    control: &Control,
+    control: &Controlling,
     tv: TypeVar,
 ) -> Result<(), AllocError>
     requires { tv < length vars.now }
@@ -78,7 +78,7 @@ fn intern_operand<'d>(
 fn intern_free<'d>(
     type_sets: &mut UniqueTable<'d, TypeSet>,
     vars: &'d TypeVars,
-    control: &Control,
+    control: &Controlling,
     variables: &[TypeVar],
 ) -> Result<(), AllocError>
     requires { AreOf vars.now variables.now }

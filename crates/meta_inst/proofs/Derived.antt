@@ -17,13 +17,13 @@ use Rattle.meta_typevar.proofs.Variables.{child_variable, underived_told, one_va
 use Rattle.meta_inst.specs.Control.{IsBadlyDerived, HasBadDerivation, IsFirstBadDerivation}
 use Rattle.meta_inst.specs.FoundControl.{control_in, IsBadAt, IsFirstBadAt, IsOf}
 use Rattle.meta_inst.specs.Operands.{OperandList, instruction_with, AreOf}
-use Rattle.meta_inst.specs.declared.operands.Control.{Control}
-use Rattle.meta_inst.specs.declared.operands.Control.TheVariants.{NotPolymorphic, By, Missing}
+use Rattle.meta_inst.specs.declared.operands.Controlling.{Controlling}
+use Rattle.meta_inst.specs.declared.operands.Controlling.TheVariants.{NotPolymorphic, By, Missing}
 use Rattle.meta_inst.proofs.Underived.{none_is}
 use Rattle.meta_inst.proofs.Meaning.{operand_at, operand_from}
 
 -- the control, where it is a variable, by its number
-pub by_control : (vars : List TypeVarContent) (c : Control) (v : Variable) → control_in vars c ≡ Some v → (m : ℕ) × (c ≡ By m) × (variable_at vars m ≡ v)
+pub by_control : (vars : List TypeVarContent) (c : Controlling) (v : Variable) → control_in vars c ≡ Some v → (m : ℕ) × (c ≡ By m) × (variable_at vars m ≡ v)
 by_control vars NotPolymorphic v e = absurd (cc)
 by_control vars (By m) v e = (m, refl, same_Some (variable_at vars m) v e)
 by_control vars Missing v e = absurd (cc)
@@ -59,7 +59,7 @@ module _ (vars : List TypeVarContent) (r : IsRegistry vars) (n : ℕ) (d : TypeV
   pub not_root : (variable_at vars n).chain ≡ [] → ⊥
   not_root none = no_last (variable_at vars p.type_var).chain (function_of p.derived_func) (sym one_step.chain ∙ none)
 
-module _ (vars : List TypeVarContent) (r : IsRegistry vars) (c : Control) (n : ℕ) (d : TypeVarContent) (k : IsKept vars n d) where
+module _ (vars : List TypeVarContent) (r : IsRegistry vars) (c : Controlling) (n : ℕ) (d : TypeVarContent) (k : IsKept vars n d) where
   abbrev Bad : Type 0
   Bad = IsBadlyDerived (sets_of vars) (control_in vars c) (variable_at vars n)
 
@@ -85,11 +85,11 @@ module _ (vars : List TypeVarContent) (r : IsRegistry vars) (c : Control) (n : �
         (λ yes. let none : Some t ≡ None = (none_is {X = ValueType} (Some t) b is).0 yes in absurd (cc), λ h. absurd (h.not_fixed (shape_of t) found))
 
 -- what a test of one variable says of the place where it stands
-pub not_bad_at : (vars : List TypeVarContent) (c : Control) (numbers : List ℕ) (place n : ℕ) → slice_get numbers place ≡ Some n → (IsBadlyDerived (sets_of vars) (control_in vars c) (variable_at vars n) → ⊥) → IsBadAt vars c numbers place → ⊥
+pub not_bad_at : (vars : List TypeVarContent) (c : Controlling) (numbers : List ℕ) (place n : ℕ) → slice_get numbers place ≡ Some n → (IsBadlyDerived (sets_of vars) (control_in vars c) (variable_at vars n) → ⊥) → IsBadAt vars c numbers place → ⊥
 not_bad_at vars c numbers place n at none h =
     none (subst (λ m. IsBadlyDerived (sets_of vars) (control_in vars c) (variable_at vars m)) (same_Some h.number n (sym h.at ∙ at)) h.bad)
 
-module _ (vars : List TypeVarContent) (o : OperandList) (within : o.result_count ≤ length o.variables) (registry : IsRegistry vars) (are : AreOf vars o.variables) (c : Control) where
+module _ (vars : List TypeVarContent) (o : OperandList) (within : o.result_count ≤ length o.variables) (registry : IsRegistry vars) (are : AreOf vars o.variables) (c : Controlling) where
   bad_to : (k : ℕ) → IsBadAt vars c o.variables k → HasBadDerivation (sets_of vars) (instruction_with vars o) (control_in vars c) k
   bad_to k h = record { variable = variable_at vars h.number; operand = operand_at vars o within registry are k h.number h.at; bad = h.bad }
 

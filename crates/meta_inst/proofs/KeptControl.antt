@@ -11,7 +11,7 @@ use Rattle.meta_inst.specs.Control.{IsControl}
 use Rattle.meta_inst.specs.FoundControl.{control_in, IsFound}
 use Rattle.meta_inst.specs.InstructionFaults.{LacksItsControl, IsWellMade}
 use Rattle.meta_inst.specs.Content.{control_kept, IsPolymorphicInfoOf}
-use Rattle.meta_inst.specs.declared.operands.Control.{Control}
+use Rattle.meta_inst.specs.declared.operands.Controlling.{Controlling}
 use Rattle.meta_inst.specs.declared.polymorphic.PolymorphicInfo.{PolymorphicInfo}
 use Rattle.meta_inst.proofs.Searching.{is_found}
 
@@ -27,7 +27,7 @@ at_some (Some q) P h p e = subst P (same e) h
 controlled : (vars : List TypeVarContent) (formats : List InstructionFormat) (b : Builder) → IsWellMade vars formats b → LacksItsControl vars formats b → ⊥
 controlled vars formats b well lack = well 0 5 (NoControl 0) (refl, refl, lack)
 
-pub info_of : (vars : List TypeVarContent) (formats : List InstructionFormat) (b : Builder) (i : Instruction) (c : Control) (info kept : Option PolymorphicInfo) → i ≡ instruction_in vars formats b → IsWellMade vars formats b → IsFound vars i c → kept ≡ info
+pub info_of : (vars : List TypeVarContent) (formats : List InstructionFormat) (b : Builder) (i : Instruction) (c : Controlling) (info kept : Option PolymorphicInfo) → i ≡ instruction_in vars formats b → IsWellMade vars formats b → IsFound vars i c → kept ≡ info
     → control_kept vars info ≡ control_in vars c → IfSome info (λ p. p.ctrl_typevar < length vars) → IfSome info (λ p. IsTrue p.use_typevar_operand ↔ IsDesignated i (variable_at vars p.ctrl_typevar)) → IsPolymorphicInfoOf vars formats b kept
 info_of vars formats b i c info kept meaning well found same control of designated =
     let found_in : IsFound vars (instruction_in vars formats b) c = subst (λ (x : Instruction). IsFound vars x c) meaning found in

@@ -11,3 +11,4 @@ pub mod OneOwnFault
 mod OwnFaults
 mod KeptControl
 mod Matching
+mod Counting

@@ -1,6 +1,6 @@
 -- The operands by the numbers of their variables, and the instruction that they make.
-use Rattle.std.proofs.Common.{◌≡◌, ◌<◌, ◌≤◌, inl, inr, ℕ, List, [], Bool, true, false, length, take, drop, Option, None, Some, slice_get, arith, refl, sym, ap, ◌∙◌, map, subst, ⊎_elim, ◌+◌, ◌∷◌, zero, suc, zero-add, suc-add}
-use Rattle.std.specs.Prelude.{◌↔◌, IsTrue, IfSome, option_map, option_and_then, if◌then◌else◌}
+use Rattle.std.proofs.Common.{◌≡◌, ◌<◌, ◌≤◌, inl, inr, ℕ, List, [], Bool, true, false, length, take, drop, Option, None, Some, slice_get, arith, refl, sym, ap, ◌∙◌, map, subst, ⊎_elim, ◌+◌, ◌∷◌, zero, suc}
+use Rattle.std.specs.Prelude.{◌↔◌, IsTrue, option_map, option_and_then, if◌then◌else◌}
 use Rattle.std.proofs.lemmas.Option.{slice_get-map}
 use Rattle.std.proofs.lemmas.List.{take-append-drop, map-append, length-map, length-take}
 use Rattle.meta_typevar.specs.FourSets.{HasOne}
@@ -12,8 +12,9 @@ use Rattle.meta_inst.specs.Instruction.{Instruction, operands, IsOperand, IsDesi
 use Rattle.meta_inst.specs.Control.{IsLoneInput, IsRuled, MayControl, IsPolymorphic, HasOneEverywhere, IsControlledBy, DesignatesNone}
 use Rattle.meta_inst.specs.Operands.{OperandList, instruction_with, variables_at, IsLone, LetsControl, CanControl, HasSeveralTypes, AllHaveOneType, designated_number, first_number, AreOf}
 use Rattle.meta_inst.specs.FoundControl.{IsFound, IsFoundIn, MayNot, IsChosen}
-use Rattle.meta_inst.specs.declared.operands.Control.{Control}
-use Rattle.meta_inst.specs.declared.operands.Control.TheVariants.{NotPolymorphic, By, Missing}
+use Rattle.meta_inst.proofs.Places.{slice_get-drop}
+use Rattle.meta_inst.specs.declared.operands.Controlling.{Controlling}
+use Rattle.meta_inst.specs.declared.operands.Controlling.TheVariants.{NotPolymorphic, By, Missing}
 
 -- what a map of an option has at a value
 mapped : {X Y : Type 0} (f : X → Y) (o : Option X) (y : Y) → option_map f o ≡ Some y → (x : X) × (o ≡ Some x) × (y ≡ f x)
@@ -37,12 +38,7 @@ choose false p e = absurd (cc)
 some_same : {X : Type 0} {x y : X} → Some x ≡ Some y → x ≡ y
 some_same e = cc
 
--- places behind the first n, and before
-slice_get-drop : (xs : List ℕ) (n k : ℕ) → slice_get (drop n xs) k ≡ slice_get xs (n + k)
-slice_get-drop xs zero k = ap (slice_get xs) (sym (zero-add k))
-slice_get-drop [] (suc n) k = refl
-slice_get-drop (x ∷ xs) (suc n) k = slice_get-drop xs n k ∙ ap (slice_get (x ∷ xs)) (sym (suc-add n k))
-
+-- the first place, where some are taken
 pub first_taken : (xs : List ℕ) (n x : ℕ) → slice_get (take n xs) 0 ≡ Some x → slice_get xs 0 ≡ Some x
 first_taken xs zero x e = absurd (cc)
 first_taken [] (suc n) x e = absurd (cc)
@@ -193,20 +189,15 @@ module _ (vars : List TypeVarContent) (o : OperandList) (within : o.result_count
   }
 
   -- what was found by numbers is found of the instruction
-  pub found : (c : Control) → IsFoundIn vars o.variables o.result_count (designated_number o) (first_number o) c → IsFound vars i c
+  pub found : (c : Controlling) → IsFoundIn vars o.variables o.result_count (designated_number o) (first_number o) c → IsFound vars i c
   found NotPolymorphic h = one_everywhere h
   found (By v) h = controlled v h
   found Missing h = record { polymorphic = polymorphic h.several; designated = designates_none h.designated_may_not; first = first_never h.first_may_not }
 
   -- the variable that controls is of the registry
-  pub of_registry : (c : Control) (v : ℕ) → IsFoundIn vars o.variables o.result_count (designated_number o) (first_number o) c → c ≡ By v → v < length vars
+  pub of_registry : (c : Controlling) (v : ℕ) → IsFoundIn vars o.variables o.result_count (designated_number o) (first_number o) c → c ≡ By v → v < length vars
   of_registry NotPolymorphic v h e = absurd (cc)
   of_registry Missing v h e = absurd (cc)
   of_registry (By u) v h e =
       let same : u ≡ v = cc in
       subst (λ n. n < length vars) same (chosen_of u h)
-
--- a number that an option has, as the calls ask for it
-pub some_of : (o : Option ℕ) (P : ℕ → Type 0) → ((u : ℕ) → o ≡ Some u → P u) → IfSome o P
-some_of None P h = tt
-some_of (Some u) P h = h u refl

@@ -10,7 +10,7 @@ use Rattle.meta_operands.specs.declared.operand.Operand.{Operand}
 use Rattle.meta_inst.specs.Operands.{AreOf}
 use Rattle.meta_inst.proofs.Places.{slice_get-append_left, slice_get-append_right, slice_get-append_cases}
 
-are_of_both : (vars : List TypeVarContent) (xs ys : List ℕ) → AreOf vars xs → AreOf vars ys → AreOf vars (xs ++ ys)
+pub are_of_both : (vars : List TypeVarContent) (xs ys : List ℕ) → AreOf vars xs → AreOf vars ys → AreOf vars (xs ++ ys)
 are_of_both vars xs ys a b k n at = ⊎_elim (λ e. a k n e) (λ e. b e.0 n e.1) (slice_get-append_cases xs ys k n at)
 
 are_of_left : (vars : List TypeVarContent) (xs ys : List ℕ) → AreOf vars (xs ++ ys) → AreOf vars xs

@@ -1,25 +1,21 @@
 -- The rules of one instruction, one after another.
-use Rattle.std.proofs.Common.{◌≡◌, ◌<◌, ◌+◌, ◌-◌, ℕ, List, length, length-append, true, Option, None, Some, slice_get, refl, sym, ap, ◌∙◌, subst, subst₂, arith}
-use Rattle.std.specs.List.{position}
+use Rattle.std.proofs.Common.{◌≡◌, ◌<◌, ◌+◌, ◌-◌, ℕ, List, length, length-append, true, Some, slice_get, refl, sym, ap, ◌∙◌, subst, subst₂, arith}
 use Rattle.std.proofs.lemmas.Option.{same_Some}
-use Rattle.meta_types.specs.Name.{IsName}
 use Rattle.meta_types.specs.declared.fault.Place.TheVariants.{Instruction as AtInstruction, Format as AtFormat, Group as AtGroup, Entry as AtEntry}
 use Rattle.meta_types.specs.declared.fault.DefinitionError.{DefinitionError}
 use Rattle.meta_types.specs.declared.fault.DefinitionError.TheVariants.{BadName, DuplicateName, TooManyOpcodes, BadOutput, FormatMismatch, NoControl, BadDerivation, TooManyOperands, BadImmMethod, BadFormat, FormatClash, TooManyTypeSets, BadEnum, BadPreset, TooManySettings, OutOfMemory}
 use Rattle.meta_typevar.specs.declared.content.TypeVarContent.{TypeVarContent}
 use Rattle.meta_typevar.specs.Registry.{sets_of}
 use Rattle.meta_operands.specs.Operand.{variables_of}
-use Rattle.meta_operands.specs.declared.operand.Operand.{Operand}
 use Rattle.meta_operands.specs.declared.format.InstructionFormat.{InstructionFormat}
 use Rattle.meta_inst.specs.Builder.{Builder, inputs_of, outputs_of}
 use Rattle.meta_inst.specs.Control.{HasBadDerivation, IsFirstBadDerivation}
-use Rattle.meta_inst.specs.FormatMatch.{MatchesFormat}
 use Rattle.meta_inst.specs.FoundControl.{control_in, IsFound, AreOperandsOf}
 use Rattle.meta_inst.specs.InstructionSet.{instruction_in}
 use Rattle.meta_inst.specs.Operands.{OperandList, instruction_with}
-use Rattle.meta_inst.specs.InstructionFaults.{is_bad_output, HasBadName, HasBadOutput, HasFormatMismatch, LacksItsControl, IsDerivedBadlyAt, AreTooMany, HasTooManyOperands, TakesNoImmediate, HasBadImmMethod, Breaks, IsFirstOwnFault, IsWellMade}
-use Rattle.meta_inst.specs.declared.operands.Control.{Control}
-use Rattle.meta_inst.specs.declared.operands.Control.TheVariants.{Missing}
+use Rattle.meta_inst.specs.InstructionFaults.{HasBadName, HasBadOutput, HasFormatMismatch, LacksItsControl, IsDerivedBadlyAt, AreTooMany, HasTooManyOperands, TakesNoImmediate, HasBadImmMethod, IsWellFormed, Breaks, IsFirstOwnFault, IsWellMade}
+use Rattle.meta_inst.specs.declared.operands.Controlling.{Controlling}
+use Rattle.meta_inst.specs.declared.operands.Controlling.TheVariants.{Missing}
 use Rattle.meta_inst.proofs.Searching.{found_controls, search_found, search_clean}
 
 module _ (vars : List TypeVarContent) (formats : List InstructionFormat) (b : Builder) where
@@ -61,23 +57,6 @@ module _ (vars : List TypeVarContent) (formats : List InstructionFormat) (b : Bu
 
   -- ---- what the searches tell of each rule
 
-  -- the name is one
-  pub kept_name : (name : List ℕ) → IsName name → name ≡ b.name → HasBadName b → ⊥
-  kept_name name is same bad = bad (subst IsName same is)
-
-  -- no output was found bad
-  pub kept_output : (found : Option ℕ) (outputs : List Operand) → found ≡ position is_bad_output outputs → outputs ≡ outputs_of b → found ≡ None → (place : ℕ) → HasBadOutput b place → ⊥
-  kept_output found outputs is same none place bad = absurd (apart (sym none ∙ is ∙ ap (position is_bad_output) same ∙ bad))
-    where
-      apart : {x : ℕ} → None ≡ Some x → ⊥
-      apart e = cc
-
-  -- the inputs are stored as the format says
-  pub kept_format : (format : InstructionFormat) (inputs : List Operand) (id : ℕ) → slice_get formats id ≡ Some format → id ≡ b.format → MatchesFormat format inputs → inputs ≡ inputs_of b → HasFormatMismatch formats b → ⊥
-  kept_format format inputs id at same_id matches same bad =
-      let is : format ≡ bad.0 = same_Some format bad.0 (sym at ∙ ap (slice_get formats) same_id ∙ bad.1) in
-      bad.2 (subst₂ MatchesFormat is same matches)
-
   module _ (o : OperandList) (operands : AreOperandsOf vars formats b o) where
     -- how many value inputs there are
     pub value_count : (variables : List ℕ) (results : ℕ) → variables ≡ o.variables → results ≡ o.result_count → length variables - results ≡ length (variables_of (inputs_of b))
@@ -109,7 +88,7 @@ module _ (vars : List TypeVarContent) (formats : List InstructionFormat) (b : Bu
             let takes : TakesNoImmediate format (length (variables_of (outputs_of b))) (length (variables_of (inputs_of b))) = subst (λ (f : InstructionFormat). TakesNoImmediate f (length (variables_of (outputs_of b))) (length (variables_of (inputs_of b)))) (sym same) h.3 in
             never (h.0, subst₂ (TakesNoImmediate format) (sym (count ∙ operands.result_count)) (sym (value_count variables results is count)) takes)
 
-    module _ (c : Control) (found : IsFound vars (instruction_in vars formats b) c) (there : c ≡ Missing → ⊥) where
+    module _ (c : Controlling) (found : IsFound vars (instruction_in vars formats b) c) (there : c ≡ Missing → ⊥) where
       pub kept_control : LacksItsControl vars formats b → ⊥
       kept_control = found_controls vars (instruction_in vars formats b) c found there
 
@@ -122,15 +101,31 @@ module _ (vars : List TypeVarContent) (formats : List InstructionFormat) (b : Bu
 
   -- ---- the later faults, where the earlier rules are kept
 
-  module _ (n : ℕ) (name : HasBadName b → ⊥) (output : (place : ℕ) → HasBadOutput b place → ⊥) (format : HasFormatMismatch formats b → ⊥) (control : LacksItsControl vars formats b → ⊥) where
+  module _ (n : ℕ) (form : IsWellFormed formats b) where
+    pub first_control : LacksItsControl vars formats b → IsFirstOwnFault vars formats b n (NoControl n)
+    first_control lacks = record {
+      rule = 5;
+      breaks = (refl, refl, lacks);
+      first = none_below n 5 (record {
+        name = λ l. form.name;
+        output = λ l. form.outputs;
+        format = λ l. form.format;
+        control = λ l. absurd (omega (arith, l));
+        derivation = λ l. absurd (omega (arith, l));
+        counts = λ l. absurd (omega (arith, l));
+        method = λ l. absurd (omega (arith, l));
+      });
+    }
+
+  module _ (n : ℕ) (form : IsWellFormed formats b) (control : LacksItsControl vars formats b → ⊥) where
     pub first_derivation : (place : ℕ) → IsDerivedBadlyAt vars formats b place → IsFirstOwnFault vars formats b n (BadDerivation n place)
     first_derivation place bad = record {
       rule = 6;
       breaks = (refl, refl, bad);
       first = none_below n 6 (record {
-        name = λ l. name;
-        output = λ l. output;
-        format = λ l. format;
+        name = λ l. form.name;
+        output = λ l. form.outputs;
+        format = λ l. form.format;
         control = λ l. control;
         derivation = λ l. absurd (omega (arith, l));
         counts = λ l. absurd (omega (arith, l));
@@ -144,9 +139,9 @@ module _ (vars : List TypeVarContent) (formats : List InstructionFormat) (b : Bu
         rule = 7;
         breaks = (refl, refl, many);
         first = none_below n 7 (record {
-          name = λ l. name;
-          output = λ l. output;
-          format = λ l. format;
+          name = λ l. form.name;
+          output = λ l. form.outputs;
+          format = λ l. form.format;
           control = λ l. control;
           derivation = λ l. derivation;
           counts = λ l. absurd (omega (arith, l));
@@ -160,9 +155,9 @@ module _ (vars : List TypeVarContent) (formats : List InstructionFormat) (b : Bu
           rule = 8;
           breaks = (refl, refl, bad);
           first = none_below n 8 (record {
-            name = λ l. name;
-            output = λ l. output;
-            format = λ l. format;
+            name = λ l. form.name;
+            output = λ l. form.outputs;
+            format = λ l. form.format;
             control = λ l. control;
             derivation = λ l. derivation;
             counts = λ l. counts;
@@ -172,9 +167,9 @@ module _ (vars : List TypeVarContent) (formats : List InstructionFormat) (b : Bu
 
         pub all_kept : (HasBadImmMethod formats b → ⊥) → IsWellMade vars formats b
         all_kept method = well_made (λ rule. record {
-          name = λ l. name;
-          output = λ l. output;
-          format = λ l. format;
+          name = λ l. form.name;
+          output = λ l. form.outputs;
+          format = λ l. form.format;
           control = λ l. control;
           derivation = λ l. derivation;
           counts = λ l. counts;

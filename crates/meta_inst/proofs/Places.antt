@@ -1,5 +1,5 @@
 -- Places of lists, by `slice_get`.
-use Rattle.std.proofs.Common.{◌≡◌, ◌⊎◌, inl, inr, ℕ, zero, suc, ◌+◌, List, [], ◌∷◌, ◌++◌, length, slice_get, Some, refl, ap, ◌∙◌, suc-add, zero-add, arith}
+use Rattle.std.proofs.Common.{◌≡◌, ◌⊎◌, inl, inr, ℕ, zero, suc, ◌+◌, List, [], ◌∷◌, ◌++◌, length, slice_get, drop, Some, refl, sym, ap, ◌∙◌, suc-add, zero-add, arith}
 
 -- a place of a list is that place of the list with another behind it
 pub slice_get-append_left : {X : Type 0} (xs ys : List X) (k : ℕ) (x : X) → slice_get xs k ≡ Some x → slice_get (xs ++ ys) k ≡ Some x
@@ -24,3 +24,9 @@ pub slice_get-append_cases : {X : Type 0} (xs ys : List X) (k : ℕ) (x : X) →
 slice_get-append_cases [] ys k x e = inr (k, e)
 slice_get-append_cases (z ∷ xs) ys zero x e = inl e
 slice_get-append_cases (z ∷ xs) ys (suc k) x e = slice_get-append_cases xs ys k x e
+
+-- what stands behind the first n
+pub slice_get-drop : {X : Type 0} (xs : List X) (n k : ℕ) → slice_get (drop n xs) k ≡ slice_get xs (n + k)
+slice_get-drop xs zero k = ap (slice_get xs) (sym (zero-add k))
+slice_get-drop [] (suc n) k = refl
+slice_get-drop (x ∷ xs) (suc n) k = slice_get-drop xs n k ∙ ap (slice_get (x ∷ xs)) (sym (suc-add n k))

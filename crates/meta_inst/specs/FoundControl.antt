@@ -10,17 +10,17 @@ use Rattle.meta_inst.specs.Builder.{Builder, inputs_of, outputs_of}
 use Rattle.meta_inst.specs.InstructionSet.{instruction_in}
 use Rattle.meta_inst.specs.Operands.{OperandList, AreOf, instruction_with, CanControl, HasSeveralTypes, AllHaveOneType}
 use Rattle.meta_inst.specs.Control.{HasOneEverywhere, IsControlledBy, HasNoControl, IsBadlyDerived}
-use Rattle.meta_inst.specs.declared.operands.Control.{Control}
-use Rattle.meta_inst.specs.declared.operands.Control.TheVariants.{NotPolymorphic, By, Missing}
+use Rattle.meta_inst.specs.declared.operands.Controlling.{Controlling}
+use Rattle.meta_inst.specs.declared.operands.Controlling.TheVariants.{NotPolymorphic, By, Missing}
 
 -- the control that was found
-abbrev pub control_in : List TypeVarContent → Control → Option Variable
+abbrev pub control_in : List TypeVarContent → Controlling → Option Variable
 control_in vars NotPolymorphic = None
 control_in vars (By v) = Some (variable_at vars v)
 control_in vars Missing = None
 
 -- the instruction isn't polymorphic, or this variable controls it, or nothing does and that is a fault
-abbrev pub IsFound : List TypeVarContent → Instruction → Control → Type 0
+abbrev pub IsFound : List TypeVarContent → Instruction → Controlling → Type 0
 IsFound vars i NotPolymorphic = HasOneEverywhere (sets_of vars) i
 IsFound vars i (By v) = IsControlledBy (sets_of vars) i (variable_at vars v)
 IsFound vars i Missing = HasNoControl (sets_of vars) i
@@ -42,24 +42,24 @@ pub record IsMissing (vars : List TypeVarContent) (numbers : List ℕ) (from : �
   pub first_may_not : MayNot vars numbers from first
 
 -- what was found, by the numbers of the variables
-abbrev pub IsFoundIn : List TypeVarContent → List ℕ → ℕ → Option ℕ → Option ℕ → Control → Type 0
+abbrev pub IsFoundIn : List TypeVarContent → List ℕ → ℕ → Option ℕ → Option ℕ → Controlling → Type 0
 IsFoundIn vars numbers from designated first NotPolymorphic = AllHaveOneType vars numbers
 IsFoundIn vars numbers from designated first (By v) = IsChosen vars numbers from designated first v
 IsFoundIn vars numbers from designated first Missing = IsMissing vars numbers from designated first
 
 -- the variable at the place is badly derived under the control
-pub record IsBadAt (vars : List TypeVarContent) (control : Control) (numbers : List ℕ) (place : ℕ) : Type 0 where
+pub record IsBadAt (vars : List TypeVarContent) (control : Controlling) (numbers : List ℕ) (place : ℕ) : Type 0 where
   pub number : ℕ
   pub at : slice_get numbers place ≡ Some number
   pub bad : IsBadlyDerived (sets_of vars) (control_in vars control) (variable_at vars number)
 
 -- and none before it is
-pub record IsFirstBadAt (vars : List TypeVarContent) (control : Control) (numbers : List ℕ) (place : ℕ) : Type 0 where
+pub record IsFirstBadAt (vars : List TypeVarContent) (control : Controlling) (numbers : List ℕ) (place : ℕ) : Type 0 where
   pub bad : IsBadAt vars control numbers place
   pub first : (j : ℕ) → j < place → IsBadAt vars control numbers j → ⊥
 
 -- the control, if a variable controls, is of the registry
-abbrev pub IsOf : List TypeVarContent → Control → Type 0
+abbrev pub IsOf : List TypeVarContent → Controlling → Type 0
 IsOf vars control = (v : ℕ) → control ≡ By v → v < length vars
 
 -- o are the value operands of the declared instruction b

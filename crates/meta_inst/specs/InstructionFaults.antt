@@ -66,6 +66,12 @@ HasBadOutput b place = position is_bad_output (outputs_of b) ≡ Some place
 abbrev pub HasFormatMismatch : List InstructionFormat → Builder → Type 0
 HasFormatMismatch formats b = (format : InstructionFormat) × (slice_get formats b.format ≡ Some format) × (MatchesFormat format (inputs_of b) → ⊥)
 
+-- it keeps the rules that come before that of the control: its form has no fault
+pub record IsWellFormed (formats : List InstructionFormat) (b : Builder) : Type 0 where
+  pub name : HasBadName b → ⊥
+  pub outputs : (place : ℕ) → HasBadOutput b place → ⊥
+  pub format : HasFormatMismatch formats b → ⊥
+
 -- the instruction is polymorphic, and nothing controls it
 abbrev pub LacksItsControl : List TypeVarContent → List InstructionFormat → Builder → Type 0
 LacksItsControl vars formats b = HasNoControl (sets_of vars) (instruction_in vars formats b)

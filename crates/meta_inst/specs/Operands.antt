@@ -1,5 +1,5 @@
 -- The value operands of an instruction, as the checks of its declaration see them.
-use Rattle.std.specs.Prelude.{◌≡◌, ◌<◌, ◌≤◌, ◌⊎◌, ℕ, Bool, List, [], length, map, take, drop, Option, slice_get, None, Some, option_and_then, if◌then◌else◌}
+use Rattle.std.specs.Prelude.{◌≡◌, ◌<◌, ◌≤◌, ◌⊎◌, ℕ, Bool, List, [], length, ◌==◌, count_by, unwrap_or, map, take, drop, Option, slice_get, None, Some, option_and_then, if◌then◌else◌}
 use Rattle.meta_typevar.specs.Variable.{Variable}
 use Rattle.meta_typevar.specs.Registry.{variable_at, sets_of}
 use Rattle.meta_typevar.specs.FourSets.{HasOne}
@@ -35,6 +35,10 @@ AreOf vars numbers = (k n : ℕ) → slice_get numbers k ≡ Some n → n < leng
 pub record IsAlone (numbers : List ℕ) (from place : ℕ) : Type 0 where
   pub is_input : from ≤ place
   pub alone : (j n : ℕ) → from ≤ j → slice_get numbers j ≡ Some n → slice_get numbers place ≡ Some n → j ≡ place
+
+-- what is counted for each variable is how often it stands among these inputs; what isn't counted counts 0
+abbrev pub AreInputCounts : List ℕ → (ℕ → Option ℕ) → Type 0
+AreInputCounts inputs counts = (n : ℕ) → unwrap_or (counts n) 0 ≡ count_by (λ m. m == n) inputs
 
 -- the root of a variable has exactly one type
 abbrev pub HasOneType : List TypeVarContent → ℕ → Type 0

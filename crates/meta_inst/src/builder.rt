@@ -1,19 +1,20 @@
-ghost use Rattle.std.specs.Prelude.{◌≡◌, ◌≢◌, ◌↔◌, ◌∷◌, [], true, IsTrue, IsSome, IfSome, IfNone, IfOk, IfErr, OnOk, Some, None};
+ghost use Rattle.std.specs.Prelude.{◌≡◌, ◌≢◌, ◌↔◌, ◌<◌, ◌∷◌, [], List, length, true, IsTrue, IsSome, IfSome, IfNone, IfOk, IfErr, OnOk, Some, None};
 ghost use Rattle.meta_inst.specs.Builder.{inputs_of, outputs_of};
 ghost use Rattle.meta_types.specs.declared.fault.DefinitionError.TheVariants.{OutOfMemory};
+ghost use Rattle.meta_typevar.specs.declared.content.TypeVarContent.{TypeVarContent};
 ghost use Rattle.meta_operands.specs.Operand.{variables_of};
 ghost use Rattle.meta_inst.specs.Marks.{no_marks, terminator, branch, returning};
 ghost use Rattle.meta_inst.specs.Operands.{AreOf};
 ghost use Rattle.meta_inst.specs.InstructionSet.{FitsBuilder, instruction_in};
 ghost use Rattle.meta_inst.specs.FoundControl.{IsFound, IsOf, AreOperandsOf};
-ghost use Rattle.meta_inst.specs.InstructionFaults.{TakesNoImmediate, IsFirstOwnFault, IsWellMade};
+ghost use Rattle.meta_inst.specs.InstructionFaults.{TakesNoImmediate, IsFirstOwnFault, IsWellFormed, IsWellMade};
 ghost use Rattle.meta_inst.specs.Content.{content_of, IsPolymorphicInfoOf};
 
 use super::checks::{bad_output, takes_no_immediate, too_many};
 use super::content::{InstructionContent, copied_operands, immediate_places, value_places};
 use super::format_match::matches_format;
 use super::marks::Marks;
-use super::operands::{Control, Operands};
+use super::operands::{Controlling, Operands};
 use super::polymorphic::PolymorphicInfo;
 use meta_operands::{FormatId, FormatTable, InstructionFormat, Operand};
 use meta_types::{DefinitionError, Place, Text, camel_case, is_name};
@@ -225,22 +226,12 @@ impl InstructionBuilder {
         takes_no_immediate(format, results, values)
     }
 
-    /// The first fault of the instruction, of those that it shows by itself. Its operands and what was found of its control
-    /// are at hand.
-    fn own_fault(
-        &self,
-        vars: &TypeVars,
-        formats: &FormatTable,
-        operands: &Operands,
-        control: &Control,
-        number: u64,
-    ) -> Option<DefinitionError>
-        requires fits { FitsBuilder vars.now formats.now self.now }
-        requires operands { AreOperandsOf vars.now formats.now self.now operands.now }
-        requires found { IsFound vars.now (instruction_in vars.now formats.now self.now) control.now }
-        requires control { IsOf vars.now control.now }
-        ensures none { IfNone result (IsWellMade vars.now formats.now self.now) }
-        ensures found { IfSome result (IsFirstOwnFault vars.now formats.now self.now number) }
+    /// The first fault that is told before anything is asked of the operands' types: a bad name, a bad output, or another
+    /// format.
+    fn form_fault(&self, formats: &FormatTable, number: u64) -> Option<DefinitionError>
+        requires { self.now.format < length formats.now }
+        ensures none { IfNone result (IsWellFormed formats.now self.now) }
+        ensures found { IfSome result (λ e. (vars : List TypeVarContent) → IsFirstOwnFault vars formats.now self.now number e) }
     {
         if !is_name(self.name()) {
             return Some(DefinitionError::BadName(Place::Instruction(number)));
@@ -248,10 +239,30 @@ impl InstructionBuilder {
         if let Some(place) = bad_output(self.outputs()) {
             return Some(DefinitionError::BadOutput(number, place as u64));
         }
-        let format = formats.get(self.format());
-        if !matches_format(self.inputs(), format) {
+        if !matches_format(self.inputs(), formats.get(self.format())) {
             return Some(DefinitionError::FormatMismatch(number));
         }
+        None
+    }
+
+    /// The first fault of the instruction, whose form has none, of those that it shows by itself. Its operands and what was
+    /// found of its control are at hand.
+    fn operands_fault(
+        &self,
+        vars: &TypeVars,
+        formats: &FormatTable,
+        operands: &Operands,
+        control: &Controlling,
+        number: u64,
+    ) -> Option<DefinitionError>
+        requires fits { FitsBuilder vars.now formats.now self.now }
+        requires form { IsWellFormed formats.now self.now }
+        requires operands { AreOperandsOf vars.now formats.now self.now operands.now }
+        requires found { IsFound vars.now (instruction_in vars.now formats.now self.now) control.now }
+        requires control { IsOf vars.now control.now }
+        ensures none { IfNone result (IsWellMade vars.now formats.now self.now) }
+        ensures found { IfSome result (IsFirstOwnFault vars.now formats.now self.now number) }
+    {
         if control.is_missing() {
             return Some(DefinitionError::NoControl(number));
         }
@@ -263,7 +274,7 @@ impl InstructionBuilder {
         if let Some(count) = too_many(results, values) {
             return Some(DefinitionError::TooManyOperands(number, count as u64));
         }
-        if self.has_bad_imm_method(format, results, values) {
+        if self.has_bad_imm_method(formats.get(self.format()), results, values) {
             return Some(DefinitionError::BadImmMethod(number));
         }
         None
@@ -309,9 +320,12 @@ impl InstructionBuilder {
         ensures content { IfOk result (λ c. c ≡ content_of self.now c.polymorphic_info) }
         ensures control { IfOk result (λ c. IsPolymorphicInfoOf vars.now formats.now self.now c.polymorphic_info) }
     {
+        if let Some(fault) = self.form_fault(formats, number) {
+            return Err(fault);
+        }
         let operands = Operands::of(alloc, self, formats)?;
         let control = operands.control(vars);
-        if let Some(fault) = self.own_fault(vars, formats, &operands, &control, number) {
+        if let Some(fault) = self.operands_fault(vars, formats, &operands, &control, number) {
             return Err(fault);
         }
         let polymorphic_info = operands.polymorphic_info(vars, &control);

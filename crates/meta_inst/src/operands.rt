@@ -7,10 +7,11 @@ ghost use Rattle.meta_inst.specs.InstructionSet.{instruction_in, designated_in, 
 ghost use Rattle.meta_inst.specs.Instruction.{IsDesignated};
 ghost use Rattle.meta_inst.specs.Content.{control_kept};
 ghost use Rattle.meta_inst.specs.Control.{IsBadlyDerived};
-ghost use Rattle.meta_inst.specs.FoundControl.{IsFoundIn, control_in, IsBadAt, IsFirstBadAt, IsOf};
+ghost use Rattle.meta_inst.specs.FoundControl.{IsFoundIn, MayNot, control_in, IsBadAt, IsFirstBadAt, IsOf};
 ghost use Rattle.meta_inst.specs.Operands.{AreOf, IsAlone, HasOneType, LetsControl, CanControl, HasSeveralTypes, AllHaveOneType, instruction_with, designated_number, first_number};
 
 use super::builder::InstructionBuilder;
+use super::input_counts::InputCounts;
 use super::polymorphic::PolymorphicInfo;
 use meta_operands::{FormatTable, Operand};
 use meta_typevar::{TypeVar, TypeVars};
@@ -63,51 +64,29 @@ fn is_underived(vars: &TypeVars, tv: TypeVar) -> bool
     vars.content(tv).base.is_none()
 }
 
-/// Whether the variable at this place is an input, from `from` on, and stands at no other input.
-fn is_alone(variables: &[TypeVar], from: usize, place: usize) -> bool
-    requires { place < length variables.now }
-    ensures { IsTrue result ↔ IsAlone variables.now from place }
-{
-    if place < from {
-        return false;
-    }
-    for j in from..variables.len() {
-        if j != place && variables[j] == variables[place] {
-            return false;
-        }
-    }
-    true
-}
-
 /// Whether the variable at this place lets `v` control.
-fn lets_control(
-    vars: &TypeVars,
-    variables: &[TypeVar],
-    from: usize,
-    v: TypeVar,
-    place: usize,
-) -> bool
-    requires variables { AreOf vars.now variables.now }
-    requires within { place < length variables.now }
-    ensures { (n : ℕ) → slice_get variables.now place ≡ Some n → (IsTrue result ↔ LetsControl vars.now variables.now from v place n) }
+fn lets_control(vars: &TypeVars, operands: &Operands, v: TypeVar, place: usize) -> bool
+    requires variables { AreOf vars.now operands.now.variables }
+    requires within { place < length operands.now.variables }
+    ensures { (n : ℕ) → slice_get operands.now.variables place ≡ Some n → (IsTrue result ↔ LetsControl vars.now operands.now.variables operands.now.result_count v place n) }
 {
-    let tv = variables[place];
+    let tv = operands.variables()[place];
     tv.root(vars) == v
         || has_one_type(vars, tv)
-        || (is_underived(vars, tv) && is_alone(variables, from, place))
+        || (is_underived(vars, tv) && operands.is_alone(place))
 }
 
 /// Whether `v` may control: it is underived, and each variable lets it.
-fn may_control(vars: &TypeVars, variables: &[TypeVar], from: usize, v: TypeVar) -> bool
-    requires variables { AreOf vars.now variables.now }
+fn may_control(vars: &TypeVars, operands: &Operands, v: TypeVar) -> bool
+    requires variables { AreOf vars.now operands.now.variables }
     requires of { v < length vars.now }
-    ensures { IsTrue result ↔ CanControl vars.now variables.now from v }
+    ensures { IsTrue result ↔ CanControl vars.now operands.now.variables operands.now.result_count v }
 {
     if !is_underived(vars, v) {
         return false;
     }
-    for place in 0..variables.len() {
-        if !lets_control(vars, variables, from, v, place) {
+    for place in 0..operands.variables().len() {
+        if !lets_control(vars, operands, v, place) {
             return false;
         }
     }
@@ -127,20 +106,15 @@ fn is_polymorphic(vars: &TypeVars, variables: &[TypeVar]) -> bool
     false
 }
 
-/// The variable, if there is one and it may control.
-fn controlling(
-    vars: &TypeVars,
-    variables: &[TypeVar],
-    from: usize,
-    candidate: Option<TypeVar>,
-) -> Option<TypeVar>
-    requires variables { AreOf vars.now variables.now }
+/// The candidate, if there is one and it may control.
+fn eligible(vars: &TypeVars, operands: &Operands, candidate: Option<TypeVar>) -> Option<TypeVar>
+    requires variables { AreOf vars.now operands.now.variables }
     requires of { IfSome candidate (λ v. v < length vars.now) }
-    ensures some { IfSome result (λ v. (candidate ≡ Some v) × CanControl vars.now variables.now from v) }
-    ensures none { IfNone result ((v : ℕ) → candidate ≡ Some v → CanControl vars.now variables.now from v → ⊥) }
+    ensures some { IfSome result (λ v. (candidate ≡ Some v) × CanControl vars.now operands.now.variables operands.now.result_count v) }
+    ensures none { IfNone result (MayNot vars.now operands.now.variables operands.now.result_count candidate) }
 {
     let v = candidate?;
-    if may_control(vars, variables, from, v) {
+    if may_control(vars, operands, v) {
         Some(v)
     } else {
         None
@@ -149,7 +123,7 @@ fn controlling(
 
 /// What controls an instruction.
 #[derive(Drop)]
-pub enum Control {
+pub enum Controlling {
     /// The instruction isn't polymorphic: each of its operands has one type.
     NotPolymorphic,
     /// This variable controls.
@@ -158,55 +132,54 @@ pub enum Control {
     Missing,
 }
 
-impl Control {
+impl Controlling {
     /// Whether a control is missing.
     pub(crate) fn is_missing(&self) -> bool
-        ensures { IsTrue result ↔ (self.now ≡ Control.Missing) }
+        ensures { IsTrue result ↔ (self.now ≡ Controlling.Missing) }
     {
         match self {
-            Control::NotPolymorphic | Control::By(_) => false,
-            Control::Missing => true,
+            Controlling::NotPolymorphic | Controlling::By(_) => false,
+            Controlling::Missing => true,
         }
     }
 }
 
-/// What controls an instruction with these variables: the designated one, if it may control, and else the first.
+/// What controls an instruction with these operands: the designated variable, if it may control, and else the first.
 fn control_of(
     vars: &TypeVars,
-    variables: &[TypeVar],
-    from: usize,
+    operands: &Operands,
     designated: Option<TypeVar>,
     first: Option<TypeVar>,
-) -> Control
-    requires variables { AreOf vars.now variables.now }
+) -> Controlling
+    requires variables { AreOf vars.now operands.now.variables }
     requires designated { IfSome designated (λ v. v < length vars.now) }
     requires first { IfSome first (λ v. v < length vars.now) }
-    ensures { IsFoundIn vars.now variables.now from designated first result }
+    ensures { IsFoundIn vars.now operands.now.variables operands.now.result_count designated first result }
 {
-    if !is_polymorphic(vars, variables) {
-        return Control::NotPolymorphic;
+    if !is_polymorphic(vars, operands.variables()) {
+        return Controlling::NotPolymorphic;
     }
-    if let Some(v) = controlling(vars, variables, from, designated) {
-        return Control::By(v);
+    if let Some(v) = eligible(vars, operands, designated) {
+        return Controlling::By(v);
     }
-    if let Some(v) = controlling(vars, variables, from, first) {
-        return Control::By(v);
+    if let Some(v) = eligible(vars, operands, first) {
+        return Controlling::By(v);
     }
-    Control::Missing
+    Controlling::Missing
 }
 
 /// Whether the variable controls.
-fn is_by(control: &Control, tv: TypeVar) -> bool
-    ensures { IsTrue result ↔ (control.now ≡ Control.By tv) }
+fn is_by(control: &Controlling, tv: TypeVar) -> bool
+    ensures { IsTrue result ↔ (control.now ≡ Controlling.By tv) }
 {
     match control {
-        Control::By(v) => *v == tv,
-        Control::NotPolymorphic | Control::Missing => false,
+        Controlling::By(v) => *v == tv,
+        Controlling::NotPolymorphic | Controlling::Missing => false,
     }
 }
 
 /// Whether the variable is derived, no type is fixed for it, and its parent isn't the control.
-fn is_badly_derived(vars: &TypeVars, control: &Control, tv: TypeVar) -> bool
+fn is_badly_derived(vars: &TypeVars, control: &Controlling, tv: TypeVar) -> bool
     requires of { tv < length vars.now }
     requires control { IsOf vars.now control.now }
     ensures { IsTrue result ↔ IsBadlyDerived (sets_of vars.now) (control_in vars.now control.now) (variable_at vars.now tv) }
@@ -221,7 +194,7 @@ fn is_badly_derived(vars: &TypeVars, control: &Control, tv: TypeVar) -> bool
 }
 
 /// The place of the first of the variables that is badly derived.
-fn first_bad(vars: &TypeVars, control: &Control, variables: &[TypeVar]) -> Option<usize>
+fn first_bad(vars: &TypeVars, control: &Controlling, variables: &[TypeVar]) -> Option<usize>
     requires variables { AreOf vars.now variables.now }
     requires control { IsOf vars.now control.now }
     ensures found { IfSome result (IsFirstBadAt vars.now control.now variables.now) }
@@ -241,19 +214,21 @@ fn first_bad(vars: &TypeVars, control: &Control, variables: &[TypeVar]) -> Optio
 pub struct Operands {
     variables: Vec<TypeVar>,
     result_count: usize,
+    input_counts: InputCounts,
     designated: Option<usize>,
     begins_with_value: bool,
 }
 
 impl Model for Operands {
-    ghost use Rattle.std.specs.Prelude.{◌≤◌, length};
-    ghost use Rattle.meta_inst.specs.Operands.{OperandList};
+    ghost use Rattle.std.specs.Prelude.{◌≤◌, nat_eq, length, drop};
+    ghost use Rattle.std.specs.HashMap.{get};
+    ghost use Rattle.meta_inst.specs.Operands.{OperandList, AreInputCounts};
 
     ghost Value = { OperandList };
 
     ghost view = { λ o. record { variables = o.variables.items; result_count = o.result_count; designated = o.designated; begins_with_value = o.begins_with_value } };
 
-    ghost invariant = { λ o. o.result_count ≤ length o.variables.items };
+    ghost invariant = { λ o. (o.result_count ≤ length o.variables.items) × AreInputCounts (drop o.result_count o.variables.items) (get nat_eq o.input_counts.counts) };
 }
 
 impl Operands {
@@ -278,9 +253,11 @@ impl Operands {
         push_variables(&mut variables, builder.outputs())?;
         let result_count = variables.len();
         push_variables(&mut variables, builder.inputs())?;
+        let input_counts = InputCounts::of(alloc, variables.split_at(result_count).1)?;
         Ok(Operands {
             variables,
             result_count,
+            input_counts,
             designated: formats.get(builder.format()).typevar_operand,
             begins_with_value: begins_with_value(builder.outputs()),
         })
@@ -329,27 +306,33 @@ impl Operands {
         }
     }
 
+    /// Whether the variable at this place is a value input, and stands at no other one.
+    fn is_alone(&self, place: usize) -> bool
+        requires { place < length self.now.variables }
+        ensures { IsTrue result ↔ IsAlone self.now.variables self.now.result_count place }
+    {
+        if place < self.result_count {
+            return false;
+        }
+        self.input_counts.is_once(self.variables[place])
+    }
+
     /// What controls the instruction, whose variables are of the registry: the designated operand's variable, if that may
     /// control, and else the first output's (`verify_polymorphic` of `cdsl/instructions.rs`).
-    pub fn control(&self, vars: &TypeVars) -> Control
+    pub fn control(&self, vars: &TypeVars) -> Controlling
         requires { AreOf vars.now self.now.variables }
         ensures found { IsFound vars.now (instruction_with vars.now self.now) result }
         ensures of_registry { IsOf vars.now result }
     {
-        // Its clause says what a registry keeps.
+        // Their clauses say what a registry keeps, and that the results are among the variables.
         let _count = vars.len();
-        control_of(
-            vars,
-            self.variables(),
-            self.result_count(),
-            self.designated(),
-            self.first(),
-        )
+        let _results = self.result_count();
+        control_of(vars, self, self.designated(), self.first())
     }
 
     /// The place, among results and then values, of the first operand that is derived, has no fixed type, and whose parent
     /// isn't the control, which is of the registry as the variables are; `None` exactly where there is none.
-    pub fn bad_derivation(&self, vars: &TypeVars, control: &Control) -> Option<usize>
+    pub fn bad_derivation(&self, vars: &TypeVars, control: &Controlling) -> Option<usize>
         requires variables { AreOf vars.now self.now.variables }
         requires control { IsOf vars.now control.now }
         ensures found { IfSome result (IsFirstBadDerivation (sets_of vars.now) (instruction_with vars.now self.now) (control_in vars.now control.now)) }
@@ -371,7 +354,7 @@ impl Operands {
     pub(crate) fn polymorphic_info(
         &self,
         vars: &TypeVars,
-        control: &Control,
+        control: &Controlling,
     ) -> Option<PolymorphicInfo>
         requires variables { AreOf vars.now self.now.variables }
         requires control { IsOf vars.now control.now }
@@ -383,11 +366,11 @@ impl Operands {
         let _count = vars.len();
         let _results = self.result_count();
         match control {
-            Control::By(v) => Some(PolymorphicInfo {
+            Controlling::By(v) => Some(PolymorphicInfo {
                 use_typevar_operand: self.is_designated(*v),
                 ctrl_typevar: *v,
             }),
-            Control::NotPolymorphic | Control::Missing => None,
+            Controlling::NotPolymorphic | Controlling::Missing => None,
         }
     }
 }

@@ -1,0 +1,14 @@
+use Rattle.std.proofs.Common.{◌<◌, ◌↔◌, IsTrue, length, nat_eq, refl, sym, subst}
+use Rattle.std.specs.HashMap.{get}
+use Rattle.std.proofs.lemmas.Option.{slice_get_read}
+use Rattle.meta_inst.specs.Operands.{OperandList, IsAlone}
+use Rattle.meta_inst.proofs.Counting.{alone_told}
+use Rattle.meta_inst.proofs.operands.Operands.is_alone.Goals as goal
+
+pub returns : goal.returns
+returns c =
+    let inside = c.self.inside in
+    let within = subst (λ (o : OperandList). c.args.place < length o.variables) (sym c.self.view_is) c.requires in
+    subst (λ (o : OperandList). IsTrue c.is_once.result ↔ IsAlone o.variables o.result_count c.args.place) c.self.view_is
+    (alone_told inside.variables.items inside.result_count c.args.place c.index.result.now (get nat_eq inside.input_counts.counts) c.is_once.result
+    c.if-place-self.false (slice_get_read inside.variables.items _ c.args.place c.index.result.now refl within c.index.ensures) c.self.invariant.1 c.is_once.ensures)
