@@ -1,6 +1,6 @@
 ghost use Rattle.std.specs.Prelude.{◌≢◌, ◌<◌, IfOk, IfErr};
 ghost use Rattle.meta_types.specs.declared.fault.DefinitionError.TheVariants.{OutOfMemory};
-ghost use Rattle.meta_gen.specs.AllDeclared.{ShowsFirst};
+ghost use Rattle.meta_declared.specs.AllDeclared.{ShowsFirst};
 ghost use Rattle.meta_gen.specs.WholeTables.{AreWholeTablesOf};
 
 use super::command::{Command, Subject};

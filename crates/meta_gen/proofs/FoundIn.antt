@@ -5,12 +5,12 @@ use Rattle.std.proofs.lemmas.Option.{slice_get_within, slice_get_past}
 use Rattle.meta_types.specs.SharedNames.{AreDifferentNames}
 use Rattle.meta_settings.specs.Layout.{Layout}
 use Rattle.meta_settings.specs.LaidOut.{built_of}
-use Rattle.meta_gen.specs.AllDeclared.{Declared}
-use Rattle.meta_gen.specs.FoundSetting.{entry_names}
-use Rattle.meta_gen.specs.GroupTables.{GroupContents, AreTablesOfGroup}
+use Rattle.meta_declared.specs.AllDeclared.{Declared}
+use Rattle.meta_setting_tables.specs.FoundSetting.{entry_names}
+use Rattle.meta_setting_tables.specs.GroupTables.{GroupContents, AreTablesOfGroup}
 use Rattle.meta_gen.specs.WholeTables.{WholeTables, OfGroup, HasNoGroup, AreWholeTablesOf, FindsSetting}
-use Rattle.meta_gen.proofs.BuiltNames.{built_names}
-use Rattle.meta_gen.proofs.EntriesRead.{there_is}
+use Rattle.meta_setting_tables.proofs.BuiltNames.{built_names}
+use Rattle.meta_setting_tables.proofs.EntriesRead.{there_is}
 
 -- the answer is the number of the one entry with the name, in each group that has the tables and whose names are apart
 abbrev pub FindsIn : List ℕ → Option ℕ → GroupContents → Type 0

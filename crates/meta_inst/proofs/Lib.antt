@@ -4,6 +4,8 @@ mod Underived
 pub mod Derived
 pub mod Placing
 pub mod Places
+pub mod Appended
+pub mod Listed
 pub mod OperandsOf
 pub mod OneControl
 pub mod Searching

@@ -2,10 +2,11 @@
 use Rattle.std.specs.Prelude.{ℕ, List, Option}
 use Rattle.meta_operands.specs.declared.operand.Operand.{Operand}
 use Rattle.meta_inst.specs.declared.marks.Marks.{Marks}
+use Rattle.meta_inst.specs.Operands.{OperandList}
 use Rattle.meta_inst.specs.declared.polymorphic.PolymorphicInfo.{PolymorphicInfo}
 
 -- The name, also in camel case, the doc, the operands, the number of the format, the control, the places among the inputs of
--- values and of immediates and entity references, the places among the outputs of values, and the marks.
+-- values and of immediates and entity references, the places among the outputs of values, the marks, and the value operands.
 pub record Built : Type 0 where
   pub name : List ℕ
   pub camel_name : List ℕ
@@ -18,3 +19,4 @@ pub record Built : Type 0 where
   pub imm_opnums : List ℕ
   pub value_results : List ℕ
   pub marks : Marks
+  pub value_operands : OperandList

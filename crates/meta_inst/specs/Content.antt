@@ -1,14 +1,15 @@
 -- Instructions as they are built.
---     content_of b info                              what is built of the declared instruction b
+--     operand_list formats b                         the value operands of the declared instruction b
+--     content_of formats b info                      what is built of it
 --     IsPolymorphicInfoOf vars formats b info        info is what is kept of its control
-use Rattle.std.specs.Prelude.{◌≡◌, ◌↔◌, ◌<◌, ℕ, Bool, List, [], ◌∷◌, ◌++◌, length, Option, None, Some, option_map, codes, flat_map, if◌then◌else◌, IsTrue}
+use Rattle.std.specs.Prelude.{◌≡◌, ◌↔◌, ◌<◌, ℕ, Bool, List, [], ◌∷◌, ◌++◌, length, slice_get, Option, None, Some, option_map, codes, flat_map, if◌then◌else◌, IsTrue}
 use Rattle.std.specs.List.{filter_map, enumerate_from}
 use Rattle.meta_types.specs.CamelCase.{camel_case_of}
 use Rattle.meta_typevar.specs.Variable.{Variable}
 use Rattle.meta_typevar.specs.Registry.{sets_of, variable_at}
 use Rattle.meta_typevar.specs.declared.content.TypeVarContent.{TypeVarContent}
 use Rattle.meta_operands.specs.Texts.{same_text}
-use Rattle.meta_operands.specs.Operand.{is_immediate_or_entityref_operand}
+use Rattle.meta_operands.specs.Operand.{is_immediate_or_entityref_operand, variables_of}
 use Rattle.meta_operands.specs.declared.operand.Operand.{Operand}
 use Rattle.meta_operands.specs.declared.format.InstructionFormat.{InstructionFormat}
 use Rattle.meta_inst.specs.declared.polymorphic.PolymorphicInfo.{PolymorphicInfo}
@@ -17,7 +18,8 @@ use Rattle.meta_inst.specs.Built.{Built}
 use Rattle.meta_inst.specs.FormatMatch.{is_value_operand}
 use Rattle.meta_inst.specs.Instruction.{IsDesignated}
 use Rattle.meta_inst.specs.Control.{IsControl}
-use Rattle.meta_inst.specs.InstructionSet.{instruction_in}
+use Rattle.meta_inst.specs.Operands.{OperandList}
+use Rattle.meta_inst.specs.InstructionSet.{instruction_in, designated_in, begins_with_value}
 
 -- the place, where the operand that stands there passes the test
 abbrev pub place_where : (Operand → Bool) → ℕ × Operand → Option ℕ
@@ -31,6 +33,10 @@ places_where test operands = filter_map (place_where test) (enumerate_from 0 ope
 abbrev pub control_kept : List TypeVarContent → Option PolymorphicInfo → Option Variable
 control_kept vars info = option_map (λ (p : PolymorphicInfo). variable_at vars p.ctrl_typevar) info
 
+-- the number of its variable
+abbrev pub ctrl_number : Option PolymorphicInfo → Option ℕ
+ctrl_number info = option_map (λ (p : PolymorphicInfo). p.ctrl_typevar) info
+
 -- what is kept of an instruction's control: it is that of the declaration, or none where the instruction isn't polymorphic;
 -- its variable is of the registry; and the mark says whether it is the designated operand's variable
 pub record IsPolymorphicInfoOf (vars : List TypeVarContent) (formats : List InstructionFormat) (b : Builder) (info : Option PolymorphicInfo) : Type 0 where
@@ -38,10 +44,20 @@ pub record IsPolymorphicInfoOf (vars : List TypeVarContent) (formats : List Inst
   pub of_registry : (p : PolymorphicInfo) → info ≡ Some p → p.ctrl_typevar < length vars
   pub designated : (p : PolymorphicInfo) → info ≡ Some p → (IsTrue p.use_typevar_operand ↔ IsDesignated (instruction_in vars formats b) (variable_at vars p.ctrl_typevar))
 
+-- the value operands of a declared instruction: the variables of its results and then of its values, how many are results, the
+-- place that its format designates, and whether its first output is a value
+abbrev pub operand_list : List InstructionFormat → Builder → OperandList
+operand_list formats b = record {
+  variables = variables_of (outputs_of b) ++ variables_of (inputs_of b);
+  result_count = length (variables_of (outputs_of b));
+  designated = designated_in (slice_get formats b.format);
+  begins_with_value = begins_with_value (outputs_of b);
+}
+
 -- What is built of a declared instruction, with what is kept of its control: its texts, operands, format and marks are those
--- that it was given, and with these stand the name in camel case and the places of the operands.
-abbrev pub content_of : Builder → Option PolymorphicInfo → Built
-content_of b info = record {
+-- that it was given, and with these stand the name in camel case, the places of the operands, and the value operands.
+abbrev pub content_of : List InstructionFormat → Builder → Option PolymorphicInfo → Built
+content_of formats b info = record {
   name = b.name;
   camel_name = camel_case_of b.name;
   doc = b.doc;
@@ -53,6 +69,7 @@ content_of b info = record {
   imm_opnums = places_where is_immediate_or_entityref_operand (inputs_of b);
   value_results = places_where is_value_operand (outputs_of b);
   marks = b.marks;
+  value_operands = operand_list formats b;
 }
 
 -- the name in the code that is written: `return` is a word of the language

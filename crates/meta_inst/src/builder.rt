@@ -3,12 +3,13 @@ ghost use Rattle.meta_inst.specs.Builder.{inputs_of, outputs_of};
 ghost use Rattle.meta_types.specs.declared.fault.DefinitionError.TheVariants.{OutOfMemory};
 ghost use Rattle.meta_typevar.specs.declared.content.TypeVarContent.{TypeVarContent};
 ghost use Rattle.meta_operands.specs.Operand.{variables_of};
+ghost use Rattle.meta_operands.specs.declared.format.InstructionFormat.{InstructionFormat};
 ghost use Rattle.meta_inst.specs.Marks.{no_marks, terminator, branch, returning};
 ghost use Rattle.meta_inst.specs.Operands.{AreOf};
 ghost use Rattle.meta_inst.specs.InstructionSet.{FitsBuilder, instruction_in};
 ghost use Rattle.meta_inst.specs.FoundControl.{IsFound, IsOf, AreOperandsOf};
 ghost use Rattle.meta_inst.specs.InstructionFaults.{TakesNoImmediate, IsFirstOwnFault, IsWellFormed, IsWellMade};
-ghost use Rattle.meta_inst.specs.Content.{content_of, IsPolymorphicInfoOf};
+ghost use Rattle.meta_inst.specs.Content.{operand_list, content_of, IsPolymorphicInfoOf};
 
 use super::checks::{bad_output, takes_no_immediate, too_many};
 use super::content::{InstructionContent, copied_operands, immediate_places, value_places};
@@ -280,13 +281,14 @@ impl InstructionBuilder {
         None
     }
 
-    /// What is built of the instruction, with what is kept of its control.
+    /// What is built of the instruction, with its value operands and what is kept of its control.
     fn content(
         &self,
         alloc: Global,
+        value_operands: Operands,
         polymorphic_info: Option<PolymorphicInfo>,
     ) -> Result<InstructionContent, AllocError>
-        ensures { IfOk result (λ c. c ≡ content_of self.now polymorphic_info) }
+        ensures { (formats : List InstructionFormat) → value_operands ≡ operand_list formats self.now → IfOk result (λ c. c ≡ content_of formats self.now polymorphic_info) }
     {
         Ok(InstructionContent {
             name: self.name.copy(alloc)?,
@@ -300,6 +302,7 @@ impl InstructionBuilder {
             imm_opnums: immediate_places(alloc, self.inputs())?,
             value_results: value_places(alloc, self.outputs())?,
             marks: self.marks,
+            value_operands,
         })
     }
 
@@ -317,7 +320,7 @@ impl InstructionBuilder {
         requires { FitsBuilder vars.now formats.now self.now }
         ensures refused { IfErr result (λ e. e ≢ OutOfMemory → IsFirstOwnFault vars.now formats.now self.now number e) }
         ensures well_made { OnOk result (IsWellMade vars.now formats.now self.now) }
-        ensures content { IfOk result (λ c. c ≡ content_of self.now c.polymorphic_info) }
+        ensures content { IfOk result (λ c. c ≡ content_of formats.now self.now c.polymorphic_info) }
         ensures control { IfOk result (λ c. IsPolymorphicInfoOf vars.now formats.now self.now c.polymorphic_info) }
     {
         if let Some(fault) = self.form_fault(formats, number) {
@@ -329,7 +332,7 @@ impl InstructionBuilder {
             return Err(fault);
         }
         let polymorphic_info = operands.polymorphic_info(vars, &control);
-        Ok(self.content(alloc, polymorphic_info)?)
+        Ok(self.content(alloc, operands, polymorphic_info)?)
     }
 }
 

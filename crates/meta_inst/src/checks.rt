@@ -5,7 +5,7 @@ ghost use Rattle.meta_inst.specs.InstructionFaults.{is_bad_output, AreTooMany, T
 use meta_operands::{InstructionFormat, Operand};
 
 /// The most value results, and the most value inputs, that an instruction may have: each count has three bits.
-const MAX_OPERANDS: usize = 7;
+pub(crate) const MAX_OPERANDS: usize = 7;
 
 /// The place of the first output that is neither a value nor varargs.
 pub(crate) fn bad_output(outputs: &[Operand]) -> Option<usize>

@@ -3,12 +3,14 @@ ghost use Rattle.std.specs.Option.{option_copied};
 ghost use Rattle.std.specs.Fmt.{DisplaysOnOk};
 ghost use Rattle.meta_operands.specs.Operand.{is_immediate_or_entityref_operand};
 ghost use Rattle.meta_inst.specs.FormatMatch.{is_value_operand};
-ghost use Rattle.meta_inst.specs.Content.{places_where, snake_name_of, names_text, more_names_text, outputs_text, inputs_text};
+ghost use Rattle.meta_inst.specs.Content.{ctrl_number, places_where, snake_name_of, names_text, more_names_text, outputs_text, inputs_text};
 
 use super::marks::Marks;
+use super::operands::Operands;
 use super::polymorphic::PolymorphicInfo;
 use meta_operands::{FormatId, Operand};
 use meta_types::Text;
+use meta_typevar::TypeVar;
 use std::alloc::{AllocError, Global};
 use std::fmt;
 use std::marker::Model;
@@ -27,6 +29,7 @@ pub struct InstructionContent {
     pub(crate) imm_opnums: Vec<usize>,
     pub(crate) value_results: Vec<usize>,
     pub(crate) marks: Marks,
+    pub(crate) value_operands: Operands,
 }
 
 /// An instruction that is built, which is owned (in the crate it is counted).
@@ -37,7 +40,7 @@ impl Model for InstructionContent {
 
     ghost Value = { Built };
 
-    ghost view = { λ c. record { name = c.name; camel_name = c.camel_name; doc = c.doc; operands_in = c.operands_in.items; operands_out = c.operands_out.items; format = c.format; polymorphic_info = c.polymorphic_info; value_opnums = c.value_opnums.items; imm_opnums = c.imm_opnums.items; value_results = c.value_results.items; marks = c.marks } };
+    ghost view = { λ c. record { name = c.name; camel_name = c.camel_name; doc = c.doc; operands_in = c.operands_in.items; operands_out = c.operands_out.items; format = c.format; polymorphic_info = c.polymorphic_info; value_opnums = c.value_opnums.items; imm_opnums = c.imm_opnums.items; value_results = c.value_results.items; marks = c.marks; value_operands = c.value_operands } };
 }
 
 /// Adds the place, where the test holds.
@@ -54,7 +57,7 @@ fn push_place(places: &mut Vec<usize>, place: usize, holds: bool) -> Result<(), 
 pub(crate) fn value_places(alloc: Global, operands: &[Operand]) -> Result<Vec<usize>, AllocError>
     ensures { IfOk result (λ v. v.items ≡ places_where is_value_operand operands.now) }
 {
-    let mut places = Vec::new(alloc);
+    let mut places = Vec::with_capacity(alloc, operands.len())?;
     for place in 0..operands.len() {
         push_place(&mut places, place, operands[place].is_value())?;
     }
@@ -68,7 +71,7 @@ pub(crate) fn immediate_places(
 ) -> Result<Vec<usize>, AllocError>
     ensures { IfOk result (λ v. v.items ≡ places_where is_immediate_or_entityref_operand operands.now) }
 {
-    let mut places = Vec::new(alloc);
+    let mut places = Vec::with_capacity(alloc, operands.len())?;
     for place in 0..operands.len() {
         push_place(
             &mut places,
@@ -86,7 +89,7 @@ pub(crate) fn copied_operands(
 ) -> Result<Vec<Operand>, AllocError>
     ensures { IfOk result (λ v. v.items ≡ operands.now) }
 {
-    let mut copied = Vec::new(alloc);
+    let mut copied = Vec::with_capacity(alloc, operands.len())?;
     for operand in operands {
         copied.push(operand.copy(alloc)?)?;
     }
@@ -143,6 +146,16 @@ impl InstructionContent {
         self.polymorphic_info
     }
 
+    /// The variable that controls the instruction; `None` exactly where it isn't polymorphic.
+    pub fn ctrl_typevar(&self) -> Option<TypeVar>
+        ensures { result ≡ ctrl_number self.now.polymorphic_info }
+    {
+        match self.polymorphic_info {
+            Some(info) => Some(info.ctrl_typevar),
+            None => None,
+        }
+    }
+
     /// The places among the inputs, from 0, of the values.
     pub fn value_opnums(&self) -> &[usize]
         ensures { result.now ≡ self.now.value_opnums }
@@ -162,6 +175,13 @@ impl InstructionContent {
         ensures { result.now ≡ self.now.value_results }
     {
         self.value_results.as_slice()
+    }
+
+    /// The value operands: the variables of the results and then of the values, and which of them the format designates.
+    pub fn value_operands(&self) -> &Operands
+        ensures { result.now ≡ self.now.value_operands }
+    {
+        &self.value_operands
     }
 
     /// Whether it ends a block.

@@ -1,16 +1,18 @@
-ghost use Rattle.std.specs.Prelude.{◌≡◌, ◌↔◌, ◌≤◌, List, ◌++◌, ◌∷◌, [], ◌<◌, ℕ, IsTrue, MatchBool, OnOk, IfOk, IfSome, IfNone, length, slice_get, take, Some};
+ghost use Rattle.std.specs.Prelude.{◌≡◌, ◌↔◌, ◌≤◌, List, ◌++◌, ◌∷◌, [], ◌<◌, ℕ, IsTrue, MatchBool, OnOk, IfOk, IfSome, nat_eq, IfNone, length, slice_get, take, Some};
 ghost use Rattle.meta_typevar.specs.declared.content.TypeVarContent.{TypeVarContent};
 ghost use Rattle.meta_typevar.specs.Registry.{sets_of, variable_at};
 ghost use Rattle.meta_operands.specs.Operand.{variables_of};
 ghost use Rattle.meta_inst.specs.Builder.{inputs_of, outputs_of};
 ghost use Rattle.meta_inst.specs.InstructionSet.{instruction_in, designated_in, begins_with_value};
 ghost use Rattle.meta_inst.specs.Instruction.{IsDesignated};
-ghost use Rattle.meta_inst.specs.Content.{control_kept};
+ghost use Rattle.meta_inst.specs.Content.{control_kept, operand_list};
 ghost use Rattle.meta_inst.specs.Control.{IsBadlyDerived};
 ghost use Rattle.meta_inst.specs.FoundControl.{IsFoundIn, MayNot, control_in, IsBadAt, IsFirstBadAt, IsOf};
-ghost use Rattle.meta_inst.specs.Operands.{AreOf, IsAlone, HasOneType, LetsControl, CanControl, HasSeveralTypes, AllHaveOneType, instruction_with, designated_number, first_number};
+ghost use Rattle.std.specs.HashMap.{get};
+ghost use Rattle.meta_inst.specs.Operands.{AreInputCounts, AreOf, IsAlone, HasOneType, LetsControl, CanControl, HasSeveralTypes, AllHaveOneType, instruction_with, designated_number, first_number};
 
 use super::builder::InstructionBuilder;
+use super::checks::MAX_OPERANDS;
 use super::input_counts::InputCounts;
 use super::polymorphic::PolymorphicInfo;
 use meta_operands::{FormatTable, Operand};
@@ -62,6 +64,30 @@ fn is_underived(vars: &TypeVars, tv: TypeVar) -> bool
     ensures { IsTrue result ↔ ((variable_at vars.now tv).chain ≡ []) }
 {
     vars.content(tv).base.is_none()
+}
+
+/// Whether the variable at this place, which is that of an input, stands at no other input. It is asked of few inputs.
+fn stands_alone(variables: &[TypeVar], from: usize, place: usize) -> bool
+    requires input { from ≤ place }
+    requires within { place < length variables.now }
+    ensures { IsTrue result ↔ IsAlone variables.now from place }
+{
+    for j in from..variables.len() {
+        if j != place && variables[j] == variables[place] {
+            return false;
+        }
+    }
+    true
+}
+
+/// The counts of the inputs, where there are more than an instruction may have.
+fn counted_inputs(alloc: Global, inputs: &[TypeVar]) -> Result<Option<InputCounts>, AllocError>
+    ensures { IfOk result (λ o. IfSome o (λ c. AreInputCounts inputs.now (get nat_eq c.counts))) }
+{
+    if inputs.len() <= MAX_OPERANDS {
+        return Ok(None);
+    }
+    Ok(Some(InputCounts::of(alloc, inputs)?))
 }
 
 /// Whether the variable at this place lets `v` control.
@@ -214,13 +240,14 @@ fn first_bad(vars: &TypeVars, control: &Controlling, variables: &[TypeVar]) -> O
 pub struct Operands {
     variables: Vec<TypeVar>,
     result_count: usize,
-    input_counts: InputCounts,
+    // where there are more inputs than an instruction may have
+    input_counts: Option<InputCounts>,
     designated: Option<usize>,
     begins_with_value: bool,
 }
 
 impl Model for Operands {
-    ghost use Rattle.std.specs.Prelude.{◌≤◌, nat_eq, length, drop};
+    ghost use Rattle.std.specs.Prelude.{◌≤◌, nat_eq, length, drop, IfSome};
     ghost use Rattle.std.specs.HashMap.{get};
     ghost use Rattle.meta_inst.specs.Operands.{OperandList, AreInputCounts};
 
@@ -228,7 +255,7 @@ impl Model for Operands {
 
     ghost view = { λ o. record { variables = o.variables.items; result_count = o.result_count; designated = o.designated; begins_with_value = o.begins_with_value } };
 
-    ghost invariant = { λ o. (o.result_count ≤ length o.variables.items) × AreInputCounts (drop o.result_count o.variables.items) (get nat_eq o.input_counts.counts) };
+    ghost invariant = { λ o. (o.result_count ≤ length o.variables.items) × IfSome o.input_counts (λ c. AreInputCounts (drop o.result_count o.variables.items) (get nat_eq c.counts)) };
 }
 
 impl Operands {
@@ -244,6 +271,7 @@ impl Operands {
         formats: &FormatTable,
     ) -> Result<Operands, AllocError>
         requires { builder.now.format < length formats.now }
+        ensures operands { IfOk result (λ o. o ≡ operand_list formats.now builder.now) }
         ensures meaning { IfOk result (λ o. (vars : List TypeVarContent) → instruction_with vars o ≡ instruction_in vars formats.now builder.now) }
         ensures fits { IfOk result (λ o. (vars : List TypeVarContent) → FitsBuilder vars formats.now builder.now → AreOf vars o.variables) }
         ensures variables { IfOk result (λ o. o.variables ≡ variables_of (outputs_of builder.now) ++ variables_of (inputs_of builder.now)) }
@@ -253,7 +281,7 @@ impl Operands {
         push_variables(&mut variables, builder.outputs())?;
         let result_count = variables.len();
         push_variables(&mut variables, builder.inputs())?;
-        let input_counts = InputCounts::of(alloc, variables.split_at(result_count).1)?;
+        let input_counts = counted_inputs(alloc, variables.split_at(result_count).1)?;
         Ok(Operands {
             variables,
             result_count,
@@ -314,7 +342,10 @@ impl Operands {
         if place < self.result_count {
             return false;
         }
-        self.input_counts.is_once(self.variables[place])
+        match &self.input_counts {
+            Some(counts) => counts.is_once(self.variables[place]),
+            None => stands_alone(&self.variables, self.result_count, place),
+        }
     }
 
     /// What controls the instruction, whose variables are of the registry: the designated operand's variable, if that may

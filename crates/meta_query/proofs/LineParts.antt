@@ -8,11 +8,11 @@ use Rattle.std.proofs.lemmas.Bool.{cond-true, cond-false, le-ltb}
 use Rattle.std.proofs.lemmas.List.Sums.{take_while-cons}
 use Rattle.std.proofs.lemmas.Nat.Bits.{bit_at_above}
 use Rattle.std.proofs.lemmas.Option.{slice_get-map, slice_get_within, get_or_from_slice_get}
-use Rattle.meta_gen.specs.declared.descriptor.Detail.{Detail}
-use Rattle.meta_gen.specs.declared.descriptor.Detail.TheVariants.{Bool as BoolDetail, Enum as EnumDetail, Num as NumDetail, Preset}
-use Rattle.meta_gen.specs.declared.descriptor.Descriptor.{Descriptor}
-use Rattle.meta_gen.specs.FoundSetting.{FindsEntry}
-use Rattle.meta_gen.specs.GroupTables.{GroupContents, names_in, default_in}
+use Rattle.meta_setting_tables.specs.declared.descriptor.Detail.{Detail}
+use Rattle.meta_setting_tables.specs.declared.descriptor.Detail.TheVariants.{Bool as BoolDetail, Enum as EnumDetail, Num as NumDetail, Preset}
+use Rattle.meta_setting_tables.specs.declared.descriptor.Descriptor.{Descriptor}
+use Rattle.meta_setting_tables.specs.FoundSetting.{FindsEntry}
+use Rattle.meta_setting_tables.specs.GroupTables.{GroupContents, names_in, default_in}
 use Rattle.meta_gen.specs.WholeTables.{WholeTables, OfGroup, HasNoGroup}
 use Rattle.meta_query.specs.SettingLine.{BoolFacts, NumFacts, EnumFacts, PresetFacts, line_of_facts, listed, is_setting_detail, settings_in, is_on_at, names_on, facts_in, line_in}
 use Rattle.meta_query.specs.Answer.{IsLineInTables}

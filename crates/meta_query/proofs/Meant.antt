@@ -11,8 +11,8 @@ use Rattle.meta_inst.specs.Faults.{IsAt, names_of}
 use Rattle.meta_meaning.specs.Acceptance.{Accepts, AcceptsNumbers, IsNumberOf}
 use Rattle.meta_meaning.specs.Tables.{TableContents, at_opcode, Allows}
 use Rattle.meta_types.proofs.Numbers.{one_number}
-use Rattle.meta_gen.specs.TablesOf.{AreTablesOf, AcceptsOpcode}
-use Rattle.meta_gen.specs.AllDeclared.{Declared}
+use Rattle.meta_opcode_tables.specs.TablesOf.{AreTablesOf, AcceptsOpcode}
+use Rattle.meta_declared.specs.AllDeclared.{Declared}
 use Rattle.meta_gen.specs.WholeTables.{WholeTables, AreTablesOfGroups, AreWholeTablesOf}
 use Rattle.meta_settings.specs.GroupDeclaration.{GroupDeclaration}
 use Rattle.meta_query.specs.Question.{Question, IsQuestion}

@@ -14,8 +14,8 @@ use Rattle.meta_query.specs.Lines.{lines_of}
 use Rattle.meta_settings.specs.GroupDeclaration.{GroupDeclaration}
 use Rattle.meta_settings.specs.GroupFaults.{IsValidGroup}
 use Rattle.meta_settings.specs.LaidOut.{built_of}
-use Rattle.meta_gen.specs.FoundSetting.{entry_names}
-use Rattle.meta_gen.specs.AllDeclared.{Declared, AreValidGroups, AreValid}
+use Rattle.meta_setting_tables.specs.FoundSetting.{entry_names}
+use Rattle.meta_declared.specs.AllDeclared.{Declared, AreValidGroups, AreValid}
 use Rattle.meta_query.specs.Question.{Question}
 use Rattle.meta_query.specs.Query.{Asked, OfQuestion, OfSetting}
 use Rattle.meta_query.specs.SettingLine.{entry_lines}

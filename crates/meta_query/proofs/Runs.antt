@@ -3,8 +3,8 @@ use Rattle.std.proofs.Common.{◌≡◌, ◌≢◌, ◌↔◌, ◌<◌, ◌≤�
 use Rattle.std.proofs.lemmas.List.{append-nil}
 use Rattle.meta_types.specs.declared.fault.DefinitionError.{DefinitionError}
 use Rattle.meta_meaning.specs.Tables.{Allows}
-use Rattle.meta_gen.specs.TablesOf.{AcceptsOpcode}
-use Rattle.meta_gen.specs.AllDeclared.{Declared, ShowsFirst, AreValid}
+use Rattle.meta_opcode_tables.specs.TablesOf.{AcceptsOpcode}
+use Rattle.meta_declared.specs.AllDeclared.{Declared, ShowsFirst, AreValid}
 use Rattle.meta_gen.specs.WholeTables.{WholeTables, AreWholeTablesOf}
 use Rattle.meta_text.specs.Outside.{Rose, with_front, with_more, NothingLeft, longest_input, GaveMore, GaveAtMost}
 use Rattle.meta_query.specs.Lines.{lines_of}

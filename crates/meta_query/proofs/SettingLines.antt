@@ -18,11 +18,11 @@ use Rattle.meta_settings.specs.LaidOut.{placed_specific, in_bytes, in_bits, laid
 use Rattle.meta_settings.specs.Layout.{PlacedSetting, BuiltPreset, Layout}
 use Rattle.meta_settings.specs.Marked.{stands_in}
 use Rattle.meta_settings.specs.PresetLayout.{HasBitsOf}
-use Rattle.meta_gen.specs.declared.descriptor.Detail.{Detail}
-use Rattle.meta_gen.specs.declared.descriptor.Descriptor.{Descriptor}
-use Rattle.meta_gen.specs.DefaultBytes.{HoldsDefault}
-use Rattle.meta_gen.specs.Descriptor.{IsDetailOf}
-use Rattle.meta_gen.specs.GroupTables.{GroupContents, AreTablesOfGroup}
+use Rattle.meta_setting_tables.specs.declared.descriptor.Detail.{Detail}
+use Rattle.meta_setting_tables.specs.declared.descriptor.Descriptor.{Descriptor}
+use Rattle.meta_setting_tables.specs.DefaultBytes.{HoldsDefault}
+use Rattle.meta_setting_tables.specs.Descriptor.{IsDetailOf}
+use Rattle.meta_setting_tables.specs.GroupTables.{GroupContents, AreTablesOfGroup}
 use Rattle.meta_query.specs.SettingLine.{BoolFacts, NumFacts, EnumFacts, PresetFacts, line_of_facts, setting_facts, is_one_of, names_enabled, setting_line, preset_line, entry_lines, is_setting_detail, settings_in, is_on_at, names_on, facts_in, line_in}
 
 -- ---- truth values and numbers

@@ -17,11 +17,11 @@ use Rattle.meta_meaning.specs.Acceptance.{Accepts}
 use Rattle.meta_meaning.specs.Tables.{TableContents, at_opcode, Allows}
 use Rattle.meta_settings.specs.GroupDeclaration.{GroupDeclaration}
 use Rattle.meta_settings.specs.LaidOut.{built_of}
-use Rattle.meta_gen.specs.declared.descriptor.Descriptor.{Descriptor}
-use Rattle.meta_gen.specs.Contents.{IsFirstOpcodeNamed}
-use Rattle.meta_gen.specs.FoundSetting.{entry_names, FindsEntry}
-use Rattle.meta_gen.specs.GroupTables.{GroupContents, names_in}
-use Rattle.meta_gen.specs.AllDeclared.{Declared}
+use Rattle.meta_setting_tables.specs.declared.descriptor.Descriptor.{Descriptor}
+use Rattle.meta_opcode_tables.specs.Contents.{IsFirstOpcodeNamed}
+use Rattle.meta_setting_tables.specs.FoundSetting.{entry_names, FindsEntry}
+use Rattle.meta_setting_tables.specs.GroupTables.{GroupContents, names_in}
+use Rattle.meta_declared.specs.AllDeclared.{Declared}
 use Rattle.meta_gen.specs.WholeTables.{WholeTables}
 use Rattle.meta_query.specs.Lines.{lines_of}
 use Rattle.meta_query.specs.Question.{Question}

@@ -2,7 +2,7 @@
 use Rattle.std.specs.Prelude.{◌≡◌, ◌≢◌, ℕ, ◌≤◌, ◌⊎◌, List, [], ◌∷◌, ◌++◌, length, Option, Some, codes}
 use Rattle.meta_types.specs.declared.fault.DefinitionError.{DefinitionError}
 use Rattle.meta_text.specs.Outside.{Rose, with_front, with_more, NothingLeft, longest_input, TookPart}
-use Rattle.meta_gen.specs.AllDeclared.{Declared, ShowsFirst, AreValid}
+use Rattle.meta_declared.specs.AllDeclared.{Declared, ShowsFirst, AreValid}
 use Rattle.meta_gen.specs.WholeTables.{WholeTables}
 use Rattle.meta_query.specs.Lines.{lines_of}
 use Rattle.meta_query.specs.Answer.{IsTableReply, AreWrittenAnswers, IsOutput, refusal}

@@ -1,5 +1,5 @@
 ghost use Rattle.std.specs.Prelude.{◌≡◌, ℕ, List};
-ghost use Rattle.meta_gen.specs.AllDeclared.{Declared, AreValid};
+ghost use Rattle.meta_declared.specs.AllDeclared.{Declared, AreValid};
 ghost use Rattle.meta_query.specs.Answer.{IsOutput};
 
 use meta_gen::built_groups_have_tables;

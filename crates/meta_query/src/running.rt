@@ -1,7 +1,7 @@
 ghost use Rattle.std.specs.Prelude.{◌≡◌, ◌≢◌, ◌≤◌, ◌++◌, ◌⊎◌, ℕ, List, length, IfOk, IsTrue, ◌↔◌, Some};
 ghost use Rattle.meta_types.specs.declared.fault.DefinitionError.{DefinitionError};
 ghost use Rattle.meta_text.specs.Outside.{Rose, with_more, longest_input, GaveMore, GaveAtMost, TookPart};
-ghost use Rattle.meta_gen.specs.AllDeclared.{AreValid};
+ghost use Rattle.meta_declared.specs.AllDeclared.{AreValid};
 ghost use Rattle.meta_query.specs.Answer.{IsOutput, refusal};
 ghost use Rattle.meta_query.specs.Run.{IsCommand, IsAnsweredWhole, IsRefusedWhole, IsRefusedInPart, IsAnsweredInPart, IsWritten, IsWrittenInPart, WritesNothing, AnswersInput, RefusesDeclarations};
 

@@ -1,7 +1,7 @@
 ghost use Rattle.std.specs.Prelude.{◌≡◌, ◌+◌, ◌++◌, ℕ, true, false, List, map, take, drop, slice_get, string_bytes, IfOk, OnOk, Some};
-ghost use Rattle.meta_gen.specs.declared.descriptor.Descriptor.{Descriptor};
-ghost use Rattle.meta_gen.specs.declared.descriptor.Detail.TheVariants.{Preset};
-ghost use Rattle.meta_gen.specs.GroupTables.{IsPresetIn};
+ghost use Rattle.meta_setting_tables.specs.declared.descriptor.Descriptor.{Descriptor};
+ghost use Rattle.meta_setting_tables.specs.declared.descriptor.Detail.TheVariants.{Preset};
+ghost use Rattle.meta_setting_tables.specs.GroupTables.{IsPresetIn};
 ghost use Rattle.meta_gen.specs.WholeTables.{OfGroup};
 ghost use Rattle.meta_query.specs.SettingLine.{BoolFacts, NumFacts, EnumFacts, PresetFacts, line_of_facts, listed, first_of, is_on_at, names_on, line_in};
 ghost use Rattle.meta_query.specs.Answer.{IsLineInTables, SettingReply};

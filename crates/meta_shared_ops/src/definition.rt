@@ -5,7 +5,7 @@ ghost use Rattle.meta_shared_core.specs.Settings.{IsSharedGroup};
 ghost use Rattle.meta_shared_ops.specs.OpsNames.{ops_names};
 
 use super::tables::ops_tables;
-use meta_gen::Declarations;
+use meta_declared::Declarations;
 use meta_inst::AllInstructions;
 use meta_operands::FormatTable;
 use meta_shared_core::{

@@ -1,5 +1,6 @@
 -- A look-up of indexes, beside a list of entries that gains one.
-use Rattle.std.proofs.Common.{◌≡◌, ℕ, ◌-◌, refl, sym, ap, ◌∙◌, subst, inl, inr, arith, Bool, true, false, cond, List, [], ◌∷◌, ◌++◌, length, take, Some, None, Option, Bor, length-append}
+use Rattle.std.specs.Option.{option_copied, is_some, IsSome}
+use Rattle.std.proofs.Common.{rules, IsTrue, ◌↔◌, ◌≡◌, ℕ, ◌-◌, refl, sym, ap, ◌∙◌, subst, inl, inr, arith, Bool, true, false, cond, List, [], ◌∷◌, ◌++◌, length, take, Some, None, Option, Bor, length-append}
 use Rattle.std.proofs.lemmas.List.{map-append, length-map}
 use Rattle.std.proofs.Math.Seq.{take-append_seam}
 use Rattle.std.specs.Prelude.{slice_get}
@@ -21,6 +22,21 @@ module _ {X : Type 0} (eq : X → X → Bool) (entries shown : List X) (look_up 
 
   pub found_some : (r : Bor X) (j : ℕ) → Some j ≡ look_up r → IsIndexOf eq shown r.now j
   found_some r j e = subst (λ (es : List X). IsIndexOf eq es r.now j) same (indexed.sound r j (sym e))
+
+  -- there is an index exactly where the look-up finds one
+  pub has_index : (r : Bor X) (o : Option (Bor ℕ)) (b : Bool) → option_copied o ≡ look_up r → b ≡ is_some o → IsTrue b ↔ ((i : ℕ) × IsIndexOf eq shown r.now i)
+  has_index r None b e is = (λ t. absurd (cc), λ h. absurd (found_none r e h.0 h.1))
+  has_index r (Some p) b e is = (λ t. (p.now, found_some r p.now e), λ h. is)
+
+  pub finds_some : (r : Bor X) (o : Option (Bor ℕ)) → option_copied o ≡ look_up r → (i : ℕ) × IsIndexOf eq shown r.now i → IsSome o
+  finds_some r None e h = absurd (found_none r e h.0 h.1)
+  finds_some r (Some p) e h = search rules
+
+  pub found_only : (r : Bor X) (o : Option (Bor ℕ)) (p : Bor ℕ) (i : ℕ) → option_copied o ≡ look_up r → o ≡ Some p → IsIndexOf eq shown r.now i → p.now ≡ i
+  found_only r o p i e is h = found_index r i p.now (sym (ap option_copied is) ∙ e) h
+
+  pub found_at : (r : Bor X) (o : Option (Bor ℕ)) (p : Bor ℕ) → option_copied o ≡ look_up r → o ≡ Some p → IsIndexOf eq shown r.now p.now
+  found_at r o p e is = found_some r p.now (sym (ap option_copied is) ∙ e)
 
 -- a look-up that gained a new entry's index
 module _ {X : Type 0} (eq : X → X → Bool) (laws : IsEquivalence eq) (entries : List X) (look_up look_up' : Bor X → Option ℕ) (r : Bor X) (indexed : IsIndexed eq entries look_up) (new : None ≡ look_up r)

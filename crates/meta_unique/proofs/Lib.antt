@@ -6,3 +6,5 @@ mod Filling
 mod Indexes
 mod Selecting
 mod Overlaps
+pub mod Numbered
+pub mod Finding

@@ -3,3 +3,4 @@ pub mod Slots
 pub mod SimpleHash
 pub mod Interning
 pub mod Overlap
+pub mod NameSlots

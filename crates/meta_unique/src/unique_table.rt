@@ -1,4 +1,4 @@
-ghost use Rattle.std.specs.Prelude.{◌≡◌, ℕ, [], ◌∷◌, ◌++◌, length, Ok, IfOk, OnOk, OnErr};
+ghost use Rattle.std.specs.Prelude.{◌≡◌, ◌↔◌, ℕ, IsTrue, [], ◌∷◌, ◌++◌, length, Ok, IfOk, OnOk, OnErr};
 ghost use Rattle.std.specs.Slice.Iter.{iter_rest};
 ghost use Rattle.meta_unique.specs.Interning.{pointed_to, IsIndexOf, IsNew, AreDifferent};
 
@@ -61,6 +61,22 @@ impl<'e, T: Eq + Hash> UniqueTable<'e, T> {
                 Err(AllocError)
             }
         }
+    }
+
+    /// Whether some entry equals this one.
+    pub fn contains(&self, entry: &T) -> bool
+        ensures { IsTrue result ↔ ((i : ℕ) × IsIndexOf T.eq self.now entry.now i) }
+    {
+        self.indexes.get(&entry).is_some()
+    }
+
+    /// The index of the entry that equals this one. There is one, as `contains` tells.
+    pub fn index_of(&self, entry: &T) -> usize
+        requires { (i : ℕ) × IsIndexOf T.eq self.now entry.now i }
+        ensures index { IsIndexOf T.eq self.now entry.now result }
+        ensures only { (i : ℕ) → IsIndexOf T.eq self.now entry.now i → result ≡ i }
+    {
+        *self.indexes.get(&entry).unwrap()
     }
 
     /// How many entries there are.

@@ -1,14 +1,25 @@
-use Rattle.std.proofs.Common.{length, refl}
+use Rattle.std.proofs.Common.{length, refl, arith}
 use Rattle.std.proofs.lemmas.Option.{slice_get_read}
-use Rattle.meta_gen.proofs.GroupsSoFar.{groups_next, groups_done}
+use Rattle.meta_gen.proofs.GroupsSoFar.{groups_next}
 use Rattle.meta_gen.proofs.generation.group_tables.Goals as goal
+use Rattle.meta_gen.proofs.generation.group_tables.Goals.{After-index-groups-k}
 
-pub loop-number-preserved : goal.loop-number-preserved
-loop-number-preserved c =
-    let k = c.loop-number.number in
+pub of-requires : goal.of-requires
+of-requires c = c.requires c.loop-k.k c.index-groups-k.result (slice_get_read c.args.groups.now (length c.args.groups.now) c.loop-k.k c.index-groups-k.result refl c.loop-k-test.true c.index-groups-k.is)
+
+pub loop-k-preserved : goal.loop-k-preserved
+loop-k-preserved c =
+    let k = c.loop-k.k in
     let groups = c.args.groups.now in
-    let at = slice_get_read groups (length groups) k c.index-groups-number.result refl c.loop-number-test.true c.index-groups-number.is in
-    groups_next groups k c.index-groups-number.result c.in_ok-tables_of_group.field-0 c.loop-number.tables.items c.push.new.self.items at c.in_ok-tables_of_group.ensures.valid c.in_ok-tables_of_group.ensures.tables c.in_ok-push.ensures.items c.loop-number.invariant
+    let at = slice_get_read groups (length groups) k c.index-groups-k.result refl c.loop-k-test.true c.index-groups-k.is in
+    groups_next groups k c.index-groups-k.result c.in_ok-of.field-0 c.loop-k.tables.items c.push.new.self.items at c.in_ok-of.ensures c.in_ok-push.ensures.items c.loop-k.invariant
 
 pub returns-clause-tables : goal.returns-clause-tables
-returns-clause-tables c = groups_done c.args.groups.now c.loop-number.number c.loop-number.tables.items c.loop-number.auto.number-end c.loop-number-test.false c.loop-number.invariant
+returns-clause-tables c = c.loop-k.invariant.each
+
+pub returns-clause-count : goal.returns-clause-count
+returns-clause-count c =
+    let count = c.loop-k.invariant.count in
+    let past = c.loop-k-test.false in
+    let most = c.loop-k.auto.k-end in
+    omega arith

@@ -1,6 +1,6 @@
 use Rattle.std.proofs.Common.{◌≡◌, ◌+◌, ◌++◌, map, drop, slice_get, option_map, Some, sym, ap, ◌∙◌, arith}
 use Rattle.std.proofs.lemmas.Bool.{false≢true}
-use Rattle.meta_gen.specs.declared.descriptor.Detail.TheVariants.{Preset}
+use Rattle.meta_setting_tables.specs.declared.descriptor.Detail.TheVariants.{Preset}
 use Rattle.meta_query.specs.SettingLine.{is_on_at, names_on}
 use Rattle.meta_query.proofs.LineParts.{names_among, name_added, one_on, one_off, at_preset}
 use Rattle.meta_query.proofs.setting_line.names_on.Goals as goal

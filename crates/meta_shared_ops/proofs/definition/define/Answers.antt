@@ -2,7 +2,7 @@ use Rattle.std.proofs.Common.{◌≡◌, ◌∙◌, ◌++◌, ◌∷◌, [], ℕ
 use Rattle.std.proofs.lemmas.List.{length-map}
 use Rattle.meta_inst.specs.Faults.{names_of}
 use Rattle.meta_settings.specs.GroupDeclaration.{GroupDeclaration}
-use Rattle.meta_gen.specs.AllDeclared.{Declared}
+use Rattle.meta_declared.specs.AllDeclared.{Declared}
 use Rattle.meta_shared_core.specs.CoreNames.{core_names}
 use Rattle.meta_shared_core.specs.Settings.{IsSharedGroup}
 use Rattle.meta_shared_core.specs.Words.{Meanings, AreMeant}

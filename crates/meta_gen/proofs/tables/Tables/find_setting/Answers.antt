@@ -1,7 +1,7 @@
 use Rattle.std.proofs.Common.{◌≡◌, slice_get, None, Some, sym, ◌∙◌, subst, ap, Bor}
 use Rattle.std.specs.Option.{option_map}
 use Rattle.std.proofs.lemmas.Option.{same_Some}
-use Rattle.meta_gen.specs.GroupTables.{GroupContents}
+use Rattle.meta_setting_tables.specs.GroupTables.{GroupContents}
 use Rattle.meta_gen.proofs.FoundIn.{FindsIn, finds_declared_setting}
 use Rattle.meta_gen.proofs.tables.Tables.find_setting.Goals as goal
 

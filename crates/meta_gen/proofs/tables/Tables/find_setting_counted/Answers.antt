@@ -1,8 +1,8 @@
 use Rattle.std.proofs.Common.{◌≡◌, ◌≤◌, ◌+◌, ℕ, length, slice_get, None, Some, sym, ◌∙◌, subst, ap, Bor}
 use Rattle.std.specs.Option.{option_map}
 use Rattle.std.proofs.lemmas.Option.{same_Some}
-use Rattle.meta_gen.specs.NameSlots.{IsNameLookup}
-use Rattle.meta_gen.specs.GroupTables.{GroupContents, names_in}
+use Rattle.meta_unique.specs.NameSlots.{IsNameLookup}
+use Rattle.meta_setting_tables.specs.GroupTables.{GroupContents, names_in}
 use Rattle.meta_gen.proofs.FoundIn.{FindsIn, finds_declared_setting}
 use Rattle.meta_gen.proofs.tables.Tables.find_setting_counted.Goals as goal
 

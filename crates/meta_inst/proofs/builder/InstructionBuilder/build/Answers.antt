@@ -1,5 +1,6 @@
-use Rattle.std.proofs.Common.{ap}
+use Rattle.std.proofs.Common.{ap, sym, ◌∙◌}
 use Rattle.meta_inst.specs.Built.{Built}
+use Rattle.meta_inst.specs.Content.{content_of}
 use Rattle.meta_inst.specs.Operands.{instruction_with}
 use Rattle.meta_inst.proofs.KeptControl.{info_of}
 use Rattle.meta_inst.proofs.builder.InstructionBuilder.build.Goals as goal
@@ -7,5 +8,24 @@ use Rattle.meta_inst.proofs.builder.InstructionBuilder.build.Goals as goal
 pub returns-clause-control : goal.returns-clause-control
 returns-clause-control c =
     info_of c.args.vars.now c.args.formats.now c.args.self.now (instruction_with c.args.vars.now c.in_ok-operands.operands) c.control-control.result c.polymorphic_info-polymorphic_info.result c.in_ok-content.field-0.polymorphic_info
-    (c.in_ok-operands.ensures.meaning c.args.vars.now) c.in_default-operands_fault.ensures.none c.control-control.ensures.found (ap (λ (x : Built). x.polymorphic_info) c.in_ok-content.ensures)
+    (c.in_ok-operands.ensures.meaning c.args.vars.now) c.in_default-operands_fault.ensures.none c.control-control.ensures.found (ap (λ (x : Built). x.polymorphic_info) (c.in_ok-content.ensures c.args.formats.now c.in_ok-operands.ensures.operands))
     c.polymorphic_info-polymorphic_info.ensures.kept c.polymorphic_info-polymorphic_info.ensures.of_registry c.polymorphic_info-polymorphic_info.ensures.designated
+
+pub returns-clause-content : goal.returns-clause-content
+returns-clause-content c =
+    let is = c.in_ok-content.ensures c.args.formats.now c.in_ok-operands.ensures.operands in
+    is ∙ ap (content_of c.args.formats.now c.args.self.now) (sym (ap (λ (x : Built). x.polymorphic_info) is))
+
+pub control-control-requires : goal.control-control-requires
+control-control-requires c = c.in_ok-operands.ensures.fits c.args.vars.now c.requires
+
+pub polymorphic_info-polymorphic_info-requires-clause-variables : goal.polymorphic_info-polymorphic_info-requires-clause-variables
+polymorphic_info-polymorphic_info-requires-clause-variables c = c.in_ok-operands.ensures.fits c.args.vars.now c.requires
+
+pub operands_fault-requires-clause-operands : goal.operands_fault-requires-clause-operands
+operands_fault-requires-clause-operands c = record {
+  meaning = c.in_ok-operands.ensures.meaning c.args.vars.now;
+  variables = c.in_ok-operands.ensures.variables;
+  result_count = c.in_ok-operands.ensures.result_count;
+  of_registry = c.in_ok-operands.ensures.fits c.args.vars.now c.requires;
+}

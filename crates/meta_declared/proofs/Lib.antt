@@ -1,0 +1,20 @@
+-- the search for the first fault
+mod AtInstruction
+mod AtFormat
+mod AtAll
+mod Rules
+mod NamesSoFar
+mod FormatSearch
+mod Counted
+mod ByName
+pub mod FirstFault
+pub mod DifferentNames
+mod OneFault
+mod FirstOfAll
+-- what is built of the instructions
+pub mod BuiltOperands
+-- the needed type sets
+pub mod Interning
+pub mod Needing
+-- the groups
+mod GroupsSoFar

@@ -1,0 +1,14 @@
+use Rattle.std.proofs.Common.{List}
+use Rattle.meta_typevar.specs.declared.content.TypeVarContent.{TypeVarContent}
+use Rattle.meta_declared.specs.FormatsUsed.{AreUsedBefore, AreApart, AreOfTable}
+use Rattle.meta_declared.proofs.FormatSearch.{AreCleanBefore, declared}
+use Rattle.meta_declared.proofs.formats.used_formats.Given as goal
+
+-- these formats are used so far, and none of them shows a fault
+abbrev pub invariant-loop-place : goal.invariant-loop-place
+invariant-loop-place l = record {
+  of_table : AreOfTable l.formats l.used.items;
+  apart : AreApart l.formats l.used.items;
+  used : (vars : List TypeVarContent) → AreUsedBefore (declared vars l.formats l.instructions) l.place l.used.items;
+  clean : (vars : List TypeVarContent) → AreCleanBefore (declared vars l.formats l.instructions) l.place;
+}

@@ -1,0 +1,15 @@
+use Rattle.std.proofs.Common.{◌≡◌, ◌<◌, ℕ, length, take, slice_get, Some}
+use Rattle.meta_inst.specs.Built.{Built}
+use Rattle.meta_inst.specs.Faults.{names_of}
+use Rattle.meta_declared.specs.Searched.{ShowsNoInstructionFault}
+use Rattle.meta_declared.specs.BuiltInstructions.{IsBuiltAt}
+use Rattle.meta_declared.proofs.instructions.built_instructions.Given as goal
+
+-- the names are those so far, none of the instructions so far shows a fault, and each of them is built
+abbrev pub invariant-loop-place : goal.invariant-loop-place
+invariant-loop-place l = record {
+  kept : l.names ≡ take l.place (names_of l.set);
+  clean : (k : ℕ) → k < l.place → ShowsNoInstructionFault l.set k;
+  count : length l.built.items ≡ l.place;
+  built : (k : ℕ) (c : Built) → slice_get l.built.items k ≡ Some c → IsBuiltAt l.set k c;
+}

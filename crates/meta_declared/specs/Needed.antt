@@ -1,0 +1,81 @@
+-- The type sets that tables need, as masks.
+--     AreSetsByNeed d sets      the needed sets, in the order in which they are first needed
+--     AreNeededMasks d masks    their masks
+use Rattle.std.specs.Prelude.{◌≡◌, ◌<◌, ◌⊎◌, ℕ, zero, suc, List, length, slice_get, Option, Some, option_map}
+use Rattle.meta_typevar.specs.FourSets.{FourSets}
+use Rattle.meta_typevar.specs.Masks.{AreMasksOf}
+use Rattle.meta_typevar.specs.Registry.{variable_at}
+use Rattle.meta_typevar.specs.declared.content.TypeVarContent.{TypeVarContent}
+use Rattle.meta_typevar.specs.declared.masks.Masks.{Masks}
+use Rattle.meta_inst.specs.Builder.{Builder}
+use Rattle.meta_typevar.specs.Variable.{Variable, Sets}
+use Rattle.meta_inst.specs.Instruction.{Instruction}
+use Rattle.meta_inst.specs.Control.{IsControl}
+use Rattle.meta_inst.specs.InstructionSet.{InstructionSet, root_sets, instruction_of}
+use Rattle.meta_inst.specs.Faults.{IsAt, IsControlSet, IsFreeSet, AreNeededSets, LacksControl, HasBadDerivationAt}
+use Rattle.meta_inst.specs.InstructionFaults.{HasTooManyOperands}
+
+-- the control of an instruction, by its number
+abbrev pub control_at : List TypeVarContent → Option ℕ → Option Variable
+control_at vars control = option_map (variable_at vars) control
+
+-- the control, if there is one, is of the registry
+abbrev pub IsOfRegistry : List TypeVarContent → Option ℕ → Type 0
+IsOfRegistry vars control = (v : ℕ) → control ≡ Some v → v < length vars
+
+-- the masks are those of the sets, place by place
+pub record StandForSets (masks : List Masks) (sets : List FourSets) : Type 0 where
+  pub count : length masks ≡ length sets
+  pub each : (k : ℕ) (s : FourSets) → slice_get sets k ≡ Some s → (m : Masks) × (slice_get masks k ≡ Some m) × AreMasksOf s m
+
+-- at this place of its needs the instruction needs the set under this control: at 0 as the set of the control, and at k + 1 as
+-- that of operand k, where it is free
+abbrev pub NeedsUnder : Sets → Instruction → Option Variable → ℕ → FourSets → Type 0
+NeedsUnder sets i control zero s = IsControlSet sets control s
+NeedsUnder sets i control (suc k) s = (free : IsFreeSet sets i control s) × (free.place ≡ k)
+
+-- the instruction needs the set at this place of its needs, under its control
+pub record NeedsAtPlace (sets : Sets) (i : Instruction) (place : ℕ) (s : FourSets) : Type 0 where
+  pub control : Option Variable
+  pub is_control : IsControl sets i control
+  pub needs : NeedsUnder sets i control place s
+
+-- the declared instruction with the number k needs the set, at this place of its needs
+pub record NeedsInOrder (d : InstructionSet) (k place : ℕ) (s : FourSets) : Type 0 where
+  pub user : Builder
+  pub at : IsAt d k user
+  pub needs : NeedsAtPlace (root_sets d) (instruction_of d user) place s
+
+-- a need comes before another one: it is of an earlier instruction, or of the same at an earlier place
+abbrev pub ComesBefore : ℕ → ℕ → ℕ → ℕ → Type 0
+ComesBefore k place l other = (k < l) ⊎ ((k ≡ l) × (place < other))
+
+-- s is needed before t is: some need of s comes before each need of t
+pub record IsNeededBefore (d : InstructionSet) (s t : FourSets) : Type 0 where
+  pub instruction : ℕ
+  pub place : ℕ
+  pub needs : NeedsInOrder d instruction place s
+  pub first : (l other : ℕ) → NeedsInOrder d l other t → ComesBefore instruction place l other
+
+-- the sets are those that the instructions need, each once, in the order in which they are first needed
+pub record AreSetsByNeed (d : InstructionSet) (sets : List FourSets) : Type 0 where
+  pub are_needed : AreNeededSets d sets
+  pub ordered : (j k : ℕ) (s t : FourSets) → j < k → slice_get sets j ≡ Some s → slice_get sets k ≡ Some t → IsNeededBefore d s t
+
+-- the masks are those of the sets that the instructions need, each once, in the order in which they are first needed
+pub record AreNeededMasks (d : InstructionSet) (masks : List Masks) : Type 0 where
+  pub sets : List FourSets
+  pub are_needed : AreSetsByNeed d sets
+  pub stand : StandForSets masks sets
+
+-- no instruction lacks a control
+abbrev pub AllControlled : InstructionSet → Type 0
+AllControlled d = (k : ℕ) (b : Builder) → IsAt d k b → LacksControl d b → ⊥
+
+-- no instruction has an operand that is badly derived
+abbrev pub AllDerived : InstructionSet → Type 0
+AllDerived d = (k : ℕ) (b : Builder) (place : ℕ) → IsAt d k b → HasBadDerivationAt d b place → ⊥
+
+-- no instruction has too many operands
+abbrev pub AllSmall : InstructionSet → Type 0
+AllSmall d = (k : ℕ) (b : Builder) (count : ℕ) → IsAt d k b → HasTooManyOperands b count → ⊥

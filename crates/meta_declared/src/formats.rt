@@ -1,0 +1,129 @@
+ghost use Rattle.std.specs.Prelude.{◌≡◌, ◌≢◌, ◌↔◌, ◌<◌, ◌⊎◌, ℕ, List, IsTrue, MatchBool, IfOk, IfErr, OnOk, IfSome, IfNone, length, slice_get, Some};
+ghost use Rattle.meta_types.specs.declared.fault.DefinitionError.TheVariants.{OutOfMemory};
+ghost use Rattle.meta_typevar.specs.declared.content.TypeVarContent.{TypeVarContent};
+ghost use Rattle.meta_inst.specs.Builder.{Builder};
+ghost use Rattle.meta_inst.specs.InstructionSet.{InstructionSet};
+ghost use Rattle.meta_declared.specs.FormatsUsed.{AreUsedBefore, AreApart, IsAmong, IsNotAmong, IsOfTable, AreOfTable, ClashIn, ClashesWithNone, IsFirstToClash};
+ghost use Rattle.meta_declared.specs.FormatsByName.{AreByName};
+ghost use Rattle.meta_declared.specs.Searched.{ShowsNoFormatFault, IsFirstFormatFault};
+
+use meta_inst::AllInstructions;
+use meta_operands::{FormatId, FormatStructure, FormatTable, InstructionFormat};
+use meta_types::{DefinitionError, Place, is_name};
+use std::alloc::{AllocError, Global};
+use std::collections::BTreeMap;
+
+/// The most blocks that a format may have.
+const MAX_BLOCKS: u32 = 2;
+
+/// The most blocks without arguments that a format may have.
+const MAX_RAW_BLOCKS: u32 = 1;
+
+/// A format in use, and its structure.
+#[derive(Drop)]
+pub(crate) struct UsedFormat {
+    pub(crate) id: FormatId,
+    structure: FormatStructure,
+}
+
+/// Whether the format is one of these.
+fn is_among(used: &[UsedFormat], id: FormatId) -> bool
+    ensures { MatchBool result (IsAmong used.now id) (IsNotAmong used.now id) }
+{
+    for format in used {
+        if format.id == id {
+            return true;
+        }
+    }
+    false
+}
+
+/// Whether the format has more blocks than a format may.
+fn has_too_many_blocks(format: &InstructionFormat) -> bool
+    ensures { IsTrue result ↔ ((2 < format.now.num_block_operands) ⊎ (1 < format.now.num_raw_block_operands)) }
+{
+    format.num_block_operands > MAX_BLOCKS || format.num_raw_block_operands > MAX_RAW_BLOCKS
+}
+
+/// Whether two formats can't both be in use: they share their name or their structure.
+fn clash(formats: &FormatTable, one: &UsedFormat, other: &UsedFormat) -> bool
+    requires one { IsOfTable formats.now one.now }
+    requires other { IsOfTable formats.now other.now }
+    ensures { IsTrue result ↔ ClashIn formats.now one.now.id other.now.id }
+{
+    formats.get(one.id).name == formats.get(other.id).name || one.structure == other.structure
+}
+
+/// The first of these that the format can't stand beside.
+fn first_clash(formats: &FormatTable, used: &[UsedFormat], format: &UsedFormat) -> Option<FormatId>
+    requires format { IsOfTable formats.now format.now }
+    requires used { AreOfTable formats.now used.now }
+    ensures none { IfNone result (ClashesWithNone formats.now used.now format.now.id) }
+    ensures some { IfSome result (λ g. IsFirstToClash formats.now used.now format.now.id g) }
+{
+    for earlier in used {
+        if clash(formats, format, earlier) {
+            return Some(earlier.id);
+        }
+    }
+    None
+}
+
+/// The formats in use, in the order of their first uses. They are refused by the first fault that one shows, in this order: that
+/// of a format's name, then that it has too many blocks, and then that it can't stand beside one that is used earlier, the first
+/// of which the fault names.
+pub(crate) fn used_formats(
+    alloc: Global,
+    formats: &FormatTable,
+    instructions: &AllInstructions,
+) -> Result<Vec<UsedFormat>, DefinitionError>
+    requires { (k : ℕ) (b : Builder) → slice_get instructions.now k ≡ Some b → b.format < length formats.now }
+    ensures refused { (vars : List TypeVarContent) → let d : InstructionSet = record { vars = vars; formats = formats.now; instructions = instructions.now } in IfErr result (λ e. e ≢ OutOfMemory → IsFirstFormatFault d e) }
+    ensures clean { (vars : List TypeVarContent) → let d : InstructionSet = record { vars = vars; formats = formats.now; instructions = instructions.now } in OnOk result (ShowsNoFormatFault d) }
+    ensures used { (vars : List TypeVarContent) → let d : InstructionSet = record { vars = vars; formats = formats.now; instructions = instructions.now } in IfOk result (λ v. AreUsedBefore d (length instructions.now) v.items) }
+    ensures of_table { IfOk result (λ v. AreOfTable formats.now v.items) }
+    ensures apart { IfOk result (λ v. AreApart formats.now v.items) }
+{
+    let mut used: Vec<UsedFormat> = Vec::new(alloc);
+    for place in 0..instructions.len() {
+        let id = instructions.get(place).format();
+        if is_among(&used, id) {
+            continue;
+        }
+        let format = formats.get(id);
+        let number = u64::from(id.number());
+        if !is_name(&format.name) {
+            return Err(DefinitionError::BadName(Place::Format(number)));
+        }
+        if has_too_many_blocks(format) {
+            return Err(DefinitionError::BadFormat(number));
+        }
+        let structure = format.structure(alloc)?;
+        let this = UsedFormat { id, structure };
+        if let Some(earlier) = first_clash(formats, &used, &this) {
+            return Err(DefinitionError::FormatClash(number, u64::from(earlier.number())));
+        }
+        used.push(this)?;
+    }
+    Ok(used)
+}
+
+/// The formats, by their names, no two of which are the same.
+pub(crate) fn by_name(
+    alloc: Global,
+    formats: &FormatTable,
+    used: &[UsedFormat],
+) -> Result<Vec<FormatId>, AllocError>
+    requires of_table { AreOfTable formats.now used.now }
+    requires apart { AreApart formats.now used.now }
+    ensures { IfOk result (λ v. AreByName formats.now used.now v.items) }
+{
+    let mut ids = BTreeMap::new(alloc);
+    for place in 0..used.len() {
+        let id = used[place].id;
+        if ids.insert(&formats.get(id).name, id).is_err() {
+            return Err(AllocError);
+        }
+    }
+    ids.into_values().collect(alloc)
+}

@@ -1,0 +1,68 @@
+ghost use Rattle.std.specs.Prelude.{◌≡◌, ◌≢◌, ◌↔◌, ◌<◌, ◌≤◌, ℕ, ◌+◌, IsTrue, IfOk, IfErr, OnOk, MatchResult, Err, length, take};
+ghost use Rattle.meta_types.specs.declared.fault.Place.{Place};
+ghost use Rattle.meta_types.specs.declared.fault.DefinitionError.TheVariants.{BadName, OutOfMemory};
+ghost use Rattle.meta_inst.specs.Faults.{names_of};
+ghost use Rattle.meta_declared.specs.Searched.{ShowsNoInstructionFault, IsFirstInstructionFault, IsFirstOfInstructions, IsRefusedFirst};
+ghost use Rattle.meta_declared.specs.BuiltInstructions.{IsBuiltAt, AreInstructionsOf};
+
+use super::declared_set::DeclaredSet;
+use meta_inst::InstructionContent;
+use meta_types::{DefinitionError, EarlierNames, Place};
+use std::alloc::Global;
+
+/// Whether the instruction is refused by what comes before shared names: its bad name, or want of memory.
+fn is_refused_first(built: &Result<InstructionContent, DefinitionError>) -> bool
+    ensures { IsTrue result ↔ IsRefusedFirst built.now }
+{
+    match built {
+        Err(DefinitionError::BadName(_) | DefinitionError::OutOfMemory) => true,
+        _ => false,
+    }
+}
+
+/// The instruction at this place, counted from 0, as it is built, where `names` are those of the earlier ones. It is refused by
+/// the first fault that it shows, and else its name is added.
+fn built_instruction<'d>(
+    alloc: Global,
+    set: &'d DeclaredSet,
+    place: usize,
+    names: &mut EarlierNames<'d>,
+) -> Result<InstructionContent, DefinitionError>
+    requires few { length set.now.instructions ≤ 255 }
+    requires within { place < length set.now.instructions }
+    requires kept { names.old ≡ take place (names_of set.now) }
+    ensures kept { OnOk result (names.new ≡ take (place + 1) (names_of set.now)) }
+    ensures clean { OnOk result (ShowsNoInstructionFault set.now place) }
+    ensures built { IfOk result (IsBuiltAt set.now place) }
+    ensures refused { IfErr result (λ e. e ≢ OutOfMemory → IsFirstInstructionFault set.now place e) }
+{
+    let builder = set.instructions().get(place);
+    let number = place as u64 + 1;
+    let built = builder.build(alloc, set.vars(), set.formats(), number);
+    if is_refused_first(&built) {
+        return built;
+    }
+    if let Some(earlier) = names.add(alloc, builder.name())? {
+        let place = Place::Instruction(number);
+        return Err(DefinitionError::DuplicateName(place, earlier as u64 + 1));
+    }
+    built
+}
+
+/// The instructions as they are built, in their order, which are refused by the first fault of the first one that shows one.
+pub(crate) fn built_instructions(
+    alloc: Global,
+    set: &DeclaredSet,
+) -> Result<Vec<InstructionContent>, DefinitionError>
+    requires { length set.now.instructions ≤ 255 }
+    ensures clean { OnOk result ((k : ℕ) → k < length set.now.instructions → ShowsNoInstructionFault set.now k) }
+    ensures built { IfOk result (λ v. AreInstructionsOf set.now v.items) }
+    ensures refused { IfErr result (λ e. e ≢ OutOfMemory → IsFirstOfInstructions set.now e) }
+{
+    let mut names = EarlierNames::new(alloc);
+    let mut built = Vec::with_capacity(alloc, set.instructions().len())?;
+    for place in 0..set.instructions().len() {
+        built.push(built_instruction(alloc, set, place, &mut names)?)?;
+    }
+    Ok(built)
+}

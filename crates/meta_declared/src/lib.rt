@@ -1,0 +1,16 @@
+//! Declarations, the first fault that they show, and what is built of them.
+//!
+//! `build_all` refuses `Declarations` by their first fault, or answers what is built of them.
+#![tactic(auto)]
+
+mod built;
+mod declarations;
+mod declared_set;
+mod formats;
+mod instructions;
+mod laws;
+mod needed;
+
+pub use built::{Built, build_all};
+pub use declarations::Declarations;
+pub use laws::one_first_fault;

@@ -1,0 +1,122 @@
+ghost use Rattle.std.specs.Prelude.{◌≡◌, ◌<◌, ◌≤◌, ℕ, IfOk, OnOk, length, Some};
+ghost use Rattle.meta_typevar.specs.Registry.{sets_of, variable_at, IsRegistry};
+ghost use Rattle.meta_inst.specs.Operands.{AreOf, instruction_with};
+ghost use Rattle.meta_inst.specs.Control.{IsControl};
+ghost use Rattle.meta_inst.specs.InstructionSet.{Fits};
+ghost use Rattle.meta_inst.specs.Content.{ctrl_number};
+ghost use Rattle.meta_declared.specs.BuiltInstructions.{AreInstructionsOf};
+ghost use Rattle.meta_declared.specs.Interned.{Adds, AddsSome, AddsEach, AddsNeeded, IsControlSetOf, IsFreeSetOf, IsFreeSetAt};
+ghost use Rattle.meta_declared.specs.Needed.{control_at, IsOfRegistry, AreSetsByNeed};
+
+use super::declared_set::DeclaredSet;
+use meta_inst::InstructionContent;
+use meta_typevar::{TypeSet, TypeVar, TypeVars};
+use meta_unique::UniqueTable;
+use std::alloc::{AllocError, Global};
+
+/// Adds the set of the variable's root, where no equal one is there yet.
+fn intern_set<'d>(
+    type_sets: &mut UniqueTable<'d, TypeSet>,
+    vars: &'d TypeVars,
+    tv: TypeVar,
+) -> Result<(), AllocError>
+    requires { tv < length vars.now }
+    ensures { OnOk result (Adds (sets_of vars.now (variable_at vars.now tv).root) type_sets.old type_sets.new) }
+{
+    let root = tv.root(vars);
+    type_sets.add(root.get_raw_typeset(vars))?;
+    Ok(())
+}
+
+/// Adds the set of the variable that controls, if one does.
+fn intern_control<'d>(
+    type_sets: &mut UniqueTable<'d, TypeSet>,
+    vars: &'d TypeVars,
+    control: &Option<TypeVar>,
+) -> Result<(), AllocError>
+    requires { IsOfRegistry vars.now control.now }
+    ensures { OnOk result (AddsSome (IsControlSetOf vars.now control.now) type_sets.old type_sets.new) }
+{
+    match control {
+        Some(v) => intern_set(type_sets, vars, *v),
+        None => Ok(()),
+    }
+}
+
+/// Adds the set of the variable, where it is underived, doesn't control, and no type is fixed for it.
+fn intern_operand<'d>(
+    type_sets: &mut UniqueTable<'d, TypeSet>,
+    vars: &'d TypeVars,
+    control: &Option<TypeVar>,
+    tv: TypeVar,
+) -> Result<(), AllocError>
+    requires { tv < length vars.now }
+    ensures { OnOk result (AddsSome (IsFreeSetOf vars.now control.now tv) type_sets.old type_sets.new) }
+{
+    if *control == Some(tv) {
+        return Ok(());
+    }
+    if vars.content(tv).base.is_some() {
+        return Ok(());
+    }
+    if tv.fixed_type(vars).is_some() {
+        return Ok(());
+    }
+    intern_set(type_sets, vars, tv)
+}
+
+/// Adds the sets of the underived variables that don't control and for which no type is fixed.
+fn intern_free<'d>(
+    type_sets: &mut UniqueTable<'d, TypeSet>,
+    vars: &'d TypeVars,
+    control: &Option<TypeVar>,
+    variables: &[TypeVar],
+) -> Result<(), AllocError>
+    requires { AreOf vars.now variables.now }
+    ensures { OnOk result (AddsEach (IsFreeSetAt vars.now control.now variables.now) (length variables.now) type_sets.old type_sets.new) }
+{
+    for place in 0..variables.len() {
+        intern_operand(type_sets, vars, control, variables[place])?;
+    }
+    Ok(())
+}
+
+/// Adds the sets that the built instruction needs: first that of its control, then those of its operands.
+fn intern_instruction<'d>(
+    type_sets: &mut UniqueTable<'d, TypeSet>,
+    vars: &'d TypeVars,
+    instruction: &InstructionContent,
+) -> Result<(), AllocError>
+    requires variables { AreOf vars.now instruction.now.value_operands.variables }
+    requires within { instruction.now.value_operands.result_count ≤ length instruction.now.value_operands.variables }
+    requires registry { IsRegistry vars.now }
+    requires control { IsControl (sets_of vars.now) (instruction_with vars.now instruction.now.value_operands) (control_at vars.now (ctrl_number instruction.now.polymorphic_info)) }
+    requires of_registry { IsOfRegistry vars.now (ctrl_number instruction.now.polymorphic_info) }
+    ensures { OnOk result (AddsNeeded (sets_of vars.now) (instruction_with vars.now instruction.now.value_operands) type_sets.old type_sets.new) }
+{
+    let control = instruction.ctrl_typevar();
+    intern_control(type_sets, vars, &control)?;
+    intern_free(
+        type_sets,
+        vars,
+        &control,
+        instruction.value_operands().variables(),
+    )
+}
+
+/// The type sets that the instructions need, each once, in order of first need, where these are built of them.
+pub(crate) fn needed_sets<'d>(
+    alloc: Global,
+    set: &'d DeclaredSet,
+    instructions: &[InstructionContent],
+) -> Result<UniqueTable<'d, TypeSet>, AllocError>
+    requires built { AreInstructionsOf set.now instructions.now }
+    requires fits { Fits set.now.vars set.now.formats set.now.instructions }
+    ensures { IfOk result (AreSetsByNeed set.now) }
+{
+    let mut type_sets = UniqueTable::new(alloc);
+    for place in 0..instructions.len() {
+        intern_instruction(&mut type_sets, set.vars(), &instructions[place])?;
+    }
+    Ok(type_sets)
+}

@@ -1,9 +1,0 @@
-use Rattle.meta_gen.proofs.BuiltGroups.{built_layout}
-use Rattle.meta_gen.proofs.BuiltNames.{built_names}
-use Rattle.meta_gen.proofs.group_laws.built_groups_have_tables.Goals as goal
-
-pub returns : goal.returns
-returns c = record {
-  layout = λ d valid. built_layout d valid (c.presets_turn_on_what_they_name.ensures.named d.presets);
-  names = built_names;
-}

@@ -1,6 +1,0 @@
-use Rattle.meta_gen.proofs.DescribedSoFar.{PresetsTo}
-use Rattle.meta_gen.proofs.group_tables.describe_presets.Given as goal
-
--- the presets so far are described
-abbrev pub invariant-loop-k : goal.invariant-loop-k
-invariant-loop-k l = PresetsTo l.presets l.size l.k l.descriptors.items

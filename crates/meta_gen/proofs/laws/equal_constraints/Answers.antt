@@ -1,5 +1,0 @@
-use Rattle.meta_gen.proofs.Overlapping.{same_is, is_same}
-use Rattle.meta_gen.proofs.laws.equal_constraints.Goals as goal
-
-pub returns : goal.returns
-returns c = λ x y. (same_is x y, is_same x y)

@@ -1,6 +1,0 @@
-use Rattle.std.proofs.Common.{◌≡◌, map, take}
-use Rattle.std.specs.Option.{option_copied}
-use Rattle.meta_gen.proofs.name_slots.pointed_at.Given as goal
-
-abbrev pub invariant-loop-slot : goal.invariant-loop-slot
-invariant-loop-slot l = l.copies.items ≡ map option_copied (take l.slot-index l.slots)

@@ -1,6 +1,0 @@
-use Rattle.meta_gen.proofs.Interning.{IsInterned}
-use Rattle.meta_gen.proofs.needed.needed_sets.Given as goal
-
--- the sets that the instructions so far need are there, in order of first need
-abbrev pub invariant-loop-place : goal.invariant-loop-place
-invariant-loop-place l = IsInterned (record { vars = l.vars; formats = l.formats; instructions = l.instructions }) l.place 0 l.type_sets

@@ -1,0 +1,38 @@
+-- What tables of declarations allow is what the declarations accept.
+use Rattle.std.proofs.Common.{◌≡◌, ◌↔◌, ℕ, suc, List, Option, Some, sym, ◌∙◌, subst, add-one}
+use Rattle.meta_typevar.specs.Registry.{HoldTypeSets}
+use Rattle.meta_inst.specs.InstructionSet.{InstructionSet, root_sets, instruction_of}
+use Rattle.meta_meaning.specs.Acceptance.{AcceptsNumbers}
+use Rattle.meta_meaning.specs.Tables.{TableContents, Allows, at_opcode}
+use Rattle.meta_meaning.proofs.Decoding.{tables_mean}
+use Rattle.meta_inst.proofs.OneControl.{same_control}
+use Rattle.meta_opcode_tables.specs.TablesOf.{AreTablesOf, HoldsInstruction, AcceptsOpcode}
+use Rattle.meta_opcode_tables.proofs.Declared.{declared_as}
+
+-- The tables mean the declarations.
+pub tables_of_mean : (d : InstructionSet) (tables : TableContents) (op : ℕ) (c : Option ℕ) (rs vs : List ℕ) → HoldTypeSets d.vars → AreTablesOf d tables → (Allows tables op c rs vs ↔ AcceptsOpcode d op c rs vs)
+tables_of_mean d tables op c rs vs typed h = (to, from)
+  where
+    -- what is allowed is accepted
+    to : Allows tables op c rs vs → AcceptsOpcode d op c rs vs
+    to a =
+        let x = declared_as d tables op a.entry h a.is_opcode in
+        record {
+          place = x.place;
+          builder = x.builder;
+          at = x.at;
+          number = x.number;
+          control = x.control;
+          is_control = x.is_control;
+          accepts = (tables_mean (root_sets d) (instruction_of d x.builder) x.control tables op a.entry c rs vs (λ k w _. typed w.root) x.is_control x.is_entry a.is_opcode).0 a;
+        }
+
+    -- what is accepted is allowed
+    from : AcceptsOpcode d op c rs vs → Allows tables op c rs vs
+    from a =
+        let held : HoldsInstruction d tables a.place a.builder = h.holds a.place a.builder a.at in
+        let same : a.control ≡ held.control = same_control (root_sets d) (instruction_of d a.builder) a.control held.control a.is_control held.is_control in
+        let accepted : AcceptsNumbers (root_sets d) (instruction_of d a.builder) held.control c rs vs = subst (λ x. AcceptsNumbers (root_sets d) (instruction_of d a.builder) x c rs vs) same a.accepts in
+        let numbered : suc a.place ≡ op = sym (a.number ∙ add-one a.place) in
+        let at : at_opcode tables.entries op ≡ Some held.entry = subst (λ n. at_opcode tables.entries n ≡ Some held.entry) numbered held.at in
+        (tables_mean (root_sets d) (instruction_of d a.builder) held.control tables op held.entry c rs vs (λ k w _. typed w.root) held.is_control held.is_entry at).1 accepted

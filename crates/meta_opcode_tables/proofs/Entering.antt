@@ -1,0 +1,70 @@
+-- What is built of valid declarations can have its entries.
+use Rattle.std.proofs.Common.{◌≡◌, ◌<◌, ◌≤◌, ◌+◌, ◌⊎◌, inl, inr, ℕ, List, length, length-append, refl, sym, ap, ◌∙◌, subst, arith}
+use Rattle.meta_typevar.specs.FourSets.{FourSets}
+use Rattle.meta_operands.specs.Operand.{variables_of}
+use Rattle.meta_types.specs.declared.fault.DefinitionError.TheVariants.{BadDerivation, TooManyOperands}
+use Rattle.meta_inst.specs.Builder.{Builder, inputs_of, outputs_of}
+use Rattle.meta_inst.specs.Built.{Built}
+use Rattle.meta_inst.specs.Control.{DerivesBadly}
+use Rattle.meta_inst.specs.Instruction.{Instruction}
+use Rattle.meta_inst.specs.InstructionFaults.{HasTooManyOperands}
+use Rattle.meta_inst.specs.InstructionSet.{InstructionSet, root_sets, instruction_of, Fits}
+use Rattle.meta_inst.specs.Faults.{IsValid, OfInstruction, names_of}
+use Rattle.meta_inst.specs.Operands.{OperandList}
+use Rattle.meta_types.specs.SharedNames.{AreDifferentNames}
+use Rattle.meta_declared.specs.Searched.{ShowsNoEarlyFault}
+use Rattle.meta_declared.proofs.FirstFault.{few_opcodes}
+use Rattle.meta_declared.proofs.DifferentNames.{different_names}
+use Rattle.meta_declared.specs.BuiltInstructions.{IsBuiltAt}
+use Rattle.meta_declared.specs.Needed.{AreSetsByNeed}
+use Rattle.meta_declared.proofs.BuiltOperands.{operands_are, within_is, meaning, variables_are, control_is, control_of_registry}
+use Rattle.meta_opcode_tables.specs.Entries.{CanEnter, HoldNeeded}
+use Rattle.meta_opcode_tables.proofs.Held.{needed_held}
+
+-- few results, and few inputs
+few_results : (b : Builder) → ((count : ℕ) → HasTooManyOperands b count → ⊥) → length (variables_of (outputs_of b)) ≤ 7
+few_results b small =
+    let few : 7 < length (variables_of (outputs_of b)) → ⊥ = λ l. small (length (variables_of (outputs_of b))) (inl (l, refl)) in
+    omega arith
+
+few_values : (b : Builder) → ((count : ℕ) → HasTooManyOperands b count → ⊥) → length (variables_of (inputs_of b)) ≤ 7
+few_values b small =
+    let results = few_results b small in
+    let few : 7 < length (variables_of (inputs_of b)) → ⊥ = λ l. small (length (variables_of (inputs_of b))) (inr (results, l, refl)) in
+    omega arith
+
+-- valid declarations show no fault that comes before that of the type sets
+early : (d : InstructionSet) → IsValid d → ShowsNoEarlyFault d
+early d valid p e before s = valid p e s
+
+pub few_instructions : (d : InstructionSet) → IsValid d → length d.instructions ≤ 255
+few_instructions d valid = few_opcodes d (early d valid)
+
+pub names_differ : (d : InstructionSet) → IsValid d → AreDifferentNames (names_of d)
+names_differ d valid = different_names d (early d valid)
+
+module _ (d : InstructionSet) (valid : IsValid d) (fits : Fits d.vars d.formats d.instructions) (sets : List FourSets) (needed : AreSetsByNeed d sets) (k : ℕ) (c : Built) (h : IsBuiltAt d k c) where
+  small : (count : ℕ) → HasTooManyOperands h.builder count → ⊥
+  small count many = valid (OfInstruction k 7) (TooManyOperands (k + 1) count) (record { place = k; builder = h.builder; rule = 7; at = h.at; position = refl; breaks = (refl, refl, many) })
+
+  derived : (place : ℕ) → DerivesBadly (root_sets d) (instruction_of d h.builder) place → ⊥
+  derived place bad = valid (OfInstruction k 6) (BadDerivation (k + 1) place) (record { place = k; builder = h.builder; rule = 6; at = h.at; position = refl; breaks = (refl, refl, bad) })
+
+  pub can_enter : CanEnter d.vars sets c
+  can_enter =
+      let list = operands_are d h.builder c h.is in
+      let means = meaning d h.builder c h.is in
+      let count : c.value_operands.result_count ≡ length (variables_of (outputs_of h.builder)) = ap (λ (o : OperandList). o.result_count) list in
+      let all : length c.value_operands.variables ≡ length (variables_of (outputs_of h.builder)) + length (variables_of (inputs_of h.builder)) = ap (λ (o : OperandList). length o.variables) list ∙ length-append (variables_of (outputs_of h.builder)) (variables_of (inputs_of h.builder)) in
+      let results = few_results h.builder small in
+      let values = few_values h.builder small in
+      record {
+        variables = variables_are d h.builder c h.is (fits k h.builder h.at);
+        is_control = control_is d h.builder c h.is;
+        of_registry = control_of_registry d h.builder c h.is;
+        derived = subst (λ (i : Instruction). (place : ℕ) → DerivesBadly (root_sets d) i place → ⊥) (sym means) derived;
+        results = omega arith;
+        values = omega arith;
+        within = within_is d h.builder c h.is;
+        held = subst (λ (i : Instruction). HoldNeeded sets (root_sets d) i) (sym means) (needed_held d sets needed.are_needed k h.builder h.at);
+      }

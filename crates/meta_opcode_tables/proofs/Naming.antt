@@ -1,0 +1,54 @@
+-- The opcode that has a name, and the instruction that has it.
+use Rattle.std.proofs.Common.{◌≡◌, ◌≢◌, ℕ, zero, suc, List, Option, None, Some, IfSome, IfNone, slice_get, sym, ap, ◌∙◌, subst, add-one, arith}
+use Rattle.std.proofs.lemmas.Option.{same_Some}
+use Rattle.meta_types.proofs.ListPlaces.{get_map, get_mapped}
+use Rattle.meta_inst.specs.Builder.{Builder}
+use Rattle.meta_inst.specs.InstructionSet.{InstructionSet}
+use Rattle.meta_inst.specs.Faults.{IsAt}
+use Rattle.meta_meaning.specs.Tables.{TableContents, at_opcode}
+use Rattle.meta_opcode_tables.specs.TablesOf.{AreTablesOf}
+use Rattle.meta_opcode_tables.specs.Contents.{IsFirstOpcodeNamed}
+use Rattle.meta_opcode_tables.specs.Found.{IsFirstDeclared, FindsName}
+
+-- a declared instruction's name is that of its opcode
+declared_name : (d : InstructionSet) (tables : TableContents) (k : ℕ) (b : Builder) → AreTablesOf d tables → IsAt d k b → slice_get tables.names k ≡ Some b.name
+declared_name d tables k b h at =
+    ap (λ names. slice_get names k) h.names ∙ get_map (λ (x : Builder). x.name) d.instructions k b at
+
+-- a look-up finds each opcode that has the name
+abbrev pub FindsNamed : List (List ℕ) → List ℕ → Option ℕ → Type 0
+FindsNamed names name found = (op : ℕ) → at_opcode names op ≡ Some name → found ≡ Some op
+
+-- what is found is the first that has the name
+pub first_named : (names : List (List ℕ)) (name : List ℕ) (found : Option ℕ) → IfSome found (λ op. at_opcode names op ≡ Some name) → FindsNamed names name found → IfSome found (IsFirstOpcodeNamed names name)
+first_named names name None named finds = tt
+first_named names name (Some op) named finds = record {
+  named = named;
+  first = λ k below at. let e : op ≡ k = same_Some op k (finds k at) in omega arith;
+}
+
+-- where nothing is found, no opcode has the name
+pub none_named : (names : List (List ℕ)) (name : List ℕ) (found : Option ℕ) → FindsNamed names name found → IfNone found ((k : ℕ) → at_opcode names k ≢ Some name)
+none_named names name None finds = λ k at. let e : None ≡ Some k = finds k at in cc
+none_named names name (Some op) finds = tt
+
+-- the declared instruction that has the name of an opcode
+first_declared : (d : InstructionSet) (tables : TableContents) (name : List ℕ) (op : ℕ) → AreTablesOf d tables → at_opcode tables.names op ≡ Some name → FindsNamed tables.names name (Some op) → IsFirstDeclared d name op
+first_declared d tables name zero h at finds = absurd (cc)
+first_declared d tables name (suc place) h at finds =
+    let (b, b_at, named) = get_mapped (λ (x : Builder). x.name) d.instructions place name (subst (λ names. slice_get names place ≡ Some name) h.names at) in
+    record {
+      place = place;
+      builder = b;
+      at = b_at;
+      number = sym (add-one place);
+      named = named;
+      first = λ k other lt other_at same.
+          let e : suc place ≡ suc k = same_Some (suc place) (suc k) (finds (suc k) (declared_name d tables k other h other_at ∙ ap Some same)) in
+          omega arith;
+    }
+
+-- what is found is the number of the first instruction that has the name
+pub finds_declared : (d : InstructionSet) (tables : TableContents) (name : List ℕ) (found : Option ℕ) → IfSome found (λ op. at_opcode tables.names op ≡ Some name) → FindsNamed tables.names name found → AreTablesOf d tables → FindsName d name found
+finds_declared d tables name None named finds h = λ k b at same. let e : None ≡ Some (suc k) = finds (suc k) (declared_name d tables k b h at ∙ ap Some same) in cc
+finds_declared d tables name (Some op) named finds h = first_declared d tables name op h named finds

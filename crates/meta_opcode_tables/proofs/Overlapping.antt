@@ -1,0 +1,83 @@
+-- Lists of constraints that overlap.
+use Rattle.std.proofs.Common.{rules, ◌≡◌, ◌≤◌, ◌<◌, ◌+◌, ℕ, zero, suc, true, List, [], ◌∷◌, ◌++◌, length, take, drop, slice_get, Some, refl, sym, ap, ◌∙◌, subst, arith, length-append}
+use Rattle.std.specs.Bool.{Decides}
+use Rattle.std.specs.List.{starts_with}
+use Rattle.std.specs.Cmp.Lexicographic.{pointwise, pointwise_decides}
+use Rattle.std.proofs.Math.Seq.{take-append_seam, drop-append_seam, take-length}
+use Rattle.std.proofs.lemmas.List.Sums.{fold-append}
+use Rattle.std.proofs.lemmas.Option.{slice_get_within, slice_get_past}
+use Rattle.meta_unique.specs.Overlap.{AreAlike, added, added_at, stands_at, IsShortest}
+use Rattle.meta_opcode_tables.specs.Entries.{StaysIn}
+use Rattle.meta_opcode_tables.specs.ConstraintLists.{same_constraint, three_same, overlapped}
+use Rattle.meta_types.proofs.ListPlaces.{get_take}
+use Rattle.meta_opcode_tables.specs.declared.constraint.Constraint.{Constraint}
+use Rattle.meta_opcode_tables.specs.declared.constraint.Constraint.TheVariants.{Concrete, Free, Same, LaneOf, AsTruthy, HalfWidth, DoubleWidth, SplitLanes, MergeLanes, DynamicToVector, Narrower, Wider}
+
+pub same_is : (a b : Constraint) → same_constraint a b ≡ true → a ≡ b
+same_is (Concrete m) b e = search rules
+same_is (Free m) b e = search rules
+same_is Same b e = search rules
+same_is LaneOf b e = search rules
+same_is AsTruthy b e = search rules
+same_is HalfWidth b e = search rules
+same_is DoubleWidth b e = search rules
+same_is SplitLanes b e = search rules
+same_is MergeLanes b e = search rules
+same_is DynamicToVector b e = search rules
+same_is Narrower b e = search rules
+same_is Wider b e = search rules
+
+pub is_same : (a b : Constraint) → a ≡ b → same_constraint a b ≡ true
+is_same a b e = search rules
+
+-- whether two compare equal decides whether they are one
+pub decides : (a b : Constraint) → Decides (same_constraint a b) (a ≡ b)
+decides a b = (same_is a b, is_same a b)
+
+-- equal lists are one
+alike : (xs ys : List Constraint) → pointwise same_constraint xs ys ≡ true → xs ≡ ys
+alike xs ys = (pointwise_decides decides xs ys).0
+
+unlike : (xs ys : List Constraint) → xs ≡ ys → pointwise same_constraint xs ys ≡ true
+unlike xs ys = (pointwise_decides decides xs ys).1
+
+-- what is added to is that list
+pub made_is : (old list new : List Constraint) → AreAlike same_constraint (added same_constraint old list) new → new ≡ added same_constraint old list
+made_is old list new e = sym (alike (added same_constraint old list) new e)
+
+slice_get-drop : {X : Type 0} (xs : List X) (n k : ℕ) → slice_get (drop n xs) k ≡ slice_get xs (n + k)
+slice_get-drop [] zero k = refl
+slice_get-drop [] (suc n) k = sym (slice_get_past [] (suc n + k) (omega arith))
+slice_get-drop (x ∷ xs) zero k = let e : k ≡ 0 + k = omega arith in ap (slice_get (x ∷ xs)) e
+slice_get-drop (x ∷ xs) (suc n) k = let e : suc (n + k) ≡ suc n + k = omega arith in slice_get-drop xs n k ∙ ap (slice_get (x ∷ xs)) e
+
+-- what the longer list keeps in front stays
+pub kept_stays : (old new : List Constraint) → take (length old) new ≡ old → StaysIn old new
+kept_stays old new kept k x at =
+    let inside = slice_get_within old k x at in
+    sym (get_take new (length old) k inside) ∙ ap (λ xs. slice_get xs k) kept ∙ at
+
+-- an element of a list that stands in the table stands there
+pub stands_read : (table list : List Constraint) (place : ℕ) → stands_at same_constraint table list place ≡ true → (k : ℕ) (x : Constraint) → slice_get list k ≡ Some x → slice_get table (place + k) ≡ Some x
+stands_read table list place e k x at =
+    let inside = slice_get_within list k x at in
+    let same : list ≡ take (length list) (drop place table) = alike list (take (length list) (drop place table)) e in
+    sym (sym at ∙ ap (λ xs. slice_get xs k) same ∙ get_take (drop place table) (length list) k inside ∙ slice_get-drop table place k)
+
+-- the table grows by the list at most
+pub grows : (old list new : List Constraint) → IsShortest same_constraint old list new → length new ≤ length old + length list
+grows old list new h =
+    let front : starts_with same_constraint (old ++ list) old ≡ true = unlike old (take (length old) (old ++ list)) (sym (take-append_seam old list)) in
+    let behind : stands_at same_constraint (old ++ list) list (length old) ≡ true = unlike list (take (length list) (drop (length old) (old ++ list))) (sym (ap (take (length list)) (drop-append_seam old list) ∙ take-length list)) in
+    subst (λ n. length new ≤ n) (length-append old list) (h (old ++ list) (length old) front behind)
+
+-- where a list stands is below the length of a table that isn't empty
+pub placed_below : (old list new : List Constraint) (place bound : ℕ) → place ≡ added_at same_constraint old list → stands_at same_constraint new list place ≡ true → length new < bound → place < bound
+placed_below old [] new place bound is stands small = omega (arith, is)
+placed_below old (x ∷ xs) new place bound is stands small =
+    let inside = slice_get_within new (place + 0) x (stands_read new (x ∷ xs) place stands 0 x refl) in
+    omega arith
+
+-- one list more
+pub one_list_more : (lists : List (List Constraint)) (list : List Constraint) → overlapped (lists ++ list ∷ []) ≡ added same_constraint (overlapped lists) list
+one_list_more lists list = fold-append (added same_constraint) three_same lists (list ∷ [])

@@ -1,0 +1,77 @@
+-- The decoding of an opcode in steps: the counts, the control, the results and then the values.
+use Rattle.std.proofs.Common.{◌≡◌, ◌↔◌, ◌⊎◌, inl, inr, IsTrue, ℕ, zero, suc, ◌+◌, List, [], ◌∷◌, ◌++◌, length, Bool, false, Option, Some, slice_get, sym, ◌∙◌, subst, arith}
+use Rattle.std.proofs.lemmas.Option.{same_Some}
+use Rattle.std.proofs.lemmas.Bool.{false≢true}
+use Rattle.meta_typevar.specs.Registry.{HoldTypeSets}
+use Rattle.meta_inst.specs.InstructionSet.{InstructionSet}
+use Rattle.meta_meaning.specs.Tables.{TableContents, Entry, PassesAt, ControlNumberFits, Allows, at_opcode, result_count, value_count}
+use Rattle.meta_inst.proofs.Places.{slice_get-append_left, slice_get-append_right}
+use Rattle.meta_opcode_tables.specs.TablesOf.{AreTablesOf, AcceptsOpcode}
+use Rattle.meta_opcode_tables.specs.Contents.{AllPass}
+use Rattle.meta_opcode_tables.proofs.Decoded.{tables_of_mean}
+
+-- a place of two lists joined is one of the first, or one of the second behind it
+append_places : {X : Type 0} (xs ys : List X) (k : ℕ) (x : X) → slice_get (xs ++ ys) k ≡ Some x → (slice_get xs k ≡ Some x) ⊎ ((j : ℕ) × (k ≡ length xs + j) × (slice_get ys j ≡ Some x))
+append_places [] ys k x e = inr (k, omega arith, e)
+append_places (z ∷ xs) ys zero x e = inl e
+append_places {X} (z ∷ xs) ys (suc k) x e =
+    elim (append_places xs ys k x e) [ inl h ↦ inl h | inr h ↦ inr (h.0, behind h.0 h.1, h.2) ]
+  where
+    -- one more stands before the second list
+    behind : (j : ℕ) → k ≡ length xs + j → suc k ≡ length (z ∷ xs) + j
+    behind j h = omega arith
+
+module _ (tables : TableContents) (op : ℕ) (c : Option ℕ) (rs vs : List ℕ) (entry : Entry) (at : at_opcode tables.entries op ≡ Some entry) where
+  -- an opcode has one entry
+  same_entry : (a : Allows tables op c rs vs) → a.entry ≡ entry
+  same_entry a = same_Some a.entry entry (sym a.is_opcode ∙ at)
+
+  -- nothing is allowed with another count of results
+  pub refused_result_count : (length rs ≡ result_count entry.flags → ⊥) → Allows tables op c rs vs → ⊥
+  refused_result_count unfit a = unfit (subst (λ x. length rs ≡ result_count x.flags) (same_entry a) a.results)
+
+  -- nothing is allowed with another count of values
+  pub refused_value_count : (length vs ≡ value_count entry.flags → ⊥) → Allows tables op c rs vs → ⊥
+  refused_value_count unfit a = unfit (subst (λ x. length vs ≡ value_count x.flags) (same_entry a) a.values)
+
+  -- nothing is allowed under a number that the control's set doesn't contain
+  pub refused_control : (ControlNumberFits tables entry.typeset_offset c → ⊥) → Allows tables op c rs vs → ⊥
+  refused_control unfit a = unfit (subst (λ x. ControlNumberFits tables x.typeset_offset c) (same_entry a) a.control_fits)
+
+  -- no results are allowed of which one doesn't pass
+  pub refused_results : (AllPass tables c entry.constraint_offset rs → ⊥) → Allows tables op c rs vs → ⊥
+  refused_results unfit a = unfit (λ k n e. subst (λ x. PassesAt tables c (x.constraint_offset + k) n) (same_entry a) (a.passes k n (slice_get-append_left rs vs k n e)))
+
+  -- the values that are allowed pass behind the results
+  values_pass : Allows tables op c rs vs → AllPass tables c (entry.constraint_offset + length rs) vs
+  values_pass a k n e =
+      let there : entry.constraint_offset + (length rs + k) ≡ entry.constraint_offset + length rs + k = omega arith in
+      subst (λ m. PassesAt tables c m n) there
+      (subst (λ x. PassesAt tables c (x.constraint_offset + (length rs + k)) n) (same_entry a) (a.passes (length rs + k) n (slice_get-append_right rs vs k ∙ e)))
+
+  -- results and values that pass, pass one after another
+  both_pass : AllPass tables c entry.constraint_offset rs → AllPass tables c (entry.constraint_offset + length rs) vs → (k n : ℕ) → slice_get (rs ++ vs) k ≡ Some n → PassesAt tables c (entry.constraint_offset + k) n
+  both_pass first second k n e =
+      elim (append_places rs vs k n e) [ inl h ↦ first k n h | inr h ↦ subst (λ m. PassesAt tables c m n) (placed h.0 h.1) (second h.0 n h.2) ]
+    where
+      -- the place behind the results
+      placed : (j : ℕ) → k ≡ length rs + j → entry.constraint_offset + length rs + j ≡ entry.constraint_offset + k
+      placed j h = omega arith
+
+  -- where all else was found to fit, the values decide
+  pub values_decide : (r : Bool) → length rs ≡ result_count entry.flags → length vs ≡ value_count entry.flags → ControlNumberFits tables entry.typeset_offset c → AllPass tables c entry.constraint_offset rs → (IsTrue r ↔ AllPass tables c (entry.constraint_offset + length rs) vs) → (IsTrue r ↔ Allows tables op c rs vs)
+  values_decide r results values fits first h = (to, λ a. h.1 (values_pass a))
+    where
+      -- what passes is allowed
+      to : IsTrue r → Allows tables op c rs vs
+      to t = record { entry = entry; is_opcode = at; results = results; values = values; control_fits = fits; passes = both_pass first (h.0 t) }
+
+-- what is refused is no answer of true
+pub refused : {A : Type 0} → (A → ⊥) → (IsTrue false ↔ A)
+refused unfit = ((λ e. absurd (false≢true e)), (λ a. absurd (unfit a)))
+
+-- an answer that tells what tables allow tells what the declarations accept
+pub answer_means : (r : Bool) (tables : TableContents) (op : ℕ) (c : Option ℕ) (rs vs : List ℕ) → (IsTrue r ↔ Allows tables op c rs vs) → (d : InstructionSet) → HoldTypeSets d.vars → AreTablesOf d tables → (IsTrue r ↔ AcceptsOpcode d op c rs vs)
+answer_means r tables op c rs vs h d typed of =
+    let mean = tables_of_mean d tables op c rs vs typed of in
+    ((λ t. mean.0 (h.0 t)), (λ a. h.1 (mean.1 a)))

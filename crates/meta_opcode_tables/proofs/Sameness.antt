@@ -1,0 +1,110 @@
+-- Lists that compare equal are the same.
+use Rattle.std.proofs.Common.{rules, ◌≡◌, ◌==◌, ℕ, zero, suc, true, List, [], ◌∷◌, length, map, slice_get, ◌<◌, Option, None, Some, refl, sym, ap, ◌∙◌, arith}
+use Rattle.std.specs.Bool.{Decides}
+use Rattle.std.specs.Option.{option_eq}
+use Rattle.std.specs.Cmp.Lexicographic.{pointwise, pointwise_decides}
+use Rattle.std.proofs.lemmas.Bool.Decides.{Decides-eqb}
+use Rattle.std.proofs.lemmas.Option.{same_Some}
+use Rattle.meta_types.specs.Function.{Function, LaneOf as LaneOfFunction, AsTruthy as AsTruthyFunction, HalfWidth as HalfWidthFunction, DoubleWidth as DoubleWidthFunction, SplitLanes as SplitLanesFunction, MergeLanes as MergeLanesFunction, DynamicToVector as DynamicToVectorFunction, Narrower as NarrowerRelation, Wider as WiderRelation}
+use Rattle.meta_typevar.specs.declared.masks.Masks.{Masks}
+use Rattle.meta_typevar.specs.contracts.masks.MasksPartialEq.TheImpl.{eq-value as masks_eq}
+use Rattle.meta_meaning.specs.Tables.{NumberConstraint, ConcreteNumber, FreeOf, SameNumber, ByNumber, Entry}
+use Rattle.meta_opcode_tables.specs.Constraint.{number_constraint_of, entry_of}
+use Rattle.meta_opcode_tables.specs.contracts.constraint.OpcodeConstraintsPartialEq.TheImpl.{eq-value as entry_eq}
+use Rattle.meta_opcode_tables.specs.declared.constraint.Constraint.{Constraint}
+use Rattle.meta_opcode_tables.specs.declared.constraint.Constraint.TheVariants.{Concrete, Free, Same, LaneOf, AsTruthy, HalfWidth, DoubleWidth, SplitLanes, MergeLanes, DynamicToVector, Narrower, Wider}
+use Rattle.meta_opcode_tables.specs.declared.constraint.OpcodeConstraints.{OpcodeConstraints}
+
+pub text_decides : (a b : List ℕ) → Decides (pointwise ◌==◌ a b) (a ≡ b)
+text_decides = pointwise_decides Decides-eqb
+
+masks_are : (a b : Masks) → masks_eq.it a b ≡ true → a ≡ b
+masks_are a b e =
+    let lanes : a.lanes ≡ b.lanes = search rules in
+    let dynamic_lanes : a.dynamic_lanes ≡ b.dynamic_lanes = search rules in
+    let ints : a.ints ≡ b.ints = search rules in
+    let floats : a.floats ≡ b.floats = search rules in
+    λ i. record { lanes = lanes i; dynamic_lanes = dynamic_lanes i; ints = ints i; floats = floats i }
+
+are_masks : (a b : Masks) → a ≡ b → masks_eq.it a b ≡ true
+are_masks a b e = search rules
+
+pub masks_decide : (a b : Masks) → Decides (masks_eq.it a b) (a ≡ b)
+masks_decide a b = (masks_are a b, are_masks a b)
+
+entry_is : (a b : OpcodeConstraints) → entry_eq.it a b ≡ true → a ≡ b
+entry_is a b e =
+    let flags : a.flags ≡ b.flags = search rules in
+    let typeset_offset : a.typeset_offset ≡ b.typeset_offset = search rules in
+    let constraint_offset : a.constraint_offset ≡ b.constraint_offset = search rules in
+    λ i. record { flags = flags i; typeset_offset = typeset_offset i; constraint_offset = constraint_offset i }
+
+is_entry : (a b : OpcodeConstraints) → a ≡ b → entry_eq.it a b ≡ true
+is_entry a b e = search rules
+
+pub entry_decides : (a b : OpcodeConstraints) → Decides (entry_eq.it a b) (a ≡ b)
+entry_decides a b = (entry_is a b, is_entry a b)
+
+-- a list that is mapped and can be mapped back
+map_back : {X Y : Type 0} (f : X → Y) (g : Y → X) → ((x : X) → g (f x) ≡ x) → (xs : List X) → map g (map f xs) ≡ xs
+map_back f g back [] = refl
+map_back f g back (x ∷ xs) = λ i. back x i ∷ map_back f g back xs i
+
+same_mapped : {X Y : Type 0} (f : X → Y) (g : Y → X) → ((x : X) → g (f x) ≡ x) → (xs ys : List X) → map f xs ≡ map f ys → xs ≡ ys
+same_mapped f g back xs ys e = sym (map_back f g back xs) ∙ ap (map g) e ∙ map_back f g back ys
+
+abbrev by_function : Function → Constraint
+by_function LaneOfFunction = LaneOf
+by_function AsTruthyFunction = AsTruthy
+by_function HalfWidthFunction = HalfWidth
+by_function DoubleWidthFunction = DoubleWidth
+by_function SplitLanesFunction = SplitLanes
+by_function MergeLanesFunction = MergeLanes
+by_function DynamicToVectorFunction = DynamicToVector
+by_function NarrowerRelation = Narrower
+by_function WiderRelation = Wider
+
+abbrev constraint_from : NumberConstraint → Constraint
+constraint_from (ConcreteNumber n) = Concrete n
+constraint_from (FreeOf j) = Free j
+constraint_from SameNumber = Same
+constraint_from (ByNumber f) = by_function f
+
+constraint_back : (x : Constraint) → constraint_from (number_constraint_of x) ≡ x
+constraint_back (Concrete n) = refl
+constraint_back (Free j) = refl
+constraint_back Same = refl
+constraint_back LaneOf = refl
+constraint_back AsTruthy = refl
+constraint_back HalfWidth = refl
+constraint_back DoubleWidth = refl
+constraint_back SplitLanes = refl
+constraint_back MergeLanes = refl
+constraint_back DynamicToVector = refl
+constraint_back Narrower = refl
+constraint_back Wider = refl
+
+pub same_numbers : (xs ys : List Constraint) → map number_constraint_of xs ≡ map number_constraint_of ys → xs ≡ ys
+same_numbers = same_mapped number_constraint_of constraint_from constraint_back
+
+abbrev entry_from : Entry → OpcodeConstraints
+entry_from e = record { flags = e.flags; typeset_offset = e.typeset_offset; constraint_offset = e.constraint_offset }
+
+pub same_entry_lists : (xs ys : List OpcodeConstraints) → map entry_of xs ≡ map entry_of ys → xs ≡ ys
+same_entry_lists = same_mapped entry_of entry_from (λ x. refl)
+
+slot_is : (a b : Option ℕ) → option_eq ◌==◌ a b ≡ true → a ≡ b
+slot_is None None e = refl
+slot_is None (Some n) e = absurd (cc)
+slot_is (Some m) None e = absurd (cc)
+slot_is (Some m) (Some n) e = ap Some ((Decides-eqb m n).0 e)
+
+is_slot : (a b : Option ℕ) → a ≡ b → option_eq ◌==◌ a b ≡ true
+is_slot a b e = ap (option_eq ◌==◌ a) (sym e) ∙ own a
+  where
+    own : (a : Option ℕ) → option_eq ◌==◌ a a ≡ true
+    own None = refl
+    own (Some m) = (Decides-eqb m m).1 refl
+
+pub slot_decides : (a b : Option ℕ) → Decides (option_eq ◌==◌ a b) (a ≡ b)
+slot_decides a b = (slot_is a b, is_slot a b)

@@ -1,0 +1,33 @@
+use Rattle.std.proofs.Common.{arith, refl}
+use Rattle.std.proofs.lemmas.Option.{slice_get_read, slice_get_within}
+use Rattle.meta_inst.proofs.Appended.{one_longer}
+use Rattle.meta_opcode_tables.proofs.Describing.{one_more}
+use Rattle.meta_opcode_tables.proofs.describe.constraints_of.Goals as goal
+
+pub constraint_of-requires-clause-held : goal.constraint_of-requires-clause-held
+constraint_of-requires-clause-held c = c.requires.held _ _ (slice_get_read c.args.variables.now _ _ _ refl c.loop-place-test.true c.index-variables-place.is)
+
+pub constraint_of-requires-clause-constrained : goal.constraint_of-requires-clause-constrained
+constraint_of-requires-clause-constrained c = c.requires.constrained _ _ (slice_get_read c.args.variables.now _ _ _ refl c.loop-place-test.true c.index-variables-place.is)
+
+pub loop-place-preserved : goal.loop-place-preserved
+loop-place-preserved c =
+    let added = c.in_ok-push.ensures.items in
+    let longer = one_longer _ _ _ added in
+    let count = c.loop-place.invariant.count in
+    record {
+      count = omega arith;
+      described = one_more _ _ _ _ _ _ added _ _ _ count
+          (slice_get_read c.args.variables.now _ _ _ refl c.loop-place-test.true c.index-variables-place.is)
+          c.constraint_of.ensures c.loop-place.invariant.described;
+    }
+
+pub returns : goal.returns
+returns c =
+    let past = c.loop-place-test.false in
+    let within = c.loop-place.auto.place-end in
+    let count = c.loop-place.invariant.count in
+    record {
+      count = omega arith;
+      each = λ k n at. let l = slice_get_within c.args.variables.now k n at in c.loop-place.invariant.described k n (omega arith) at;
+    }

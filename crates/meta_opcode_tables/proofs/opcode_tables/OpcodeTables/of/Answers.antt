@@ -1,0 +1,84 @@
+use Rattle.std.proofs.lemmas.List.{length-map}
+use Rattle.std.proofs.lemmas.Result.{IfOk-weaker}
+use Rattle.meta_typevar.specs.Registry.{HoldTypeSets}
+use Rattle.std.proofs.Common.{Result, Ok, Err, IfOk, ◌≡◌, length, map, arith, ap, sym, ◌∙◌, subst, List}
+use Rattle.meta_types.specs.SharedNames.{AreDifferentNames}
+use Rattle.meta_inst.specs.Builder.{Builder}
+use Rattle.meta_inst.specs.Faults.{names_of}
+use Rattle.meta_declared.specs.AllDeclared.{Declared}
+use Rattle.meta_opcode_tables.specs.TablesOf.{AreTablesOf}
+use Rattle.meta_opcode_tables.proofs.Made.{tables_made}
+use Rattle.meta_opcode_tables.proofs.Decoded.{tables_of_mean}
+use Rattle.meta_opcode_tables.proofs.Entering.{few_instructions, names_differ}
+use Rattle.meta_opcode_tables.proofs.opcode_tables.OpcodeTables.of.Goals as goal
+use Rattle.meta_opcode_tables.proofs.opcode_tables.OpcodeTables.of.Goals.{In_ok-names, In_ok-format_names}
+
+-- the declared instructions that were read
+instructions_are : (read : List Builder) (given declared : Declared) → read ≡ given.set.instructions → given ≡ declared → read ≡ declared.set.instructions
+instructions_are read given declared is e = is ∙ ap (λ (x : Declared). x.set.instructions) e
+
+pub entries-requires-clause-variables : goal.entries-requires-clause-variables
+entries-requires-clause-variables c = c.vars.ensures.vars ∙ ap (λ (x : Declared). x.set.vars) c.declarations-declarations.ensures.declarations
+
+pub entries-requires-clause-registry : goal.entries-requires-clause-registry
+entries-requires-clause-registry c = rw c.vars.ensures.vars c.vars.ensures.registry
+
+pub entries-requires-clause-fits : goal.entries-requires-clause-fits
+entries-requires-clause-fits c = rw c.declarations-declarations.ensures.declarations at c.instructions-instructions.ensures.fits
+
+pub copied_formats-requires : goal.copied_formats-requires
+copied_formats-requires c = rw (c.formats.ensures.formats, c.instructions-instructions.ensures.instructions) (λ k b at. (c.instructions-instructions.ensures.fits k b at).format)
+
+pub new-requires-clause-few : goal.new-requires-clause-few
+new-requires-clause-few c =
+    let few = few_instructions c.args.built.now.declared.set c.declarations-declarations.ensures.valid.set in
+    let counted = c.in_ok-parts.ensures.count in
+    omega arith
+
+pub new-requires-clause-different : goal.new-requires-clause-different
+new-requires-clause-different c =
+    let same = instructions_are _ _ c.args.built.now.declared c.instructions-instructions.ensures.instructions c.declarations-declarations.ensures.declarations in
+    subst AreDifferentNames (sym (c.in_ok-names.ensures ∙ ap (map (λ (b : Builder). b.name)) same))
+    (names_differ c.args.built.now.declared.set c.declarations-declarations.ensures.valid.set)
+
+pub new-requires-clause-named : goal.new-requires-clause-named
+new-requires-clause-named c =
+    let same = instructions_are _ _ c.args.built.now.declared c.instructions-instructions.ensures.instructions c.declarations-declarations.ensures.declarations in
+    let names = ap length c.in_ok-names.ensures ∙ length-map c.instructions-instructions.result.now (λ (b : Builder). b.name) ∙ ap (length {A = Builder}) same in
+    names ∙ sym c.in_ok-parts.ensures.count
+
+pub new-requires-clause-formatted : goal.new-requires-clause-formatted
+new-requires-clause-formatted c =
+    let formats = c.in_ok-format_names.ensures.count in
+    let counted = c.in_ok-parts.ensures.count in
+    let same = ap (length {A = Builder}) (instructions_are _ _ c.args.built.now.declared c.instructions-instructions.ensures.instructions c.declarations-declarations.ensures.declarations) in
+    omega arith
+
+-- what two facts of an answer tell of it
+both : {T E : Type 0} (r : Result T E) (P Q R : T → Type 0) → ((t : T) → P t → Q t → R t) → IfOk r P → IfOk r Q → IfOk r R
+both (Ok t) P Q R f p q = f t p q
+both (Err e) P Q R f p q = tt
+
+pub returns-clause-tables : goal.returns-clause-tables
+returns-clause-tables c =
+    let d = c.args.built.now.declared.set in
+    let same = instructions_are _ _ c.args.built.now.declared c.instructions-instructions.ensures.instructions c.declarations-declarations.ensures.declarations in
+    both c.new.result _ _ (AreTablesOf d)
+    (λ t parts slots.
+    tables_made d (record { names = c.in_ok-names.names.items; formats = c.in_ok-format_names.format_names.items; slots = t.opcode_slots }) c.in_ok-masks.masks.items c.args.built.now.type_sets c.in_ok-parts.parts.constraints.items c.in_ok-parts.parts.entries.items c.in_ok-parts.ensures.added.0 t
+    parts
+    c.type_sets.ensures.needed
+    (rw c.type_sets.ensures.type_sets at c.in_ok-masks.ensures)
+    (c.in_ok-names.ensures ∙ ap (map (λ (b : Builder). b.name)) same)
+    (rw (c.formats.ensures.formats, c.declarations-declarations.ensures.declarations, same) at c.in_ok-format_names.ensures)
+    slots
+    c.in_ok-parts.ensures.count
+    c.in_ok-parts.ensures.holds
+    c.in_ok-parts.ensures.added.1)
+    c.new.ensures.parts c.new.ensures.slots
+
+pub returns-clause-acceptance : goal.returns-clause-acceptance
+returns-clause-acceptance c =
+    let d = c.args.built.now.declared.set in
+    let typed : HoldTypeSets d.vars = rw c.declarations-declarations.ensures.declarations at c.vars.ensures.sets in
+    IfOk-weaker c.new.result (AreTablesOf d) _ (λ t h op control rs vs. tables_of_mean d t op control rs vs typed h) (returns-clause-tables c)

@@ -1,0 +1,52 @@
+-- Tables as the code keeps them, and what stands there for an opcode.
+--     contents_of names type_sets operand_constraints constraints     the tables that are kept as these lists
+--     AreIndexed names entries                                        each entry has a name of its own, which the slots find
+--     IsOpcode tables op                                              op is an opcode of the tables
+use Rattle.std.specs.Prelude.{◌≡◌, ◌≢◌, ◌<◌, ◌≤◌, ◌+◌, ℕ, List, length, map, slice_get, Contains, Option, None, Some}
+use Rattle.meta_types.specs.SharedNames.{AreDifferentNames}
+use Rattle.meta_typevar.specs.declared.masks.Masks.{Masks}
+use Rattle.meta_meaning.specs.Tables.{TableContents, at_opcode, PassesAt}
+use Rattle.meta_opcode_tables.specs.declared.constraint.Constraint.{Constraint}
+use Rattle.meta_opcode_tables.specs.declared.constraint.OpcodeConstraints.{OpcodeConstraints}
+use Rattle.meta_opcode_tables.specs.Constraint.{number_constraint_of, entry_of}
+use Rattle.meta_unique.specs.NameSlots.{AreNameSlots}
+
+-- what tables have of names: by opcode the name and the name of the format, and the slots of the names
+pub record OpcodeNames : Type 0 where
+  pub names : List (List ℕ)
+  pub formats : List (List ℕ)
+  pub slots : List (Option ℕ)
+
+-- the tables with these names, type sets, operand constraints and entries
+abbrev pub contents_of : OpcodeNames → List Masks → List Constraint → List OpcodeConstraints → TableContents
+contents_of names type_sets operand_constraints constraints = record {
+  names = names.names;
+  formats = names.formats;
+  opcode_slots = names.slots;
+  type_sets = type_sets;
+  operand_constraints = map number_constraint_of operand_constraints;
+  entries = map entry_of constraints;
+}
+
+-- there are as many names and names of formats as entries, at most 255; no name stands twice, and the slots are those of the
+-- names, one of them vacant
+pub record AreIndexed (names : OpcodeNames) (constraints : List OpcodeConstraints) : Type 0 where
+  pub named : length names.names ≡ length constraints
+  pub formatted : length names.formats ≡ length constraints
+  pub few : length constraints ≤ 255
+  pub different : AreDifferentNames names.names
+  pub slots : AreNameSlots 1 names.names names.slots
+  pub vacant : Contains names.slots None
+
+-- op is one of the opcodes of the tables, which are numbered from 1
+abbrev pub IsOpcode : TableContents → ℕ → Type 0
+IsOpcode tables op = (0 < op) × (op ≤ length tables.entries)
+
+-- op is the first opcode that has this name
+pub record IsFirstOpcodeNamed (names : List (List ℕ)) (name : List ℕ) (op : ℕ) : Type 0 where
+  pub named : at_opcode names op ≡ Some name
+  pub first : (k : ℕ) → k < op → at_opcode names k ≢ Some name
+
+-- under the controlling number c each number passes the constraint that stands at its place behind the offset
+abbrev pub AllPass : TableContents → Option ℕ → ℕ → List ℕ → Type 0
+AllPass tables c offset numbers = (k n : ℕ) → slice_get numbers k ≡ Some n → PassesAt tables c (offset + k) n

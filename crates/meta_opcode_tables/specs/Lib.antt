@@ -1,0 +1,6 @@
+pub mod Constraint
+pub mod ConstraintLists
+pub mod Entries
+pub mod Contents
+pub mod TablesOf
+pub mod Found

@@ -1,0 +1,191 @@
+ghost use Rattle.std.specs.Prelude.{◌≡◌, ◌↔◌, ◌<◌, ◌≤◌, ◌+◌, ◌/◌, ◌%◌, ◌^◌, ℕ, List, Bool, false, IsTrue, IfOk, OnOk, IfSome, length, slice_get, take, Some};
+ghost use Rattle.meta_typevar.specs.Registry.{sets_of, variable_at, IsRegistry};
+ghost use Rattle.meta_typevar.specs.declared.content.TypeVarContent.{TypeVarContent};
+ghost use Rattle.meta_inst.specs.Builder.{Builder};
+ghost use Rattle.meta_inst.specs.Faults.{IsAt, IsValid};
+ghost use Rattle.meta_inst.specs.InstructionSet.{Fits};
+ghost use Rattle.meta_inst.specs.Operands.{AreOf, instruction_with, designated_number};
+ghost use Rattle.meta_meaning.specs.Tables.{TableContents, AreFlagsOf, IsTypeSetOffset, result_count, value_count};
+ghost use Rattle.meta_unique.specs.Overlap.{added, added_at};
+ghost use Rattle.meta_opcode_tables.specs.ConstraintLists.{same_constraint, three_same};
+ghost use Rattle.meta_opcode_tables.specs.Entries.{CanEnter, StaysIn, IsHeld, HasTypeSets, EntryHolds, IsAdded, AreAdded, IsHeldAt};
+ghost use Rattle.meta_declared.specs.Needed.{IsOfRegistry, control_at};
+
+use super::constraint::{Constraint, NO_TYPE_SET, OpcodeConstraints};
+use super::describe::{constraints_of, is_control, set_place};
+use meta_declared::Built;
+use meta_inst::{InstructionContent, Operands};
+use meta_typevar::{TypeSet, TypeVar, TypeVars};
+use meta_unique::{UniqueSeqTable, UniqueTable};
+use std::alloc::{AllocError, Global};
+
+/// Whether the designated operand's variable controls.
+fn designated_controls(operands: &Operands, control: &Option<TypeVar>) -> bool
+    ensures { IsTrue result ↔ ((v : ℕ) × (control.now ≡ Some v) × (designated_number operands.now ≡ Some v)) }
+{
+    match operands.designated() {
+        Some(v) => is_control(control, v),
+        None => false,
+    }
+}
+
+/// Whether there is a first result and its variable controls.
+fn first_result_controls(operands: &Operands, control: &Option<TypeVar>) -> bool
+    ensures { IsTrue result ↔ ((v : ℕ) × (control.now ≡ Some v) × (slice_get (take operands.now.result_count operands.now.variables) 0 ≡ Some v)) }
+{
+    match operands.first_result() {
+        Some(v) => is_control(control, v),
+        None => false,
+    }
+}
+
+/// The flags: the two counts, whether the designated operand's variable controls, and whether it does and the first
+/// result's doesn't.
+fn packed(results: u8, values: u8, designated: bool, first_result: bool) -> u8
+    requires results { results ≤ 7 }
+    requires values { values ≤ 7 }
+    ensures results { result_count result ≡ results }
+    ensures values { value_count result ≡ values }
+    ensures designated { (result / 8 % 2 ≡ 1) ↔ IsTrue designated }
+    ensures differs { (result / 16 % 2 ≡ 1) ↔ (IsTrue designated × (first_result ≡ false)) }
+{
+    let differs = designated && !first_result;
+    results + 8 * designated as u8 + 16 * differs as u8 + 32 * values
+}
+
+/// The flags of an instruction with these operands and this control.
+fn flags_of(operands: &Operands, control: &Option<TypeVar>) -> u8
+    requires results { operands.now.result_count ≤ 7 }
+    requires values { length operands.now.variables ≤ operands.now.result_count + 7 }
+    ensures flags { (vars : List TypeVarContent) → IsRegistry vars → AreOf vars operands.now.variables → IsOfRegistry vars control.now → AreFlagsOf (instruction_with vars operands.now) (control_at vars control.now) result }
+    ensures within { operands.now.result_count ≤ length operands.now.variables }
+{
+    let results = operands.result_count();
+    let values = operands.variables().len() - results;
+    packed(
+        results as u8,
+        values as u8,
+        designated_controls(operands, control),
+        first_result_controls(operands, control),
+    )
+}
+
+/// The place of the control's type set, and 255 where there is no control.
+fn type_set_offset(
+    vars: &TypeVars,
+    control: &Option<TypeVar>,
+    type_sets: &UniqueTable<'_, TypeSet>,
+) -> u8
+    requires of_registry { IsOfRegistry vars.now control.now }
+    requires few { length type_sets.now ≤ 255 }
+    requires held { (v : ℕ) → control.now ≡ Some v → IsHeld type_sets.now (sets_of vars.now (variable_at vars.now v).root) }
+    ensures { (tables : TableContents) → HasTypeSets tables type_sets.now → IsTypeSetOffset (sets_of vars.now) (control_at vars.now control.now) tables result }
+{
+    match control {
+        Some(v) => set_place(vars, *v, type_sets),
+        None => NO_TYPE_SET,
+    }
+}
+
+/// Where the list stands in the one list, to which it is added.
+fn add_list(
+    constraints: &mut UniqueSeqTable<Constraint>,
+    list: &[Constraint],
+) -> Result<u16, AllocError>
+    requires { length constraints.old + length list.now < 2 ^ 16 }
+    ensures made { OnOk result (constraints.new ≡ added same_constraint constraints.old list.now) }
+    ensures place { IfOk result (λ place. place ≡ added_at same_constraint constraints.old list.now) }
+    ensures stands { IfOk result (λ place. (k : ℕ) (x : Constraint) → slice_get list.now k ≡ Some x → slice_get constraints.new (place + k) ≡ Some x) }
+    ensures stays { OnOk result (StaysIn constraints.old constraints.new) }
+    ensures count { OnOk result (length constraints.new ≤ length constraints.old + length list.now) }
+{
+    let place = constraints.add(list)?;
+    Ok(place as u16)
+}
+
+/// The entry of a built instruction, whose constraints are added to the one list.
+fn entry_of(
+    alloc: Global,
+    vars: &TypeVars,
+    instruction: &InstructionContent,
+    type_sets: &UniqueTable<'_, TypeSet>,
+    constraints: &mut UniqueSeqTable<Constraint>,
+) -> Result<OpcodeConstraints, AllocError>
+    requires registry { IsRegistry vars.now }
+    requires fits { CanEnter vars.now type_sets.now instruction.now }
+    requires few { length type_sets.now ≤ 255 }
+    requires room { length constraints.old + 14 < 2 ^ 16 }
+    ensures holds { IfOk result (λ e. EntryHolds vars.now (instruction_with vars.now instruction.now.value_operands) type_sets.now constraints.new e) }
+    ensures added { IfOk result (λ e. IsAdded vars.now (instruction_with vars.now instruction.now.value_operands) type_sets.now constraints.old constraints.new e) }
+    ensures stays { OnOk result (StaysIn constraints.old constraints.new) }
+    ensures count { OnOk result (length constraints.new ≤ length constraints.old + 14) }
+{
+    let operands = instruction.value_operands();
+    let control = instruction.ctrl_typevar();
+    let flags = flags_of(operands, &control);
+    let typeset_offset = type_set_offset(vars, &control, type_sets);
+    let list = constraints_of(alloc, vars, &control, operands.variables(), type_sets)?;
+    let constraint_offset = add_list(constraints, &list)?;
+    Ok(OpcodeConstraints {
+        flags,
+        typeset_offset,
+        constraint_offset,
+    })
+}
+
+/// The operand constraints of instructions, in one list, and the three numbers of each instruction.
+#[derive(Drop)]
+pub(crate) struct EntryLists {
+    /// The operand constraints: first `Same` three times, to which the lists of the instructions were added in order, each
+    /// one's results before its inputs.
+    pub(crate) constraints: Vec<Constraint>,
+    /// The three numbers of each instruction.
+    pub(crate) entries: Vec<OpcodeConstraints>,
+}
+
+/// The one list with `Same` three times alone.
+fn three_same(alloc: Global) -> Result<UniqueSeqTable<Constraint>, AllocError>
+    ensures { IfOk result (λ table. table ≡ three_same) }
+{
+    let mut constraints = UniqueSeqTable::new(alloc);
+    constraints.add(&[Constraint::Same, Constraint::Same, Constraint::Same])?;
+    Ok(constraints)
+}
+
+/// The one list.
+fn copied(
+    alloc: Global,
+    constraints: &UniqueSeqTable<Constraint>,
+) -> Result<Vec<Constraint>, AllocError>
+    ensures { IfOk result (λ v. v.items ≡ constraints.now) }
+{
+    constraints.iter().copied().collect(alloc)
+}
+
+/// The operand constraints and the entries of what is built of declared instructions, whose variables are at hand.
+pub(crate) fn entries(
+    alloc: Global,
+    vars: &TypeVars,
+    built: &Built<'_>,
+) -> Result<EntryLists, AllocError>
+    requires variables { vars.now ≡ built.now.declared.set.vars }
+    requires registry { IsRegistry vars.now }
+    requires valid { IsValid built.now.declared.set }
+    requires fits { Fits built.now.declared.set.vars built.now.declared.set.formats built.now.declared.set.instructions }
+    ensures count { IfOk result (λ r. length r.entries.items ≡ length built.now.declared.set.instructions) }
+    ensures holds { IfOk result (λ r. (k : ℕ) (b : Builder) → IsAt built.now.declared.set k b → IsHeldAt built.now.declared.set.vars built.now.declared.set.formats built.now.type_sets r.constraints.items r.entries.items k b) }
+    ensures added { IfOk result (λ r. (lists : List (List Constraint)) × AreAdded built.now.declared.set.vars built.now.declared.set.formats built.now.declared.set.instructions built.now.type_sets r.constraints.items r.entries.items lists) }
+{
+    let instructions = built.instructions();
+    let type_sets = built.type_sets();
+    let mut constraints = three_same(alloc)?;
+    let mut entries = Vec::with_capacity(alloc, instructions.len())?;
+    for k in 0..instructions.len() {
+        entries.push(entry_of(alloc, vars, &instructions[k], type_sets, &mut constraints)?)?;
+    }
+    let constraints = copied(alloc, &constraints)?;
+    Ok(EntryLists {
+        constraints,
+        entries,
+    })
+}

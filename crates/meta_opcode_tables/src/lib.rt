@@ -1,0 +1,17 @@
+//! The tables of an instruction set, and how they are read.
+//!
+//! `OpcodeTables::of` makes the tables of what is built of declarations. `OpcodeTables::accepts` is the decoding.
+#![tactic(auto)]
+
+mod constraint;
+mod describe;
+mod entries;
+mod laws;
+mod masks;
+mod names;
+mod opcode_tables;
+mod same;
+
+pub use constraint::{Constraint, OpcodeConstraints};
+pub use laws::{equal_constraints, tables_mean_the_declarations};
+pub use opcode_tables::OpcodeTables;

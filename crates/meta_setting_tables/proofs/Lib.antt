@@ -1,0 +1,12 @@
+pub mod Finding
+pub mod Sameness
+pub mod Renaming
+pub mod Enumerating
+pub mod EntriesRead
+pub mod Applying
+pub mod DescribedSoFar
+pub mod Joining
+pub mod Masking
+pub mod WholeGroup
+pub mod BuiltGroups
+pub mod BuiltNames

@@ -1,0 +1,10 @@
+use Rattle.std.proofs.Common.{◌≡◌, ℕ, ◌<◌, length, take, slice_get, Some}
+use Rattle.meta_setting_tables.specs.DefaultBytes.{joined_at}
+use Rattle.meta_setting_tables.proofs.default_bytes.join_defaults.Given as goal
+
+-- the defaults of the settings so far are joined
+abbrev pub invariant-loop-setting : goal.invariant-loop-setting
+invariant-loop-setting l = record {
+  size : length l.bytes ≡ length l.initial.bytes;
+  joined : (byte : ℕ) → byte < length l.initial.bytes → slice_get l.bytes byte ≡ Some (joined_at byte (take l.setting-index l.settings));
+}

@@ -1,0 +1,39 @@
+use Rattle.std.proofs.Common.{◌≡◌, length, take, refl, sym, subst, ◌∙◌, arith}
+use Rattle.std.proofs.lemmas.Option.{slice_get_read}
+use Rattle.meta_settings.specs.declared.setting.SpecificSetting.{SpecificSetting}
+use Rattle.meta_setting_tables.specs.Descriptor.{IsDetailOf}
+use Rattle.meta_setting_tables.specs.EnumeratorList.{with_values, values_of}
+use Rattle.meta_setting_tables.proofs.DescribedSoFar.{settings_next, settings_done}
+use Rattle.meta_setting_tables.proofs.group_tables.describe_settings.Goals as goal
+
+pub detail_of-requires : goal.detail_of-requires
+detail_of-requires c = λ values is.
+    let k = c.loop-setting.setting-index in
+    let settings = c.args.settings.now in
+    let at = slice_get_read settings (length settings) k c.setting-item.result refl c.loop-setting-test.true c.setting-item.is in
+    let e = c.requires.enums k c.setting-item.result values at (sym c.specific.ensures ∙ is) in
+    let early = e.0 in
+    let most = c.loop-setting.invariant.most (omega (arith, early)) in
+    (omega (arith, early, most), e.1)
+
+pub loop-setting-preserved : goal.loop-setting-preserved
+loop-setting-preserved c =
+    let k = c.loop-setting.setting-index in
+    let settings = c.args.settings.now in
+    let at = slice_get_read settings (length settings) k c.setting-item.result refl c.loop-setting-test.true c.setting-item.is in
+    let s = c.setting-item.result in
+    let after = c.detail_of.new.enumerators in
+    let before = c.loop-setting.enumerators in
+    let detail = c.in_ok-detail.detail in
+    let is = subst (λ (x : SpecificSetting). IsDetailOf after (take k settings) x detail) c.specific.ensures (c.in_ok-detail.ensures.detail (take k settings) c.loop-setting.invariant.enumerators_are) in
+    let made = subst (λ (x : SpecificSetting). after ≡ with_values before (values_of x)) c.specific.ensures c.in_ok-detail.ensures.added in
+    settings_next settings k s detail c.in_ok-describe_setting.field-0 before after c.loop-setting.descriptors.items c.push.new.self.items at is made c.in_ok-detail.ensures.grown c.in_ok-describe_setting.ensures c.in_ok-push.ensures.items c.loop-setting.invariant
+
+pub returns-clause-names : goal.returns-clause-names
+returns-clause-names c = (settings_done c.args.settings.now c.loop-setting.setting-index c.loop-setting.enumerators c.loop-setting.descriptors.items c.loop-setting-test.false c.loop-setting.invariant).0
+
+pub returns-clause-enumerators : goal.returns-clause-enumerators
+returns-clause-enumerators c = (settings_done c.args.settings.now c.loop-setting.setting-index c.loop-setting.enumerators c.loop-setting.descriptors.items c.loop-setting-test.false c.loop-setting.invariant).1
+
+pub returns-clause-described : goal.returns-clause-described
+returns-clause-described c = (settings_done c.args.settings.now c.loop-setting.setting-index c.loop-setting.enumerators c.loop-setting.descriptors.items c.loop-setting-test.false c.loop-setting.invariant).2

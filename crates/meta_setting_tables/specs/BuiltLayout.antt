@@ -1,0 +1,33 @@
+-- What the builder of groups sees to in each group that it builds.
+use Rattle.std.specs.Prelude.{ℕ, ◌≡◌, ◌+◌, ◌/◌, ◌%◌, ◌<◌, ◌≤◌, List, length, slice_get, Some}
+use Rattle.meta_settings.specs.declared.setting.BoolSetting.{BoolSetting}
+use Rattle.meta_settings.specs.declared.setting.SpecificSetting.TheVariants.{Bool as ABool, Enum as AnEnum}
+use Rattle.meta_settings.specs.Layout.{PlacedSetting, BuiltPreset, Layout, booleans_in}
+use Rattle.meta_settings.specs.PresetLayout.{HasAll}
+use Rattle.meta_setting_tables.specs.FoundSetting.{entry_count}
+
+-- the setting is an enum or a number, in this byte
+pub record HasByte (s : PlacedSetting) (byte : ℕ) : Type 0 where
+  pub byte_is : s.byte_offset ≡ byte
+  pub no_boolean : (b : BoolSetting) → s.specific ≡ ABool b → ⊥
+
+-- the setting is a boolean, at this bit of this byte
+pub record HasBit (s : PlacedSetting) (byte bit : ℕ) : Type 0 where
+  pub boolean : BoolSetting
+  pub is_boolean : s.specific ≡ ABool boolean
+  pub byte_is : s.byte_offset ≡ byte
+  pub bit_is : boolean.bit_offset ≡ bit
+
+-- so many values can be numbered in 8 bits, and there is one
+pub record HaveNumbers (values : List (List ℕ)) : Type 0 where
+  pub some : 0 < length values
+  pub few : length values ≤ 256
+
+-- The entries can be numbered in 16 bits; enums and numbers have a byte each, and booleans, eight to a byte, a bit each; the
+-- values of an enum have numbers; and each preset turns on booleans of the group alone.
+pub record IsBuiltLayout (g : Layout) : Type 0 where
+  pub few : entry_count g ≤ 65535
+  pub bytes : (k : ℕ) (s : PlacedSetting) → k < g.bool_start_byte_offset → slice_get g.settings k ≡ Some s → HasByte s k
+  pub bits : (k : ℕ) (s : PlacedSetting) → slice_get (booleans_in g) k ≡ Some s → HasBit s (g.bool_start_byte_offset + k / 8) (k % 8)
+  pub enums : (k : ℕ) (s : PlacedSetting) (values : List (List ℕ)) → slice_get g.settings k ≡ Some s → s.specific ≡ AnEnum values → HaveNumbers values
+  pub presets : (k : ℕ) (p : BuiltPreset) → slice_get g.presets k ≡ Some p → HasAll g p

@@ -1,0 +1,71 @@
+ghost use Rattle.std.specs.Prelude.{◌≡◌, ◌↔◌, IsTrue};
+ghost use Rattle.meta_setting_tables.specs.declared.descriptor.Detail.TheVariants.{Preset};
+
+use meta_types::Text;
+
+/// What an entry of a group of settings is (`detail::Detail` in the text that `gen_settings.rs` writes).
+#[derive(Clone, Copy, Debug, PartialEq, Eq)]
+pub enum Detail {
+    /// A boolean: its bit in its byte, below 8.
+    Bool { bit: u8 },
+    /// An enum: the number of its last value, which is one less than their count, and where in the enumerators of the group
+    /// its first value stands. The other values stand behind it, in order.
+    Enum { last: u8, enumerators: u16 },
+    /// A number.
+    Num,
+    /// A preset.
+    Preset,
+}
+
+impl Detail {
+    /// Whether the two are the same kind of entry, with the same numbers.
+    pub fn same(self, other: Detail) -> bool
+        ensures { IsTrue result ↔ (self ≡ other) }
+    {
+        self == other
+    }
+
+    /// Whether it is a preset.
+    pub fn is_preset(self) -> bool
+        ensures { IsTrue result ↔ (self ≡ Preset) }
+    {
+        match self {
+            Detail::Bool { .. } => false,
+            Detail::Enum { .. } => false,
+            Detail::Num => false,
+            Detail::Preset => true,
+        }
+    }
+}
+
+/// An entry of a group of settings (`detail::Descriptor` in the text that `gen_settings.rs` writes): its name and its
+/// description, and what it is.
+#[derive(Debug, Drop)]
+pub struct Descriptor {
+    /// Its name.
+    pub name: Text,
+    /// Its description, which needs no escape.
+    pub description: Text,
+    /// The byte of a setting, below 255; where the masks of a preset begin among those of the group, one mask a setting byte.
+    pub offset: u32,
+    /// What it is.
+    pub detail: Detail,
+}
+
+impl Descriptor {
+    /// Whether this descriptor and the other are the same: all their parts are equal.
+    pub fn same(&self, other: &Descriptor) -> bool
+        ensures { IsTrue result ↔ (self.now ≡ other.now) }
+    {
+        if self.name != other.name {
+            return false;
+        }
+        if self.description != other.description {
+            return false;
+        }
+        if self.offset != other.offset {
+            return false;
+        }
+        self.detail.same(other.detail)
+    }
+}

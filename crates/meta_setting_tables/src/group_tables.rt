@@ -1,0 +1,358 @@
+ghost use Rattle.std.specs.Prelude.{◌≡◌, ◌↔◌, ◌+◌, ◌++◌, ◌≤◌, ◌<◌, ℕ, List, [], length, map, take, drop, slice_get, slice_index_or, option_map, Contains, Some, None, false, IsTrue, IsSome, IfSome, IfNone, IfOk, OnOk};
+ghost use Rattle.meta_types.specs.SharedNames.{AreDifferentNames};
+ghost use Rattle.meta_settings.specs.declared.setting.SpecificSetting.TheVariants.{Enum};
+ghost use Rattle.meta_settings.specs.Layout.{PlacedSetting, BuiltPreset, Layout};
+ghost use Rattle.meta_setting_tables.specs.declared.descriptor.Descriptor.{Descriptor};
+ghost use Rattle.meta_setting_tables.specs.BuiltLayout.{HaveNumbers, IsBuiltLayout};
+ghost use Rattle.meta_setting_tables.specs.Descriptor.{IsDetailOf, DescribesSetting, DescribesEntry, setting_descriptor, preset_descriptor};
+ghost use Rattle.meta_setting_tables.specs.EnumeratorList.{enumerators_of, values_of, with_values, HasGrown};
+ghost use Rattle.meta_unique.specs.NameSlots.{AreNameSlots, NameAnswers, IsNameLookup};
+ghost use Rattle.meta_setting_tables.specs.FoundSetting.{entry_names, entry_count, FindsEntry};
+ghost use Rattle.meta_setting_tables.specs.PresetMasks.{AreJoined};
+ghost use Rattle.meta_setting_tables.specs.GroupTables.{names_in, IsPresetIn, AreTablesOfGroup, default_in, AnswersDefault, Applies};
+
+use super::default_bytes::default_bytes;
+use super::descriptor::{Descriptor, Detail};
+use super::enumerators::Enumerators;
+use super::preset_masks::{join, preset_masks};
+use super::same::{same_bytes, same_descriptors, same_slots, same_texts};
+use meta_settings::{Preset, Setting, SettingGroup, SpecificSetting};
+use meta_types::Text;
+use meta_unique::{Steps, name_slots, probe, probe_counted, simple_hash};
+use std::alloc::{AllocError, Global};
+use std::marker::Model;
+use std::sync::ledger::Ledger;
+
+/// The tables of a group of settings (`gen_descriptors` and `gen_template` of `gen_settings.rs`, where they are written as
+/// text): its entries, which are its settings by byte and bit and then its presets, and what is found by an entry.
+#[derive(Debug, Drop)]
+pub struct GroupTables {
+    name: Text,
+    descriptors: Vec<Descriptor>,
+    enumerators: Vec<Text>,
+    defaults: Vec<u8>,
+    preset_masks: Vec<u8>,
+    slots: Vec<Option<u16>>,
+}
+
+impl Model for GroupTables {
+    ghost use Rattle.meta_setting_tables.specs.GroupTables.{GroupContents, AreKept};
+
+    ghost Value = { GroupContents };
+
+    ghost view = { λ t. record { name = t.name; descriptors = t.descriptors.items; enumerators = t.enumerators.items; defaults = t.defaults.items; preset_masks = t.preset_masks.items; slots = t.slots.items } };
+
+    ghost invariant = { λ t. AreKept t.descriptors.items t.defaults.items t.preset_masks.items t.slots.items };
+}
+
+/// What a setting is, where the values of an enum are added to the enumerators.
+fn detail_of<'g>(
+    alloc: Global,
+    specific: &'g SpecificSetting,
+    enumerators: &mut Enumerators<'g>,
+) -> Result<Detail, AllocError>
+    requires { (values : List (List ℕ)) → specific.now ≡ Enum values → (length enumerators.old < 65536) × HaveNumbers values }
+    ensures detail { (before : List PlacedSetting) → enumerators.old ≡ enumerators_of before → IfOk result (λ d. IsDetailOf enumerators.new before specific.now d) }
+    ensures added { OnOk result (enumerators.new ≡ with_values enumerators.old (values_of specific.now)) }
+    ensures grown { OnOk result (HasGrown enumerators.old enumerators.new) }
+{
+    match specific {
+        SpecificSetting::Bool(boolean) => Ok(Detail::Bool {
+            bit: boolean.bit_offset,
+        }),
+        SpecificSetting::Enum(names) => {
+            let values = names.as_slice();
+            let place = enumerators.add(alloc, values)?;
+            Ok(Detail::Enum {
+                last: (values.len() - 1) as u8,
+                enumerators: place as u16,
+            })
+        }
+        SpecificSetting::Num(_) => Ok(Detail::Num),
+    }
+}
+
+/// The descriptor of a setting with this detail.
+fn describe_setting(
+    alloc: Global,
+    setting: &Setting,
+    detail: Detail,
+) -> Result<Descriptor, AllocError>
+    ensures { IfOk result (λ d. d ≡ setting_descriptor setting.now detail) }
+{
+    Ok(Descriptor {
+        name: setting.name().copy(alloc)?,
+        description: setting.description().copy(alloc)?,
+        offset: u32::from(setting.byte_offset()),
+        detail,
+    })
+}
+
+/// The descriptor of preset `number`, where each preset has so many masks.
+fn describe_preset(
+    alloc: Global,
+    preset: &Preset,
+    number: u16,
+    size: u8,
+) -> Result<Descriptor, AllocError>
+    ensures { IfOk result (λ d. d ≡ preset_descriptor size number preset.now) }
+{
+    Ok(Descriptor {
+        name: preset.name().copy(alloc)?,
+        description: preset.description().copy(alloc)?,
+        offset: u32::from(number) * u32::from(size),
+        detail: Detail::Preset,
+    })
+}
+
+/// The descriptors of the settings, in order, where the values of enums are added to the enumerators, which were empty.
+fn describe_settings<'g>(
+    alloc: Global,
+    settings: &'g [Setting],
+    enumerators: &mut Enumerators<'g>,
+) -> Result<Vec<Descriptor>, AllocError>
+    requires empty { enumerators.old ≡ [] }
+    requires enums { (k : ℕ) (s : PlacedSetting) (values : List (List ℕ)) → slice_get settings.now k ≡ Some s → s.specific ≡ Enum values → (k < 255) × HaveNumbers values }
+    ensures enumerators { OnOk result (enumerators.new ≡ enumerators_of settings.now) }
+    ensures names { IfOk result (λ v. names_in v.items ≡ map (λ (s : PlacedSetting). s.name) settings.now) }
+    ensures described { IfOk result (λ v. (k : ℕ) (s : PlacedSetting) (d : Descriptor) → slice_get settings.now k ≡ Some s → slice_get v.items k ≡ Some d → DescribesSetting enumerators.new (take k settings.now) s d) }
+{
+    let mut descriptors = Vec::with_capacity(alloc, settings.len())?;
+    for setting in settings {
+        let detail = detail_of(alloc, setting.specific(), enumerators)?;
+        descriptors.push(describe_setting(alloc, setting, detail)?)?;
+    }
+    Ok(descriptors)
+}
+
+/// The descriptors of the presets, in order, where each has so many masks.
+fn describe_presets(
+    alloc: Global,
+    presets: &[Preset],
+    size: u8,
+) -> Result<Vec<Descriptor>, AllocError>
+    requires { length presets.now ≤ 65535 }
+    ensures names { IfOk result (λ v. names_in v.items ≡ map (λ (p : BuiltPreset). p.name) presets.now) }
+    ensures described { IfOk result (λ v. (k : ℕ) (p : BuiltPreset) → slice_get presets.now k ≡ Some p → slice_get v.items k ≡ Some (preset_descriptor size k p)) }
+{
+    let mut descriptors = Vec::with_capacity(alloc, presets.len())?;
+    for (k, preset) in presets.iter().enumerate() {
+        descriptors.push(describe_preset(alloc, preset, k as u16, size)?)?;
+    }
+    Ok(descriptors)
+}
+
+/// Descriptors, and others behind them.
+fn joined(
+    mut first: Vec<Descriptor>,
+    mut second: Vec<Descriptor>,
+) -> Result<Vec<Descriptor>, AllocError>
+    ensures { IfOk result (λ v. v.items ≡ first.items ++ second.items) }
+{
+    first.append(&mut second)?;
+    Ok(first)
+}
+
+/// The slots of the names of the entries.
+fn entry_slots(alloc: Global, descriptors: &[Descriptor]) -> Result<Vec<Option<u16>>, AllocError>
+    requires { length descriptors.now ≤ 65535 }
+    ensures slots { IfOk result (λ v. AreNameSlots 0 (names_in descriptors.now) v.items) }
+    ensures vacant { IfOk result (λ v. Contains v.items None) }
+{
+    let mut names = Vec::with_capacity(alloc, descriptors.len())?;
+    for descriptor in descriptors {
+        names.push(descriptor.name.as_bytes())?;
+    }
+    name_slots(alloc, names.as_slice(), 0)
+}
+
+impl GroupTables {
+    /// The tables of a group. The only error is want of memory. Each group that `SettingGroupBuilder::build` answers has them.
+    pub fn of(alloc: Global, group: &SettingGroup) -> Result<GroupTables, AllocError>
+        requires { IsBuiltLayout group.now }
+        ensures { IfOk result (λ t. AreTablesOfGroup group.now t) }
+    {
+        let size = group.settings_size();
+        let mut enumerators = Enumerators::new(alloc);
+        let settings = describe_settings(alloc, group.settings(), &mut enumerators)?;
+        let presets = describe_presets(alloc, group.presets(), size)?;
+        let descriptors = joined(settings, presets)?;
+        Ok(GroupTables {
+            name: group.name().copy(alloc)?,
+            enumerators: enumerators.copied(alloc)?,
+            defaults: default_bytes(alloc, group)?,
+            preset_masks: preset_masks(alloc, group)?,
+            slots: entry_slots(alloc, descriptors.as_slice())?,
+            descriptors,
+        })
+    }
+
+    /// Whether these tables and the others are the same: all their parts are equal.
+    pub fn same(&self, other: &GroupTables) -> bool
+        ensures { IsTrue result ↔ (self.now ≡ other.now) }
+    {
+        if self.name != other.name {
+            return false;
+        }
+        if !same_descriptors(&self.descriptors, &other.descriptors) {
+            return false;
+        }
+        if !same_texts(&self.enumerators, &other.enumerators) {
+            return false;
+        }
+        if !same_bytes(&self.defaults, &other.defaults) {
+            return false;
+        }
+        if !same_bytes(&self.preset_masks, &other.preset_masks) {
+            return false;
+        }
+        same_slots(&self.slots, &other.slots)
+    }
+
+    /// The name of the group.
+    pub fn name(&self) -> &Text
+        ensures { result.now ≡ self.now.name }
+    {
+        &self.name
+    }
+
+    /// How many bytes the settings take, which is how many default bytes there are.
+    pub fn settings_size(&self) -> u8
+        ensures size { result ≡ length self.now.defaults }
+        ensures meaning { (g : Layout) → AreTablesOfGroup g self.now → result ≡ g.settings_size }
+    {
+        self.defaults.len() as u8
+    }
+
+    /// The entries: the settings by byte and bit, and then the presets.
+    pub fn descriptors(&self) -> &[Descriptor]
+        ensures { result.now ≡ self.now.descriptors }
+    {
+        self.descriptors.as_slice()
+    }
+
+    /// The one list of the values of all enums, in which the descriptor of an enum says where its own stand.
+    pub fn enumerators(&self) -> &[Text]
+        ensures { result.now ≡ self.now.enumerators }
+    {
+        self.enumerators.as_slice()
+    }
+
+    /// The default bytes: one a setting byte, with the declared defaults joined.
+    pub fn defaults(&self) -> &[u8]
+        ensures { result.now ≡ self.now.defaults }
+    {
+        self.defaults.as_slice()
+    }
+
+    /// The masks of the presets: one a preset and setting byte, preset after preset.
+    pub fn preset_masks(&self) -> &[u8]
+        ensures { result.now ≡ self.now.preset_masks }
+    {
+        self.preset_masks.as_slice()
+    }
+
+    /// The slots of the names of the entries, which hold the numbers of the entries.
+    pub fn setting_slots(&self) -> &[Option<u16>]
+        ensures slots { result.now ≡ self.now.slots }
+        ensures names { AreNameSlots 0 (names_in self.now.descriptors) self.now.slots }
+    {
+        self.slots.as_slice()
+    }
+
+    /// The entry with this number, from 0, and `None` exactly where there is no such entry.
+    pub fn descriptor(&self, index: u16) -> Option<&Descriptor>
+        ensures entry { option_map (λ d. d.now) result ≡ slice_get self.now.descriptors index }
+        ensures none { (g : Layout) → AreTablesOfGroup g self.now → (IsSome result ↔ (index < entry_count g)) }
+        ensures meaning { (g : Layout) → AreTablesOfGroup g self.now → IfSome result (λ d. DescribesEntry g self.now.enumerators index d.now) }
+    {
+        self.descriptors.get(index as usize)
+    }
+
+    /// What the setting with this number is by default: 0 or 1 for a boolean, 0 for an enum, which is its first value, and the
+    /// number. It is `None` exactly for a preset and where there is no such entry.
+    pub fn default_value(&self, index: u16) -> Option<u8>
+        ensures entry { (d : Descriptor) → slice_get self.now.descriptors index ≡ Some d → result ≡ default_in (slice_index_or self.now.defaults d.offset 0) d.detail }
+        ensures absent { slice_get self.now.descriptors index ≡ None → result ≡ None }
+        ensures meaning { (g : Layout) → AreTablesOfGroup g self.now → AnswersDefault g index result }
+    {
+        let descriptor = self.descriptors.get(index as usize)?;
+        let offset = descriptor.offset as usize;
+        match descriptor.detail {
+            Detail::Bool { bit } => Some(self.defaults[offset] >> bit & 1),
+            Detail::Enum { .. } => Some(0),
+            Detail::Num => Some(self.defaults[offset]),
+            Detail::Preset => None,
+        }
+    }
+
+    /// Whether the entry with this number has the name.
+    fn is_named(&self, index: u16, name: &[u8]) -> bool
+        ensures { NameAnswers 0 (names_in self.now.descriptors) name.now index result }
+    {
+        match self.descriptors.get(index as usize) {
+            Some(descriptor) => descriptor.name.as_bytes() == name,
+            None => false,
+        }
+    }
+
+    /// The number of the entry that has the name, of the first one if there are several, and `None` exactly where none has it.
+    /// `built_groups_have_tables` says that in a group that is built there is one at most.
+    pub fn find_setting(&self, name: &[u8]) -> Option<u16>
+        ensures found { FindsEntry (names_in self.now.descriptors) name.now result }
+        ensures meaning { (g : Layout) → AreTablesOfGroup g self.now → FindsEntry (entry_names g) name.now result }
+        ensures exact { (g : Layout) → AreTablesOfGroup g self.now → AreDifferentNames (entry_names g) → (e : ℕ) → ((result ≡ Some e) ↔ (slice_get (entry_names g) e ≡ Some name.now)) }
+    {
+        probe(self.slots.as_slice(), simple_hash(name), |index| {
+            self.is_named(index, name)
+        })
+    }
+
+    /// As `find_setting`, and `steps` rises by the length of the lookup: the number of slots that were looked at.
+    pub fn find_setting_counted<L: Ledger>(&self, name: &[u8], steps: &mut Steps<L>) -> Option<u16>
+        ensures found { FindsEntry (names_in self.now.descriptors) name.now result }
+        ensures meaning { (g : Layout) → AreTablesOfGroup g self.now → FindsEntry (entry_names g) name.now result }
+        ensures exact { (g : Layout) → AreTablesOfGroup g self.now → AreDifferentNames (entry_names g) → (e : ℕ) → ((result ≡ Some e) ↔ (slice_get (entry_names g) e ≡ Some name.now)) }
+        ensures counted { (last : ℕ) × IsNameLookup 0 (names_in self.now.descriptors) self.now.slots name.now result last × (steps.new ≡ steps.old + (last + 1)) }
+        ensures most { steps.new ≤ steps.old + length self.now.slots }
+    {
+        probe_counted(
+            self.slots.as_slice(),
+            simple_hash(name),
+            |index| self.is_named(index, name),
+            steps,
+        )
+    }
+
+    /// The masks of the preset with this number among the entries, and `None` exactly where it is no preset.
+    fn masks_of(&self, preset: u16) -> Option<&[u8]>
+        ensures masks { IfSome result (λ masks. (d : Descriptor) × IsPresetIn self.now.descriptors preset d × (masks.now ≡ take (length self.now.defaults) (drop d.offset self.now.preset_masks))) }
+        ensures size { IfSome result (λ masks. length masks.now ≡ length self.now.defaults) }
+        ensures none { IfNone result ((d : Descriptor) → IsPresetIn self.now.descriptors preset d → ⊥) }
+    {
+        let descriptor = self.descriptors.get(preset as usize)?;
+        if !descriptor.detail.is_preset() {
+            return None;
+        }
+        let start = descriptor.offset as usize;
+        Some(&self.preset_masks[start..start + self.defaults.len()])
+    }
+
+    /// Turns on the bits of what a preset turns on, in setting bytes, where `preset` is the number of its entry. It answers
+    /// false and changes nothing exactly where that is no preset of the group or there aren't `settings_size` bytes.
+    pub fn apply_preset(&self, preset: u16, bytes: &mut [u8]) -> bool
+        ensures answer { IsTrue result ↔ (((d : Descriptor) × IsPresetIn self.now.descriptors preset d) × (length bytes.old ≡ length self.now.defaults)) }
+        ensures joined { IsTrue result → (d : Descriptor) → IsPresetIn self.now.descriptors preset d → AreJoined bytes.old (take (length self.now.defaults) (drop d.offset self.now.preset_masks)) bytes.new }
+        ensures unchanged { result ≡ false → bytes.new ≡ bytes.old }
+        ensures meaning { (g : Layout) → AreTablesOfGroup g self.now → Applies g preset bytes.old bytes.new result }
+    {
+        let Some(masks) = self.masks_of(preset) else {
+            return false;
+        };
+        if bytes.len() != masks.len() {
+            return false;
+        }
+        join(bytes, masks);
+        true
+    }
+}

@@ -1,0 +1,59 @@
+ghost use Rattle.std.specs.Prelude.{◌≡◌, ◌+◌, ◌≤◌, ◌<◌, length, map, Contains, None, IfOk};
+ghost use Rattle.std.specs.Option.{option_copied};
+ghost use Rattle.meta_unique.specs.Interning.{pointed_to};
+ghost use Rattle.meta_unique.specs.NameSlots.{HashesTo, AreNameSlots, numbers_from};
+
+use super::constant_hash::{generate_table, simple_hash};
+use std::alloc::{AllocError, Global};
+
+/// So many numbers from `first` on.
+fn numbers(alloc: Global, first: u16, count: usize) -> Result<Vec<u16>, AllocError>
+    requires { first + count ≤ 65536 }
+    ensures { IfOk result (λ v. v.items ≡ numbers_from first count) }
+{
+    let mut numbers = Vec::with_capacity(alloc, count)?;
+    for place in 0..count {
+        numbers.push(first + place as u16)?;
+    }
+    Ok(numbers)
+}
+
+/// The slots with what the references point to.
+fn pointed_at(alloc: Global, slots: &[Option<&u16>]) -> Result<Vec<Option<u16>>, AllocError>
+    ensures { IfOk result (λ v. v.items ≡ map option_copied slots.now) }
+{
+    let mut copies = Vec::with_capacity(alloc, slots.len())?;
+    for slot in slots {
+        copies.push(slot.copied())?;
+    }
+    Ok(copies)
+}
+
+/// The hash of the name with this number.
+fn hash_at(names: &[&[u8]], first: u16, number: u16) -> usize
+    requires low { first ≤ number }
+    requires high { number < first + length names.now }
+    ensures { HashesTo first (pointed_to names.now) number result }
+{
+    let name = names[(number - first) as usize];
+    simple_hash(name)
+}
+
+/// The slots of names, of which there are at most 65,535 and which are numbered from `first` on: they hold the numbers, found
+/// from `simple_hash` of the name.
+pub fn name_slots(
+    alloc: Global,
+    names: &[&[u8]],
+    first: u16,
+) -> Result<Vec<Option<u16>>, AllocError>
+    requires few { length names.now ≤ 65535 }
+    requires numbered { first + length names.now ≤ 65536 }
+    ensures slots { IfOk result (λ v. AreNameSlots first (pointed_to names.now) v.items) }
+    ensures vacant { IfOk result (λ v. Contains v.items None) }
+{
+    let numbers = numbers(alloc, first, names.len())?;
+    let table = generate_table(alloc, numbers.as_slice(), |number| {
+        hash_at(names, first, *number)
+    })?;
+    pointed_at(alloc, table.as_slice())
+}
