@@ -82,7 +82,7 @@ module _ (d : GroupDeclaration) (valid : IsValidGroup d) where
       ap (λ n. slice_get (entries_of d) (n + k)) (sym (length-map d.settings setting_entry)) ∙ get_right (map setting_entry d.settings) (map preset_entry d.presets) k ∙ slice_get-map preset_entry d.presets k ∙ ap (option_map preset_entry) at
 
   few_entries : length d.settings + length d.presets ≤ 65535
-  few_entries = elim (cases_lt 65535 (length d.settings + length d.presets)) [ inl more ↦ absurd (valid OfCounts (inr (inr more))) | inr few ↦ few ]
+  few_entries = elim (cases_lt 65535 (length d.settings + length d.presets)) [ inl more ↦ absurd (valid 0 OfCounts _ (refl, inr (inr more))) | inr few ↦ few ]
 
   good_enum : (i : ℕ) (x : SettingDeclaration) (values : List (List ℕ)) → slice_get d.settings i ≡ Some x → x.specific ≡ DeclaredEnum values → HaveNumbers values
   good_enum i x values at is = record {
@@ -91,16 +91,19 @@ module _ (d : GroupDeclaration) (valid : IsValidGroup d) where
   }
     where
       broken : (IsGoodEnum values → ⊥) → ⊥
-      broken bad = valid (OfEntry i EnumRule) (setting_entry x, entry_setting i x at, λ good. bad (subst (λ (y : ProtoSpecificSetting). IfSome (values_of y) IsGoodEnum) is good))
+      broken bad = valid 0 (OfEntry i EnumRule) _ (setting_entry x, entry_setting i x at, (refl, λ good. bad (subst (λ (y : ProtoSpecificSetting). IfSome (values_of y) IsGoodEnum) is good)))
 
   named_boolean : (k b : ℕ) (p : PresetDeclaration) → slice_get d.presets k ≡ Some p → Contains p.args (NamedBool b) → b < boolean_count d
   named_boolean k b p at c = elim (cases_lt b (boolean_count d)) [
     | inl below ↦ below
-    | inr past ↦ absurd (valid (OfEntry (length d.settings + k) PresetRule) (
+    | inr past ↦ absurd (valid 0 (OfEntry (length d.settings + k) PresetRule) _ (
       preset_entry p,
       entry_preset k p at,
-      λ met.
-          let one : IsMet (boolean_count d) (length d.settings + k - length d.settings) (NamedBool b) = subst (IsMet (boolean_count d) (length d.settings + k - length d.settings)) c.2 (met c.0 (NamedBool b) c.1) in omega (arith, one, past),
+      (
+        refl,
+        λ met.
+            let one : IsMet (boolean_count d) (length d.settings + k - length d.settings) (NamedBool b) = subst (IsMet (boolean_count d) (length d.settings + k - length d.settings)) c.2 (met c.0 (NamedBool b) c.1) in omega (arith, one, past),
+      ),
     ))
   ]
 

@@ -55,7 +55,7 @@ module _ (d : GroupDeclaration) (valid : IsValidGroup d) where
   declared_apart : AreDifferentNames (names_of d)
   declared_apart = distinct_differ (names_of d) (λ k j shared.
       let entry = get_mapped (λ (x : Entry). x.name) (entries_of d) k shared.name shared.is_name in
-      valid (OfEntry k DuplicateRule) (entry.0, entry.1, (j, shared)))
+      valid 0 (OfEntry k DuplicateRule) _ (entry.0, entry.1, (j, refl, shared)))
 
   setting_named : (k : ℕ) (s : SettingDeclaration) → slice_get d.settings k ≡ Some s → slice_get (names_of d) k ≡ Some s.name
   setting_named k s e = get_map (λ (x : Entry). x.name) (entries_of d) k (setting_entry s) (entry_setting d valid k s e)

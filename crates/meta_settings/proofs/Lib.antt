@@ -2,9 +2,7 @@
 mod Told
 -- faults
 mod Rules
-mod FirstFault
 mod Valid
-mod OneFault
 -- counts and lists
 mod Counting
 mod Firsts

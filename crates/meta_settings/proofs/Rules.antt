@@ -1,59 +1,94 @@
--- The rules for one entry: what it breaks, and which fault is first.
-use Rattle.std.proofs.Common.{◌≡◌, ◌∙◌, ◌<◌, ℕ, Some, IfSome, length, slice_get, refl, sym, subst, arith}
-use Rattle.std.specs.Prelude.{◌-◌}
-use Rattle.std.proofs.lemmas.Option.{same_Some}
-use Rattle.meta_types.specs.declared.fault.Place.TheVariants.{Entry as AtEntry}
-use Rattle.meta_types.specs.declared.fault.DefinitionError.TheVariants.{DuplicateName, BadEnum, BadPreset}
+-- The rules of a group, one after another.
+use Rattle.std.proofs.Common.{◌≡◌, ◌∙◌, ◌+◌, ◌-◌, ℕ, List, [], ◌∷◌, Some, IfSome, length, length-append, slice_get, get_or, if◌then◌else◌, ◌==◌, sym, subst, arith}
+use Rattle.std.specs.Prelude.{map}
+use Rattle.std.proofs.lemmas.List.{length-map}
+use Rattle.std.proofs.lemmas.Option.{same_Some, slice_get_within}
+use Rattle.meta_types.specs.Name.{IsName}
+use Rattle.meta_types.specs.declared.fault.DefinitionError.{DefinitionError}
 use Rattle.meta_types.specs.SharedNames.{IsDuplicate}
+use Rattle.meta_types.specs.FirstFault.{Key}
+use Rattle.meta_types.proofs.SharedNames.{one_earlier}
 use Rattle.meta_types.proofs.ListPlaces.{get_map}
-use Rattle.meta_settings.specs.GroupDeclaration.{GroupDeclaration, Entry, entries_of, names_of, boolean_count}
-use Rattle.meta_settings.specs.GroupFaults.{IsWellNamed, IsGoodEnum, AreMet, Rule, NameRule, DuplicateRule, EnumRule, PresetRule, rule_number, OfEntry, Breaks, BreaksRule}
-use Rattle.meta_settings.specs.Searched.{KeepsRules, IsFirstEntryFault}
+use Rattle.meta_types.proofs.FirstFault.{IsIn, IsSearchable, start, passed, next_place, next_part, none_left}
+use Rattle.meta_settings.specs.GroupDeclaration.{GroupDeclaration, Entry, entries_of, setting_entry, preset_entry, names_of, entry_count, boolean_count}
+use Rattle.meta_settings.specs.GroupFaults.{IsWellNamed, IsGoodEnum, AreMet, HasTooMany, Rule, NameRule, DuplicateRule, EnumRule, PresetRule, rule_number, Position, OfGroupName, OfEntry, OfCounts, position_key, BreaksRule, ShowsAt, IsValidGroup}
+use Rattle.meta_settings.specs.Searched.{IsCleanBefore}
 
-module _ (d : GroupDeclaration) (k : ℕ) (e : Entry) (at : slice_get (entries_of d) k ≡ Some e) where
-  pub name_at : slice_get (names_of d) k ≡ Some e.name
-  name_at = get_map (λ (e : Entry). e.name) (entries_of d) k e at
+-- the rules for an entry, in order
+abbrev rules : List Rule
+rules = NameRule ∷ DuplicateRule ∷ EnumRule ∷ PresetRule ∷ []
 
-  -- what is broken at the place is broken by the entry
-  here : (rule : Rule) → Breaks d (OfEntry k rule) → BreaksRule d k e rule
-  here rule h = subst (λ (z : Entry). BreaksRule d k z rule) (same_Some h.0 e (sym h.1 ∙ at)) h.2
+rule_at : (r : Rule) → slice_get rules (rule_number r) ≡ Some r
+rule_at r = grind arith
 
-  module _ (well : IsWellNamed e) where
-    -- an earlier entry shares the name
-    pub shared_name : (g j : ℕ) → IsDuplicate (names_of d) k j → IsFirstEntryFault d g k (DuplicateName (AtEntry g k) j)
-    shared_name g j duplicate = record { rule = DuplicateRule; broken = (e, at, (j, duplicate)); tells = (j, duplicate, refl); first = first }
-      where
-        first : (other : Rule) → rule_number other < 2 → Breaks d (OfEntry k other) → ⊥
-        first NameRule l h = here NameRule h well
-        first DuplicateRule l h = omega (arith, l)
-        first EnumRule l h = omega (arith, l)
-        first PresetRule l h = omega (arith, l)
+rule_of : (r : Rule) → get_or rules (rule_number r) NameRule ≡ r
+rule_of r = grind arith
 
-    module _ (unshared : (j : ℕ) → IsDuplicate (names_of d) k j → ⊥) where
-      -- it is a bad enum
-      pub bad_enum : (g : ℕ) → (IfSome e.values IsGoodEnum → ⊥) → IsFirstEntryFault d g k (BadEnum g k)
-      bad_enum g bad = record { rule = EnumRule; broken = (e, at, bad); tells = refl; first = first }
-        where
-          first : (other : Rule) → rule_number other < 3 → Breaks d (OfEntry k other) → ⊥
-          first NameRule l h = here NameRule h well
-          first DuplicateRule l h = let (j, duplicate) = here DuplicateRule h in unshared j duplicate
-          first EnumRule l h = omega (arith, l)
-          first PresetRule l h = omega (arith, l)
+abbrev position_of : Key → Position
+position_of k = if k.part == 0 then OfGroupName else (if k.part == 1 then OfEntry k.place (get_or rules k.rule NameRule) else OfCounts)
 
-      module _ (good : IfSome e.values IsGoodEnum) where
-        -- it is a bad preset
-        pub bad_preset : (g : ℕ) → (AreMet (boolean_count d) (k - length d.settings) e.args → ⊥) → IsFirstEntryFault d g k (BadPreset g k)
-        bad_preset g bad = record { rule = PresetRule; broken = (e, at, bad); tells = refl; first = first }
-          where
-            first : (other : Rule) → rule_number other < 4 → Breaks d (OfEntry k other) → ⊥
-            first NameRule l h = here NameRule h well
-            first DuplicateRule l h = let (j, duplicate) = here DuplicateRule h in unshared j duplicate
-            first EnumRule l h = here EnumRule h good
-            first PresetRule l h = omega (arith, l)
+known : (p : Position) → position_of (position_key p) ≡ p
+known p = grind (arith, rule_of)
 
-        -- it keeps all rules
-        pub keeps_all : AreMet (boolean_count d) (k - length d.settings) e.args → KeepsRules d k
-        keeps_all met NameRule h = here NameRule h well
-        keeps_all met DuplicateRule h = let (j, duplicate) = here DuplicateRule h in unshared j duplicate
-        keeps_all met EnumRule h = here EnumRule h good
-        keeps_all met PresetRule h = here PresetRule h met
+pub length-entries : (d : GroupDeclaration) → length (entries_of d) ≡ entry_count d
+length-entries d =
+    let settings = length-map d.settings setting_entry in
+    let presets = length-map d.presets preset_entry in
+    omega (arith, length-append (map setting_entry d.settings) (map preset_entry d.presets))
+
+module _ (d : GroupDeclaration) (g : ℕ) where
+  -- at a place one fault tells that a rule is broken
+  one_broken : (k : ℕ) (x : Entry) (rule : Rule) (e f : DefinitionError) → BreaksRule d g k x rule e → BreaksRule d g k x rule f → e ≡ f
+  one_broken k x rule e f a b = grind (arith, one_earlier)
+
+  one_shown : (p : Position) (e f : DefinitionError) → ShowsAt d g p e → ShowsAt d g p f → e ≡ f
+  one_shown OfGroupName e f a b = a.0 ∙ sym b.0
+  one_shown (OfEntry k rule) e f a b = one_broken k b.0 rule e f (subst (λ (x : Entry). BreaksRule d g k x rule e) (same_Some a.0 b.0 (sym a.1 ∙ b.1)) a.2) b.2
+  one_shown OfCounts e f a b = a.0 ∙ sym b.0
+
+  abbrev rules_of : ℕ → ℕ
+  rules_of part = if part == 1 then 4 else 1
+
+  abbrev places_of : ℕ → ℕ
+  places_of part = if part == 1 then entry_count d else 1
+
+  within : (p : Position) (e : DefinitionError) → ShowsAt d g p e → IsIn 3 places_of rules_of (position_key p)
+  within p e s = grind (arith, slice_get_within, length-entries, rule_at)
+
+  pub searchable : IsSearchable position_key (ShowsAt d g)
+  searchable = record { position_of = position_of; known = known; one = one_shown; parts = 3; places = places_of; rules = rules_of; within = within }
+
+module _ (d : GroupDeclaration) where
+  -- the search begins
+  pub before_all : IsCleanBefore d OfGroupName
+  before_all g = start position_key (ShowsAt d g)
+
+  pub passed_name : IsName d.name → IsCleanBefore d (OfEntry 0 NameRule)
+  unfolding searchable
+  passed_name named g = next_part (searchable d g) 0 (next_place (searchable d g) 0 0 (passed (searchable d g) OfGroupName (before_all g) (λ e s. s.1 named)))
+
+  pub passed_counts : IsCleanBefore d OfCounts → (HasTooMany d → ⊥) → IsValidGroup d
+  unfolding searchable
+  passed_counts clean few g = none_left (searchable d g) (next_part (searchable d g) 2 (next_place (searchable d g) 2 0 (passed (searchable d g) OfCounts (clean g) (λ e s. few s.1))))
+
+-- the rules for the entry at a place, one after another
+module _ (d : GroupDeclaration) (k : ℕ) (x : Entry) (at : slice_get (entries_of d) k ≡ Some x) where
+  pub name_at : slice_get (names_of d) k ≡ Some x.name
+  name_at = get_map (λ (x : Entry). x.name) (entries_of d) k x at
+
+  -- what is shown at the place is shown of the entry
+  here : (g : ℕ) (rule : Rule) (e : DefinitionError) → ShowsAt d g (OfEntry k rule) e → BreaksRule d g k x rule e
+  here g rule e s = subst (λ (z : Entry). BreaksRule d g k z rule e) (same_Some s.0 x (sym s.1 ∙ at)) s.2
+
+  pub well_named : IsCleanBefore d (OfEntry k NameRule) → IsWellNamed x → IsCleanBefore d (OfEntry k DuplicateRule)
+  well_named clean well g = passed (searchable d g) (OfEntry k NameRule) (clean g) (λ e s. (here g NameRule e s).1 well)
+
+  pub not_shared : IsCleanBefore d (OfEntry k DuplicateRule) → ((j : ℕ) → IsDuplicate (names_of d) k j → ⊥) → IsCleanBefore d (OfEntry k EnumRule)
+  not_shared clean unshared g = passed (searchable d g) (OfEntry k DuplicateRule) (clean g) (λ e s. let (j, is, shared) = here g DuplicateRule e s in unshared j shared)
+
+  pub good_enum : IsCleanBefore d (OfEntry k EnumRule) → IfSome x.values IsGoodEnum → IsCleanBefore d (OfEntry k PresetRule)
+  good_enum clean good g = passed (searchable d g) (OfEntry k EnumRule) (clean g) (λ e s. (here g EnumRule e s).1 good)
+
+  pub good_preset : IsCleanBefore d (OfEntry k PresetRule) → AreMet (boolean_count d) (k - length d.settings) x.args → IsCleanBefore d (OfEntry (k + 1) NameRule)
+  unfolding searchable
+  good_preset clean met g = next_place (searchable d g) 1 k (passed (searchable d g) (OfEntry k PresetRule) (clean g) (λ e s. (here g PresetRule e s).1 met))

@@ -1,5 +1,5 @@
 -- What a group without faults has.
-use Rattle.std.proofs.Common.{◌≡◌, ◌∙◌, ◌≤◌, ◌+◌, ◌-◌, ℕ, suc, List, [], ◌∷◌, ◌++◌, length, length-append, drop, slice_get, slice_index_or, Some, sym, ap, subst, arith, ◌⊎◌, inl, inr, ⊎_elim}
+use Rattle.std.proofs.Common.{◌≡◌, ◌∙◌, ◌≤◌, ◌+◌, ◌-◌, ℕ, suc, List, [], ◌∷◌, ◌++◌, length, length-append, drop, slice_get, slice_index_or, Some, refl, sym, ap, subst, arith, ◌⊎◌, inl, inr, ⊎_elim}
 use Rattle.std.specs.Prelude.{map, option_map}
 use Rattle.std.proofs.Math.Seq.{drop-append_seam}
 use Rattle.std.proofs.lemmas.Bool.{cases_lt}
@@ -35,10 +35,10 @@ met_below booleans more earlier (OtherPreset q) l m = m
 
 module _ (d : GroupDeclaration) (valid : IsValidGroup d) where
   pub few_booleans : boolean_count d ≤ 248
-  few_booleans = ⊎_elim (λ l. absurd (valid OfCounts (inl l))) (λ l. l) (cases_lt 248 (boolean_count d))
+  few_booleans = ⊎_elim (λ l. absurd (valid 0 OfCounts _ (refl, inl l))) (λ l. l) (cases_lt 248 (boolean_count d))
 
   pub few_bytes : byte_count d ≤ 255
-  few_bytes = ⊎_elim (λ l. absurd (valid OfCounts (inr (inl l)))) (λ l. l) (cases_lt 255 (byte_count d))
+  few_bytes = ⊎_elim (λ l. absurd (valid 0 OfCounts _ (refl, inr (inl l)))) (λ l. l) (cases_lt 255 (byte_count d))
 
   preset_at : (k : ℕ) (p : PresetDeclaration) → slice_get d.presets k ≡ Some p → slice_get (entries_of d) (length d.settings + k) ≡ Some (preset_entry p)
   preset_at k p at =
@@ -48,7 +48,7 @@ module _ (d : GroupDeclaration) (valid : IsValidGroup d) where
   met : (k : ℕ) (p : PresetDeclaration) → slice_get d.presets k ≡ Some p → AreMet (boolean_count d) k p.args
   met k p at =
       let place : length d.settings + k - length d.settings ≡ k = omega arith in
-      all_met (boolean_count d) k p.args (λ bad. valid (OfEntry (length d.settings + k) PresetRule) (preset_entry p, preset_at k p at, λ all. bad (subst (λ n. AreMet (boolean_count d) n p.args) place all)))
+      all_met (boolean_count d) k p.args (λ bad. valid 0 (OfEntry (length d.settings + k) PresetRule) _ (preset_entry p, preset_at k p at, (refl, λ all. bad (subst (λ n. AreMet (boolean_count d) n p.args) place all))))
 
   -- the numbers that presets name fit eight bits
   pub all_met_below : AreAllMet 256 d.presets

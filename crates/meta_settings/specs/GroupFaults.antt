@@ -1,6 +1,5 @@
 -- The faults of a declared group, and the order in which they are looked for.
---     Breaks d p                 what is at the position p breaks the rule that is looked at there
---     IsFaultOf d g p e          e is the fault that tells of it, where g is the group's number
+--     ShowsAt d g p e            the group with the number g shows the fault e at the position p
 --     IsFirstGroupFault d g e    e is the first fault of the group
 --     IsValidGroup d             it has none
 use Rattle.std.specs.Prelude.{◌≡◌, ◌≢◌, ◌<◌, ◌≤◌, ◌-◌, ◌⊎◌, ℕ, List, [], length, slice_get, Some, IfSome, All, unwrap_or}
@@ -11,6 +10,7 @@ use Rattle.meta_types.specs.declared.fault.DefinitionError.TheVariants.{BadName,
 use Rattle.meta_settings.specs.declared.index.PresetType.{PresetType}
 use Rattle.meta_settings.specs.declared.index.PresetType.TheVariants.{BoolSetting, OtherPreset}
 use Rattle.meta_types.specs.SharedNames.{IsDuplicate, AreDistinct}
+use Rattle.meta_types.specs.FirstFault.{Key, key_at, IsFirst, ShowsNone}
 use Rattle.meta_settings.specs.GroupDeclaration.{GroupDeclaration, Entry, entries_of, names_of, entry_count, boolean_count, byte_count}
 
 -- a byte that a description may have: one of 0x20 to 0x7e, but no double quote and no backslash
@@ -54,10 +54,10 @@ pub data Rule : Type 0 where
 
 -- their order
 abbrev pub rule_number : Rule → ℕ
-rule_number NameRule = 1
-rule_number DuplicateRule = 2
-rule_number EnumRule = 3
-rule_number PresetRule = 4
+rule_number NameRule = 0
+rule_number DuplicateRule = 1
+rule_number EnumRule = 2
+rule_number PresetRule = 3
 
 -- where a fault is looked for: at the group's name; at the entry of a place, by a rule; in the counts of all entries
 pub data Position : Type 0 where
@@ -65,50 +65,33 @@ pub data Position : Type 0 where
   OfEntry : ℕ → Rule → Position
   OfCounts : Position
 
--- p is looked at before q: the group's name, then entry by entry, and the counts last
-abbrev pub Before : Position → Position → Type 0
-Before OfGroupName OfGroupName = ⊥
-Before OfGroupName (OfEntry j s) = Unit {0}
-Before OfGroupName OfCounts = Unit {0}
-Before (OfEntry i r) OfGroupName = ⊥
-Before (OfEntry i r) (OfEntry j s) = (i < j) ⊎ ((i ≡ j) × (rule_number r < rule_number s))
-Before (OfEntry i r) OfCounts = Unit {0}
-Before OfCounts q = ⊥
+-- their order: the group's name, then entry by entry, and the counts last
+abbrev pub position_key : Position → Key
+position_key OfGroupName = key_at 0 0 0
+position_key (OfEntry k rule) = key_at 1 k (rule_number rule)
+position_key OfCounts = key_at 2 0 0
 
--- the entry e at place k breaks the rule
-abbrev pub BreaksRule : GroupDeclaration → ℕ → Entry → Rule → Type 0
+-- the entry x at place k breaks the rule, and e tells of it, with the numbers of the group and of the entry
+abbrev pub BreaksRule : GroupDeclaration → ℕ → ℕ → Entry → Rule → DefinitionError → Type 0
 -- its name or one of its enumerators is no name, or its description needs an escape
-BreaksRule d k e NameRule = IsWellNamed e → ⊥
--- an earlier entry has the same name or the same camel case
-BreaksRule d k e DuplicateRule = (j : ℕ) × IsDuplicate (names_of d) k j
+BreaksRule d g k x NameRule e = (e ≡ BadName (AtEntry g k)) × (IsWellNamed x → ⊥)
+-- an earlier entry has the same name or the same camel case, and the first such is told
+BreaksRule d g k x DuplicateRule e = (j : ℕ) × (e ≡ DuplicateName (AtEntry g k) j) × IsDuplicate (names_of d) k j
 -- it is an enum without values, with more than 256, or with two of the same name or camel case
-BreaksRule d k e EnumRule = IfSome e.values IsGoodEnum → ⊥
+BreaksRule d g k x EnumRule e = (e ≡ BadEnum g k) × (IfSome x.values IsGoodEnum → ⊥)
 -- it is a preset, and names a boolean that the group hasn't, or a preset that isn't earlier
-BreaksRule d k e PresetRule = AreMet (boolean_count d) (k - length d.settings) e.args → ⊥
+BreaksRule d g k x PresetRule e = (e ≡ BadPreset g k) × (AreMet (boolean_count d) (k - length d.settings) x.args → ⊥)
 
--- what is at the position breaks the rule that is looked at there
-abbrev pub Breaks : GroupDeclaration → Position → Type 0
-Breaks d OfGroupName = IsName d.name → ⊥
-Breaks d (OfEntry k rule) = (e : Entry) × (slice_get (entries_of d) k ≡ Some e) × BreaksRule d k e rule
-Breaks d OfCounts = HasTooMany d
+-- what is at the position breaks the rule that is looked at there, and e tells of it
+abbrev pub ShowsAt : GroupDeclaration → ℕ → Position → DefinitionError → Type 0
+ShowsAt d g OfGroupName e = (e ≡ BadName (AtGroup g)) × (IsName d.name → ⊥)
+ShowsAt d g (OfEntry k rule) e = (x : Entry) × (slice_get (entries_of d) k ≡ Some x) × BreaksRule d g k x rule e
+ShowsAt d g OfCounts e = (e ≡ TooManySettings g (boolean_count d) (byte_count d) (entry_count d)) × HasTooMany d
 
--- the fault that tells that a rule is broken at this position, with its numbers: a duplicate's is that of the first entry
--- that it shares its name with
-abbrev pub IsFaultOf : GroupDeclaration → ℕ → Position → DefinitionError → Type 0
-IsFaultOf d g OfGroupName e = e ≡ BadName (AtGroup g)
-IsFaultOf d g (OfEntry k NameRule) e = e ≡ BadName (AtEntry g k)
-IsFaultOf d g (OfEntry k DuplicateRule) e = (j : ℕ) × IsDuplicate (names_of d) k j × (e ≡ DuplicateName (AtEntry g k) j)
-IsFaultOf d g (OfEntry k EnumRule) e = e ≡ BadEnum g k
-IsFaultOf d g (OfEntry k PresetRule) e = e ≡ BadPreset g k
-IsFaultOf d g OfCounts e = e ≡ TooManySettings g (boolean_count d) (byte_count d) (entry_count d)
+-- e is the first fault of the group with the number g
+abbrev pub IsFirstGroupFault : GroupDeclaration → ℕ → DefinitionError → Type 0
+IsFirstGroupFault d g e = IsFirst position_key (ShowsAt d g) e
 
--- e is the first fault of the group with the number g: it tells of a broken rule, and none is broken at an earlier position
-pub record IsFirstGroupFault (d : GroupDeclaration) (g : ℕ) (e : DefinitionError) : Type 0 where
-  pub position : Position
-  pub broken : Breaks d position
-  pub tells : IsFaultOf d g position e
-  pub first : (p : Position) → Before p position → Breaks d p → ⊥
-
--- the group breaks no rule
+-- the group breaks no rule, whatever its number is
 abbrev pub IsValidGroup : GroupDeclaration → Type 0
-IsValidGroup d = (p : Position) → Breaks d p → ⊥
+IsValidGroup d = (g : ℕ) → ShowsNone (ShowsAt d g)

@@ -2,8 +2,8 @@ ghost use Rattle.std.specs.Prelude.{◌≡◌, ◌↔◌, ◌<◌, ◌+◌, ◌-
 ghost use Rattle.meta_types.specs.Name.{IsName};
 ghost use Rattle.meta_types.specs.SharedNames.{AreDistinct};
 ghost use Rattle.meta_settings.specs.GroupDeclaration.{boolean_count, byte_count, entry_count, names_of};
-ghost use Rattle.meta_settings.specs.GroupFaults.{IsPlainByte, IsWellNamed, IsGoodEnum, IsMet, AreMet, HasTooMany, IsFirstGroupFault, IsValidGroup};
-ghost use Rattle.meta_settings.specs.Searched.{KeepsRules, IsFirstEntryFault, IsFirstOfEntries};
+ghost use Rattle.meta_settings.specs.GroupFaults.{IsPlainByte, IsWellNamed, IsGoodEnum, IsMet, AreMet, NameRule, OfEntry, OfCounts, IsFirstGroupFault, IsValidGroup};
+ghost use Rattle.meta_settings.specs.Searched.{IsCleanBefore};
 
 use super::builder::SettingGroupBuilder;
 use super::entry::Entry;
@@ -110,8 +110,8 @@ fn are_met(booleans: u32, earlier: usize, args: &[PresetType]) -> bool
     args.iter().all(|arg| is_met(booleans, earlier, arg))
 }
 
-/// The first fault of the entry at this place, where `names` are those of the earlier ones. Where there is none its name is
-/// added.
+/// The first fault of the group, if the entry at this place shows it, where none is shown before and `names` are those of the
+/// earlier entries. Where there is none the entry's name is added.
 fn entry_fault<'b>(
     alloc: Global,
     builder: &'b SettingGroupBuilder,
@@ -121,8 +121,9 @@ fn entry_fault<'b>(
 ) -> Result<Option<DefinitionError>, AllocError>
     requires within { place < entry_count builder.now }
     requires kept { names.old ≡ take place (names_of builder.now) }
+    requires clean { IsCleanBefore builder.now (OfEntry place NameRule) }
     ensures kept { IfOk result (λ o. IfNone o (names.new ≡ take (place + 1) (names_of builder.now))) }
-    ensures fault { IfOk result (λ o. MatchOption o (KeepsRules builder.now place) (IsFirstEntryFault builder.now group place)) }
+    ensures fault { IfOk result (λ o. MatchOption o (IsCleanBefore builder.now (OfEntry (place + 1) NameRule)) (IsFirstGroupFault builder.now group)) }
 {
     let entry = builder.entry(place);
     let number = place as u64;
@@ -143,13 +144,14 @@ fn entry_fault<'b>(
     Ok(None)
 }
 
-/// The first fault of the entries, in their order.
+/// The first fault of the group, if the entries show it, where none is shown before.
 fn entries_fault(
     alloc: Global,
     builder: &SettingGroupBuilder,
     group: u64,
 ) -> Result<Option<DefinitionError>, AllocError>
-    ensures { IfOk result (λ o. MatchOption o ((k : ℕ) → k < entry_count builder.now → KeepsRules builder.now k) (IsFirstOfEntries builder.now group)) }
+    requires { IsCleanBefore builder.now (OfEntry 0 NameRule) }
+    ensures { IfOk result (λ o. MatchOption o (IsCleanBefore builder.now OfCounts) (IsFirstGroupFault builder.now group)) }
 {
     let mut names = EarlierNames::new(alloc);
     for place in 0..builder.entry_count() {

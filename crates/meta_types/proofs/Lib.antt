@@ -22,3 +22,5 @@ pub mod ListPlaces
 mod KeptNames
 pub mod NamesSoFar
 pub mod SharedNames
+-- the first fault
+pub mod FirstFault

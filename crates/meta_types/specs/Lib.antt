@@ -10,5 +10,6 @@ pub mod CamelCase
 pub mod Name
 pub mod SharedNames
 pub mod Fault
+pub mod FirstFault
 pub mod DerivedFunc
 pub mod Parts

@@ -1,12 +1,20 @@
-use Rattle.std.proofs.Common.{◌≡◌, ◌∙◌, inl, inr, ⊎_elim, subst, arith}
+use Rattle.std.proofs.Common.{◌≡◌, ◌∙◌, inl, inr, ⊎_elim, subst, arith, refl, sym}
+use Rattle.std.proofs.lemmas.Bool.{false≢true}
 use Rattle.meta_types.specs.Name.{IsName}
 use Rattle.meta_settings.specs.GroupDeclaration.{boolean_count}
-use Rattle.meta_settings.specs.GroupFaults.{HasTooMany}
-use Rattle.meta_settings.proofs.FirstFault.{first_of_entries, first_of_counts, valid_where}
+use Rattle.meta_settings.specs.GroupFaults.{HasTooMany, OfGroupName, OfCounts}
+use Rattle.meta_settings.proofs.Rules.{before_all, passed_name, passed_counts}
 use Rattle.meta_settings.proofs.fault.group_fault.Goals as goal
 
-pub returns-in-Some : goal.returns-in-Some
-returns-in-Some c = first_of_entries c.args.builder.now c.args.group (subst IsName c.name.ensures (c.is_name.ensures.0 c.if-not-is_name.false)) c.in-Some.fault (rw c.in-Some.is at c.in_ok-fault.ensures)
+pub returns-then-not-is_name : goal.returns-then-not-is_name
+returns-then-not-is_name c = record {
+  position = OfGroupName;
+  shows = (refl, λ named. false≢true (sym c.if-not-is_name.true ∙ c.is_name.ensures.1 (subst IsName (sym c.name.ensures) named)));
+  first = before_all c.args.builder.now c.args.group;
+}
+
+pub entries_fault-requires : goal.entries_fault-requires
+entries_fault-requires c = passed_name c.args.builder.now (subst IsName c.name.ensures (c.is_name.ensures.0 c.if-not-is_name.false))
 
 pub returns-then-booleans-gt-MAX_BOOLEANS : goal.returns-then-booleans-gt-MAX_BOOLEANS
 returns-then-booleans-gt-MAX_BOOLEANS c =
@@ -15,7 +23,7 @@ returns-then-booleans-gt-MAX_BOOLEANS c =
     let bytes = c.byte_count-bytes.ensures in
     let entries = c.entry_count-entries.ensures in
     let many : HasTooMany d = ⊎_elim (λ l. inl (omega (arith, l))) (⊎_elim (λ l. inr (inl (omega (arith, l.1)))) (λ l. inr (inr (omega (arith, l.2))))) c.then-booleans-gt-MAX_BOOLEANS.either in
-    first_of_counts d c.args.group (subst IsName c.name.ensures (c.is_name.ensures.0 c.if-not-is_name.false)) (rw c.in_default.is at c.in_ok-fault.ensures) _ _ _ booleans bytes entries many
+    record { position = OfCounts; shows = (rw (booleans, bytes, entries) refl, many); first = (rw c.in_default.is at c.in_ok-fault.ensures) c.args.group }
 
 pub returns : goal.returns
 returns c =
@@ -26,5 +34,4 @@ returns c =
     let few_booleans = c.if-booleans-gt-MAX_BOOLEANS.false in
     let few_bytes = c.if-bytes-gt-MAX_BYTES.false in
     let few_entries = c.if-entries-gt-MAX_ENTRIES.false in
-    valid_where d c.args.group (subst IsName c.name.ensures (c.is_name.ensures.0 c.if-not-is_name.false)) (rw c.in_default.is at c.in_ok-fault.ensures)
-    (⊎_elim (λ l. omega (arith, l)) (⊎_elim (λ l. omega (arith, l)) (λ l. omega (arith, l))))
+    passed_counts d (rw c.in_default.is at c.in_ok-fault.ensures) (⊎_elim (λ l. omega (arith, l)) (⊎_elim (λ l. omega (arith, l)) (λ l. omega (arith, l))))
