@@ -1,14 +1,10 @@
 -- The names of instructions that show no fault are different.
-use Rattle.std.proofs.Common.{◌+◌, refl}
+use Rattle.std.proofs.Common.{inr, refl}
 use Rattle.meta_types.specs.SharedNames.{AreDifferentNames}
-use Rattle.meta_types.specs.declared.fault.Place.TheVariants.{Instruction as AtInstruction}
-use Rattle.meta_types.specs.declared.fault.DefinitionError.TheVariants.{DuplicateName}
 use Rattle.meta_types.proofs.SharedNames.{distinct_differ}
 use Rattle.meta_inst.specs.InstructionSet.{InstructionSet}
-use Rattle.meta_inst.specs.Faults.{OfInstruction, names_of}
-use Rattle.meta_inst.specs.InstructionFaults.{duplicate_rule}
-use Rattle.meta_declared.specs.Searched.{ShowsNoEarlyFault}
+use Rattle.meta_inst.specs.InstructionFaults.{DuplicateRule}
+use Rattle.meta_inst.specs.Faults.{OfInstruction, names_of, IsValid}
 
-pub different_names : (d : InstructionSet) → ShowsNoEarlyFault d → AreDifferentNames (names_of d)
-different_names d early = distinct_differ (names_of d) (λ k j shared.
-    early (OfInstruction k duplicate_rule) (DuplicateName (AtInstruction (k + 1)) (j + 1)) tt (record { place = k; earlier = j; number = refl; earlier_number = refl; position = refl; duplicate = shared }))
+pub different_names : (d : InstructionSet) → IsValid d → AreDifferentNames (names_of d)
+different_names d valid = distinct_differ (names_of d) (λ k j shared. valid (OfInstruction k DuplicateRule) _ (inr (record { second = refl; earlier = j; duplicate = shared; tells = refl })))

@@ -5,27 +5,21 @@ use Rattle.std.specs.List.{slice_get}
 use Rattle.std.proofs.lemmas.Bool.{cases_lt}
 use Rattle.std.proofs.lemmas.Option.{slice_get_within, same_Some}
 use Rattle.meta_types.specs.Name.{IsName}
-use Rattle.meta_types.specs.declared.fault.Place.TheVariants.{Format as AtFormat}
-use Rattle.meta_types.specs.declared.fault.DefinitionError.{DefinitionError}
-use Rattle.meta_types.specs.declared.fault.DefinitionError.TheVariants.{BadName, BadFormat, FormatClash}
 use Rattle.meta_typevar.specs.declared.content.TypeVarContent.{TypeVarContent}
 use Rattle.meta_operands.specs.declared.format.InstructionFormat.{InstructionFormat}
 use Rattle.meta_inst.specs.Builder.{Builder}
 use Rattle.meta_inst.specs.InstructionSet.{InstructionSet}
-use Rattle.meta_inst.specs.Faults.{IsAt, IsFirstUse, HasBadFormatName, HasTooManyBlocks, AreClashing, IsFirstClash, OfFormat, ShowsAt, format_name_rule, blocks_rule, clash_rule}
+use Rattle.meta_inst.specs.Faults.{IsAt, IsFirstUse, HasBadFormatName, HasTooManyBlocks, AreClashing, IsFirstClash, FormatNameRule, BlocksRule, ClashRule, OfFormat}
 use Rattle.meta_declared.specs.declared.formats.UsedFormat.{UsedFormat}
-use Rattle.meta_declared.specs.Searched.{ShowsNoFormatFault, IsFirstFormatFault}
-use Rattle.meta_declared.specs.FormatsUsed.{IsUsedBefore, AreUsedBefore, AreApart, IsAmong, IsNotAmong, IsOfTable, AreOfTable, ClashIn, ClashesWithNone, IsFirstToClash}
-use Rattle.meta_declared.proofs.AtFormat.{ShowsAtFormat, ABadName, ManyBlocks, AClash, at_format, first_use_of}
+use Rattle.meta_declared.specs.Searched.{IsCleanBefore}
+use Rattle.meta_declared.specs.FormatsUsed.{AreUsedBefore, AreApart, IsAmong, IsNotAmong, IsOfTable, AreOfTable, ClashIn, ClashesWithNone, IsFirstToClash}
+use Rattle.meta_declared.proofs.OneFault.{searchable}
+use Rattle.meta_types.proofs.FirstFault.{passed, next_place}
 use Rattle.meta_types.proofs.ListPlaces.{get_end, get_before, get_pushed}
 
 -- what is declared
 abbrev pub declared : List TypeVarContent → List InstructionFormat → List Builder → InstructionSet
 declared vars formats instructions = record { vars = vars; formats = formats; instructions = instructions }
-
--- no format that is first used before place k shows a fault
-pub record AreCleanBefore (d : InstructionSet) (k : ℕ) : Type 0 where
-  pub clean : (j rule : ℕ) (e : DefinitionError) → j < k → ShowsAt d e (OfFormat j rule) → ⊥
 
 -- ---- first uses
 
@@ -56,12 +50,9 @@ are_clashing d f g c = (c.one, c.other, c.is_one, c.is_other, c.shares)
 pub none_used : (d : InstructionSet) → AreUsedBefore d 0 []
 none_used d = record { uses = λ j f is. absurd (cc); all = λ i b l is. absurd (omega arith); in_order = λ i j f g p q l is_f is_g u v. absurd (cc) }
 
-pub none_clean : (d : InstructionSet) → AreCleanBefore d 0
-none_clean d = record { clean = λ j rule e l s. omega arith }
-
 module _ (d : InstructionSet) (k : ℕ) (b : Builder) (used : List UsedFormat) (before : AreUsedBefore d k used) (at : IsAt d k b) where
   -- a format that isn't among those used before is first used here
-  first_here : IsNotAmong used b.format → IsFirstUse d b.format k
+  pub first_here : IsNotAmong used b.format → IsFirstUse d b.format k
   first_here new = record {
     user = b;
     at = at;
@@ -90,16 +81,11 @@ module _ (d : InstructionSet) (k : ℕ) (b : Builder) (used : List UsedFormat) (
     in_order = before.in_order;
   }
 
-  pub clean_again : AreCleanBefore d k → IsAmong used b.format → AreCleanBefore d (k + 1)
-  clean_again h among = record {
-    clean = λ j rule e l s.
-        ⊎_elim (λ (m : j < k). h.clean j rule e m s)
-        (λ (m : k ≤ j).
-        let is : j ≡ k = omega arith in
-        let (f, u) = first_use_of d k rule e (at_format d k rule e (subst (λ (z : ℕ). ShowsAt d e (OfFormat z rule)) is s)) in
-        not_here f among u)
-        (cases_lt j k);
-  }
+  pub clean_again : IsCleanBefore d (OfFormat k FormatNameRule) → IsAmong used b.format → IsCleanBefore d (OfFormat (k + 1) FormatNameRule)
+  clean_again clean among =
+      let named = passed (searchable d) (OfFormat k FormatNameRule) clean (λ e s. not_here s.format among s.first_use) in
+      let few = passed (searchable d) (OfFormat k BlocksRule) named (λ e s. not_here s.format among s.first_use) in
+      next_place (searchable d) 2 k (passed (searchable d) (OfFormat k ClashRule) few (λ e s. not_here s.format among s.first_use))
 
   -- the format of the instruction is first used here
   pub used_new : (new : UsedFormat) → new.id ≡ b.format → IsNotAmong used b.format → AreUsedBefore d (k + 1) (used ++ new ∷ [])
@@ -136,13 +122,13 @@ module _ (d : InstructionSet) (k : ℕ) (b : Builder) (used : List UsedFormat) (
       here : IsFirstUse d new.id k
       here = subst (λ (z : ℕ). IsFirstUse d z k) (sym own) (first_here not_among)
 
-  -- its name is none
-  bad_here : (HasBadFormatName d b.format → ⊥) → (f : ℕ) → IsFirstUse d f k → HasBadFormatName d f → ⊥
-  bad_here good f u bad = good (subst (HasBadFormatName d) (format_at d f k b u at) bad)
+  -- ---- its rules, one after another
 
-  -- it has too many blocks
-  many_here : (HasTooManyBlocks d b.format → ⊥) → (f : ℕ) → IsFirstUse d f k → HasTooManyBlocks d f → ⊥
-  many_here few f u many = few (subst (HasTooManyBlocks d) (format_at d f k b u at) many)
+  pub good_name : IsCleanBefore d (OfFormat k FormatNameRule) → (HasBadFormatName d b.format → ⊥) → IsCleanBefore d (OfFormat k BlocksRule)
+  good_name clean good = passed (searchable d) (OfFormat k FormatNameRule) clean (λ e s. good (subst (HasBadFormatName d) (format_at d s.format k b s.first_use at) s.breaks.1))
+
+  pub few_blocks : IsCleanBefore d (OfFormat k BlocksRule) → (HasTooManyBlocks d b.format → ⊥) → IsCleanBefore d (OfFormat k ClashRule)
+  few_blocks clean few = passed (searchable d) (OfFormat k BlocksRule) clean (λ e s. few (subst (HasTooManyBlocks d) (format_at d s.format k b s.first_use at) s.breaks.1))
 
   -- it clashes with one that is used before
   clash_here : ClashesWithNone d.formats used b.format → (f g : ℕ) → IsFirstUse d f k → IsFirstClash d f k g → ⊥
@@ -152,54 +138,8 @@ module _ (d : InstructionSet) (k : ℕ) (b : Builder) (used : List UsedFormat) (
       let same = sym (among.is ∙ c.first_use.uses) in
       none among.place among.format among.at (subst (ClashIn d.formats b.format) same (subst (λ (z : ℕ). ClashIn d.formats z g) e (clash_in d f g c.clashes)))
 
-  pub clean_new : AreCleanBefore d k → (HasBadFormatName d b.format → ⊥) → (HasTooManyBlocks d b.format → ⊥) → ClashesWithNone d.formats used b.format → AreCleanBefore d (k + 1)
-  clean_new h good few none = record {
-    clean = λ j rule e l s.
-        ⊎_elim (λ (m : j < k). h.clean j rule e m s)
-        (λ (m : k ≤ j).
-        let is : j ≡ k = omega arith in
-        at_k rule e (at_format d k rule e (subst (λ (z : ℕ). ShowsAt d e (OfFormat z rule)) is s)))
-        (cases_lt j k);
-  }
-    where
-      at_k : (rule : ℕ) (e : DefinitionError) → ShowsAtFormat d k rule e → ⊥
-      at_k rule e (ABadName f u r bad is) = bad_here good f u bad
-      at_k rule e (ManyBlocks f u r many is) = many_here few f u many
-      at_k rule e (AClash f g u r c is) = clash_here none f g u c
-
-  -- ---- the first fault
-
-  pub first_bad_name : IsNotAmong used b.format → AreCleanBefore d k → HasBadFormatName d b.format → IsFirstFormatFault d (BadName (AtFormat b.format))
-  first_bad_name new h bad = record {
-    place = k;
-    rule = format_name_rule;
-    shows = record { place = k; first_use = first_here new; position = refl; shows = bad };
-    first = λ j rule e earlier s.
-        ⊎_elim (λ (m : j < k). h.clean j rule e m s)
-        (λ (m : (j ≡ k) × (rule < format_name_rule)). no_rule j rule e m.1 (at_format d j rule e s))
-        earlier;
-  }
-    where
-      no_rule : (j rule : ℕ) (e : DefinitionError) → rule < 1 → ShowsAtFormat d j rule e → ⊥
-      no_rule j rule e l (ABadName f u r bad is) = omega arith
-      no_rule j rule e l (ManyBlocks f u r many is) = omega arith
-      no_rule j rule e l (AClash f g u r c is) = omega arith
-
-  pub first_bad_format : IsNotAmong used b.format → AreCleanBefore d k → (HasBadFormatName d b.format → ⊥) → HasTooManyBlocks d b.format → IsFirstFormatFault d (BadFormat b.format)
-  first_bad_format new h good many = record {
-    place = k;
-    rule = blocks_rule;
-    shows = record { place = k; first_use = first_here new; position = refl; shows = many };
-    first = λ j rule e earlier s.
-        ⊎_elim (λ (m : j < k). h.clean j rule e m s)
-        (λ (m : (j ≡ k) × (rule < blocks_rule)). good_name rule e m.1 (at_format d k rule e (subst (λ (z : ℕ). ShowsAt d e (OfFormat z rule)) m.0 s)))
-        earlier;
-  }
-    where
-      good_name : (rule : ℕ) (e : DefinitionError) → rule < 2 → ShowsAtFormat d k rule e → ⊥
-      good_name rule e l (ABadName f u r bad is) = bad_here good f u bad
-      good_name rule e l (ManyBlocks f u r many is) = omega arith
-      good_name rule e l (AClash f g u r c is) = omega arith
+  pub no_clash : IsCleanBefore d (OfFormat k ClashRule) → ClashesWithNone d.formats used b.format → IsCleanBefore d (OfFormat (k + 1) FormatNameRule)
+  no_clash clean none = next_place (searchable d) 2 k (passed (searchable d) (OfFormat k ClashRule) clean (λ e s. clash_here none s.format s.breaks.0 s.first_use s.breaks.2))
 
   -- the formats that are first used before the first that clashes don't clash
   none_before : (g : ℕ) (c : IsFirstToClash d.formats used b.format g) (i h : ℕ) → i < (before.uses c.place c.format c.at).place → IsFirstUse d h i → AreClashing d b.format h → ⊥
@@ -220,52 +160,23 @@ module _ (d : InstructionSet) (k : ℕ) (b : Builder) (used : List UsedFormat) (
       (cases_lt c.place among.place))
       (cases_lt among.place c.place)
 
-  first_clash : (g : ℕ) → IsFirstToClash d.formats used b.format g → IsFirstClash d b.format k g
+  pub first_clash : (g : ℕ) → IsFirstToClash d.formats used b.format g → IsFirstClash d b.format k g
   first_clash g c =
       let user = before.uses c.place c.format c.at in
       record { place = user.place; first_use = subst (λ (z : ℕ). IsFirstUse d z user.place) c.is user.first_use; earlier = user.before; clashes = are_clashing d b.format g c.clashes; first = none_before g c }
 
-  pub first_format_clash : (g : ℕ) → IsNotAmong used b.format → AreCleanBefore d k → (HasBadFormatName d b.format → ⊥) → (HasTooManyBlocks d b.format → ⊥) → IsFirstToClash d.formats used b.format g → IsFirstFormatFault d (FormatClash b.format g)
-  first_format_clash g new h good few c = record {
-    place = k;
-    rule = clash_rule;
-    shows = record { place = k; first_use = first_here new; position = refl; shows = first_clash g c };
-    first = λ j rule e earlier s.
-        ⊎_elim (λ (m : j < k). h.clean j rule e m s)
-        (λ (m : (j ≡ k) × (rule < clash_rule)). good_alone rule e m.1 (at_format d k rule e (subst (λ (z : ℕ). ShowsAt d e (OfFormat z rule)) m.0 s)))
-        earlier;
-  }
-    where
-      good_alone : (rule : ℕ) (e : DefinitionError) → rule < 3 → ShowsAtFormat d k rule e → ⊥
-      good_alone rule e l (ABadName f u r bad is) = bad_here good f u bad
-      good_alone rule e l (ManyBlocks f u r many is) = many_here few f u many
-      good_alone rule e l (AClash f g u r c is) = omega arith
-
--- no format is first used behind the instructions
-pub all_clean : (d : InstructionSet) (k : ℕ) → AreCleanBefore d k → length d.instructions ≤ k → ShowsNoFormatFault d
-all_clean d k h l place rule e s =
-    let (f, u) = first_use_of d place rule e (at_format d place rule e s) in
-    let within = slice_get_within d.instructions place u.user u.at in
-    h.clean place rule e (omega arith) s
-
 -- ---- a format's name
 
-pub bad_name : (d : InstructionSet) (f : ℕ) (x : InstructionFormat) → slice_get d.formats f ≡ Some x → (IsName x.name → ⊥) → HasBadFormatName d f
-bad_name d f x at never = (x, at, never)
-
-pub good_name : (d : InstructionSet) (f : ℕ) (x : InstructionFormat) → slice_get d.formats f ≡ Some x → IsName x.name → HasBadFormatName d f → ⊥
-good_name d f x at is bad = bad.2 (subst (λ (z : InstructionFormat). IsName z.name) (same_Some x bad.0 (sym at ∙ bad.1)) is)
+pub has_name : (d : InstructionSet) (f : ℕ) (x : InstructionFormat) → slice_get d.formats f ≡ Some x → IsName x.name → HasBadFormatName d f → ⊥
+has_name d f x at is bad = bad.2 (subst (λ (z : InstructionFormat). IsName z.name) (same_Some x bad.0 (sym at ∙ bad.1)) is)
 
 -- ---- its blocks
 
 abbrev pub HasMany : InstructionFormat → Type 0
 HasMany x = (2 < x.num_block_operands) ⊎ (1 < x.num_raw_block_operands)
 
-pub many_blocks : (d : InstructionSet) (f : ℕ) (x : InstructionFormat) → slice_get d.formats f ≡ Some x → HasMany x → HasTooManyBlocks d f
-many_blocks d f x at many = (x, at, many)
-
-pub few_blocks : (d : InstructionSet) (f : ℕ) (x : InstructionFormat) → slice_get d.formats f ≡ Some x → (HasMany x → ⊥) → HasTooManyBlocks d f → ⊥
-few_blocks d f x at few many = few (subst HasMany (same_Some many.0 x (sym many.1 ∙ at)) many.2)
+pub has_few : (d : InstructionSet) (f : ℕ) (x : InstructionFormat) → slice_get d.formats f ≡ Some x → (HasMany x → ⊥) → HasTooManyBlocks d f → ⊥
+has_few d f x at few many = few (subst HasMany (same_Some many.0 x (sym many.1 ∙ at)) many.2)
 
 -- what holds of equal lists and numbers
 pub carry : (P : List UsedFormat → ℕ → Type 0) (xs ys : List UsedFormat) (f g : ℕ) → xs ≡ ys → f ≡ g → P xs f → P ys g

@@ -1,7 +1,4 @@
 -- the search for the first fault
-mod AtInstruction
-mod AtFormat
-mod AtAll
 mod Rules
 mod NamesSoFar
 mod FormatSearch

@@ -1,77 +1,91 @@
--- The first fault of one instruction, from those that it shows by itself and from the names before it.
-use Rattle.std.proofs.Common.{◌≡◌, ◌≢◌, ◌<◌, ◌+◌, ⊎_elim, inl, inr, ℕ, Option, None, Some, Result, Ok, Err, IfOk, OnOk, IfErr, MatchOption, refl, sym, ap, ◌∙◌, subst, arith}
+-- The first fault, if one instruction shows it: by a rule that it breaks by itself, or by a name that it shares.
+use Rattle.std.proofs.Common.{◌≡◌, ◌≢◌, ◌<◌, ◌+◌, inl, inr, ℕ, slice_get, Result, Ok, Err, IfOk, OnOk, IfErr, refl, sym, ap, ◌∙◌, subst, arith}
 use Rattle.std.proofs.lemmas.Option.{same_Some}
 use Rattle.meta_types.specs.declared.fault.Place.{Place}
 use Rattle.meta_types.specs.declared.fault.Place.TheVariants.{Instruction as AtInstruction}
 use Rattle.meta_types.specs.declared.fault.DefinitionError.{DefinitionError}
 use Rattle.meta_types.specs.declared.fault.DefinitionError.TheVariants.{BadName, DuplicateName, OutOfMemory}
+use Rattle.meta_types.specs.SharedNames.{IsDuplicate}
+use Rattle.meta_types.specs.FirstFault.{key_at, ShowsNoneBefore}
+use Rattle.meta_types.proofs.FirstFault.{next_place, some_rules}
 use Rattle.meta_inst.specs.Builder.{Builder}
 use Rattle.meta_inst.specs.Built.{Built}
 use Rattle.meta_inst.specs.InstructionSet.{InstructionSet}
-use Rattle.meta_inst.specs.InstructionFaults.{Breaks, IsFirstOwnFault, IsWellMade}
-use Rattle.meta_types.specs.SharedNames.{IsDuplicate}
-use Rattle.meta_inst.specs.Faults.{IsAt, names_of}
-use Rattle.meta_inst.proofs.OneOwnFault.{later, first_rule}
+use Rattle.meta_inst.specs.InstructionFaults.{Rule, NameRule, DuplicateRule, rule_number, Breaks, IsFirstOwnFault, IsWellMade}
+use Rattle.meta_inst.specs.Faults.{IsAt, names_of, Position, OfOpcodes, OfInstruction, OfFormat, OfTypeSets, position_key, ShowsAt, IsFirstFault}
+use Rattle.meta_inst.proofs.OneOwnFault.{rule_count, first_rule, later}
 use Rattle.meta_inst.specs.Content.{content_of, IsPolymorphicInfoOf}
 use Rattle.meta_declared.specs.BuiltInstructions.{IsBuiltAt}
-use Rattle.meta_declared.specs.Searched.{ShowsNoInstructionFault, IsFirstInstructionFault, IsRefusedFirst}
-use Rattle.meta_declared.proofs.AtInstruction.{BreaksHere, SharesHere, at_instruction, shows_own}
+use Rattle.meta_declared.specs.Searched.{IsCleanBefore, IsRefusedFirst}
+use Rattle.meta_declared.proofs.OneFault.{searchable}
 
-module _ (d : InstructionSet) (k : ℕ) (b : Builder) (at : IsAt d k b) where
-  -- what is said of the instruction itself
-  abbrev Own : Option DefinitionError → Type 0
-  Own o = MatchOption o (IsWellMade d.vars d.formats b) (IsFirstOwnFault d.vars d.formats b (k + 1))
+module _ (d : InstructionSet) (k : ℕ) (b : Builder) (at : IsAt d k b) (clean : IsCleanBefore d (OfInstruction k NameRule)) where
+  -- the first rules are kept where the instruction keeps them by itself, and its name, if it is among them
+  first_rules : (n : ℕ) → ((rule : Rule) (e : DefinitionError) → rule_number rule < n → Breaks d.vars d.formats b (k + 1) rule e → ⊥) → (1 < n → (j : ℕ) → IsDuplicate (names_of d) k j → ⊥) → ShowsNoneBefore position_key (ShowsAt d) (key_at 1 k n)
+  first_rules n own unshared = some_rules (searchable d) 1 k n clean never
+    where
+      here : (i : ℕ) (rule : Rule) (e : DefinitionError) → i ≡ k → rule_number rule < n → ShowsAt d (OfInstruction i rule) e → ⊥
+      here i rule e is l (inl s) = own rule e l (subst (λ m. Breaks d.vars d.formats b (m + 1) rule e) is (subst (λ (x : Builder). Breaks d.vars d.formats x (i + 1) rule e) (same_Some s.builder b (sym s.at ∙ ap (slice_get d.instructions) is ∙ at)) s.breaks))
+      here i rule e is l (inr s) =
+          let second = ap rule_number s.second in
+          unshared (omega (arith, l, second)) s.earlier (subst (λ m. IsDuplicate (names_of d) m s.earlier) is s.duplicate)
 
-  -- a rule that is broken at the place is broken by the instruction
-  here : (rule : ℕ) (e : DefinitionError) → BreaksHere d k rule e → Breaks d.vars d.formats b (k + 1) rule e
-  here rule e h = subst (λ (x : Builder). Breaks d.vars d.formats x (k + 1) rule e) (same_Some h.builder b (sym h.at ∙ at)) h.breaks
+      never : (p : Position) (e : DefinitionError) → (position_key p).part ≡ 1 → (position_key p).place ≡ k → (position_key p).rule < n → ShowsAt d p e → ⊥
+      never OfOpcodes e part place l s = omega (arith, part)
+      never (OfInstruction i rule) e part place l s = here i rule e place l s
+      never (OfFormat i rule) e part place l s = omega (arith, part)
+      never OfTypeSets e part place l s = omega (arith, part)
 
   -- the first fault of its own is the first, where no name is shared before it
-  first_own : (e : DefinitionError) (h : IsFirstOwnFault d.vars d.formats b (k + 1) e) → (2 < h.rule → (j : ℕ) → IsDuplicate (names_of d) k j → ⊥) → IsFirstInstructionFault d k e
+  first_own : (e : DefinitionError) (h : IsFirstOwnFault d.vars d.formats b (k + 1) e) → (1 < rule_number h.position → (j : ℕ) → IsDuplicate (names_of d) k j → ⊥) → IsFirstFault d e
   first_own e h unshared = record {
-    rule = h.rule;
-    shows = shows_own d k h.rule e (record { builder = b; at = at; breaks = h.breaks });
-    first = λ other f l s. ⊎_elim (λ o. h.first other f l (here other f o)) (λ (q : SharesHere d k other f). unshared (omega (arith, l, q.second)) q.earlier q.duplicate) (at_instruction d k other f s);
+    position = OfInstruction k h.position;
+    shows = inl (record { builder = b; at = at; breaks = h.shows });
+    first = first_rules (rule_number h.position) (λ rule f l s. h.first rule f (inr (refl, inr (refl, l))) s) unshared;
+  }
+
+  -- where it has a name, and shares it, that is the first fault
+  shared_first : ((rule : Rule) (f : DefinitionError) → rule_number rule < 1 → Breaks d.vars d.formats b (k + 1) rule f → ⊥) → (j : ℕ) → IsDuplicate (names_of d) k j → IsFirstFault d (DuplicateName (AtInstruction (k + 1)) (j + 1))
+  shared_first named j duplicate = record {
+    position = OfInstruction k DuplicateRule;
+    shows = inr (record { second = refl; earlier = j; duplicate = duplicate; tells = refl });
+    first = first_rules 1 named (λ l. absurd (omega (arith, l)));
   }
 
   -- a bad name is looked for first
-  pub bad_name_first : (p : Place) → IsFirstOwnFault d.vars d.formats b (k + 1) (BadName p) → IsFirstInstructionFault d k (BadName p)
-  bad_name_first p h = first_own (BadName p) h (λ l. let is = first_rule d.vars d.formats b (k + 1) h.rule p h.breaks in absurd (omega (arith, l, is)))
+  bad_name_first : (p : Place) → IsFirstOwnFault d.vars d.formats b (k + 1) (BadName p) → IsFirstFault d (BadName p)
+  bad_name_first p h = first_own (BadName p) h (λ l. let is = ap rule_number (first_rule d.vars d.formats b (k + 1) h.position p h.shows) in absurd (omega (arith, l, is)))
 
-  -- where the name isn't bad, no rule of its own comes before that of shared names
-  none_before : (o : Option DefinitionError) → Own o → ((p : Place) → o ≢ Some (BadName p)) → (other : ℕ) (f : DefinitionError) → other < 2 → Breaks d.vars d.formats b (k + 1) other f → ⊥
-  none_before None well named other f l h = well (k + 1) other f h
-  none_before (Some e) first named other f l h =
-      let behind : 2 < first.rule = later d.vars d.formats b (k + 1) first.rule e first.breaks (λ p is. named p (ap Some is)) in
-      first.first other f (omega (arith, l, behind)) h
+  -- building was refused by what comes first
+  pub refused_first : (built : Result Built DefinitionError) → IfErr built (λ e. e ≢ OutOfMemory → IsFirstOwnFault d.vars d.formats b (k + 1) e) → IsRefusedFirst built → IfErr built (λ e. e ≢ OutOfMemory → IsFirstFault d e)
+  refused_first (Ok c) refused first = tt
+  refused_first (Err e) refused (inl (p, is)) = λ other. let same : e ≡ BadName p = cc in subst (IsFirstFault d) (sym same) (bad_name_first p (subst (IsFirstOwnFault d.vars d.formats b (k + 1)) same (refused other)))
+  refused_first (Err e) refused (inr is) = λ other. let same : e ≡ OutOfMemory = cc in absurd (other same)
 
-  pub shared_name_first : (o : Option DefinitionError) → Own o → ((p : Place) → o ≢ Some (BadName p)) → (j : ℕ) → IsDuplicate (names_of d) k j → IsFirstInstructionFault d k (DuplicateName (AtInstruction (k + 1)) (j + 1))
-  shared_name_first o own named j duplicate = record {
-    rule = 2;
-    shows = record { place = k; earlier = j; number = refl; earlier_number = refl; position = refl; duplicate = duplicate };
-    first = λ other f l s. ⊎_elim (λ h. none_before o own named other f l (here other f h)) (λ (q : SharesHere d k other f). omega (arith, l, q.second)) (at_instruction d k other f s);
-  }
+  -- it wasn't, and no name is shared: what is said of the instruction itself is all
+  module _ (unshared : (j : ℕ) → IsDuplicate (names_of d) k j → ⊥) where
+    pub clean_told : (built : Result Built DefinitionError) → OnOk built (IsWellMade d.vars d.formats b) → OnOk built (IsCleanBefore d (OfInstruction (k + 1) NameRule))
+    clean_told (Ok c) well = next_place (searchable d) 1 k (first_rules rule_count (λ rule e l s. well (k + 1) rule e s) (λ l. unshared))
+    clean_told (Err e) well = tt
 
-  -- where no name is shared, what is said of the instruction itself is all
-  pub own_told : (o : Option DefinitionError) → Own o → ((j : ℕ) → IsDuplicate (names_of d) k j → ⊥) → MatchOption o (ShowsNoInstructionFault d k) (IsFirstInstructionFault d k)
-  own_told None well unshared = λ rule e s. ⊎_elim (λ h. well (k + 1) rule e (here rule e h)) (λ (q : SharesHere d k rule e). unshared q.earlier q.duplicate) (at_instruction d k rule e s)
-  own_told (Some e) first unshared = first_own e first (λ l. unshared)
+    pub refused_told : (built : Result Built DefinitionError) → IfErr built (λ e. e ≢ OutOfMemory → IsFirstOwnFault d.vars d.formats b (k + 1) e) → IfErr built (λ e. e ≢ OutOfMemory → IsFirstFault d e)
+    refused_told (Ok c) refused = tt
+    refused_told (Err e) refused = λ other. first_own e (refused other) (λ l. unshared)
 
--- the fault by which building refused, if it did
-abbrev pub refusal_of : Result Built DefinitionError → Option DefinitionError
-refusal_of (Ok c) = None
-refusal_of (Err e) = Some e
+  -- its name is shared: that is the first fault, unless building was refused by what comes first
+  pub shared_told : (built : Result Built DefinitionError) → IfErr built (λ e. e ≢ OutOfMemory → IsFirstOwnFault d.vars d.formats b (k + 1) e) → OnOk built (IsWellMade d.vars d.formats b) → (IsRefusedFirst built → ⊥)
+      → (j : ℕ) → IsDuplicate (names_of d) k j → IsFirstFault d (DuplicateName (AtInstruction (k + 1)) (j + 1))
+  shared_told (Ok c) refused well behind = shared_first (λ rule f l s. well (k + 1) rule f s)
+  shared_told (Err e) refused well behind =
+      let first = refused (λ s. behind (inr (ap Err s))) in
+      let later = later d.vars d.formats b (k + 1) first.position e first.shows (λ p is. behind (inl (p, ap Err is))) in
+      shared_first (λ rule f l s. first.first rule f (inr (refl, inr (refl, omega (arith, l, later)))) s)
 
--- what building an instruction tells, where it didn't refuse for want of memory
-pub own_of : (d : InstructionSet) (b : Builder) (n : ℕ) (built : Result Built DefinitionError) → IfErr built (λ e. e ≢ OutOfMemory → IsFirstOwnFault d.vars d.formats b n e) → OnOk built (IsWellMade d.vars d.formats b)
-    → (IsRefusedFirst built → ⊥) → MatchOption (refusal_of built) (IsWellMade d.vars d.formats b) (IsFirstOwnFault d.vars d.formats b n)
-own_of d b n (Ok c) refused well later = well
-own_of d b n (Err e) refused well later = refused (λ s. later (inr (ap Err s)))
-
--- nor by a bad name
-pub no_bad_name : (built : Result Built DefinitionError) → (IsRefusedFirst built → ⊥) → (p : Place) → refusal_of built ≢ Some (BadName p)
-no_bad_name (Ok c) later p e = absurd (cc)
-no_bad_name (Err f) later p e = later (inl (p, ap Err (same_Some f (BadName p) e)))
+module _ (d : InstructionSet) (k : ℕ) (b : Builder) (at : IsAt d k b) where
+  -- what is built of it
+  pub built_told : (built : Result Built DefinitionError) → IfOk built (λ c. c ≡ content_of d.formats b c.polymorphic_info) → IfOk built (λ c. IsPolymorphicInfoOf d.vars d.formats b c.polymorphic_info) → IfOk built (IsBuiltAt d k)
+  built_told (Ok c) content control = record { builder = b; at = at; is = record { content = content; control = control } }
+  built_told (Err e) content control = tt
 
 -- what is refused first isn't built
 pub refused_on : (built : Result Built DefinitionError) (P : Type 0) → IsRefusedFirst built → OnOk built P
@@ -81,25 +95,3 @@ refused_on built P (inr is) = subst (λ r. OnOk r P) (sym is) tt
 pub refused_if : (built : Result Built DefinitionError) (P : Built → Type 0) → IsRefusedFirst built → IfOk built P
 refused_if built P (inl (p, is)) = subst (λ r. IfOk r P) (sym is) tt
 refused_if built P (inr is) = subst (λ r. IfOk r P) (sym is) tt
-
-module _ (d : InstructionSet) (k : ℕ) (b : Builder) (at : IsAt d k b) where
-  -- a bad name is the first fault
-  pub refused_first : (built : Result Built DefinitionError) → IfErr built (λ e. e ≢ OutOfMemory → IsFirstOwnFault d.vars d.formats b (k + 1) e) → IsRefusedFirst built → IfErr built (λ e. e ≢ OutOfMemory → IsFirstInstructionFault d k e)
-  refused_first (Ok c) refused first = tt
-  refused_first (Err e) refused (inl (p, is)) = λ other. let same : e ≡ BadName p = cc in subst (IsFirstInstructionFault d k) (sym same) (bad_name_first d k b at p (subst (IsFirstOwnFault d.vars d.formats b (k + 1)) same (refused other)))
-  refused_first (Err e) refused (inr is) = λ other. let same : e ≡ OutOfMemory = cc in absurd (other same)
-
-  module _ (unshared : (j : ℕ) → IsDuplicate (names_of d) k j → ⊥) where
-    -- where no name is shared, what is said of the instruction itself is all
-    pub clean_told : (built : Result Built DefinitionError) → MatchOption (refusal_of built) (IsWellMade d.vars d.formats b) (IsFirstOwnFault d.vars d.formats b (k + 1)) → OnOk built (ShowsNoInstructionFault d k)
-    clean_told (Ok c) own = own_told d k b at None own unshared
-    clean_told (Err e) own = tt
-
-    pub refused_told : (built : Result Built DefinitionError) → MatchOption (refusal_of built) (IsWellMade d.vars d.formats b) (IsFirstOwnFault d.vars d.formats b (k + 1)) → IfErr built (λ e. e ≢ OutOfMemory → IsFirstInstructionFault d k e)
-    refused_told (Ok c) own = tt
-    refused_told (Err e) own = λ other. own_told d k b at (Some e) own unshared
-
-  -- what is built of it
-  pub built_told : (built : Result Built DefinitionError) → IfOk built (λ c. c ≡ content_of d.formats b c.polymorphic_info) → IfOk built (λ c. IsPolymorphicInfoOf d.vars d.formats b c.polymorphic_info) → IfOk built (IsBuiltAt d k)
-  built_told (Ok c) content control = record { builder = b; at = at; is = record { content = content; control = control } }
-  built_told (Err e) content control = tt

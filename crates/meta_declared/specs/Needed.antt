@@ -12,8 +12,7 @@ use Rattle.meta_typevar.specs.Variable.{Variable, Sets}
 use Rattle.meta_inst.specs.Instruction.{Instruction}
 use Rattle.meta_inst.specs.Control.{IsControl}
 use Rattle.meta_inst.specs.InstructionSet.{InstructionSet, root_sets, instruction_of}
-use Rattle.meta_inst.specs.Faults.{IsAt, IsControlSet, IsFreeSet, AreNeededSets, LacksControl, HasBadDerivationAt}
-use Rattle.meta_inst.specs.InstructionFaults.{HasTooManyOperands}
+use Rattle.meta_inst.specs.Faults.{IsAt, IsControlSet, IsFreeSet, AreNeededSets}
 
 -- the control of an instruction, by its number
 abbrev pub control_at : List TypeVarContent → Option ℕ → Option Variable
@@ -67,15 +66,3 @@ pub record AreNeededMasks (d : InstructionSet) (masks : List Masks) : Type 0 whe
   pub sets : List FourSets
   pub are_needed : AreSetsByNeed d sets
   pub stand : StandForSets masks sets
-
--- no instruction lacks a control
-abbrev pub AllControlled : InstructionSet → Type 0
-AllControlled d = (k : ℕ) (b : Builder) → IsAt d k b → LacksControl d b → ⊥
-
--- no instruction has an operand that is badly derived
-abbrev pub AllDerived : InstructionSet → Type 0
-AllDerived d = (k : ℕ) (b : Builder) (place : ℕ) → IsAt d k b → HasBadDerivationAt d b place → ⊥
-
--- no instruction has too many operands
-abbrev pub AllSmall : InstructionSet → Type 0
-AllSmall d = (k : ℕ) (b : Builder) (count : ℕ) → IsAt d k b → HasTooManyOperands b count → ⊥

@@ -1,14 +1,13 @@
 ghost use Rattle.std.specs.Prelude.{◌≡◌, ◌≢◌, ◌<◌, ◌≤◌, ℕ, IfOk, IfErr, OnOk, length, map};
 ghost use Rattle.meta_types.specs.declared.fault.DefinitionError.TheVariants.{OutOfMemory};
-ghost use Rattle.meta_types.specs.SharedNames.{AreDifferentNames};
-ghost use Rattle.meta_inst.specs.Faults.{IsFirstFault, IsValid, names_of};
+ghost use Rattle.meta_inst.specs.Faults.{FormatNameRule, OfFormat, OfTypeSets, IsFirstFault, IsValid};
 ghost use Rattle.meta_settings.specs.LaidOut.{built_of};
 ghost use Rattle.meta_declared.specs.AllDeclared.{ShowsFirst, AreValid, AreValidGroups, IsFirstOfGroups};
 ghost use Rattle.meta_declared.specs.BuiltInstructions.{AreInstructionsOf};
 ghost use Rattle.meta_declared.specs.FormatsUsed.{AreUsedBefore, AreApart, AreOfTable};
 ghost use Rattle.meta_declared.specs.FormatsByName.{AreFormatsByName};
 ghost use Rattle.meta_declared.specs.Needed.{AreSetsByNeed};
-ghost use Rattle.meta_declared.specs.Searched.{ShowsNoInstructionFault, ShowsNoEarlyFault};
+ghost use Rattle.meta_declared.specs.Searched.{IsCleanBefore};
 
 use super::declarations::Declarations;
 use super::declared_set::DeclaredSet;
@@ -41,10 +40,9 @@ struct BuiltSet<'d> {
 /// The formats in use of an instruction set whose instructions show no fault, which are refused by the first fault that the set
 /// shows.
 fn checked_formats(alloc: Global, set: &DeclaredSet) -> Result<Vec<UsedFormat>, DefinitionError>
-    requires few { length set.now.instructions ≤ 255 }
-    requires clean { (k : ℕ) → k < length set.now.instructions → ShowsNoInstructionFault set.now k }
+    requires { IsCleanBefore set.now (OfFormat 0 FormatNameRule) }
     ensures refused { IfErr result (λ e. e ≢ OutOfMemory → IsFirstFault set.now e) }
-    ensures early { OnOk result (ShowsNoEarlyFault set.now) }
+    ensures clean { OnOk result (IsCleanBefore set.now OfTypeSets) }
     ensures used { IfOk result (λ v. AreUsedBefore set.now (length set.now.instructions) v.items) }
     ensures of_table { IfOk result (λ v. AreOfTable set.now.formats v.items) }
     ensures apart { IfOk result (λ v. AreApart set.now.formats v.items) }
@@ -54,10 +52,9 @@ fn checked_formats(alloc: Global, set: &DeclaredSet) -> Result<Vec<UsedFormat>, 
 
 /// The same formats by their names.
 fn formats_by_name(alloc: Global, set: &DeclaredSet) -> Result<Vec<FormatId>, DefinitionError>
-    requires few { length set.now.instructions ≤ 255 }
-    requires clean { (k : ℕ) → k < length set.now.instructions → ShowsNoInstructionFault set.now k }
+    requires { IsCleanBefore set.now (OfFormat 0 FormatNameRule) }
     ensures refused { IfErr result (λ e. e ≢ OutOfMemory → IsFirstFault set.now e) }
-    ensures early { OnOk result (ShowsNoEarlyFault set.now) }
+    ensures clean { OnOk result (IsCleanBefore set.now OfTypeSets) }
     ensures formats { IfOk result (λ v. AreFormatsByName set.now v.items) }
 {
     let used = checked_formats(alloc, set)?;

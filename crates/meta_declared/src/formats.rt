@@ -3,9 +3,10 @@ ghost use Rattle.meta_types.specs.declared.fault.DefinitionError.TheVariants.{Ou
 ghost use Rattle.meta_typevar.specs.declared.content.TypeVarContent.{TypeVarContent};
 ghost use Rattle.meta_inst.specs.Builder.{Builder};
 ghost use Rattle.meta_inst.specs.InstructionSet.{InstructionSet};
+ghost use Rattle.meta_inst.specs.Faults.{FormatNameRule, OfFormat, OfTypeSets, IsFirstFault};
 ghost use Rattle.meta_declared.specs.FormatsUsed.{AreUsedBefore, AreApart, IsAmong, IsNotAmong, IsOfTable, AreOfTable, ClashIn, ClashesWithNone, IsFirstToClash};
 ghost use Rattle.meta_declared.specs.FormatsByName.{AreByName};
-ghost use Rattle.meta_declared.specs.Searched.{ShowsNoFormatFault, IsFirstFormatFault};
+ghost use Rattle.meta_declared.specs.Searched.{IsCleanBefore};
 
 use meta_inst::AllInstructions;
 use meta_operands::{FormatId, FormatStructure, FormatTable, InstructionFormat};
@@ -78,8 +79,8 @@ pub(crate) fn used_formats(
     instructions: &AllInstructions,
 ) -> Result<Vec<UsedFormat>, DefinitionError>
     requires { (k : ℕ) (b : Builder) → slice_get instructions.now k ≡ Some b → b.format < length formats.now }
-    ensures refused { (vars : List TypeVarContent) → let d : InstructionSet = record { vars = vars; formats = formats.now; instructions = instructions.now } in IfErr result (λ e. e ≢ OutOfMemory → IsFirstFormatFault d e) }
-    ensures clean { (vars : List TypeVarContent) → let d : InstructionSet = record { vars = vars; formats = formats.now; instructions = instructions.now } in OnOk result (ShowsNoFormatFault d) }
+    ensures refused { (vars : List TypeVarContent) → let d : InstructionSet = record { vars = vars; formats = formats.now; instructions = instructions.now } in IsCleanBefore d (OfFormat 0 FormatNameRule) → IfErr result (λ e. e ≢ OutOfMemory → IsFirstFault d e) }
+    ensures clean { (vars : List TypeVarContent) → let d : InstructionSet = record { vars = vars; formats = formats.now; instructions = instructions.now } in IsCleanBefore d (OfFormat 0 FormatNameRule) → OnOk result (IsCleanBefore d OfTypeSets) }
     ensures used { (vars : List TypeVarContent) → let d : InstructionSet = record { vars = vars; formats = formats.now; instructions = instructions.now } in IfOk result (λ v. AreUsedBefore d (length instructions.now) v.items) }
     ensures of_table { IfOk result (λ v. AreOfTable formats.now v.items) }
     ensures apart { IfOk result (λ v. AreApart formats.now v.items) }

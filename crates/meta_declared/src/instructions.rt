@@ -1,8 +1,9 @@
 ghost use Rattle.std.specs.Prelude.{◌≡◌, ◌≢◌, ◌↔◌, ◌<◌, ◌≤◌, ℕ, ◌+◌, IsTrue, IfOk, IfErr, OnOk, MatchResult, Err, length, take};
 ghost use Rattle.meta_types.specs.declared.fault.Place.{Place};
 ghost use Rattle.meta_types.specs.declared.fault.DefinitionError.TheVariants.{BadName, OutOfMemory};
-ghost use Rattle.meta_inst.specs.Faults.{names_of};
-ghost use Rattle.meta_declared.specs.Searched.{ShowsNoInstructionFault, IsFirstInstructionFault, IsFirstOfInstructions, IsRefusedFirst};
+ghost use Rattle.meta_inst.specs.InstructionFaults.{NameRule};
+ghost use Rattle.meta_inst.specs.Faults.{FormatNameRule, OfInstruction, OfFormat, IsFirstFault, names_of};
+ghost use Rattle.meta_declared.specs.Searched.{IsCleanBefore, IsRefusedFirst};
 ghost use Rattle.meta_declared.specs.BuiltInstructions.{IsBuiltAt, AreInstructionsOf};
 
 use super::declared_set::DeclaredSet;
@@ -20,8 +21,8 @@ fn is_refused_first(built: &Result<InstructionContent, DefinitionError>) -> bool
     }
 }
 
-/// The instruction at this place, counted from 0, as it is built, where `names` are those of the earlier ones. It is refused by
-/// the first fault that it shows, and else its name is added.
+/// The instruction at this place, counted from 0, as it is built, where no fault is shown before and `names` are those of the
+/// earlier ones. It is refused by the first fault, if it shows one, and else its name is added.
 fn built_instruction<'d>(
     alloc: Global,
     set: &'d DeclaredSet,
@@ -31,10 +32,11 @@ fn built_instruction<'d>(
     requires few { length set.now.instructions ≤ 255 }
     requires within { place < length set.now.instructions }
     requires kept { names.old ≡ take place (names_of set.now) }
+    requires clean { IsCleanBefore set.now (OfInstruction place NameRule) }
     ensures kept { OnOk result (names.new ≡ take (place + 1) (names_of set.now)) }
-    ensures clean { OnOk result (ShowsNoInstructionFault set.now place) }
+    ensures clean { OnOk result (IsCleanBefore set.now (OfInstruction (place + 1) NameRule)) }
     ensures built { IfOk result (IsBuiltAt set.now place) }
-    ensures refused { IfErr result (λ e. e ≢ OutOfMemory → IsFirstInstructionFault set.now place e) }
+    ensures refused { IfErr result (λ e. e ≢ OutOfMemory → IsFirstFault set.now e) }
 {
     let builder = set.instructions().get(place);
     let number = place as u64 + 1;
@@ -49,15 +51,17 @@ fn built_instruction<'d>(
     built
 }
 
-/// The instructions as they are built, in their order, which are refused by the first fault of the first one that shows one.
+/// The instructions as they are built, in their order, where no fault is shown before. They are refused by the first fault, if one
+/// of them shows it.
 pub(crate) fn built_instructions(
     alloc: Global,
     set: &DeclaredSet,
 ) -> Result<Vec<InstructionContent>, DefinitionError>
-    requires { length set.now.instructions ≤ 255 }
-    ensures clean { OnOk result ((k : ℕ) → k < length set.now.instructions → ShowsNoInstructionFault set.now k) }
+    requires few { length set.now.instructions ≤ 255 }
+    requires clean { IsCleanBefore set.now (OfInstruction 0 NameRule) }
+    ensures clean { OnOk result (IsCleanBefore set.now (OfFormat 0 FormatNameRule)) }
     ensures built { IfOk result (λ v. AreInstructionsOf set.now v.items) }
-    ensures refused { IfErr result (λ e. e ≢ OutOfMemory → IsFirstOfInstructions set.now e) }
+    ensures refused { IfErr result (λ e. e ≢ OutOfMemory → IsFirstFault set.now e) }
 {
     let mut names = EarlierNames::new(alloc);
     let mut built = Vec::with_capacity(alloc, set.instructions().len())?;

@@ -9,7 +9,7 @@ use Rattle.meta_inst.specs.Instruction.{Instruction, IsDesignated}
 use Rattle.meta_inst.specs.InstructionSet.{instruction_in}
 use Rattle.meta_inst.specs.Control.{IsControl}
 use Rattle.meta_inst.specs.FoundControl.{control_in, IsFound}
-use Rattle.meta_inst.specs.InstructionFaults.{LacksItsControl, IsWellMade}
+use Rattle.meta_inst.specs.InstructionFaults.{LacksItsControl, ControlRule, IsWellMade}
 use Rattle.meta_inst.specs.Content.{control_kept, IsPolymorphicInfoOf}
 use Rattle.meta_inst.specs.declared.operands.Controlling.{Controlling}
 use Rattle.meta_inst.specs.declared.polymorphic.PolymorphicInfo.{PolymorphicInfo}
@@ -25,7 +25,7 @@ at_some (Some q) P h p e = subst P (same e) h
 
 -- a well made instruction has its control
 controlled : (vars : List TypeVarContent) (formats : List InstructionFormat) (b : Builder) → IsWellMade vars formats b → LacksItsControl vars formats b → ⊥
-controlled vars formats b well lack = well 0 5 (NoControl 0) (refl, refl, lack)
+controlled vars formats b well lack = well 0 ControlRule (NoControl 0) (refl, lack)
 
 pub info_of : (vars : List TypeVarContent) (formats : List InstructionFormat) (b : Builder) (i : Instruction) (c : Controlling) (info kept : Option PolymorphicInfo) → i ≡ instruction_in vars formats b → IsWellMade vars formats b → IsFound vars i c → kept ≡ info
     → control_kept vars info ≡ control_in vars c → IfSome info (λ p. p.ctrl_typevar < length vars) → IfSome info (λ p. IsTrue p.use_typevar_operand ↔ IsDesignated i (variable_at vars p.ctrl_typevar)) → IsPolymorphicInfoOf vars formats b kept

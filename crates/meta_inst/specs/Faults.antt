@@ -1,13 +1,14 @@
 -- The faults of declarations, and the order in which they are looked for.
---     ShowsAt d e p          the declarations show the fault e, which is looked for at the position p
+--     ShowsAt d p e          the declarations show the fault e at the position p
 --     IsFirstFault d e       e is the first fault that they show
 --     IsValid d              they show none
 use Rattle.std.specs.Prelude.{◌≡◌, ◌≢◌, ◌<◌, ◌+◌, ◌⊎◌, ℕ, List, [], length, map, slice_get, Option, Some}
 use Rattle.meta_types.specs.Name.{IsName}
 use Rattle.meta_types.specs.SharedNames.{IsDuplicate}
-use Rattle.meta_types.specs.declared.fault.Place.TheVariants.{Instruction as AtInstruction, Format as AtFormat, Group as AtGroup, Entry as AtEntry}
+use Rattle.meta_types.specs.FirstFault.{Key, key_at, IsFirst, ShowsNone}
+use Rattle.meta_types.specs.declared.fault.Place.TheVariants.{Instruction as AtInstruction, Format as AtFormat}
 use Rattle.meta_types.specs.declared.fault.DefinitionError.{DefinitionError}
-use Rattle.meta_types.specs.declared.fault.DefinitionError.TheVariants.{BadName, DuplicateName, TooManyOpcodes, BadOutput, FormatMismatch, NoControl, BadDerivation, TooManyOperands, BadImmMethod, BadFormat, FormatClash, TooManyTypeSets, BadEnum, BadPreset, TooManySettings, OutOfMemory}
+use Rattle.meta_types.specs.declared.fault.DefinitionError.TheVariants.{BadName, DuplicateName, TooManyOpcodes, BadFormat, FormatClash, TooManyTypeSets}
 use Rattle.meta_typevar.specs.FourSets.{FourSets, HasOne}
 use Rattle.meta_typevar.specs.Variable.{Variable, Sets}
 use Rattle.meta_operands.specs.declared.format.InstructionFormat.{InstructionFormat}
@@ -15,7 +16,7 @@ use Rattle.meta_operands.specs.Structure.{SharesStructure}
 use Rattle.meta_inst.specs.Builder.{Builder}
 use Rattle.meta_inst.specs.Instruction.{Instruction, IsOperand}
 use Rattle.meta_inst.specs.Control.{IsControl}
-use Rattle.meta_inst.specs.InstructionFaults.{duplicate_rule, LacksItsControl, IsDerivedBadlyAt, Breaks}
+use Rattle.meta_inst.specs.InstructionFaults.{Rule, DuplicateRule, rule_number, Breaks}
 use Rattle.meta_inst.specs.InstructionSet.{InstructionSet, root_sets, instruction_of}
 
 -- the instruction at place k, counted from 0, and the number that a fault has for it, counted from 1
@@ -29,14 +30,6 @@ names_of d = map (λ b. b.name) d.instructions
 -- more than 255 instructions
 abbrev pub HasTooManyOpcodes : InstructionSet → Type 0
 HasTooManyOpcodes d = 255 < length d.instructions
-
--- the instruction is polymorphic, and nothing controls it
-abbrev pub LacksControl : InstructionSet → Builder → Type 0
-LacksControl d b = LacksItsControl d.vars d.formats b
-
--- under the instruction's control, the first operand that is badly derived is the one at this place, among results and then values
-abbrev pub HasBadDerivationAt : InstructionSet → Builder → ℕ → Type 0
-HasBadDerivationAt d b place = IsDerivedBadlyAt d.vars d.formats b place
 
 -- the format f is in use, and the instruction at place k is the first that uses it
 pub record IsFirstUse (d : InstructionSet) (f k : ℕ) : Type 0 where
@@ -108,103 +101,70 @@ pub record AreNeededSets (d : InstructionSet) (sets : List FourSets) : Type 0 wh
 abbrev pub HasTooManyTypeSets : InstructionSet → ℕ → Type 0
 HasTooManyTypeSets d count = (sets : List FourSets) × AreNeededSets d sets × (count ≡ length sets) × (255 < count)
 
+-- the rules for a format
+pub data FormatRule : Type 0 where
+  FormatNameRule : FormatRule
+  BlocksRule : FormatRule
+  ClashRule : FormatRule
+
+-- their order
+abbrev pub format_rule_number : FormatRule → ℕ
+format_rule_number FormatNameRule = 0
+format_rule_number BlocksRule = 1
+format_rule_number ClashRule = 2
+
 -- Where a fault is looked for: in all declarations; at the instruction of a place, by a rule; at the format that the
 -- instruction of a place is the first to use, by a rule; in the sets of all instructions.
 pub data Position : Type 0 where
   OfOpcodes : Position
-  OfInstruction : ℕ → ℕ → Position
-  OfFormat : ℕ → ℕ → Position
+  OfInstruction : ℕ → Rule → Position
+  OfFormat : ℕ → FormatRule → Position
   OfTypeSets : Position
 
--- the rules for a format, in order. The first: its name is a name
-abbrev pub format_name_rule : ℕ
-format_name_rule = 1
+-- their order: first the count of opcodes, then instruction by instruction, then format by format in the order of their first
+-- uses, and the sets last
+abbrev pub position_key : Position → Key
+position_key OfOpcodes = key_at 0 0 0
+position_key (OfInstruction k rule) = key_at 1 k (rule_number rule)
+position_key (OfFormat k rule) = key_at 2 k (format_rule_number rule)
+position_key OfTypeSets = key_at 3 0 0
 
--- the second: it has at most two blocks, and at most one raw block
-abbrev pub blocks_rule : ℕ
-blocks_rule = 2
-
--- the third: no format that is used earlier shares its name or its structure
-abbrev pub clash_rule : ℕ
-clash_rule = 3
-
--- the place, and at one place the rule, comes before the other
-abbrev pub IsEarlier : ℕ → ℕ → ℕ → ℕ → Type 0
-IsEarlier i rule j other = (i < j) ⊎ ((i ≡ j) × (rule < other))
-
--- p is looked at before q: first the count of opcodes, then instruction by instruction, then format by format in the order
--- of their first uses, and the sets last
-abbrev pub Before : Position → Position → Type 0
-Before OfOpcodes OfOpcodes = ⊥
-Before OfOpcodes (OfInstruction j r) = Unit {0}
-Before OfOpcodes (OfFormat j r) = Unit {0}
-Before OfOpcodes OfTypeSets = Unit {0}
-Before (OfInstruction i r) OfOpcodes = ⊥
-Before (OfInstruction i r) (OfInstruction j s) = IsEarlier i r j s
-Before (OfInstruction i r) (OfFormat j s) = Unit {0}
-Before (OfInstruction i r) OfTypeSets = Unit {0}
-Before (OfFormat i r) OfOpcodes = ⊥
-Before (OfFormat i r) (OfInstruction j s) = ⊥
-Before (OfFormat i r) (OfFormat j s) = IsEarlier i r j s
-Before (OfFormat i r) OfTypeSets = Unit {0}
-Before OfTypeSets q = ⊥
-
--- an instruction breaks a rule by itself, e says so, and p is where that rule looks at it
-pub record BreaksAt (d : InstructionSet) (e : DefinitionError) (p : Position) : Type 0 where
-  pub place : ℕ
+-- the instruction at place k breaks the rule by itself, and e tells of it
+pub record BreaksAt (d : InstructionSet) (k : ℕ) (rule : Rule) (e : DefinitionError) : Type 0 where
   pub builder : Builder
-  pub rule : ℕ
-  pub at : IsAt d place builder
-  pub position : p ≡ OfInstruction place rule
-  pub breaks : Breaks d.vars d.formats builder (place + 1) rule e
+  pub at : IsAt d k builder
+  pub breaks : Breaks d.vars d.formats builder (k + 1) rule e
 
--- the instruction of the number n shares its name with that of the number m, the first such, and p is where that is looked for
-pub record SharesNameAt (d : InstructionSet) (n m : ℕ) (p : Position) : Type 0 where
-  pub place : ℕ
+-- it shares its name with an earlier one, which breaks the second rule, and e tells of the first such
+pub record SharesNameAt (d : InstructionSet) (k : ℕ) (rule : Rule) (e : DefinitionError) : Type 0 where
+  pub second : rule ≡ DuplicateRule
   pub earlier : ℕ
-  pub number : n ≡ place + 1
-  pub earlier_number : m ≡ earlier + 1
-  pub position : p ≡ OfInstruction place duplicate_rule
-  pub duplicate : IsDuplicate (names_of d) place earlier
+  pub duplicate : IsDuplicate (names_of d) k earlier
+  pub tells : e ≡ DuplicateName (AtInstruction (k + 1)) (earlier + 1)
 
--- the format in use with the number f shows what P says, and p is where that rule looks
-pub record FormatShows (d : InstructionSet) (f rule : ℕ) (p : Position) (P : ℕ → Type 0) : Type 0 where
-  pub place : ℕ
-  pub first_use : IsFirstUse d f place
-  pub position : p ≡ OfFormat place rule
-  pub shows : P place
+-- the format f, which is first used at place k, breaks the rule, and e tells of it
+abbrev pub FormatBreaks : InstructionSet → ℕ → ℕ → FormatRule → DefinitionError → Type 0
+FormatBreaks d k f FormatNameRule e = (e ≡ BadName (AtFormat f)) × HasBadFormatName d f
+FormatBreaks d k f BlocksRule e = (e ≡ BadFormat f) × HasTooManyBlocks d f
+FormatBreaks d k f ClashRule e = (g : ℕ) × (e ≡ FormatClash f g) × IsFirstClash d f k g
+
+-- a format is first used at place k, and does
+pub record FormatBreaksAt (d : InstructionSet) (k : ℕ) (rule : FormatRule) (e : DefinitionError) : Type 0 where
+  pub format : ℕ
+  pub first_use : IsFirstUse d format k
+  pub breaks : FormatBreaks d k format rule e
 
 -- The declarations show the fault, with its numbers, at the position. An instruction set shows no faults of groups.
-abbrev pub ShowsAt : InstructionSet → DefinitionError → Position → Type 0
-ShowsAt d (TooManyOpcodes count) p = (p ≡ OfOpcodes) × (count ≡ length d.instructions) × HasTooManyOpcodes d
-ShowsAt d (BadName (AtInstruction n)) p = BreaksAt d (BadName (AtInstruction n)) p
-ShowsAt d (BadName (AtFormat f)) p = FormatShows d f format_name_rule p (λ k. HasBadFormatName d f)
-ShowsAt d (BadName (AtGroup g)) p = ⊥
-ShowsAt d (BadName (AtEntry g e)) p = ⊥
-ShowsAt d (DuplicateName (AtInstruction n) m) p = SharesNameAt d n m p
-ShowsAt d (DuplicateName (AtFormat f) m) p = ⊥
-ShowsAt d (DuplicateName (AtGroup g) m) p = ⊥
-ShowsAt d (DuplicateName (AtEntry g e) m) p = ⊥
-ShowsAt d (BadOutput n place) p = BreaksAt d (BadOutput n place) p
-ShowsAt d (FormatMismatch n) p = BreaksAt d (FormatMismatch n) p
-ShowsAt d (NoControl n) p = BreaksAt d (NoControl n) p
-ShowsAt d (BadDerivation n place) p = BreaksAt d (BadDerivation n place) p
-ShowsAt d (TooManyOperands n count) p = BreaksAt d (TooManyOperands n count) p
-ShowsAt d (BadImmMethod n) p = BreaksAt d (BadImmMethod n) p
-ShowsAt d (BadFormat f) p = FormatShows d f blocks_rule p (λ k. HasTooManyBlocks d f)
-ShowsAt d (FormatClash f g) p = FormatShows d f clash_rule p (λ k. IsFirstClash d f k g)
-ShowsAt d (TooManyTypeSets count) p = (p ≡ OfTypeSets) × HasTooManyTypeSets d count
-ShowsAt d (BadEnum g e) p = ⊥
-ShowsAt d (BadPreset g e) p = ⊥
-ShowsAt d (TooManySettings g booleans bytes entries) p = ⊥
-ShowsAt d OutOfMemory p = ⊥
+abbrev pub ShowsAt : InstructionSet → Position → DefinitionError → Type 0
+ShowsAt d OfOpcodes e = (e ≡ TooManyOpcodes (length d.instructions)) × HasTooManyOpcodes d
+ShowsAt d (OfInstruction k rule) e = BreaksAt d k rule e ⊎ SharesNameAt d k rule e
+ShowsAt d (OfFormat k rule) e = FormatBreaksAt d k rule e
+ShowsAt d OfTypeSets e = (count : ℕ) × (e ≡ TooManyTypeSets count) × HasTooManyTypeSets d count
 
--- e is the first fault: the declarations show it, and none at an earlier position
-pub record IsFirstFault (d : InstructionSet) (e : DefinitionError) : Type 0 where
-  pub position : Position
-  pub shows : ShowsAt d e position
-  pub first : (p : Position) (f : DefinitionError) → Before p position → ShowsAt d f p → ⊥
+-- e is the first fault
+abbrev pub IsFirstFault : InstructionSet → DefinitionError → Type 0
+IsFirstFault d e = IsFirst position_key (ShowsAt d) e
 
 -- no fault is shown
 abbrev pub IsValid : InstructionSet → Type 0
-IsValid d = (p : Position) (e : DefinitionError) → ShowsAt d e p → ⊥
+IsValid d = ShowsNone (ShowsAt d)

@@ -1,13 +1,14 @@
 -- The faults that one instruction shows by itself, and the order in which they are looked for.
---     Breaks vars formats b n rule e             the instruction b, of the number n, breaks the rule, and e says so
---     IsFirstOwnFault vars formats b n e         e says the first rule that it breaks
+--     Breaks vars formats b n rule e             the instruction b, of the number n, breaks the rule, and e tells of it
+--     IsFirstOwnFault vars formats b n e         e tells of the first rule that it breaks
 --     IsWellMade vars formats b                  it breaks none
 use Rattle.std.specs.Prelude.{◌≡◌, ◌≢◌, ◌<◌, ◌≤◌, ◌⊎◌, ◌&&◌, ℕ, Bool, true, not, List, length, slice_get, Some, is_some}
 use Rattle.std.specs.List.{position}
 use Rattle.meta_types.specs.Name.{IsName}
-use Rattle.meta_types.specs.declared.fault.Place.TheVariants.{Instruction as AtInstruction, Format as AtFormat, Group as AtGroup, Entry as AtEntry}
+use Rattle.meta_types.specs.FirstFault.{Key, key_at, IsFirst, ShowsNone, ShowsNoneBefore}
+use Rattle.meta_types.specs.declared.fault.Place.TheVariants.{Instruction as AtInstruction}
 use Rattle.meta_types.specs.declared.fault.DefinitionError.{DefinitionError}
-use Rattle.meta_types.specs.declared.fault.DefinitionError.TheVariants.{BadName, DuplicateName, TooManyOpcodes, BadOutput, FormatMismatch, NoControl, BadDerivation, TooManyOperands, BadImmMethod, BadFormat, FormatClash, TooManyTypeSets, BadEnum, BadPreset, TooManySettings, OutOfMemory}
+use Rattle.meta_types.specs.declared.fault.DefinitionError.TheVariants.{BadName, BadOutput, FormatMismatch, NoControl, BadDerivation, TooManyOperands, BadImmMethod}
 use Rattle.meta_typevar.specs.Registry.{sets_of}
 use Rattle.meta_typevar.specs.declared.content.TypeVarContent.{TypeVarContent}
 use Rattle.meta_operands.specs.Operand.{variable_of, variables_of, is_varargs_operand}
@@ -18,37 +19,31 @@ use Rattle.meta_inst.specs.FormatMatch.{MatchesFormat}
 use Rattle.meta_inst.specs.Control.{HasNoControl, DerivesBadly}
 use Rattle.meta_inst.specs.InstructionSet.{instruction_in}
 
--- the rules for an instruction, in order. The first: its name is a name
-abbrev pub name_rule : ℕ
-name_rule = 1
+-- the rules for an instruction
+pub data Rule : Type 0 where
+  NameRule : Rule
+  DuplicateRule : Rule
+  OutputRule : Rule
+  MismatchRule : Rule
+  ControlRule : Rule
+  DerivationRule : Rule
+  CountRule : Rule
+  MethodRule : Rule
 
--- the second: no earlier one shares its name. No instruction breaks it by itself
-abbrev pub duplicate_rule : ℕ
-duplicate_rule = 2
+-- their order
+abbrev pub rule_number : Rule → ℕ
+rule_number NameRule = 0
+rule_number DuplicateRule = 1
+rule_number OutputRule = 2
+rule_number MismatchRule = 3
+rule_number ControlRule = 4
+rule_number DerivationRule = 5
+rule_number CountRule = 6
+rule_number MethodRule = 7
 
--- the third: each output is a value or varargs
-abbrev pub output_rule : ℕ
-output_rule = 3
-
--- the fourth: its inputs are stored as its format says
-abbrev pub format_rule : ℕ
-format_rule = 4
-
--- the fifth: something controls it where it is polymorphic
-abbrev pub control_rule : ℕ
-control_rule = 5
-
--- the sixth: a derived operand has a fixed type or is one step from the control
-abbrev pub derivation_rule : ℕ
-derivation_rule = 6
-
--- the seventh: at most seven value results and seven value inputs
-abbrev pub count_rule : ℕ
-count_rule = 7
-
--- the eighth: the immediate method is asked for only where it can be
-abbrev pub method_rule : ℕ
-method_rule = 8
+-- an instruction by itself is one place
+abbrev pub rule_key : Rule → Key
+rule_key rule = key_at 0 0 (rule_number rule)
 
 -- the name isn't a name
 abbrev pub HasBadName : Builder → Type 0
@@ -65,12 +60,6 @@ HasBadOutput b place = position is_bad_output (outputs_of b) ≡ Some place
 -- the inputs aren't stored as the format says
 abbrev pub HasFormatMismatch : List InstructionFormat → Builder → Type 0
 HasFormatMismatch formats b = (format : InstructionFormat) × (slice_get formats b.format ≡ Some format) × (MatchesFormat format (inputs_of b) → ⊥)
-
--- it keeps the rules that come before that of the control: its form has no fault
-pub record IsWellFormed (formats : List InstructionFormat) (b : Builder) : Type 0 where
-  pub name : HasBadName b → ⊥
-  pub outputs : (place : ℕ) → HasBadOutput b place → ⊥
-  pub format : HasFormatMismatch formats b → ⊥
 
 -- the instruction is polymorphic, and nothing controls it
 abbrev pub LacksItsControl : List TypeVarContent → List InstructionFormat → Builder → Type 0
@@ -101,34 +90,33 @@ HasBadImmMethod formats b = (b.marks.inst_builder_imm_method ≡ true)
     × (slice_get formats b.format ≡ Some format)
     × TakesNoImmediate format (length (variables_of (outputs_of b))) (length (variables_of (inputs_of b)))
 
--- the instruction b, of the number n, breaks the rule, and e says so with its numbers
-abbrev pub Breaks : List TypeVarContent → List InstructionFormat → Builder → ℕ → ℕ → DefinitionError → Type 0
-Breaks vars formats b n rule (BadName (AtInstruction m)) = (m ≡ n) × (rule ≡ name_rule) × HasBadName b
-Breaks vars formats b n rule (BadOutput m place) = (m ≡ n) × (rule ≡ output_rule) × HasBadOutput b place
-Breaks vars formats b n rule (FormatMismatch m) = (m ≡ n) × (rule ≡ format_rule) × HasFormatMismatch formats b
-Breaks vars formats b n rule (NoControl m) = (m ≡ n) × (rule ≡ control_rule) × LacksItsControl vars formats b
-Breaks vars formats b n rule (BadDerivation m place) = (m ≡ n) × (rule ≡ derivation_rule) × IsDerivedBadlyAt vars formats b place
-Breaks vars formats b n rule (TooManyOperands m count) = (m ≡ n) × (rule ≡ count_rule) × HasTooManyOperands b count
-Breaks vars formats b n rule (BadImmMethod m) = (m ≡ n) × (rule ≡ method_rule) × HasBadImmMethod formats b
-Breaks vars formats b n rule (BadName (AtFormat f)) = ⊥
-Breaks vars formats b n rule (BadName (AtGroup g)) = ⊥
-Breaks vars formats b n rule (BadName (AtEntry g e)) = ⊥
-Breaks vars formats b n rule (DuplicateName place m) = ⊥
-Breaks vars formats b n rule (TooManyOpcodes count) = ⊥
-Breaks vars formats b n rule (BadFormat f) = ⊥
-Breaks vars formats b n rule (FormatClash f g) = ⊥
-Breaks vars formats b n rule (TooManyTypeSets count) = ⊥
-Breaks vars formats b n rule (BadEnum g e) = ⊥
-Breaks vars formats b n rule (BadPreset g e) = ⊥
-Breaks vars formats b n rule (TooManySettings g booleans bytes entries) = ⊥
-Breaks vars formats b n rule OutOfMemory = ⊥
+-- the instruction b, of the number n, breaks the rule, and e tells of it, with its numbers
+abbrev pub Breaks : List TypeVarContent → List InstructionFormat → Builder → ℕ → Rule → DefinitionError → Type 0
+-- its name isn't a name
+Breaks vars formats b n NameRule e = (e ≡ BadName (AtInstruction n)) × HasBadName b
+-- an earlier one shares its name: no instruction breaks that rule by itself
+Breaks vars formats b n DuplicateRule e = ⊥
+-- an output is neither a value nor varargs, and the first such is told
+Breaks vars formats b n OutputRule e = (place : ℕ) × (e ≡ BadOutput n place) × HasBadOutput b place
+-- its inputs aren't stored as its format says
+Breaks vars formats b n MismatchRule e = (e ≡ FormatMismatch n) × HasFormatMismatch formats b
+-- it is polymorphic, and nothing controls it
+Breaks vars formats b n ControlRule e = (e ≡ NoControl n) × LacksItsControl vars formats b
+-- an operand is derived, has no fixed type, and isn't one step from the control; the first such is told
+Breaks vars formats b n DerivationRule e = (place : ℕ) × (e ≡ BadDerivation n place) × IsDerivedBadlyAt vars formats b place
+-- it has more than seven value results, or more than seven value inputs
+Breaks vars formats b n CountRule e = (count : ℕ) × (e ≡ TooManyOperands n count) × HasTooManyOperands b count
+-- the immediate method is asked for where it can't be
+Breaks vars formats b n MethodRule e = (e ≡ BadImmMethod n) × HasBadImmMethod formats b
 
--- e says the first rule that the instruction breaks
-pub record IsFirstOwnFault (vars : List TypeVarContent) (formats : List InstructionFormat) (b : Builder) (n : ℕ) (e : DefinitionError) : Type 0 where
-  pub rule : ℕ
-  pub breaks : Breaks vars formats b n rule e
-  pub first : (other : ℕ) (f : DefinitionError) → other < rule → Breaks vars formats b n other f → ⊥
+-- e tells of the first rule that the instruction breaks
+abbrev pub IsFirstOwnFault : List TypeVarContent → List InstructionFormat → Builder → ℕ → DefinitionError → Type 0
+IsFirstOwnFault vars formats b n e = IsFirst rule_key (Breaks vars formats b n) e
 
--- the instruction breaks no rule
+-- the instruction breaks no rule, whatever its number is
 abbrev pub IsWellMade : List TypeVarContent → List InstructionFormat → Builder → Type 0
-IsWellMade vars formats b = (n rule : ℕ) (e : DefinitionError) → Breaks vars formats b n rule e → ⊥
+IsWellMade vars formats b = (n : ℕ) → ShowsNone (Breaks vars formats b n)
+
+-- it breaks none of the rules before this one
+abbrev pub KeepsRulesBefore : List TypeVarContent → List InstructionFormat → Builder → Rule → Type 0
+KeepsRulesBefore vars formats b rule = (n : ℕ) → ShowsNoneBefore rule_key (Breaks vars formats b n) (rule_key rule)

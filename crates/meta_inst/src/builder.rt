@@ -8,7 +8,7 @@ ghost use Rattle.meta_inst.specs.Marks.{no_marks, terminator, branch, returning}
 ghost use Rattle.meta_inst.specs.Operands.{AreOf};
 ghost use Rattle.meta_inst.specs.InstructionSet.{FitsBuilder, instruction_in};
 ghost use Rattle.meta_inst.specs.FoundControl.{IsFound, IsOf, AreOperandsOf};
-ghost use Rattle.meta_inst.specs.InstructionFaults.{TakesNoImmediate, IsFirstOwnFault, IsWellFormed, IsWellMade};
+ghost use Rattle.meta_inst.specs.InstructionFaults.{TakesNoImmediate, ControlRule, KeepsRulesBefore, IsFirstOwnFault, IsWellMade};
 ghost use Rattle.meta_inst.specs.Content.{operand_list, content_of, IsPolymorphicInfoOf};
 
 use super::checks::{bad_output, takes_no_immediate, too_many};
@@ -231,7 +231,7 @@ impl InstructionBuilder {
     /// format.
     fn form_fault(&self, formats: &FormatTable, number: u64) -> Option<DefinitionError>
         requires { self.now.format < length formats.now }
-        ensures none { IfNone result (IsWellFormed formats.now self.now) }
+        ensures none { IfNone result ((vars : List TypeVarContent) → KeepsRulesBefore vars formats.now self.now ControlRule) }
         ensures found { IfSome result (λ e. (vars : List TypeVarContent) → IsFirstOwnFault vars formats.now self.now number e) }
     {
         if !is_name(self.name()) {
@@ -257,7 +257,7 @@ impl InstructionBuilder {
         number: u64,
     ) -> Option<DefinitionError>
         requires fits { FitsBuilder vars.now formats.now self.now }
-        requires form { IsWellFormed formats.now self.now }
+        requires form { KeepsRulesBefore vars.now formats.now self.now ControlRule }
         requires operands { AreOperandsOf vars.now formats.now self.now operands.now }
         requires found { IsFound vars.now (instruction_in vars.now formats.now self.now) control.now }
         requires control { IsOf vars.now control.now }

@@ -1,20 +1,15 @@
 -- What is built of valid declarations can have its entries.
-use Rattle.std.proofs.Common.{◌≡◌, ◌<◌, ◌≤◌, ◌+◌, ◌⊎◌, inl, inr, ℕ, List, length, length-append, refl, sym, ap, ◌∙◌, subst, arith}
+use Rattle.std.proofs.Common.{◌≡◌, ◌<◌, ◌≤◌, ◌+◌, inl, inr, ℕ, List, length, length-append, refl, sym, ap, ◌∙◌, subst, arith}
 use Rattle.meta_typevar.specs.FourSets.{FourSets}
 use Rattle.meta_operands.specs.Operand.{variables_of}
-use Rattle.meta_types.specs.declared.fault.DefinitionError.TheVariants.{BadDerivation, TooManyOperands}
 use Rattle.meta_inst.specs.Builder.{Builder, inputs_of, outputs_of}
 use Rattle.meta_inst.specs.Built.{Built}
 use Rattle.meta_inst.specs.Control.{DerivesBadly}
 use Rattle.meta_inst.specs.Instruction.{Instruction}
-use Rattle.meta_inst.specs.InstructionFaults.{HasTooManyOperands}
+use Rattle.meta_inst.specs.InstructionFaults.{DerivationRule, CountRule, HasTooManyOperands}
 use Rattle.meta_inst.specs.InstructionSet.{InstructionSet, root_sets, instruction_of, Fits}
-use Rattle.meta_inst.specs.Faults.{IsValid, OfInstruction, names_of}
+use Rattle.meta_inst.specs.Faults.{IsValid, OfInstruction}
 use Rattle.meta_inst.specs.Operands.{OperandList}
-use Rattle.meta_types.specs.SharedNames.{AreDifferentNames}
-use Rattle.meta_declared.specs.Searched.{ShowsNoEarlyFault}
-use Rattle.meta_declared.proofs.FirstFault.{few_opcodes}
-use Rattle.meta_declared.proofs.DifferentNames.{different_names}
 use Rattle.meta_declared.specs.BuiltInstructions.{IsBuiltAt}
 use Rattle.meta_declared.specs.Needed.{AreSetsByNeed}
 use Rattle.meta_declared.proofs.BuiltOperands.{operands_are, within_is, meaning, variables_are, control_is, control_of_registry}
@@ -33,22 +28,12 @@ few_values b small =
     let few : 7 < length (variables_of (inputs_of b)) → ⊥ = λ l. small (length (variables_of (inputs_of b))) (inr (results, l, refl)) in
     omega arith
 
--- valid declarations show no fault that comes before that of the type sets
-early : (d : InstructionSet) → IsValid d → ShowsNoEarlyFault d
-early d valid p e before s = valid p e s
-
-pub few_instructions : (d : InstructionSet) → IsValid d → length d.instructions ≤ 255
-few_instructions d valid = few_opcodes d (early d valid)
-
-pub names_differ : (d : InstructionSet) → IsValid d → AreDifferentNames (names_of d)
-names_differ d valid = different_names d (early d valid)
-
 module _ (d : InstructionSet) (valid : IsValid d) (fits : Fits d.vars d.formats d.instructions) (sets : List FourSets) (needed : AreSetsByNeed d sets) (k : ℕ) (c : Built) (h : IsBuiltAt d k c) where
   small : (count : ℕ) → HasTooManyOperands h.builder count → ⊥
-  small count many = valid (OfInstruction k 7) (TooManyOperands (k + 1) count) (record { place = k; builder = h.builder; rule = 7; at = h.at; position = refl; breaks = (refl, refl, many) })
+  small count many = valid (OfInstruction k CountRule) _ (inl (record { builder = h.builder; at = h.at; breaks = (count, refl, many) }))
 
   derived : (place : ℕ) → DerivesBadly (root_sets d) (instruction_of d h.builder) place → ⊥
-  derived place bad = valid (OfInstruction k 6) (BadDerivation (k + 1) place) (record { place = k; builder = h.builder; rule = 6; at = h.at; position = refl; breaks = (refl, refl, bad) })
+  derived place bad = valid (OfInstruction k DerivationRule) _ (inl (record { builder = h.builder; at = h.at; breaks = (place, refl, bad) }))
 
   pub can_enter : CanEnter d.vars sets c
   can_enter =

@@ -1,20 +1,17 @@
 -- Valid declarations answer an input with one output at most.
 use Rattle.std.proofs.Common.{◌≡◌, ◌+◌, inl, inr, ℕ, List, [], ◌∷◌, ◌++◌, slice_get, Some, refl, sym, ap, ap₂, ◌∙◌, subst}
 use Rattle.std.proofs.lemmas.Option.{same_Some}
-use Rattle.meta_types.specs.declared.fault.Place.TheVariants.{Instruction as AtInstruction}
-use Rattle.meta_types.specs.declared.fault.DefinitionError.TheVariants.{DuplicateName}
 use Rattle.meta_inst.specs.Builder.{Builder}
 use Rattle.meta_inst.specs.InstructionSet.{InstructionSet}
-use Rattle.meta_inst.specs.InstructionFaults.{duplicate_rule}
-use Rattle.meta_types.specs.SharedNames.{AreDistinct, AreDifferentNames}
-use Rattle.meta_types.proofs.SharedNames.{distinct_differ}
+use Rattle.meta_types.specs.SharedNames.{AreDifferentNames}
 use Rattle.meta_types.proofs.ListPlaces.{get_map}
-use Rattle.meta_inst.specs.Faults.{IsAt, names_of, OfInstruction, IsValid}
+use Rattle.meta_inst.specs.Faults.{IsAt, names_of, IsValid}
 use Rattle.meta_query.specs.Lines.{lines_of}
 use Rattle.meta_settings.specs.GroupDeclaration.{GroupDeclaration}
 use Rattle.meta_settings.specs.GroupFaults.{IsValidGroup}
 use Rattle.meta_settings.specs.LaidOut.{built_of}
 use Rattle.meta_setting_tables.specs.FoundSetting.{entry_names}
+use Rattle.meta_declared.proofs.DifferentNames.{different_names}
 use Rattle.meta_declared.specs.AllDeclared.{Declared, AreValidGroups, AreValid}
 use Rattle.meta_query.specs.Question.{Question}
 use Rattle.meta_query.specs.Query.{Asked, OfQuestion, OfSetting}
@@ -30,13 +27,9 @@ module _ (d : InstructionSet) (valid : IsValid d) where
   name_at : (k : ℕ) (b : Builder) → IsAt d k b → slice_get (names_of d) k ≡ Some b.name
   name_at k b at = get_map (λ (b : Builder). b.name) d.instructions k b at
 
-  -- no two names are shared
-  distinct : AreDistinct (names_of d)
-  distinct k j shared = valid (OfInstruction k duplicate_rule) (DuplicateName (AtInstruction (k + 1)) (j + 1)) (record { place = k; earlier = j; number = refl; earlier_number = refl; position = refl; duplicate = shared })
-
   one_named : (j k : ℕ) (c b : Builder) → IsAt d j c → IsAt d k b → c.name ≡ b.name → c ≡ b
   one_named j k c b c_at b_at e =
-      let same : j ≡ k = distinct_differ (names_of d) distinct j k b.name (name_at j c c_at ∙ ap Some e) (name_at k b b_at) in
+      let same : j ≡ k = different_names d valid j k b.name (name_at j c c_at ∙ ap Some e) (name_at k b b_at) in
       same_Some c b (sym c_at ∙ ap (slice_get d.instructions) same ∙ b_at)
 
   -- ---- a question has one reply

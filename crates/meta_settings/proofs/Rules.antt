@@ -1,5 +1,5 @@
 -- The rules of a group, one after another.
-use Rattle.std.proofs.Common.{◌≡◌, ◌∙◌, ◌+◌, ◌-◌, ℕ, List, [], ◌∷◌, Some, IfSome, length, length-append, slice_get, get_or, if◌then◌else◌, ◌==◌, sym, subst, arith}
+use Rattle.std.proofs.Common.{◌≡◌, ◌∙◌, ◌<◌, ◌+◌, ◌-◌, ℕ, List, [], ◌∷◌, Some, IfSome, length, length-append, slice_get, get_or, if◌then◌else◌, ◌==◌, sym, subst, arith}
 use Rattle.std.specs.Prelude.{map}
 use Rattle.std.proofs.lemmas.List.{length-map}
 use Rattle.std.proofs.lemmas.Option.{same_Some, slice_get_within}
@@ -15,14 +15,14 @@ use Rattle.meta_settings.specs.GroupFaults.{IsWellNamed, IsGoodEnum, AreMet, Has
 use Rattle.meta_settings.specs.Searched.{IsCleanBefore}
 
 -- the rules for an entry, in order
-abbrev rules : List Rule
+abbrev pub rules : List Rule
 rules = NameRule ∷ DuplicateRule ∷ EnumRule ∷ PresetRule ∷ []
-
-rule_at : (r : Rule) → slice_get rules (rule_number r) ≡ Some r
-rule_at r = grind arith
 
 rule_of : (r : Rule) → get_or rules (rule_number r) NameRule ≡ r
 rule_of r = grind arith
+
+few_rules : (r : Rule) → rule_number r < length rules
+few_rules r = grind arith
 
 abbrev position_of : Key → Position
 position_of k = if k.part == 0 then OfGroupName else (if k.part == 1 then OfEntry k.place (get_or rules k.rule NameRule) else OfCounts)
@@ -46,17 +46,17 @@ module _ (d : GroupDeclaration) (g : ℕ) where
   one_shown (OfEntry k rule) e f a b = one_broken k b.0 rule e f (subst (λ (x : Entry). BreaksRule d g k x rule e) (same_Some a.0 b.0 (sym a.1 ∙ b.1)) a.2) b.2
   one_shown OfCounts e f a b = a.0 ∙ sym b.0
 
-  abbrev rules_of : ℕ → ℕ
-  rules_of part = if part == 1 then 4 else 1
+  abbrev pub rules_of : ℕ → ℕ
+  rules_of part = if part == 1 then length rules else 1
 
-  abbrev places_of : ℕ → ℕ
+  abbrev pub places_of : ℕ → ℕ
   places_of part = if part == 1 then entry_count d else 1
 
   within : (p : Position) (e : DefinitionError) → ShowsAt d g p e → IsIn 3 places_of rules_of (position_key p)
-  within p e s = grind (arith, slice_get_within, length-entries, rule_at)
+  within p e s = grind (arith, slice_get_within, length-entries, few_rules)
 
-  pub searchable : IsSearchable position_key (ShowsAt d g)
-  searchable = record { position_of = position_of; known = known; one = one_shown; parts = 3; places = places_of; rules = rules_of; within = within }
+  pub searchable : IsSearchable position_key (ShowsAt d g) 3 places_of rules_of
+  searchable = record { position_of = position_of; known = known; one = one_shown; within = within }
 
 module _ (d : GroupDeclaration) where
   -- the search begins
@@ -64,11 +64,9 @@ module _ (d : GroupDeclaration) where
   before_all g = start position_key (ShowsAt d g)
 
   pub passed_name : IsName d.name → IsCleanBefore d (OfEntry 0 NameRule)
-  unfolding searchable
   passed_name named g = next_part (searchable d g) 0 (next_place (searchable d g) 0 0 (passed (searchable d g) OfGroupName (before_all g) (λ e s. s.1 named)))
 
   pub passed_counts : IsCleanBefore d OfCounts → (HasTooMany d → ⊥) → IsValidGroup d
-  unfolding searchable
   passed_counts clean few g = none_left (searchable d g) (next_part (searchable d g) 2 (next_place (searchable d g) 2 0 (passed (searchable d g) OfCounts (clean g) (λ e s. few s.1))))
 
 -- the rules for the entry at a place, one after another
@@ -90,5 +88,4 @@ module _ (d : GroupDeclaration) (k : ℕ) (x : Entry) (at : slice_get (entries_o
   good_enum clean good g = passed (searchable d g) (OfEntry k EnumRule) (clean g) (λ e s. (here g EnumRule e s).1 good)
 
   pub good_preset : IsCleanBefore d (OfEntry k PresetRule) → AreMet (boolean_count d) (k - length d.settings) x.args → IsCleanBefore d (OfEntry (k + 1) NameRule)
-  unfolding searchable
   good_preset clean met g = next_place (searchable d g) 1 k (passed (searchable d g) (OfEntry k PresetRule) (clean g) (λ e s. (here g PresetRule e s).1 met))

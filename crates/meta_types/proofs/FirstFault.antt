@@ -12,13 +12,10 @@ pub record IsIn (parts : ℕ) (places rules : ℕ → ℕ) (k : Key) : Type 0 wh
 
 -- What is to be shown of an order in which faults are looked for: a position is known by its key; at a position one fault at most
 -- is shown; and there are so many parts, so many places in each where one can be shown, and so many rules for each.
-pub record IsSearchable {P : Type 0} (key : P → Key) (Shows : P → DefinitionError → Type 0) : Type 0 where
+pub record IsSearchable {P : Type 0} (key : P → Key) (Shows : P → DefinitionError → Type 0) (parts : ℕ) (places rules : ℕ → ℕ) : Type 0 where
   pub position_of : Key → P
   pub known : (p : P) → position_of (key p) ≡ p
   pub one : (p : P) (e f : DefinitionError) → Shows p e → Shows p f → e ≡ f
-  pub parts : ℕ
-  pub places : ℕ → ℕ
-  pub rules : ℕ → ℕ
   pub within : (p : P) (e : DefinitionError) → Shows p e → IsIn parts places rules (key p)
 
 -- of two keys one is before the other, or they are one
@@ -39,7 +36,7 @@ ordered k m =
 pub start : {P : Type 0} (key : P → Key) (Shows : P → DefinitionError → Type 0) → ShowsNoneBefore key Shows (key_at 0 0 0)
 start key Shows = λ p e l s. grind (arith, l)
 
-module _ {P : Type 0} {key : P → Key} {Shows : P → DefinitionError → Type 0} (so : IsSearchable key Shows) where
+module _ {P : Type 0} {key : P → Key} {Shows : P → DefinitionError → Type 0} {parts : ℕ} {places rules : ℕ → ℕ} (so : IsSearchable key Shows parts places rules) where
   same : (p q : P) → key p ≡ key q → p ≡ q
   same p q is = sym (so.known p) ∙ ap so.position_of is ∙ so.known q
 
@@ -68,23 +65,23 @@ module _ {P : Type 0} {key : P → Key} {Shows : P → DefinitionError → Type 
       never e (subst (λ r. Shows r e) (same q p (λ i. record { part = part i; place = place i; rule = rule i })) s))
 
   -- all rules show none at a place: on to the next place
-  pub next_place : (part place : ℕ) → ShowsNoneBefore key Shows (key_at part place (so.rules part)) → ShowsNoneBefore key Shows (key_at part (place + 1) 0)
-  next_place part place none = onward (key_at part place (so.rules part)) (key_at part (place + 1) 0) none (λ p e l n s.
+  pub next_place : (part place : ℕ) → ShowsNoneBefore key Shows (key_at part place (rules part)) → ShowsNoneBefore key Shows (key_at part (place + 1) 0)
+  next_place part place none = onward (key_at part place (rules part)) (key_at part (place + 1) 0) none (λ p e l n s.
       let here : (key p).part ≡ part = grind (arith, l, n) in
       let few = rw here at (so.within p e s).rule in
       grind (arith, l, n, few))
 
-  -- nothing that is looked for at a place is shown: the same
-  pub clean_place : (part place : ℕ) → ShowsNoneBefore key Shows (key_at part place 0) → ((p : P) (e : DefinitionError) → (key p).part ≡ part → (key p).place ≡ place → Shows p e → ⊥) → ShowsNoneBefore key Shows (key_at part (place + 1) 0)
-  clean_place part place none never = onward (key_at part place 0) (key_at part (place + 1) 0) none (λ p e l n s. never p e (grind (arith, l, n)) (grind (arith, l, n)) s)
+  -- none of the first rules shows one at a place
+  pub some_rules : (part place n : ℕ) → ShowsNoneBefore key Shows (key_at part place 0) → ((p : P) (e : DefinitionError) → (key p).part ≡ part → (key p).place ≡ place → (key p).rule < n → Shows p e → ⊥) → ShowsNoneBefore key Shows (key_at part place n)
+  some_rules part place n none never = onward (key_at part place 0) (key_at part place n) none (λ p e l past s. never p e (grind (arith, l, past)) (grind (arith, l, past)) (grind (arith, l, past)) s)
 
   -- none is shown at all places of a part: on to the next part
-  pub next_part : (part : ℕ) → ShowsNoneBefore key Shows (key_at part (so.places part) 0) → ShowsNoneBefore key Shows (key_at (suc part) 0 0)
-  next_part part none = onward (key_at part (so.places part) 0) (key_at (suc part) 0 0) none (λ p e l n s.
+  pub next_part : (part : ℕ) → ShowsNoneBefore key Shows (key_at part (places part) 0) → ShowsNoneBefore key Shows (key_at (suc part) 0 0)
+  next_part part none = onward (key_at part (places part) 0) (key_at (suc part) 0 0) none (λ p e l n s.
       let here : (key p).part ≡ part = grind (arith, l, n) in
       let few = rw here at (so.within p e s).place in
       grind (arith, l, n, few))
 
   -- none is shown in any part: none is shown
-  pub none_left : ShowsNoneBefore key Shows (key_at so.parts 0 0) → ShowsNone Shows
+  pub none_left : ShowsNoneBefore key Shows (key_at parts 0 0) → ShowsNone Shows
   none_left none p e s = none p e (inl (so.within p e s).part) s

@@ -1,6 +1,5 @@
-use Rattle.std.proofs.Common.{◌≤◌, ◌<◌, length, arith, rules, ap, sym, subst}
+use Rattle.std.proofs.Common.{◌≤◌, ◌<◌, length, arith, rules, sym, subst}
 use Rattle.meta_types.specs.declared.fault.DefinitionError.TheVariants.{TooManyTypeSets}
-use Rattle.meta_inst.specs.Builder.{Builder}
 use Rattle.meta_inst.specs.Faults.{IsFirstFault}
 use Rattle.meta_typevar.specs.FourSets.{FourSets}
 use Rattle.meta_declared.proofs.FirstFault.{first_of_type_sets, valid}
@@ -15,11 +14,11 @@ returns-then-len-gt-MAX_TYPE_SETS-clause-refused c = λ other.
     let tested = c.len.ensures.count in
     let above : 255 < length {A = FourSets} c.in_ok-type_sets.type_sets = omega arith in
     subst (λ n. IsFirstFault c.args.set.now (TooManyTypeSets n)) (sym c.len-then-len-gt-MAX_TYPE_SETS.ensures.count)
-    (first_of_type_sets c.args.set.now c.in_ok-formats.ensures.early c.in_ok-type_sets.type_sets c.in_ok-type_sets.ensures.are_needed above)
+    (first_of_type_sets c.args.set.now c.in_ok-formats.ensures.clean c.in_ok-type_sets.type_sets c.in_ok-type_sets.ensures.are_needed above)
 
 pub returns-clause-valid : goal.returns-clause-valid
 returns-clause-valid c =
     let few = c.if-len-gt-MAX_TYPE_SETS.false in
     let tested = c.len.ensures.count in
     let below : length {A = FourSets} c.in_ok-type_sets.type_sets ≤ 255 = omega arith in
-    valid c.args.set.now c.in_ok-formats.ensures.early c.in_ok-type_sets.type_sets c.in_ok-type_sets.ensures.are_needed below
+    valid c.args.set.now c.in_ok-formats.ensures.clean c.in_ok-type_sets.type_sets c.in_ok-type_sets.ensures.are_needed below

@@ -3,9 +3,11 @@ use Rattle.std.specs.List.{slice_get}
 use Rattle.std.proofs.lemmas.Bool.{false≢true}
 use Rattle.meta_types.specs.declared.fault.Place.TheVariants.{Format as AtFormat}
 use Rattle.meta_types.specs.declared.fault.DefinitionError.TheVariants.{BadName, BadFormat, FormatClash}
+use Rattle.meta_inst.specs.Faults.{FormatNameRule, BlocksRule, ClashRule, OfFormat, IsFirstFault}
 use Rattle.meta_declared.specs.FormatsUsed.{AreUsedBefore, IsAmong, IsNotAmong, ClashesWithNone, IsFirstToClash}
-use Rattle.meta_declared.specs.Searched.{IsFirstFormatFault}
-use Rattle.meta_declared.proofs.FormatSearch.{declared, carry, bad_name, good_name, many_blocks, few_blocks, used_again, clean_again, used_new, clean_new, all_clean, first_bad_name, first_bad_format, first_format_clash, of_table_more, apart_more}
+use Rattle.meta_declared.specs.Searched.{IsCleanBefore}
+use Rattle.meta_declared.proofs.FirstFault.{passed_formats}
+use Rattle.meta_declared.proofs.FormatSearch.{declared, carry, has_name, has_few, used_again, clean_again, first_here, used_new, good_name, few_blocks, no_clash, first_clash, of_table_more, apart_more}
 use Rattle.meta_declared.proofs.formats.used_formats.Goals as goal
 
 pub loop-place-preserved-then-is_among : goal.loop-place-preserved-then-is_among
@@ -15,43 +17,52 @@ loop-place-preserved-then-is_among c =
       of_table = c.loop-place.invariant.of_table;
       apart = c.loop-place.invariant.apart;
       used = λ vars. used_again (declared vars c.args.formats.now c.args.instructions.now) _ _ _ (c.loop-place.invariant.used vars) c.get.ensures among;
-      clean = λ vars. clean_again (declared vars c.args.formats.now c.args.instructions.now) _ _ _ (c.loop-place.invariant.used vars) c.get.ensures (c.loop-place.invariant.clean vars) among;
+      clean = λ vars start. clean_again (declared vars c.args.formats.now c.args.instructions.now) _ _ _ (c.loop-place.invariant.used vars) c.get.ensures (c.loop-place.invariant.clean vars start) among;
     }
 
 pub returns-then-not-is_name-clause-refused : goal.returns-then-not-is_name-clause-refused
-returns-then-not-is_name-clause-refused c = λ vars other.
+returns-then-not-is_name-clause-refused c = λ vars start other.
     let d = declared vars c.args.formats.now c.args.instructions.now in
     let new = carry IsNotAmong _ _ _ _ c.deref.ensures.value c.format-id.ensures c.if-is_among.ensures in
     let format = ap (slice_get c.args.formats.now) (sym c.format-id.ensures) ∙ c.get-format.ensures in
-    let bad = bad_name d _ _ format (λ is. false≢true (c.if-not-is_name.ensures.1 is)) in
     let number = sym (c.from-number.ensures ∙ c.number.ensures ∙ c.format-id.ensures) in
-    subst (λ (z : ℕ). IsFirstFormatFault d (BadName (AtFormat z))) number
-    (first_bad_name d _ _ _ (c.loop-place.invariant.used vars) c.get.ensures new (c.loop-place.invariant.clean vars) bad)
+    subst (λ (z : ℕ). IsFirstFault d (BadName (AtFormat z))) number (record {
+      position = OfFormat c.loop-place.place FormatNameRule;
+      shows = record { format = _; first_use = first_here d _ _ _ (c.loop-place.invariant.used vars) c.get.ensures new; breaks = (refl, (_, format, λ is. false≢true (c.if-not-is_name.ensures.1 is))) };
+      first = c.loop-place.invariant.clean vars start;
+    })
 
 pub returns-then-has_too_many_blocks-clause-refused : goal.returns-then-has_too_many_blocks-clause-refused
-returns-then-has_too_many_blocks-clause-refused c = λ vars other.
+returns-then-has_too_many_blocks-clause-refused c = λ vars start other.
     let d = declared vars c.args.formats.now c.args.instructions.now in
     let new = carry IsNotAmong _ _ _ _ c.deref.ensures.value c.format-id.ensures c.if-is_among.ensures in
     let format = ap (slice_get c.args.formats.now) (sym c.format-id.ensures) ∙ c.get-format.ensures in
-    let good = good_name d _ _ format (c.if-not-is_name.ensures.0 refl) in
-    let many = many_blocks d _ _ format (c.if-has_too_many_blocks.ensures.0 refl) in
+    let used = c.loop-place.invariant.used vars in
+    let named = good_name d _ _ _ used c.get.ensures (c.loop-place.invariant.clean vars start) (has_name d _ _ format (c.if-not-is_name.ensures.0 refl)) in
     let number = sym (c.from-number.ensures ∙ c.number.ensures ∙ c.format-id.ensures) in
-    subst (λ (z : ℕ). IsFirstFormatFault d (BadFormat z)) number
-    (first_bad_format d _ _ _ (c.loop-place.invariant.used vars) c.get.ensures new (c.loop-place.invariant.clean vars) good many)
+    subst (λ (z : ℕ). IsFirstFault d (BadFormat z)) number (record {
+      position = OfFormat c.loop-place.place BlocksRule;
+      shows = record { format = _; first_use = first_here d _ _ _ used c.get.ensures new; breaks = (refl, (_, format, c.if-has_too_many_blocks.ensures.0 refl)) };
+      first = named;
+    })
 
 pub returns-in-Some-clause-refused : goal.returns-in-Some-clause-refused
-returns-in-Some-clause-refused c = λ vars other.
+returns-in-Some-clause-refused c = λ vars start other.
     let d = declared vars c.args.formats.now c.args.instructions.now in
     let new = carry IsNotAmong _ _ _ _ c.deref.ensures.value c.format-id.ensures c.if-is_among.ensures in
     let format = ap (slice_get c.args.formats.now) (sym c.format-id.ensures) ∙ c.get-format.ensures in
-    let good = good_name d _ _ format (c.if-not-is_name.ensures.0 refl) in
-    let few = few_blocks d _ _ format (λ many. false≢true (c.if-has_too_many_blocks.ensures.1 many)) in
+    let used = c.loop-place.invariant.used vars in
+    let named = good_name d _ _ _ used c.get.ensures (c.loop-place.invariant.clean vars start) (has_name d _ _ format (c.if-not-is_name.ensures.0 refl)) in
+    let few = few_blocks d _ _ _ used c.get.ensures named (has_few d _ _ format (λ many. false≢true (c.if-has_too_many_blocks.ensures.1 many))) in
     let first = carry (λ used f. IsFirstToClash c.args.formats.now used f c.in-Some.earlier) _ _ _ _ c.deref-in-loop-place.ensures.value c.format-id.ensures c.in-Some.ensures.some in
     let number = sym (c.from-number.ensures ∙ c.number.ensures ∙ c.format-id.ensures) in
-    let other = sym (c.from.ensures ∙ c.number-in-Some.ensures) in
-    subst (λ (z : ℕ). IsFirstFormatFault d (FormatClash z c.from.result)) number
-    (subst (λ (z : ℕ). IsFirstFormatFault d (FormatClash c.get.result.now.format z)) other
-    (first_format_clash d _ _ _ (c.loop-place.invariant.used vars) c.get.ensures _ new (c.loop-place.invariant.clean vars) good few first))
+    let earlier = sym (c.from.ensures ∙ c.number-in-Some.ensures) in
+    subst (λ (z : ℕ). IsFirstFault d (FormatClash z c.from.result)) number
+    (subst (λ (z : ℕ). IsFirstFault d (FormatClash c.get.result.now.format z)) earlier (record {
+      position = OfFormat c.loop-place.place ClashRule;
+      shows = record { format = _; first_use = first_here d _ _ _ used c.get.ensures new; breaks = (_, refl, first_clash d _ _ _ used c.get.ensures _ first) };
+      first = few;
+    }))
 
 pub loop-place-preserved : goal.loop-place-preserved
 loop-place-preserved c =
@@ -67,14 +78,19 @@ loop-place-preserved c =
       used = λ vars.
           let d = declared vars c.args.formats.now c.args.instructions.now in
           subst (AreUsedBefore d (c.loop-place.place + 1)) (sym pushed) (used_new d _ _ _ (c.loop-place.invariant.used vars) c.get.ensures _ c.format-id.ensures new);
-      clean = λ vars.
+      clean = λ vars start.
           let d = declared vars c.args.formats.now c.args.instructions.now in
-          let few = few_blocks d _ _ format (λ many. false≢true (c.if-has_too_many_blocks.ensures.1 many)) in
-          clean_new d _ _ _ (c.loop-place.invariant.used vars) c.get.ensures (c.loop-place.invariant.clean vars) (good_name d _ _ format is_name) few none;
+          let used = c.loop-place.invariant.used vars in
+          let named = good_name d _ _ _ used c.get.ensures (c.loop-place.invariant.clean vars start) (has_name d _ _ format is_name) in
+          let few = few_blocks d _ _ _ used c.get.ensures named (has_few d _ _ format (λ many. false≢true (c.if-has_too_many_blocks.ensures.1 many))) in
+          no_clash d _ _ _ used c.get.ensures few none;
     }
 
 pub returns-clause-clean : goal.returns-clause-clean
-returns-clause-clean c = λ vars. all_clean (declared vars c.args.formats.now c.args.instructions.now) _ (c.loop-place.invariant.clean vars) (omega arith)
+returns-clause-clean c = λ vars start.
+    let end : c.loop-place.place ≡ length c.args.instructions.now = omega arith in
+    let d = declared vars c.args.formats.now c.args.instructions.now in
+    passed_formats d (subst (λ k. IsCleanBefore d (OfFormat k FormatNameRule)) end (c.loop-place.invariant.clean vars start))
 
 pub returns-clause-used : goal.returns-clause-used
 returns-clause-used c = λ vars.

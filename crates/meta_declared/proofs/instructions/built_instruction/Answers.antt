@@ -1,11 +1,9 @@
-use Rattle.std.proofs.Common.{◌≡◌, ◌+◌, ℕ, List, Some, sym, ap, ◌∙◌, arith, slice_get, Option, Result, Ok, Err, IfOk, OnOk}
+use Rattle.std.proofs.Common.{◌≡◌, ℕ, List, Some, sym, ap, ◌∙◌, arith, slice_get, Result, Ok, Err, OnOk}
 use Rattle.std.proofs.lemmas.Bool.{false≢true}
 use Rattle.meta_types.specs.declared.fault.DefinitionError.{DefinitionError}
 use Rattle.meta_inst.specs.Built.{Built}
 use Rattle.meta_inst.specs.Builder.{Builder}
-use Rattle.meta_inst.specs.Faults.{IsAt}
-use Rattle.meta_declared.specs.Searched.{IsRefusedFirst}
-use Rattle.meta_declared.proofs.Rules.{own_of, no_bad_name, refusal_of, refused_on, refused_if, refused_first, clean_told, refused_told, built_told, shared_name_first}
+use Rattle.meta_declared.proofs.Rules.{refused_on, refused_if, refused_first, clean_told, refused_told, built_told, shared_told}
 use Rattle.meta_declared.proofs.NamesSoFar.{shared_found, unshared_found, kept_more}
 use Rattle.meta_declared.proofs.instructions.built_instruction.Goals as goal
 
@@ -29,17 +27,13 @@ returns-then-is_refused_first-clause-built c = refused_if _ _ (c.is_refused_firs
 
 pub returns-then-is_refused_first-clause-refused : goal.returns-then-is_refused_first-clause-refused
 returns-then-is_refused_first-clause-refused c =
-    let d = c.args.set.now in
-    let b = c.get-builder.result.now in
-    let at = read _ d.instructions c.args.place b c.instructions.ensures.instructions c.get-builder.ensures in
-    refused_first d c.args.place b at _ (rw (c.vars.ensures.vars, c.formats.ensures.formats) at c.build-built.ensures.refused) (c.is_refused_first.ensures.0 c.if-is_refused_first.true)
+    let at = read _ _ _ _ c.instructions.ensures.instructions c.get-builder.ensures in
+    refused_first c.args.set.now c.args.place _ at c.requires.clean _ (rw (c.vars.ensures.vars, c.formats.ensures.formats) at c.build-built.ensures.refused) (c.is_refused_first.ensures.0 c.if-is_refused_first.true)
 
 pub overflow_add-result : goal.overflow_add-result
 overflow_add-result c =
-    let d = c.args.set.now in
-    let b = c.get-builder.result.now in
-    let at = read _ d.instructions c.args.place b c.instructions.ensures.instructions c.get-builder.ensures in
-    let shared = shared_found d c.args.place b at _ c.name.ensures _ c.requires.kept _ (rw c.in-Some.is at c.in_ok-earlier.ensures.shared) in
+    let at = read _ _ _ _ c.instructions.ensures.instructions c.get-builder.ensures in
+    let shared = shared_found c.args.set.now c.args.place _ at _ c.name.ensures _ c.requires.kept _ (rw c.in-Some.is at c.in_ok-earlier.ensures.shared) in
     let before = shared.before in
     let few = c.requires.few in
     let within = c.requires.within in
@@ -47,46 +41,30 @@ overflow_add-result c =
 
 pub returns-in-Some-clause-refused : goal.returns-in-Some-clause-refused
 returns-in-Some-clause-refused c = λ other.
-    let d = c.args.set.now in
-    let b = c.get-builder.result.now in
-    let at = read _ d.instructions c.args.place b c.instructions.ensures.instructions c.get-builder.ensures in
-    let later : IsRefusedFirst c.build-built.result → ⊥ = λ first. false≢true (sym c.if-is_refused_first.false ∙ c.is_refused_first.ensures.1 first) in
-    let own = own_of d b (c.args.place + 1) c.build-built.result (rw (c.vars.ensures.vars, c.formats.ensures.formats) at c.build-built.ensures.refused) (rw (c.vars.ensures.vars, c.formats.ensures.formats) at c.build-built.ensures.well_made) later in
-    let shared = rw c.in-Some.is at c.in_ok-earlier.ensures.shared in
-    shared_name_first d c.args.place b at (refusal_of c.build-built.result) own (no_bad_name c.build-built.result later)
-    c.in-Some.earlier (shared_found d c.args.place b at _ c.name.ensures _ c.requires.kept c.in-Some.earlier shared)
+    let at = read _ _ _ _ c.instructions.ensures.instructions c.get-builder.ensures in
+    let shared = shared_found c.args.set.now c.args.place _ at _ c.name.ensures _ c.requires.kept c.in-Some.earlier (rw c.in-Some.is at c.in_ok-earlier.ensures.shared) in
+    shared_told c.args.set.now c.args.place _ at c.requires.clean c.build-built.result
+    (rw (c.vars.ensures.vars, c.formats.ensures.formats) at c.build-built.ensures.refused) (rw (c.vars.ensures.vars, c.formats.ensures.formats) at c.build-built.ensures.well_made)
+    (λ first. false≢true (sym c.if-is_refused_first.false ∙ c.is_refused_first.ensures.1 first)) c.in-Some.earlier shared
 
 pub returns-clause-kept : goal.returns-clause-kept
 returns-clause-kept c =
-    let d = c.args.set.now in
-    let b = c.get-builder.result.now in
-    let at = read _ d.instructions c.args.place b c.instructions.ensures.instructions c.get-builder.ensures in
-    let added = rw c.in_default.is at c.in_ok-earlier.ensures.added in
-    on_any _ _ (kept_more d c.args.place b at _ c.name.ensures _ c.requires.kept _ added)
+    let at = read _ _ _ _ c.instructions.ensures.instructions c.get-builder.ensures in
+    on_any _ _ (kept_more c.args.set.now c.args.place _ at _ c.name.ensures _ c.requires.kept _ (rw c.in_default.is at c.in_ok-earlier.ensures.added))
 
 pub returns-clause-clean : goal.returns-clause-clean
 returns-clause-clean c =
-    let d = c.args.set.now in
-    let b = c.get-builder.result.now in
-    let at = read _ d.instructions c.args.place b c.instructions.ensures.instructions c.get-builder.ensures in
-    let later : IsRefusedFirst c.build-built.result → ⊥ = λ first. false≢true (sym c.if-is_refused_first.false ∙ c.is_refused_first.ensures.1 first) in
-    let own = own_of d b (c.args.place + 1) c.build-built.result (rw (c.vars.ensures.vars, c.formats.ensures.formats) at c.build-built.ensures.refused) (rw (c.vars.ensures.vars, c.formats.ensures.formats) at c.build-built.ensures.well_made) later in
-    let unshared = rw c.in_default.is at c.in_ok-earlier.ensures.unshared in
-    clean_told d c.args.place b at (unshared_found d c.args.place b at _ c.name.ensures _ c.requires.kept unshared) c.build-built.result own
+    let at = read _ _ _ _ c.instructions.ensures.instructions c.get-builder.ensures in
+    let unshared = unshared_found c.args.set.now c.args.place _ at _ c.name.ensures _ c.requires.kept (rw c.in_default.is at c.in_ok-earlier.ensures.unshared) in
+    clean_told c.args.set.now c.args.place _ at c.requires.clean unshared _ (rw (c.vars.ensures.vars, c.formats.ensures.formats) at c.build-built.ensures.well_made)
 
 pub returns-clause-built : goal.returns-clause-built
 returns-clause-built c =
-    let d = c.args.set.now in
-    let b = c.get-builder.result.now in
-    let at = read _ d.instructions c.args.place b c.instructions.ensures.instructions c.get-builder.ensures in
-    built_told d c.args.place b at c.build-built.result (rw c.formats.ensures.formats at c.build-built.ensures.content) (rw (c.vars.ensures.vars, c.formats.ensures.formats) at c.build-built.ensures.control)
+    let at = read _ _ _ _ c.instructions.ensures.instructions c.get-builder.ensures in
+    built_told c.args.set.now c.args.place _ at c.build-built.result (rw c.formats.ensures.formats at c.build-built.ensures.content) (rw (c.vars.ensures.vars, c.formats.ensures.formats) at c.build-built.ensures.control)
 
 pub returns-clause-refused : goal.returns-clause-refused
 returns-clause-refused c =
-    let d = c.args.set.now in
-    let b = c.get-builder.result.now in
-    let at = read _ d.instructions c.args.place b c.instructions.ensures.instructions c.get-builder.ensures in
-    let later : IsRefusedFirst c.build-built.result → ⊥ = λ first. false≢true (sym c.if-is_refused_first.false ∙ c.is_refused_first.ensures.1 first) in
-    let own = own_of d b (c.args.place + 1) c.build-built.result (rw (c.vars.ensures.vars, c.formats.ensures.formats) at c.build-built.ensures.refused) (rw (c.vars.ensures.vars, c.formats.ensures.formats) at c.build-built.ensures.well_made) later in
-    let unshared = rw c.in_default.is at c.in_ok-earlier.ensures.unshared in
-    refused_told d c.args.place b at (unshared_found d c.args.place b at _ c.name.ensures _ c.requires.kept unshared) c.build-built.result own
+    let at = read _ _ _ _ c.instructions.ensures.instructions c.get-builder.ensures in
+    let unshared = unshared_found c.args.set.now c.args.place _ at _ c.name.ensures _ c.requires.kept (rw c.in_default.is at c.in_ok-earlier.ensures.unshared) in
+    refused_told c.args.set.now c.args.place _ at c.requires.clean unshared _ (rw (c.vars.ensures.vars, c.formats.ensures.formats) at c.build-built.ensures.refused)

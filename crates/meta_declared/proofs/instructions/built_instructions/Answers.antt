@@ -1,6 +1,5 @@
-use Rattle.std.proofs.Common.{◌≡◌, ◌<◌, ◌+◌, ℕ, length, refl, subst, sym, ap, ◌∙◌, arith, slice_get, Some, below_more, ⊎_elim}
+use Rattle.std.proofs.Common.{◌≡◌, length, subst, sym, ap, ◌∙◌, arith, slice_get, Some, ⊎_elim}
 use Rattle.meta_inst.specs.Built.{Built}
-use Rattle.meta_declared.specs.Searched.{ShowsNoInstructionFault}
 use Rattle.meta_declared.specs.BuiltInstructions.{IsBuiltAt}
 use Rattle.meta_types.proofs.ListPlaces.{get_pushed}
 use Rattle.meta_inst.proofs.Appended.{one_longer}
@@ -13,7 +12,7 @@ loop-place-preserved c =
     let count = c.loop-place.invariant.count in
     record {
       kept = c.in_ok-built_instruction.ensures.kept;
-      clean = below_more (ShowsNoInstructionFault c.args.set.now) c.loop-place.place c.loop-place.invariant.clean c.in_ok-built_instruction.ensures.clean;
+      clean = c.in_ok-built_instruction.ensures.clean;
       count = omega arith;
       built = λ k x at. ⊎_elim (λ (h : slice_get c.loop-place.built.items k ≡ Some x). c.loop-place.invariant.built k x h)
           (λ (h : (k ≡ length c.loop-place.built.items) × (c.in_ok-built_instruction.field-0 ≡ x)). subst (λ n. IsBuiltAt c.args.set.now n x) (sym (h.0 ∙ count)) (subst (λ (y : Built). IsBuiltAt c.args.set.now c.loop-place.place y) h.1 c.in_ok-built_instruction.ensures.built))

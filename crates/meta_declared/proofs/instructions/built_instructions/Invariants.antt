@@ -1,7 +1,8 @@
-use Rattle.std.proofs.Common.{◌≡◌, ◌<◌, ℕ, length, take, slice_get, Some}
+use Rattle.std.proofs.Common.{◌≡◌, ℕ, length, take, slice_get, Some}
 use Rattle.meta_inst.specs.Built.{Built}
-use Rattle.meta_inst.specs.Faults.{names_of}
-use Rattle.meta_declared.specs.Searched.{ShowsNoInstructionFault}
+use Rattle.meta_inst.specs.InstructionFaults.{NameRule}
+use Rattle.meta_inst.specs.Faults.{OfInstruction, names_of}
+use Rattle.meta_declared.specs.Searched.{IsCleanBefore}
 use Rattle.meta_declared.specs.BuiltInstructions.{IsBuiltAt}
 use Rattle.meta_declared.proofs.instructions.built_instructions.Given as goal
 
@@ -9,7 +10,7 @@ use Rattle.meta_declared.proofs.instructions.built_instructions.Given as goal
 abbrev pub invariant-loop-place : goal.invariant-loop-place
 invariant-loop-place l = record {
   kept : l.names ≡ take l.place (names_of l.set);
-  clean : (k : ℕ) → k < l.place → ShowsNoInstructionFault l.set k;
+  clean : IsCleanBefore l.set (OfInstruction l.place NameRule);
   count : length l.built.items ≡ l.place;
   built : (k : ℕ) (c : Built) → slice_get l.built.items k ≡ Some c → IsBuiltAt l.set k c;
 }

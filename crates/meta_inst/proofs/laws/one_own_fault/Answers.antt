@@ -5,4 +5,4 @@ pub returns-clause-same : goal.returns-clause-same
 returns-clause-same c = one_first
 
 pub returns-clause-well_made : goal.returns-clause-well_made
-returns-clause-well_made c = λ vars formats b n e well h. well n h.rule e h.breaks
+returns-clause-well_made c = λ vars formats b n e well h. well n h.position e h.shows

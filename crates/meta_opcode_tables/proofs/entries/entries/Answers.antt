@@ -1,17 +1,15 @@
 use Rattle.std.proofs.Common.{◌≡◌, arith, refl, sym, ap, ◌∙◌, subst, length, slice_get, [], ◌∷◌, ◌++◌, List, Some}
 use Rattle.std.proofs.lemmas.Option.{slice_get_read, slice_get_within}
-use Rattle.meta_typevar.specs.FourSets.{FourSets}
-use Rattle.meta_typevar.specs.declared.content.TypeVarContent.{TypeVarContent}
 use Rattle.meta_inst.specs.Built.{Built}
-use Rattle.meta_inst.specs.Builder.{Builder}
 use Rattle.meta_inst.specs.Instruction.{Instruction}
 use Rattle.meta_inst.specs.InstructionSet.{instruction_of}
 use Rattle.meta_inst.proofs.Appended.{one_longer}
 use Rattle.meta_declared.specs.BuiltInstructions.{IsBuiltAt}
 use Rattle.meta_declared.proofs.BuiltOperands.{meaning}
-use Rattle.meta_opcode_tables.specs.Entries.{EntryHolds, IsAdded, StaysIn}
+use Rattle.meta_opcode_tables.specs.Entries.{EntryHolds, IsAdded}
 use Rattle.meta_opcode_tables.proofs.Held.{one_more_held, none_added, one_more_added}
-use Rattle.meta_opcode_tables.proofs.Entering.{can_enter, few_instructions}
+use Rattle.meta_declared.proofs.FirstFault.{few_opcodes}
+use Rattle.meta_opcode_tables.proofs.Entering.{can_enter}
 use Rattle.meta_opcode_tables.specs.declared.constraint.Constraint.{Constraint}
 use Rattle.meta_opcode_tables.proofs.entries.entries.Goals as goal
 use Rattle.meta_opcode_tables.proofs.entries.entries.Goals.{After-constraints-in-loop-k-1}
@@ -36,7 +34,7 @@ loop-k-init c =
 pub entry_of-requires-clause-room : goal.entry_of-requires-clause-room
 entry_of-requires-clause-room c =
     let room = c.loop-k.invariant.room in
-    let few = few_instructions c.args.built.now.declared.set c.requires.valid in
+    let few = few_opcodes c.args.built.now.declared.set c.requires.valid in
     let count = c.instructions-instructions.ensures.built.count in
     let same = ap (length {A = Built}) c.instructions-instructions.ensures.instructions in
     let inside = c.loop-k-test.true in

@@ -29,3 +29,6 @@ operands_fault-requires-clause-operands c = record {
   result_count = c.in_ok-operands.ensures.result_count;
   of_registry = c.in_ok-operands.ensures.fits c.args.vars.now c.requires;
 }
+
+pub returns-in-Some-clause-refused : goal.returns-in-Some-clause-refused
+returns-in-Some-clause-refused c = λ other. c.in-Some.ensures.found c.args.vars.now

@@ -4,12 +4,12 @@ use Rattle.meta_typevar.specs.Registry.{HoldTypeSets}
 use Rattle.std.proofs.Common.{Result, Ok, Err, IfOk, ◌≡◌, length, map, arith, ap, sym, ◌∙◌, subst, List}
 use Rattle.meta_types.specs.SharedNames.{AreDifferentNames}
 use Rattle.meta_inst.specs.Builder.{Builder}
-use Rattle.meta_inst.specs.Faults.{names_of}
 use Rattle.meta_declared.specs.AllDeclared.{Declared}
 use Rattle.meta_opcode_tables.specs.TablesOf.{AreTablesOf}
 use Rattle.meta_opcode_tables.proofs.Made.{tables_made}
 use Rattle.meta_opcode_tables.proofs.Decoded.{tables_of_mean}
-use Rattle.meta_opcode_tables.proofs.Entering.{few_instructions, names_differ}
+use Rattle.meta_declared.proofs.FirstFault.{few_opcodes}
+use Rattle.meta_declared.proofs.DifferentNames.{different_names}
 use Rattle.meta_opcode_tables.proofs.opcode_tables.OpcodeTables.of.Goals as goal
 use Rattle.meta_opcode_tables.proofs.opcode_tables.OpcodeTables.of.Goals.{In_ok-names, In_ok-format_names}
 
@@ -31,7 +31,7 @@ copied_formats-requires c = rw (c.formats.ensures.formats, c.instructions-instru
 
 pub new-requires-clause-few : goal.new-requires-clause-few
 new-requires-clause-few c =
-    let few = few_instructions c.args.built.now.declared.set c.declarations-declarations.ensures.valid.set in
+    let few = few_opcodes c.args.built.now.declared.set c.declarations-declarations.ensures.valid.set in
     let counted = c.in_ok-parts.ensures.count in
     omega arith
 
@@ -39,7 +39,7 @@ pub new-requires-clause-different : goal.new-requires-clause-different
 new-requires-clause-different c =
     let same = instructions_are _ _ c.args.built.now.declared c.instructions-instructions.ensures.instructions c.declarations-declarations.ensures.declarations in
     subst AreDifferentNames (sym (c.in_ok-names.ensures ∙ ap (map (λ (b : Builder). b.name)) same))
-    (names_differ c.args.built.now.declared.set c.declarations-declarations.ensures.valid.set)
+    (different_names c.args.built.now.declared.set c.declarations-declarations.ensures.valid.set)
 
 pub new-requires-clause-named : goal.new-requires-clause-named
 new-requires-clause-named c =
