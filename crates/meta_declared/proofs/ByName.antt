@@ -1,5 +1,5 @@
 -- Formats that are put into a map by their names.
-use Rattle.std.proofs.Common.{◌≡◌, ◌<◌, ◌≤◌, ◌+◌, ◌⊎◌, inl, inr, ⊎_elim, ℕ, zero, suc, true, List, [], ◌∷◌, length, map, get_or, slice_get, Option, None, Some, option_map, Bor, refl, sym, ap, ◌∙◌, subst, arith}
+use Rattle.std.proofs.Common.{◌≡◌, ◌<◌, ◌≤◌, ◌+◌, ◌⊎◌, inl, inr, ℕ, zero, suc, List, [], ◌∷◌, length, get_or, slice_get, Some, option_map, Bor, refl, sym, ap, ◌∙◌, subst, arith}
 use Rattle.std.specs.Ordering.{match_ordering, is_eq, nat_cmp}
 use Rattle.std.specs.declared.cmp.Ordering.{Ordering}
 use Rattle.std.specs.declared.cmp.Ordering.TheVariants.{Less, Equal, Greater}
@@ -11,11 +11,11 @@ use Rattle.std.proofs.lemmas.Bool.{cases_lt}
 use Rattle.std.proofs.lemmas.Option.{same_Some, slice_get-map, slice_get_within, get_or_from_slice_get}
 use Rattle.std.proofs.lemmas.Map.Keys.{Less-from_sorted}
 use Rattle.std.proofs.lemmas.Map.Text.{is_eq-slice_cmp}
+use Rattle.meta_lists.proofs.Mapped.{get_mapped}
 use Rattle.meta_operands.specs.declared.format.InstructionFormat.{InstructionFormat}
-use Rattle.meta_inst.specs.Builder.{Builder}
 use Rattle.meta_inst.specs.InstructionSet.{InstructionSet}
 use Rattle.meta_declared.specs.declared.formats.UsedFormat.{UsedFormat}
-use Rattle.meta_declared.specs.FormatsUsed.{AreApart, AreOfTable, AreUsedBefore, IsAmong}
+use Rattle.meta_declared.specs.FormatsUsed.{AreApart, AreUsedBefore}
 use Rattle.meta_declared.specs.FormatsByName.{AreByName, AreFormatsByName}
 
 -- a name, and the format that has it
@@ -61,13 +61,9 @@ each_at P [] k x h e = absurd (cc)
 each_at P (y ∷ ys) zero x h e = subst P (same_Some y x e) h.0
 each_at P (y ∷ ys) (suc k) x h e = each_at P ys k x h.1 e
 
-mapped : {X Y : Type 0} (f : X → Y) (o : Option X) (y : Y) → option_map f o ≡ Some y → (x : X) × (o ≡ Some x) × (f x ≡ y)
-mapped f None y e = absurd (cc)
-mapped f (Some x) y e = (x, refl, same_Some (f x) y e)
-
 -- the entry at a place of the numbers
 entry_at : (es : List Entry) (k id : ℕ) → slice_get (values_of es) k ≡ Some id → (e : Entry) × (slice_get es k ≡ Some e) × (e.1 ≡ id)
-entry_at es k id at = mapped (λ (e : Entry). e.1) (slice_get es k) id (sym (slice_get-map (λ (e : Entry). e.1) es k) ∙ at)
+entry_at es k id at = get_mapped (λ (e : Entry). e.1) es k id at
 
 has_place : (es : List Entry) (id : ℕ) → Has id es → (k : ℕ) × (slice_get (values_of es) k ≡ Some id)
 has_place [] id h = absurd h

@@ -4,6 +4,7 @@ use Rattle.std.specs.Prelude.{Some}
 use Rattle.std.specs.List.{slice_get}
 use Rattle.std.proofs.lemmas.Bool.{cases_lt}
 use Rattle.std.proofs.lemmas.Option.{slice_get_within, same_Some}
+use Rattle.meta_lists.proofs.Pushed.{get_end, get_before, get_pushed}
 use Rattle.meta_types.specs.Name.{IsName}
 use Rattle.meta_typevar.specs.declared.content.TypeVarContent.{TypeVarContent}
 use Rattle.meta_operands.specs.declared.format.InstructionFormat.{InstructionFormat}
@@ -15,7 +16,6 @@ use Rattle.meta_declared.specs.Searched.{IsCleanBefore}
 use Rattle.meta_declared.specs.FormatsUsed.{AreUsedBefore, AreApart, IsAmong, IsNotAmong, IsOfTable, AreOfTable, ClashIn, ClashesWithNone, IsFirstToClash}
 use Rattle.meta_declared.proofs.OneFault.{searchable}
 use Rattle.meta_types.proofs.FirstFault.{passed, next_place}
-use Rattle.meta_types.proofs.ListPlaces.{get_end, get_before, get_pushed}
 
 -- what is declared
 abbrev pub declared : List TypeVarContent → List InstructionFormat → List Builder → InstructionSet

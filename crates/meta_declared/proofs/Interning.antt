@@ -2,6 +2,8 @@
 use Rattle.std.proofs.Common.{◌≡◌, ◌<◌, ◌≤◌, Bool, true, false, ◌⊎◌, inl, inr, ⊎_elim, ℕ, zero, suc, ◌+◌, List, [], ◌∷◌, ◌++◌, length, slice_get, Some, rules, refl, sym, ap, ◌∙◌, subst, arith}
 use Rattle.std.proofs.lemmas.Bool.{cases_lt, cases_order, false≢true}
 use Rattle.std.proofs.lemmas.Option.{slice_get_within, same_Some}
+use Rattle.meta_lists.proofs.Places.{get_stays}
+use Rattle.meta_lists.proofs.Pushed.{get_end, get_pushed_below}
 use Rattle.meta_typevar.specs.Compared.{are_equal}
 use Rattle.meta_typevar.specs.FourSets.{FourSets, IsTypeSet}
 use Rattle.meta_typevar.specs.Registry.{HoldTypeSets}
@@ -9,10 +11,8 @@ use Rattle.meta_typevar.proofs.EqualSets.{one_set}
 use Rattle.meta_inst.specs.InstructionSet.{InstructionSet, root_sets, instruction_of}
 use Rattle.meta_inst.specs.Faults.{IsControlSet, IsFreeSet, NeedsSetAt}
 use Rattle.meta_unique.specs.Interning.{IsIndexOf, IsNew}
-use Rattle.meta_inst.proofs.Places.{slice_get-append_left}
 use Rattle.meta_declared.specs.Needed.{NeedsUnder, NeedsInOrder, ComesBefore, IsNeededBefore, AreSetsByNeed}
 use Rattle.meta_declared.specs.Interned.{Adds, AddsSome, AddsEach}
-use Rattle.meta_types.proofs.ListPlaces.{get_end, get_pushed_below}
 
 true_or_false : (b : Bool) → (b ≡ true) ⊎ (b ≡ false)
 true_or_false true = inl refl
@@ -148,7 +148,7 @@ module _ (d : InstructionSet) where
 
       all : (l q : ℕ) (t : FourSets) → NeedsInOrder d l q t → ComesBefore l q k (suc p) → (j : ℕ) × (slice_get (sets ++ s ∷ []) j ≡ Some t)
       all l q t n b = ⊎_elim
-          (λ b. let (j, at) = h.all l q t n b in (j, slice_get-append_left sets (s ∷ []) j t at))
+          (λ b. let (j, at) = h.all l q t n b in (j, get_stays sets (s ∷ []) j t at))
           (λ e. (length sets, get_end sets s ∙ ap Some (sym (only t (subst (λ x. NeedsInOrder d x p t) e.0 (subst (λ y. NeedsInOrder d l y t) e.1 n))))))
           (before_next l q k p b)
 

@@ -1,7 +1,7 @@
 -- The names of the instructions up to a place.
 use Rattle.std.proofs.Common.{◌≡◌, ◌+◌, ℕ, List, [], ◌∷◌, ◌++◌, length, take, slice_get, Some, sym, ap, ◌∙◌}
+use Rattle.meta_lists.proofs.Mapped.{get_map}
 use Rattle.meta_types.specs.SharedNames.{IsDuplicate}
-use Rattle.meta_types.proofs.ListPlaces.{get_map}
 use Rattle.meta_types.proofs.NamesSoFar as names
 use Rattle.meta_inst.specs.Builder.{Builder}
 use Rattle.meta_inst.specs.InstructionSet.{InstructionSet}

@@ -1,5 +1,5 @@
 -- What one instruction needs, by the numbers of its variables.
-use Rattle.std.proofs.Common.{◌≡◌, ◌≤◌, ◌+◌, ◌↔◌, IsTrue, Bool, true, false, ⊎_elim, ℕ, zero, suc, List, [], ◌∷◌, ◌++◌, length, length-append, Bor, Option, None, Some, IfSome, IfNone, slice_get, refl, sym, ap, ◌∙◌, subst, add-one, arith}
+use Rattle.std.proofs.Common.{◌≡◌, ◌≤◌, ◌+◌, ◌↔◌, IsTrue, Bool, true, false, ℕ, zero, suc, List, [], length, Option, None, Some, IfSome, IfNone, slice_get, refl, sym, ap, ◌∙◌, subst, add-one, arith}
 use Rattle.std.specs.Prelude.{is_some}
 use Rattle.std.proofs.lemmas.Bool.{false≢true}
 use Rattle.std.proofs.lemmas.Option.{same_Some, slice_get_within}
@@ -21,13 +21,7 @@ use Rattle.meta_typevar.proofs.Variables.{one_variable, underived_told}
 use Rattle.meta_inst.proofs.OneType.{one_told}
 use Rattle.meta_inst.proofs.Meaning.{operand_at, operand_from}
 use Rattle.meta_inst.proofs.OneControl.{same_control}
-use Rattle.meta_typevar.specs.Masks.{AreMasksOf}
-use Rattle.meta_typevar.specs.declared.masks.Masks.{Masks}
-use Rattle.meta_declared.specs.Needed.{control_at, IsOfRegistry, NeedsUnder, NeedsAtPlace, NeedsInOrder, StandForSets}
-use Rattle.std.proofs.lemmas.List.{append-nil}
-use Rattle.meta_unique.specs.Interning.{pointed_to}
-use Rattle.meta_inst.proofs.Appended.{stays, last, one_longer}
-use Rattle.meta_types.proofs.ListPlaces.{get_pushed_below}
+use Rattle.meta_declared.specs.Needed.{control_at, IsOfRegistry, NeedsUnder, NeedsAtPlace, NeedsInOrder}
 use Rattle.meta_declared.specs.Interned.{Adds, AddsSome, AddsEach, AddsNeeded, IsControlSetOf, IsFreeSetOf, IsFreeSetAt}
 use Rattle.meta_declared.proofs.Interning.{adds_none, adds_one, adds_like, each_like, each_behind, IsInterned, needs_more, next_instruction}
 

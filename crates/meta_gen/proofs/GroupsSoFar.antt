@@ -1,7 +1,9 @@
 -- The tables of built groups, one group after another.
-use Rattle.std.proofs.Common.{◌≡◌, ◌⊎◌, inl, inr, ℕ, ◌+◌, ◌<◌, ◌≤◌, List, [], ◌∷◌, ◌++◌, length, map, slice_get, Some, None, Option, option_map, refl, sym, ap, ◌∙◌, subst, arith}
+use Rattle.std.proofs.Common.{◌≡◌, ◌⊎◌, inl, inr, ℕ, ◌+◌, List, [], ◌∷◌, ◌++◌, length, map, slice_get, Some, option_map, sym, ap, ◌∙◌, subst, arith}
 use Rattle.std.proofs.lemmas.List.{length-append, length-map}
 use Rattle.std.proofs.lemmas.Option.{slice_get-map, same_Some}
+use Rattle.meta_lists.proofs.Pushed.{get_pushed}
+use Rattle.meta_lists.proofs.Mapped.{get_mapped}
 use Rattle.meta_settings.specs.GroupDeclaration.{GroupDeclaration}
 use Rattle.meta_settings.specs.GroupFaults.{IsValidGroup}
 use Rattle.meta_settings.specs.Layout.{Layout}
@@ -10,7 +12,6 @@ use Rattle.meta_declared.specs.AllDeclared.{AreValidGroups}
 use Rattle.meta_setting_tables.specs.BuiltLayout.{IsBuiltLayout}
 use Rattle.meta_setting_tables.specs.GroupTables.{GroupContents, AreTablesOfGroup}
 use Rattle.meta_gen.specs.WholeTables.{AreTablesOfGroups}
-use Rattle.meta_types.proofs.ListPlaces.{get_pushed}
 
 -- these are the tables of the first so many groups
 pub record GroupsTo (groups : List Layout) (n : ℕ) (tables : List GroupContents) : Type 0 where
@@ -37,12 +38,8 @@ groups_done groups built tables valid are count each = record {
   each = λ k g t at there. each k (built_of g) t (ap (λ w. slice_get w k) are ∙ slice_get-map built_of groups k ∙ ap (option_map built_of) at) there;
 }
 
-mapped : {X Y : Type 0} (f : X → Y) (o : Option X) (y : Y) → option_map f o ≡ Some y → (x : X) × (o ≡ Some x) × (f x ≡ y)
-mapped f None y e = absurd (cc)
-mapped f (Some x) y e = (x, refl, same_Some (f x) y e)
-
 -- each group that is built of a valid one has tables
 pub layouts : (groups : List GroupDeclaration) (built : List Layout) → AreValidGroups groups → built ≡ map built_of groups → ((d : GroupDeclaration) → IsValidGroup d → IsBuiltLayout (built_of d)) → (k : ℕ) (g : Layout) → slice_get built k ≡ Some g → IsBuiltLayout g
 layouts groups built valid are law k g at =
-    let (d, at_d, is) = mapped built_of (slice_get groups k) g (sym (slice_get-map built_of groups k) ∙ ap (λ w. slice_get w k) (sym are) ∙ at) in
+    let (d, at_d, is) = get_mapped built_of groups k g (ap (λ w. slice_get w k) (sym are) ∙ at) in
     subst IsBuiltLayout is (law d (valid k d at_d))

@@ -1,3 +1,2 @@
-mod Sameness
 mod GroupsSoFar
 mod FoundIn

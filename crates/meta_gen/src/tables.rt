@@ -1,12 +1,13 @@
 ghost use Rattle.std.specs.Prelude.{◌≡◌, ◌≢◌, ◌↔◌, ◌≤◌, ◌+◌, ◌<◌, ℕ, List, Option, IsTrue, IsSome, IfSome, IfNone, length, map, take, drop, slice_get, slice_index_or, None, Some, false};
 ghost use Rattle.std.specs.Option.{option_map};
+ghost use Rattle.meta_lists.specs.First.{IsFirst};
 ghost use Rattle.meta_typevar.specs.Registry.{HoldTypeSets};
 ghost use Rattle.meta_inst.specs.InstructionSet.{InstructionSet};
 ghost use Rattle.meta_settings.specs.Layout.{Layout};
 ghost use Rattle.meta_meaning.specs.Tables.{at_opcode, Allows};
 ghost use Rattle.meta_opcode_tables.specs.TablesOf.{AreTablesOf, AcceptsOpcode};
 ghost use Rattle.meta_opcode_tables.specs.Constraint.{number_constraint_of, entry_of};
-ghost use Rattle.meta_opcode_tables.specs.Contents.{IsOpcode, IsFirstOpcodeNamed};
+ghost use Rattle.meta_opcode_tables.specs.Contents.{IsOpcode, IsOpcodeNamed};
 ghost use Rattle.meta_opcode_tables.specs.Found.{IsDeclaredAs, FindsName};
 ghost use Rattle.meta_setting_tables.specs.declared.descriptor.Descriptor.{Descriptor};
 ghost use Rattle.meta_setting_tables.specs.Descriptor.{DescribesEntry};
@@ -128,7 +129,7 @@ impl Tables {
     /// The opcode that has the name, of which there is one at most, and `None` exactly where none has it. It costs the length
     /// of the name, and that of the look-up in the slots.
     pub fn find_opcode(&self, name: &[u8]) -> Option<u16>
-        ensures found { IfSome result (IsFirstOpcodeNamed self.now.opcodes.names name.now) }
+        ensures found { IfSome result (IsFirst (IsOpcodeNamed self.now.opcodes.names name.now)) }
         ensures finds { (op : ℕ) → at_opcode self.now.opcodes.names op ≡ Some name.now → result ≡ Some op }
         ensures none { IfNone result ((k : ℕ) → at_opcode self.now.opcodes.names k ≢ Some name.now) }
         ensures findings { (d : InstructionSet) → AreTablesOf d self.now.opcodes → FindsName d name.now result }
@@ -138,7 +139,7 @@ impl Tables {
 
     /// As `find_opcode`, and `steps` rises by the length of the look-up, the number of slots that were looked at.
     pub fn find_opcode_counted<L: Ledger>(&self, name: &[u8], steps: &mut Steps<L>) -> Option<u16>
-        ensures found { IfSome result (IsFirstOpcodeNamed self.now.opcodes.names name.now) }
+        ensures found { IfSome result (IsFirst (IsOpcodeNamed self.now.opcodes.names name.now)) }
         ensures finds { (op : ℕ) → at_opcode self.now.opcodes.names op ≡ Some name.now → result ≡ Some op }
         ensures none { IfNone result ((k : ℕ) → at_opcode self.now.opcodes.names k ≢ Some name.now) }
         ensures findings { (d : InstructionSet) → AreTablesOf d self.now.opcodes → FindsName d name.now result }

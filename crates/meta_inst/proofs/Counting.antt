@@ -5,8 +5,8 @@ use Rattle.std.proofs.lemmas.Bool.{eq-eqb, eqb-true, eqb-false}
 use Rattle.std.proofs.lemmas.Option.{same_Some}
 use Rattle.std.proofs.lemmas.List.Sums.{sum_by-cons, sum_by_more, count_by-le-length}
 use Rattle.std.proofs.lemmas.List.{length-take}
+use Rattle.meta_lists.proofs.Places.{get_drop}
 use Rattle.meta_inst.specs.Operands.{IsAlone, AreInputCounts}
-use Rattle.meta_inst.proofs.Places.{slice_get-drop}
 
 -- how often the number stands in the list
 abbrev count : ℕ → List ℕ → ℕ
@@ -95,7 +95,7 @@ one_counted (Some c) e = ap Some e
 pub alone_told : (xs : List ℕ) (from place n : ℕ) (counts : ℕ → Option ℕ) (r : Bool) → from ≤ place → slice_get xs place ≡ Some n → AreInputCounts (drop from xs) counts → (IsTrue r ↔ (counts n ≡ Some 1)) → (IsTrue r ↔ IsAlone xs from place)
 alone_told xs from place n counts r l at are told =
     let behind : (j m : ℕ) → from ≤ j → slice_get xs j ≡ Some m → slice_get (drop from xs) (j - from) ≡ Some m =
-    λ j m l e. slice_get-drop xs from (j - from) ∙ ap (slice_get xs) (omega (arith, l)) ∙ e in (
+    λ j m l e. get_drop xs from (j - from) ∙ ap (slice_get xs) (omega (arith, l)) ∙ e in (
       (λ t. record {
         is_input = l;
         alone = λ j m lj b a.
@@ -104,5 +104,5 @@ alone_told xs from place n counts r l at are told =
             omega (arith, e, l, lj);
       }),
       (λ h. told.1 (one_counted (counts n) (are n ∙ once n (drop from xs) (place - from) (behind place n l at)
-          (λ j b. let e = h.alone (from + j) n (omega arith) (sym (slice_get-drop xs from j) ∙ b) at in omega (arith, e))))),
+          (λ j b. let e = h.alone (from + j) n (omega arith) (sym (get_drop xs from j) ∙ b) at in omega (arith, e))))),
     )

@@ -3,6 +3,8 @@ use Rattle.std.proofs.Common.{◌≡◌, ◌<◌, ◌≤◌, ℕ, List, [], leng
 use Rattle.std.specs.Prelude.{is_some, slice_get}
 use Rattle.std.proofs.lemmas.Bool.{false≢true}
 use Rattle.std.proofs.lemmas.Option.{slice_get_within, same_Some}
+use Rattle.std.proofs.lemmas.List.{same_from_push}
+use Rattle.meta_lists.proofs.Pushed.{not_empty}
 use Rattle.meta_types.specs.Function.{Function}
 use Rattle.meta_types.specs.DerivedFunc.{function_of}
 use Rattle.meta_types.specs.ValueTypes.{shape_of}
@@ -12,7 +14,6 @@ use Rattle.meta_typevar.specs.Variable.{Variable, IsDerivedBy, IsOpen}
 use Rattle.meta_typevar.specs.Registry.{sets_of, variable_at, IsKept, IsPlaced, IsRegistry}
 use Rattle.meta_typevar.specs.declared.content.TypeVarContent.{TypeVarContent}
 use Rattle.meta_typevar.specs.declared.content.TypeVarParent.{TypeVarParent}
-use Rattle.meta_typevar.proofs.Places.{last_same, no_last}
 use Rattle.meta_typevar.proofs.Variables.{child_variable, underived_told, one_variable}
 use Rattle.meta_inst.specs.Control.{IsBadlyDerived, HasBadDerivation, IsFirstBadDerivation}
 use Rattle.meta_inst.specs.FoundControl.{control_in, IsBadAt, IsFirstBadAt, IsOf}
@@ -28,15 +29,12 @@ by_control vars NotPolymorphic v e = absurd (cc)
 by_control vars (By m) v e = (m, refl, same_Some (variable_at vars m) v e)
 by_control vars Missing v e = absurd (cc)
 
-some_parent : {x y : TypeVarParent} → Some x ≡ Some y → x ≡ y
-some_parent e = cc
-
 -- the parent is of the registry
 parent_of : (vars : List TypeVarContent) (n : ℕ) (d : TypeVarContent) (p : TypeVarParent) (b : Option TypeVarParent) → b ≡ Some p → IsPlaced vars n d b → p.type_var < length vars
 parent_of vars n d p None e h = absurd (cc)
 parent_of vars n d p (Some q) e h =
     let l = slice_get_within vars q.type_var h.parent_content h.kept in
-    subst (λ (x : TypeVarParent). x.type_var < length vars) (some_parent e) l
+    subst (λ (x : TypeVarParent). x.type_var < length vars) (same_Some q p e) l
 
 module _ (vars : List TypeVarContent) (r : IsRegistry vars) (n : ℕ) (d : TypeVarContent) (k : IsKept vars n d) (p : TypeVarParent) (e : d.base ≡ Some p) where
   -- a variable is one step from its parent
@@ -47,17 +45,17 @@ module _ (vars : List TypeVarContent) (r : IsRegistry vars) (n : ℕ) (d : TypeV
 
   -- by one function
   pub one_function : (v : Variable) (f : Function) → IsDerivedBy v (variable_at vars n) f → function_of p.derived_func ≡ f
-  one_function v f h = (last_same (variable_at vars p.type_var).chain v.chain (function_of p.derived_func) f (sym one_step.chain ∙ h.chain)).1
+  one_function v f h = (same_from_push (variable_at vars p.type_var).chain v.chain (function_of p.derived_func) f (sym one_step.chain ∙ h.chain)).1
 
   -- and from no other
   one_parent : (m : ℕ) (f : Function) → m < length vars → IsDerivedBy (variable_at vars m) (variable_at vars n) f → m ≡ p.type_var
   one_parent m f l h =
-      let chains = last_same (variable_at vars m).chain (variable_at vars p.type_var).chain f (function_of p.derived_func) (sym h.chain ∙ one_step.chain) in
+      let chains = same_from_push (variable_at vars m).chain (variable_at vars p.type_var).chain f (function_of p.derived_func) (sym h.chain ∙ one_step.chain) in
       let roots = sym h.root ∙ one_step.root in
       one_variable vars r m p.type_var l (parent_of vars n d p d.base e (r.variables n d k).placed) (λ i. record { root = roots i; chain = chains.0 i })
 
   pub not_root : (variable_at vars n).chain ≡ [] → ⊥
-  not_root none = no_last (variable_at vars p.type_var).chain (function_of p.derived_func) (sym one_step.chain ∙ none)
+  not_root none = not_empty (variable_at vars p.type_var).chain (function_of p.derived_func) (sym one_step.chain ∙ none)
 
 module _ (vars : List TypeVarContent) (r : IsRegistry vars) (c : Controlling) (n : ℕ) (d : TypeVarContent) (k : IsKept vars n d) where
   abbrev Bad : Type 0

@@ -1,5 +1,6 @@
 -- What is kept of a control is the instruction's.
-use Rattle.std.proofs.Common.{◌≡◌, ◌<◌, ◌↔◌, List, length, IsTrue, Option, None, Some, IfSome, refl, sym, subst}
+use Rattle.std.proofs.Common.{◌≡◌, ◌<◌, ◌↔◌, List, length, IsTrue, Option, IfSome, refl, sym, subst}
+use Rattle.std.proofs.lemmas.Option.{MatchOption-at_some}
 use Rattle.meta_types.specs.declared.fault.DefinitionError.TheVariants.{NoControl}
 use Rattle.meta_typevar.specs.Registry.{sets_of, variable_at}
 use Rattle.meta_typevar.specs.declared.content.TypeVarContent.{TypeVarContent}
@@ -15,14 +16,6 @@ use Rattle.meta_inst.specs.declared.operands.Controlling.{Controlling}
 use Rattle.meta_inst.specs.declared.polymorphic.PolymorphicInfo.{PolymorphicInfo}
 use Rattle.meta_inst.proofs.Searching.{is_found}
 
--- what is said of what an option has
-at_some : (o : Option PolymorphicInfo) (P : PolymorphicInfo → Type 0) → IfSome o P → (p : PolymorphicInfo) → o ≡ Some p → P p
-at_some None P h p e = absurd (cc)
-at_some (Some q) P h p e = subst P (same e) h
-  where
-    same : {x y : PolymorphicInfo} → Some x ≡ Some y → x ≡ y
-    same e = cc
-
 -- a well made instruction has its control
 controlled : (vars : List TypeVarContent) (formats : List InstructionFormat) (b : Builder) → IsWellMade vars formats b → LacksItsControl vars formats b → ⊥
 controlled vars formats b well lack = well 0 ControlRule (NoControl 0) (refl, lack)
@@ -34,7 +27,7 @@ info_of vars formats b i c info kept meaning well found same control of designat
     let is : IsControl (sets_of vars) (instruction_in vars formats b) (control_in vars c) = is_found vars (instruction_in vars formats b) c found_in (controlled vars formats b well) in
     subst (IsPolymorphicInfoOf vars formats b) (sym same) (record {
       control = subst (IsControl (sets_of vars) (instruction_in vars formats b)) (sym control) is;
-      of_registry = at_some info (λ p. p.ctrl_typevar < length vars) of;
-      designated = at_some info (λ p. IsTrue p.use_typevar_operand ↔ IsDesignated (instruction_in vars formats b) (variable_at vars p.ctrl_typevar))
+      of_registry = λ p e. MatchOption-at_some (Unit {0}) (λ p. p.ctrl_typevar < length vars) p e of;
+      designated = λ p e. MatchOption-at_some (Unit {0}) (λ p. IsTrue p.use_typevar_operand ↔ IsDesignated (instruction_in vars formats b) (variable_at vars p.ctrl_typevar)) p e
           (subst (λ (x : Instruction). IfSome info (λ p. IsTrue p.use_typevar_operand ↔ IsDesignated x (variable_at vars p.ctrl_typevar))) meaning designated);
     })

@@ -3,8 +3,6 @@ pub mod Meaning
 mod Underived
 pub mod Derived
 pub mod Placing
-pub mod Places
-pub mod Appended
 pub mod Listed
 pub mod OperandsOf
 pub mod OneControl

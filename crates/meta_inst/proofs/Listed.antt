@@ -1,5 +1,5 @@
 -- The value operands of a declared instruction, as they are listed.
-use Rattle.std.proofs.Common.{◌≡◌, ⊎_elim, ℕ, List, ◌++◌, length, map, take, drop, refl, ap}
+use Rattle.std.proofs.Common.{◌≡◌, ⊎_elim, List, map, ap}
 use Rattle.std.proofs.Math.Seq.{take-append_seam, drop-append_seam}
 use Rattle.meta_typevar.specs.Registry.{variable_at}
 use Rattle.meta_typevar.specs.declared.content.TypeVarContent.{TypeVarContent}
@@ -9,8 +9,8 @@ use Rattle.meta_inst.specs.Builder.{Builder, inputs_of, outputs_of}
 use Rattle.meta_inst.specs.Operands.{AreOf, instruction_with}
 use Rattle.meta_inst.specs.InstructionSet.{instruction_in, designated_in, begins_with_value, FitsBuilder}
 use Rattle.std.specs.List.{slice_get}
+use Rattle.meta_lists.proofs.Places.{get_cases}
 use Rattle.meta_inst.specs.Content.{operand_list}
-use Rattle.meta_inst.proofs.Places.{slice_get-append_cases}
 
 module _ (vars : List TypeVarContent) (formats : List InstructionFormat) (b : Builder) where
   -- they are those of the instruction
@@ -22,4 +22,4 @@ module _ (vars : List TypeVarContent) (formats : List InstructionFormat) (b : Bu
 
   -- and of the registry, if the instruction is
   pub listed_of : FitsBuilder vars formats b → AreOf vars (operand_list formats b).variables
-  listed_of fits k n at = ⊎_elim (λ e. fits.outputs k n e) (λ e. fits.inputs e.0 n e.1) (slice_get-append_cases (variables_of (outputs_of b)) (variables_of (inputs_of b)) k n at)
+  listed_of fits k n at = ⊎_elim (λ e. fits.outputs k n e) (λ e. fits.inputs e.0 n e.2) (get_cases (variables_of (outputs_of b)) (variables_of (inputs_of b)) k n at)

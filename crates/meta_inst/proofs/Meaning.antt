@@ -1,8 +1,10 @@
 -- The operands by the numbers of their variables, and the instruction that they make.
-use Rattle.std.proofs.Common.{◌≡◌, ◌<◌, ◌≤◌, inl, inr, ℕ, List, [], Bool, true, false, length, take, drop, Option, None, Some, slice_get, arith, refl, sym, ap, ◌∙◌, map, subst, ⊎_elim, ◌+◌, ◌∷◌, zero, suc}
-use Rattle.std.specs.Prelude.{◌↔◌, IsTrue, option_map, option_and_then, if◌then◌else◌}
-use Rattle.std.proofs.lemmas.Option.{slice_get-map}
+use Rattle.std.proofs.Common.{◌≡◌, ◌<◌, ◌≤◌, inl, inr, ℕ, List, [], Bool, true, false, length, take, drop, Option, None, Some, slice_get, arith, refl, sym, ap, ◌∙◌, map, subst, ⊎_elim, ◌+◌}
+use Rattle.std.specs.Prelude.{◌↔◌, IsTrue, option_and_then, if◌then◌else◌}
+use Rattle.std.proofs.lemmas.Option.{same_Some, option_and_then_some}
 use Rattle.std.proofs.lemmas.List.{take-append-drop, map-append, length-map, length-take}
+use Rattle.meta_lists.proofs.Places.{get_drop, get_taken}
+use Rattle.meta_lists.proofs.Mapped.{get_map, get_mapped}
 use Rattle.meta_typevar.specs.FourSets.{HasOne}
 use Rattle.meta_typevar.specs.Variable.{Variable}
 use Rattle.meta_typevar.specs.Registry.{sets_of, variable_at, IsRegistry}
@@ -12,19 +14,8 @@ use Rattle.meta_inst.specs.Instruction.{Instruction, operands, IsOperand, IsDesi
 use Rattle.meta_inst.specs.Control.{IsLoneInput, IsRuled, MayControl, IsPolymorphic, HasOneEverywhere, IsControlledBy, DesignatesNone}
 use Rattle.meta_inst.specs.Operands.{OperandList, instruction_with, variables_at, IsLone, LetsControl, CanControl, HasSeveralTypes, AllHaveOneType, designated_number, first_number, AreOf}
 use Rattle.meta_inst.specs.FoundControl.{IsFound, IsFoundIn, MayNot, IsChosen}
-use Rattle.meta_inst.proofs.Places.{slice_get-drop}
 use Rattle.meta_inst.specs.declared.operands.Controlling.{Controlling}
 use Rattle.meta_inst.specs.declared.operands.Controlling.TheVariants.{NotPolymorphic, By, Missing}
-
--- what a map of an option has at a value
-mapped : {X Y : Type 0} (f : X → Y) (o : Option X) (y : Y) → option_map f o ≡ Some y → (x : X) × (o ≡ Some x) × (y ≡ f x)
-mapped f None y e = absurd (cc)
-mapped f (Some x) y e = (x, refl, (cc))
-
--- what an option leads to
-chained : {X Y : Type 0} (f : X → Option Y) (p : Option X) (y : Y) → option_and_then f p ≡ Some y → (x : X) × (p ≡ Some x) × (f x ≡ Some y)
-chained f None y e = absurd (cc)
-chained f (Some x) y e = (x, refl, e)
 
 -- a choice of an option or none
 chosen : {X : Type 0} (b : Bool) (p : Option X) (x : X) → (if b then p else None) ≡ Some x → (b ≡ true) × (p ≡ Some x)
@@ -34,15 +25,6 @@ chosen false p x e = absurd (cc)
 choose : {X : Type 0} (b : Bool) (p : Option X) → b ≡ true → (if b then p else None) ≡ p
 choose true p e = refl
 choose false p e = absurd (cc)
-
-some_same : {X : Type 0} {x y : X} → Some x ≡ Some y → x ≡ y
-some_same e = cc
-
--- the first place, where some are taken
-pub first_taken : (xs : List ℕ) (n x : ℕ) → slice_get (take n xs) 0 ≡ Some x → slice_get xs 0 ≡ Some x
-first_taken xs zero x e = absurd (cc)
-first_taken [] (suc n) x e = absurd (cc)
-first_taken (y ∷ ys) (suc n) x e = e
 
 -- a variable without a chain is its own root
 root_self : (vars : List TypeVarContent) (v : ℕ) → IsRegistry vars → v < length vars → (variable_at vars v).chain ≡ [] → (variable_at vars v).root ≡ v
@@ -62,11 +44,13 @@ module _ (vars : List TypeVarContent) (o : OperandList) (within : o.result_count
 
   -- the operand at a place
   pub operand_at : (k n : ℕ) → slice_get o.variables k ≡ Some n → IsOperand i k (variable_at vars n)
-  operand_at k n at = ap (λ ws. slice_get ws k) all_operands ∙ slice_get-map (variable_at vars) o.variables k ∙ ap (option_map (variable_at vars)) at
+  operand_at k n at = ap (λ ws. slice_get ws k) all_operands ∙ get_map (variable_at vars) o.variables k n at
 
   -- and what stands there
   pub operand_from : (k : ℕ) (w : Variable) → IsOperand i k w → (n : ℕ) × (slice_get o.variables k ≡ Some n) × (w ≡ variable_at vars n)
-  operand_from k w is = mapped (variable_at vars) (slice_get o.variables k) w (sym (slice_get-map (variable_at vars) o.variables k) ∙ sym (ap (λ ws. slice_get ws k) all_operands) ∙ is)
+  operand_from k w is =
+      let (n, at, e) = get_mapped (variable_at vars) o.variables k w (sym (ap (λ ws. slice_get ws k) all_operands) ∙ is) in
+      (n, at, sym e)
 
   taken : length (take o.result_count o.variables) ≡ o.result_count
   taken = omega (arith, length-take o.result_count o.variables)
@@ -91,7 +75,7 @@ module _ (vars : List TypeVarContent) (o : OperandList) (within : o.result_count
     alone = record {
       is_input = omega (arith, results_length, lone.is_input);
       alone = λ j m l found same.
-          let e : m ≡ n = some_same (sym same ∙ at) in
+          let e : m ≡ n = same_Some m n (sym same ∙ at) in
           lone.alone j (omega (arith, results_length, l)) (operand_at j n (found ∙ ap Some e));
     };
   }
@@ -122,24 +106,24 @@ module _ (vars : List TypeVarContent) (o : OperandList) (within : o.result_count
   -- the designated variable and the first are of the registry
   pub designated_of : (u : ℕ) → designated_number o ≡ Some u → u < length vars
   designated_of u d =
-      let (place, is, at) = chained (λ place. slice_get (drop o.result_count o.variables) place) o.designated u d in
-      are (o.result_count + place) u (sym (slice_get-drop o.variables o.result_count place) ∙ at)
+      option_and_then_some (λ place. slice_get (drop o.result_count o.variables) place) o.designated u d
+      (λ place is at. are (o.result_count + place) u (sym (get_drop o.variables o.result_count place) ∙ at))
 
   pub first_of : (u : ℕ) → first_number o ≡ Some u → u < length vars
   first_of u f =
       let (begins, at) = chosen o.begins_with_value (slice_get (take o.result_count o.variables) 0) u f in
-      are 0 u (first_taken o.variables o.result_count u at)
+      are 0 u (get_taken o.variables o.result_count 0 u at)
 
   -- the designated operand
   pub designated_is : (d : ℕ) → designated_number o ≡ Some d → IsDesignated i (variable_at vars d)
   designated_is d e =
-      let (place, is, at) = chained (λ place. slice_get (drop o.result_count o.variables) place) o.designated d e in
-      record { place = place; designates = is; is_value = slice_get-map (variable_at vars) (drop o.result_count o.variables) place ∙ ap (option_map (variable_at vars)) at }
+      option_and_then_some (λ place. slice_get (drop o.result_count o.variables) place) o.designated d e
+      (λ place is at. record { place = place; designates = is; is_value = get_map (variable_at vars) (drop o.result_count o.variables) place d at })
 
   pub designated_from : (w : Variable) → IsDesignated i w → (d : ℕ) × (designated_number o ≡ Some d) × (w ≡ variable_at vars d)
   designated_from w h =
-      let (d, at, e) = mapped (variable_at vars) (slice_get (drop o.result_count o.variables) h.place) w (sym (slice_get-map (variable_at vars) (drop o.result_count o.variables) h.place) ∙ h.is_value) in
-      (d, ap (option_and_then (λ place. slice_get (drop o.result_count o.variables) place)) h.designates ∙ at, e)
+      let (d, at, e) = get_mapped (variable_at vars) (drop o.result_count o.variables) h.place w h.is_value in
+      (d, ap (option_and_then (λ place. slice_get (drop o.result_count o.variables) place)) h.designates ∙ at, sym e)
 
   -- so the number tells whether a variable is the designated operand's
   pub designated_told : (v : ℕ) (r : Bool) → v < length vars → IsTrue r ↔ (designated_number o ≡ Some v) → IsTrue r ↔ IsDesignated i (variable_at vars v)
@@ -152,12 +136,12 @@ module _ (vars : List TypeVarContent) (o : OperandList) (within : o.result_count
   first_is : (v : ℕ) → first_number o ≡ Some v → IsFirstOutput i (variable_at vars v)
   first_is v e =
       let (begins, at) = chosen o.begins_with_value (slice_get (take o.result_count o.variables) 0) v e in
-      record { is_value = begins; first = slice_get-map (variable_at vars) (take o.result_count o.variables) 0 ∙ ap (option_map (variable_at vars)) at }
+      record { is_value = begins; first = get_map (variable_at vars) (take o.result_count o.variables) 0 v at }
 
   first_from : (w : Variable) → IsFirstOutput i w → (v : ℕ) × (first_number o ≡ Some v) × (w ≡ variable_at vars v)
   first_from w h =
-      let (v, at, e) = mapped (variable_at vars) (slice_get (take o.result_count o.variables) 0) w (sym (slice_get-map (variable_at vars) (take o.result_count o.variables) 0) ∙ h.first) in
-      (v, choose o.begins_with_value (slice_get (take o.result_count o.variables) 0) h.is_value ∙ at, e)
+      let (v, at, e) = get_mapped (variable_at vars) (take o.result_count o.variables) 0 w h.first in
+      (v, choose o.begins_with_value (slice_get (take o.result_count o.variables) 0) h.is_value ∙ at, sym e)
 
   polymorphic : HasSeveralTypes vars o.variables → IsPolymorphic (sets_of vars) i
   polymorphic h = record { place = h.place; variable = variable_at vars h.variable; operand = operand_at h.place h.variable h.at; several = h.several }

@@ -4,20 +4,20 @@ use Rattle.std.specs.List.{cons_option}
 use Rattle.std.proofs.lemmas.Bool.{false≢true}
 use Rattle.std.proofs.lemmas.List.{take_more, take-append-drop}
 use Rattle.std.proofs.lemmas.List.Elements.{filter_map-append}
+use Rattle.meta_lists.proofs.Places.{get_stays, get_right, get_cases}
 use Rattle.meta_typevar.specs.declared.content.TypeVarContent.{TypeVarContent}
 use Rattle.meta_operands.specs.Operand.{variable_of, variables_of}
 use Rattle.meta_operands.specs.declared.operand.Operand.{Operand}
 use Rattle.meta_inst.specs.Operands.{AreOf}
-use Rattle.meta_inst.proofs.Places.{slice_get-append_left, slice_get-append_right, slice_get-append_cases}
 
 pub are_of_both : (vars : List TypeVarContent) (xs ys : List ℕ) → AreOf vars xs → AreOf vars ys → AreOf vars (xs ++ ys)
-are_of_both vars xs ys a b k n at = ⊎_elim (λ e. a k n e) (λ e. b e.0 n e.1) (slice_get-append_cases xs ys k n at)
+are_of_both vars xs ys a b k n at = ⊎_elim (λ e. a k n e) (λ e. b e.0 n e.2) (get_cases xs ys k n at)
 
 are_of_left : (vars : List TypeVarContent) (xs ys : List ℕ) → AreOf vars (xs ++ ys) → AreOf vars xs
-are_of_left vars xs ys a k n at = a k n (slice_get-append_left xs ys k n at)
+are_of_left vars xs ys a k n at = a k n (get_stays xs ys k n at)
 
 are_of_right : (vars : List TypeVarContent) (xs ys : List ℕ) → AreOf vars (xs ++ ys) → AreOf vars ys
-are_of_right vars xs ys a k n at = a (length xs + k) n (slice_get-append_right xs ys k ∙ at)
+are_of_right vars xs ys a k n at = a (length xs + k) n (get_right xs ys k ∙ at)
 
 -- one operand
 pub one_is_of : (vars : List TypeVarContent) (x : Operand) (n : ℕ) → variable_of x ≡ Some n → (AreOf vars (variables_of (x ∷ [])) ↔ (n < length vars))

@@ -3,13 +3,13 @@
 use Rattle.std.proofs.Common.{◌≡◌, ◌≢◌, ◌+◌, ℕ, ◌⊎◌, List, [], ◌++◌, length, Option, None, Some, slice_get, refl, sym, ap, ap₂, ◌∙◌, subst, inl, inr, length-append}
 use Rattle.std.proofs.lemmas.Bool.{cases_eq}
 use Rattle.std.proofs.lemmas.Option.{same_Some}
+use Rattle.meta_lists.proofs.Places.{get_stays, get_right}
 use Rattle.meta_types.specs.Shape.{Shape}
 use Rattle.meta_typevar.specs.Variable.{Variable, Sets}
 use Rattle.meta_inst.specs.Instruction.{Instruction, IsOperand, IsDesignated, IsFirstOutput, operands}
 use Rattle.meta_inst.specs.Control.{IsControl, DesignatesNone, IsRuled}
 use Rattle.meta_meaning.specs.Acceptance.{Accepts, Controls}
 use Rattle.meta_meaning.specs.Constraint.{Constraint, Concrete, Free, Same, By, IsConstraint, Passes, ControlFits, Admits}
-use Rattle.meta_inst.proofs.Places.{slice_get-append_left, slice_get-append_right}
 use Rattle.meta_meaning.proofs.Family.{IsControlled, IsUsed, IsSettled, Ruling, Rule, OneType, AnyOf, SameAs, ByOf, IsRule, RulePasses, AllFit, IsChoice}
 use Rattle.meta_meaning.proofs.OneChoice.{AllPass, choice_from_tests, passes_from_choice, fits_from_choice}
 
@@ -59,11 +59,11 @@ constraint_passes c (By f) t h = h
 
 -- the designated operand's variable is an operand
 designated_used : (i : Instruction) (v : Variable) → IsDesignated i v → IsUsed i v
-designated_used i v d = record { place = length i.results + d.place; variable = v; operand = slice_get-append_right i.results i.values d.place ∙ d.is_value; root = refl }
+designated_used i v d = record { place = length i.results + d.place; variable = v; operand = get_right i.results i.values d.place ∙ d.is_value; root = refl }
 
 -- so is the first output's, if that is a value
 first_used : (i : Instruction) (v : Variable) → IsFirstOutput i v → IsUsed i v
-first_used i v f = record { place = 0; variable = v; operand = slice_get-append_left i.results i.values 0 v f.first; root = refl }
+first_used i v f = record { place = 0; variable = v; operand = get_stays i.results i.values 0 v f.first; root = refl }
 
 -- so is the control
 control_used : (sets : Sets) (i : Instruction) (v : Variable) → IsDesignated i v ⊎ (DesignatesNone sets i × IsFirstOutput i v) → IsUsed i v

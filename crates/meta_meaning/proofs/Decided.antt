@@ -2,8 +2,9 @@
 -- alone.
 use Rattle.std.proofs.Common.{◌≡◌, ℕ, suc, ◌⊎◌, Bool, true, false, List, [], ◌∷◌, Contains, refl, sym, subst, inl, inr, ⊎_elim, zero-lt-suc, suc-le-suc, arith}
 use Rattle.std.proofs.lemmas.Bool.{cases_eq, false≢true}
+use Rattle.meta_lists.proofs.Contained.{contains_cases}
 use Rattle.meta_types.specs.Shape.{Kind, IntKind, FloatKind, Shape, IsType, widths, lane_counts}
-use Rattle.meta_types.proofs.AllTypes.{Contains-cases, same_shape, same_shape_true, same_shape_self}
+use Rattle.meta_types.proofs.AllTypes.{same_shape, same_shape_true, same_shape_self}
 
 -- the fact holds, or it doesn't
 abbrev pub Decided : Type 0 → Type 0
@@ -56,7 +57,7 @@ decided_in P at (x ∷ xs) = with_rest (at x) (decided_in P at xs)
     with_rest : Decided (P x) → Decided ((n : ℕ) × Contains xs n × P n) → Decided ((n : ℕ) × Contains (x ∷ xs) n × P n)
     with_rest (inl p) rest = inl (x, (0, zero-lt-suc _, refl), p)
     with_rest (inr first) (inl (n, c, p)) = inl (n, (suc c.0, suc-le-suc c.1, c.2), p)
-    with_rest (inr first) (inr rest) = inr (λ h. by_case h.0 first rest h.2 (Contains-cases x xs h.0 h.1))
+    with_rest (inr first) (inr rest) = inr (λ h. by_case h.0 first rest h.2 (contains_cases x h.0 xs h.1))
 
 -- membership of a list of numbers
 pub decided_contains : (xs : List ℕ) (n : ℕ) → Decided (Contains xs n)
@@ -67,7 +68,7 @@ decided_contains (x ∷ xs) n = with_rest (cases_eq x n) (decided_contains xs n)
     with_rest : Decided (x ≡ n) → Decided (Contains xs n) → Decided (Contains (x ∷ xs) n)
     with_rest (inl e) rest = inl (0, zero-lt-suc _, e)
     with_rest (inr other) (inl c) = inl (suc c.0, suc-le-suc c.1, c.2)
-    with_rest (inr other) (inr later) = inr (λ c. ⊎_elim other later (Contains-cases x xs n c))
+    with_rest (inr other) (inr later) = inr (λ c. ⊎_elim other later (contains_cases x n xs c))
 
 -- that a shape is a type
 pub decided_type : (t : Shape) → Decided (IsType t)

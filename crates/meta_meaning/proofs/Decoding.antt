@@ -1,6 +1,7 @@
 -- The tables of one instruction mean the instruction.
 use Rattle.std.proofs.Common.{◌≡◌, ◌↔◌, ℕ, ◌+◌, List, ◌++◌, length, Option, Some, slice_get, sym, ap₂, ◌∙◌, subst, length-append}
 use Rattle.std.proofs.lemmas.Option.{same_Some}
+use Rattle.meta_lists.proofs.Places.{get_beside, get_stays, get_right}
 use Rattle.meta_types.specs.Shape.{Shape, number_of}
 use Rattle.meta_typevar.specs.FourSets.{IsTypeSet}
 use Rattle.meta_typevar.specs.Variable.{Variable, Sets}
@@ -9,7 +10,6 @@ use Rattle.meta_inst.specs.Control.{IsControl}
 use Rattle.meta_meaning.specs.Acceptance.{AcceptsNumbers, IsNumberOf, AreNumbersOf}
 use Rattle.meta_meaning.specs.Constraint.{Constraint, IsConstraint, Passes, ControlFits, Admits}
 use Rattle.meta_meaning.specs.Tables.{TableContents, Entry, NumberPasses, PassesAt, ControlNumberFits, Allows, IsEntry, at_opcode, result_count, value_count}
-use Rattle.meta_inst.proofs.Places.{at_same_place, slice_get-append_left, slice_get-append_right}
 use Rattle.meta_meaning.proofs.Family.{IsUsed}
 use Rattle.meta_meaning.proofs.ControlFamily.{the_one, ruling_of, as_long, accepts_from_admits, admits_from_accepts}
 use Rattle.meta_meaning.proofs.Only.{same_constraint}
@@ -54,7 +54,7 @@ module _ (sets : Sets) (i : Instruction) (control : Option Variable) (tables : T
     -- each number is that of a type
     each_typed : (e : Option Shape) → IsNumberOf e c → Decodes tables c rs vs entry → (k n : ℕ) → slice_get (rs ++ vs) k ≡ Some n → IsTypeNumber n
     each_typed e numbered d k n n_at =
-        let (w, at) = at_same_place (rs ++ vs) (operands i) k n (counted d) n_at in
+        let (w, at) = get_beside (rs ++ vs) (operands i) k n (counted d) n_at in
         let x = is.constraints k w at in
         passing_typed tables e c numbered x.constraint x.number_constraint n (sound_at k w at) x.stands (passes_there k n w at (d.passes k n n_at))
 
@@ -82,8 +82,8 @@ module _ (sets : Sets) (i : Instruction) (control : Option Variable) (tables : T
     accepts_from_decodes : Decodes tables c rs vs entry → AcceptsNumbers sets i control c rs vs
     accepts_from_decodes d =
         let (e, numbered, fits) = control_type sets control tables entry.typeset_offset c control_typed is.type_set d.control_fits in
-        let (ts, are_rs) = types_of_numbers rs (λ k n n_at. each_typed e numbered d k n (slice_get-append_left rs vs k n n_at)) in
-        let (us, are_vs) = types_of_numbers vs (λ k n n_at. each_typed e numbered d (length rs + k) n (slice_get-append_right rs vs k ∙ n_at)) in
+        let (ts, are_rs) = types_of_numbers rs (λ k n n_at. each_typed e numbered d k n (get_stays rs vs k n n_at)) in
+        let (us, are_vs) = types_of_numbers vs (λ k n n_at. each_typed e numbered d (length rs + k) n (get_right rs vs k ∙ n_at)) in
         record {
           control_type = e;
           result_types = ts;
@@ -123,7 +123,7 @@ module _ (sets : Sets) (i : Instruction) (control : Option Variable) (tables : T
         passes : (k n : ℕ) → slice_get (rs ++ vs) k ≡ Some n → PassesAt tables c (entry.constraint_offset + k) n
         passes k n n_at =
             let (t, t_at, number) = type_at (a.result_types ++ a.value_types) (rs ++ vs) k n both n_at in
-            let (w, at) = at_same_place (a.result_types ++ a.value_types) (operands i) k t long t_at in
+            let (w, at) = get_beside (a.result_types ++ a.value_types) (operands i) k t long t_at in
             let (y, is_y, p) = admits.passes k w t at t_at in
             let x = is.constraints k w at in
             let same : y ≡ x.constraint = same_constraint sets control w y x.constraint is_y x.is_constraint in

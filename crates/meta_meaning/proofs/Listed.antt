@@ -1,10 +1,10 @@
 -- Lists of types and the lists of their numbers.
-use Rattle.std.proofs.Common.{◌≡◌, ◌⊎◌, inl, inr, ℕ, zero, suc, List, [], ◌∷◌, ◌++◌, length, slice_get, Option, None, Some, option_map, refl, sym, ap, ap₂, ◌∙◌, subst}
+use Rattle.std.proofs.Common.{◌≡◌, ◌+◌, ◌⊎◌, inl, inr, ℕ, zero, suc, List, [], ◌∷◌, ◌++◌, length, slice_get, Option, None, Some, option_map, refl, sym, ap, ap₂, ◌∙◌, subst}
 use Rattle.std.proofs.lemmas.Option.{same_Some, none-some, slice_get-map}
 use Rattle.std.proofs.lemmas.List.{length-map, map-append}
+use Rattle.meta_lists.proofs.Places.{get_cases}
 use Rattle.meta_types.specs.Shape.{Shape, IsType, number_of}
 use Rattle.meta_meaning.specs.Acceptance.{AreNumbersOf, IsNumberOf}
-use Rattle.meta_inst.proofs.Places.{slice_get-append_cases}
 
 -- n is the number of a type
 abbrev pub IsTypeNumber : ℕ → Type 0
@@ -27,14 +27,14 @@ types_of_numbers (n ∷ ns) each = with_rest (each 0 n refl) (types_of_numbers n
 -- two lists of types joined have the numbers of the two joined
 pub AreNumbersOf-append : (ts us : List Shape) (ms ns : List ℕ) → AreNumbersOf ts ms → AreNumbersOf us ns → AreNumbersOf (ts ++ us) (ms ++ ns)
 AreNumbersOf-append ts us ms ns a b = record {
-  types = λ k t at. by_place k t (slice_get-append_cases ts us k t at);
+  types = λ k t at. by_place k t (get_cases ts us k t at);
   numbers = ap₂ (λ (xs ys : List ℕ). xs ++ ys) a.numbers b.numbers ∙ sym (map-append number_of ts us);
 }
   where
     -- a type at a place of the one or of the other
-    by_place : (k : ℕ) (t : Shape) → (slice_get ts k ≡ Some t) ⊎ ((j : ℕ) × (slice_get us j ≡ Some t)) → IsType t
+    by_place : (k : ℕ) (t : Shape) → (slice_get ts k ≡ Some t) ⊎ ((j : ℕ) × (k ≡ length ts + j) × (slice_get us j ≡ Some t)) → IsType t
     by_place k t (inl at) = a.types k t at
-    by_place k t (inr (j, at)) = b.types j t at
+    by_place k t (inr (j, _, at)) = b.types j t at
 
 -- lists of types are as long as those of their numbers
 pub AreNumbersOf-length : (ts : List Shape) (ns : List ℕ) → AreNumbersOf ts ns → length ns ≡ length ts

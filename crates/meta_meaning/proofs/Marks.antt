@@ -6,11 +6,12 @@
 use Rattle.std.proofs.Common.{◌≡◌, ℕ, zero, suc, ◌==◌, ◌↔◌, ◌⊎◌, Bool, true, false, cond, ◌&&◌, ◌||◌, List, [], ◌∷◌, length, map, Contains, bit_and, sum, filter, refl, sym, ap, ◌∙◌, subst, suc-le-suc, zero-lt-suc, inl, inr, arith}
 use Rattle.std.proofs.lemmas.Bool.{and_parts, or_cases, or_left, or_right, eqb-true, eq-eqb}
 use Rattle.std.proofs.lemmas.List.{length-map}
+use Rattle.meta_lists.proofs.Contained.{contains_cases}
 use Rattle.meta_types.specs.Shape.{IntKind, FloatKind, widths, lane_counts}
 use Rattle.meta_types.specs.Function.{same_mark}
 use Rattle.meta_typevar.specs.FourSets.{IsPart}
 use Rattle.meta_typevar.specs.Masks.{Holds}
-use Rattle.meta_types.proofs.AllTypes.{at_each, at_each_contained, Contains-cases, same_mark_true}
+use Rattle.meta_types.proofs.AllTypes.{at_each, at_each_contained, same_mark_true}
 
 -- the numbers of the list that the marks keep
 abbrev pub marked : List Bool → List ℕ → List ℕ
@@ -54,7 +55,7 @@ has_true (x ∷ xs) n e = by_case (or_cases (x == n) (has xs n) e) (has_true xs 
 -- and it has what it contains
 pub true_has : (xs : List ℕ) (n : ℕ) → Contains xs n → has xs n ≡ true
 true_has [] n (k, l, e) = absurd (omega arith)
-true_has (x ∷ xs) n c = by_case (Contains-cases x xs n c) (true_has xs n)
+true_has (x ∷ xs) n c = by_case (contains_cases x n xs c) (true_has xs n)
   where
     -- it is the first, or one of the rest
     by_case : (x ≡ n) ⊎ Contains xs n → (Contains xs n → has xs n ≡ true) → ((x == n) || has xs n) ≡ true

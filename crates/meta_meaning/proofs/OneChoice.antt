@@ -4,6 +4,7 @@
 --     fits_from_choice       and each controlling type fits its control
 use Rattle.meta_types.specs.Function.{Function}
 use Rattle.std.proofs.Common.{◌≡◌, ℕ, List, [], ◌∷◌, ◌++◌, length, Option, None, Some, slice_get, refl, sym, ap, ◌∙◌, subst, inl, inr}
+use Rattle.meta_lists.proofs.Places.{get_beside}
 use Rattle.meta_types.specs.Shape.{Shape}
 use Rattle.meta_typevar.specs.FourSets.{IsMember}
 use Rattle.meta_typevar.specs.Chain.{Agrees}
@@ -11,7 +12,6 @@ use Rattle.meta_typevar.specs.Variable.{Variable, Sets}
 use Rattle.meta_inst.specs.Instruction.{Instruction, IsOperand, operands}
 use Rattle.meta_meaning.specs.Acceptance.{Controls}
 use Rattle.meta_meaning.specs.Constraint.{ControlFits}
-use Rattle.meta_inst.proofs.Places.{at_same_place}
 use Rattle.meta_meaning.proofs.Family.{Ruling, Rule, OneType, AnyOf, SameAs, ByOf, IsRule, RulePasses, PassesRule, AllFit, IsChoice}
 use Rattle.meta_meaning.proofs.Candidates.{Candidate, Reason, candidate, same_candidate, underived_agrees, step_agrees}
 use Rattle.meta_meaning.proofs.Choice.{Asked, choose, chosen}
@@ -48,7 +48,7 @@ module _ (sets : Sets) (i : Instruction) (Which : Type 0) (controls : Which → 
   made_controls fits pass l a None e = subst (λ x. ControlFits sets x (c a)) e (fits a)
   made_controls fits pass l a (Some v) e =
       let used = ruling.used a v e in
-      let (t, t_at) = at_same_place (operands i) ts used.place used.variable l used.operand in
+      let (t, t_at) = get_beside (operands i) ts used.place used.variable l used.operand in
       let x : Candidate sets i Which controls c used.place used.variable t = at_place fits pass used.place used.variable t used.operand t_at in
       reason_controls used.place used.variable v a t x.type_of e used.root x.reason ∙ ap Some (sym (ap (made fits pass) (sym used.root) ∙ made_at fits pass used.place used.variable t used.operand t_at))
 
@@ -66,7 +66,7 @@ module _ (sets : Sets) (i : Instruction) (Which : Type 0) (controls : Which → 
       -- the choice for an operand's root is a member of its set
       members : (k : ℕ) (w : Variable) → IsOperand i k w → IsMember (sets w.root) (made fits pass w.root)
       members k w at_k =
-          let (t, t_at) = at_same_place (operands i) ts k w l at_k in
+          let (t, t_at) = get_beside (operands i) ts k w l at_k in
           subst (λ r. IsMember (sets w.root) r) (sym (made_at fits pass k w t at_k t_at)) (at_place fits pass k w t at_k t_at).member
 
   -- what a choice gives to a control that is there

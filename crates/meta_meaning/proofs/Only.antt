@@ -1,9 +1,10 @@
 -- At most one constraint of an operand.
 use Rattle.std.proofs.Common.{◌≡◌, List, [], ◌∷◌, ◌++◌, length, length-append, Option, Some, refl, sym, ap, ◌∙◌, arith}
 use Rattle.std.proofs.lemmas.Option.{same_Some}
+use Rattle.std.proofs.lemmas.List.{same_from_push}
+use Rattle.meta_lists.proofs.Pushed.{not_empty}
 use Rattle.meta_types.specs.Shape.{Shape}
 use Rattle.meta_types.specs.Function.{Function}
-use Rattle.meta_typevar.proofs.Places.{last_same, no_last}
 use Rattle.meta_typevar.specs.FourSets.{FourSets}
 use Rattle.meta_typevar.specs.Chain.{IsFixed}
 use Rattle.meta_typevar.specs.Variable.{Variable, Sets, IsDerivedBy}
@@ -23,7 +24,7 @@ not_from_itself control v w f is_w is_v d =
 
 -- two functions that lead to one variable from the control are one
 one_step : (control : Option Variable) (v x w : Variable) (f g : Function) → control ≡ Some v → control ≡ Some x → IsDerivedBy v w f → IsDerivedBy x w g → f ≡ g
-one_step control v x w f g is_v is_x d e = (last_same v.chain x.chain f g (sym d.chain ∙ e.chain)).1
+one_step control v x w f g is_v is_x d e = (same_from_push v.chain x.chain f g (sym d.chain ∙ e.chain)).1
 
 -- An operand has at most one constraint.
 pub same_constraint : (sets : Sets) (control : Option Variable) (w : Variable) (x y : Constraint) → IsConstraint sets control w x → IsConstraint sets control w y → x ≡ y
@@ -34,12 +35,12 @@ same_constraint sets control w (Concrete t) (By f) h k = absurd (k.not_fixed t h
 same_constraint sets control w (Free s) (Concrete u) h k = absurd (h.not_fixed u k)
 same_constraint sets control w (Free s) (Free q) h k = ap Free (h.set ∙ sym k.set)
 same_constraint sets control w (Free s) Same h k = absurd (h.other k.controls)
-same_constraint sets control w (Free s) (By f) h k = absurd (no_last k.variable.chain f (sym k.derived.chain ∙ h.underived))
+same_constraint sets control w (Free s) (By f) h k = absurd (not_empty k.variable.chain f (sym k.derived.chain ∙ h.underived))
 same_constraint sets control w Same (Concrete u) h k = absurd (h.not_fixed u k)
 same_constraint sets control w Same (Free s) h k = absurd (k.other h.controls)
 same_constraint sets control w Same Same h k = refl
 same_constraint sets control w Same (By f) h k = absurd (not_from_itself control k.variable w f h.controls k.controls k.derived)
 same_constraint sets control w (By f) (Concrete u) h k = absurd (h.not_fixed u k)
-same_constraint sets control w (By f) (Free s) h k = absurd (no_last h.variable.chain f (sym h.derived.chain ∙ k.underived))
+same_constraint sets control w (By f) (Free s) h k = absurd (not_empty h.variable.chain f (sym h.derived.chain ∙ k.underived))
 same_constraint sets control w (By f) Same h k = absurd (not_from_itself control h.variable w f k.controls h.controls h.derived)
 same_constraint sets control w (By f) (By g) h k = ap By (one_step control h.variable k.variable w f g h.controls k.controls h.derived k.derived)

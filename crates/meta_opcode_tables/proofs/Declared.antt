@@ -1,9 +1,9 @@
 -- Tables of declarations hold each declared instruction, and no other.
 use Rattle.std.proofs.Common.{◌≡◌, ℕ, zero, suc, Option, None, Some, IfSome, sym, ◌∙◌, subst, add-one}
 use Rattle.std.proofs.lemmas.Option.{same_Some}
+use Rattle.meta_lists.proofs.Places.{get_beside}
 use Rattle.meta_inst.specs.InstructionSet.{InstructionSet, root_sets, instruction_of}
 use Rattle.meta_meaning.specs.Tables.{TableContents, Entry, IsEntry, at_opcode}
-use Rattle.meta_inst.proofs.Places.{at_same_place}
 use Rattle.meta_opcode_tables.specs.TablesOf.{AreTablesOf, HoldsInstruction}
 use Rattle.meta_opcode_tables.specs.Found.{IsDeclaredAs}
 use Rattle.meta_opcode_tables.specs.Constraint.{entry_of}
@@ -13,7 +13,7 @@ use Rattle.meta_opcode_tables.specs.declared.constraint.OpcodeConstraints.{Opcod
 pub declared_as : (d : InstructionSet) (tables : TableContents) (op : ℕ) (entry : Entry) → AreTablesOf d tables → at_opcode tables.entries op ≡ Some entry → IsDeclaredAs d tables op entry
 declared_as d tables zero entry h at = absurd (cc)
 declared_as d tables (suc k) entry h at =
-    let (b, b_at) = at_same_place tables.entries d.instructions k entry h.count at in
+    let (b, b_at) = get_beside tables.entries d.instructions k entry h.count at in
     let held : HoldsInstruction d tables k b = h.holds k b b_at in
     record {
       place = k;

@@ -3,6 +3,8 @@ use Rattle.std.proofs.Common.{◌≡◌, ◌<◌, ◌+◌, ◌↔◌, ℕ, List,
 use Rattle.std.specs.Prelude.{option_map}
 use Rattle.std.proofs.lemmas.Bool.{false≢true}
 use Rattle.std.proofs.lemmas.Option.{same_Some}
+use Rattle.meta_lists.proofs.Pushed.{stays, last}
+use Rattle.meta_lists.proofs.Options.{mapped}
 use Rattle.meta_types.specs.Shape.{number_of}
 use Rattle.meta_types.specs.Function.{Function}
 use Rattle.meta_types.specs.DerivedFunc.{function_of}
@@ -19,7 +21,6 @@ use Rattle.meta_inst.proofs.Derived.{not_root, one_function}
 use Rattle.meta_meaning.specs.Constraint.{Constraint as TypeConstraint, IsConstraint, Concrete as ConcreteType, Free as FreeType, Same as SameType, By as ByType}
 use Rattle.meta_meaning.specs.Tables.{ConcreteNumber, ByNumber}
 use Rattle.meta_meaning.proofs.Fixedness.{fixed_from_one}
-use Rattle.meta_inst.proofs.Appended.{stays, last}
 use Rattle.meta_opcode_tables.specs.declared.constraint.Constraint.{Constraint}
 use Rattle.meta_opcode_tables.specs.declared.constraint.Constraint.TheVariants.{Concrete, Free, Same}
 use Rattle.meta_opcode_tables.specs.Constraint.{number_constraint_of}
@@ -29,11 +30,6 @@ use Rattle.meta_declared.specs.Needed.{IsOfRegistry, control_at}
 -- a test that says no
 pub refused : (r : Bool) (P : Type 0) → r ≡ false → IsTrue r ↔ P → P → ⊥
 refused r P e h p = false≢true (sym e ∙ h.1 p)
-
--- what a map of an option has at a value
-pub mapped : {X Y : Type 0} (f : X → Y) (o : Option X) (y : Y) → option_map f o ≡ Some y → (x : X) × (o ≡ Some x) × (f x ≡ y)
-mapped f None y e = absurd (cc)
-mapped f (Some x) y e = (x, refl, (cc))
 
 -- the control by its number, and by its variable
 pub control_is : (vars : List TypeVarContent) (control : Option ℕ) (n : ℕ) → control ≡ Some n → control_at vars control ≡ Some (variable_at vars n)

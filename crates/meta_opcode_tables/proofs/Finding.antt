@@ -1,5 +1,5 @@
 -- What a lookup finds in the slots of the names of opcodes, which are numbered from 1.
-use Rattle.std.proofs.Common.{◌≡◌, ℕ, zero, suc, ◌+◌, Bool, List, slice_get, IfSome, Some, None, Option, sym, ap, ◌∙◌, subst, arith}
+use Rattle.std.proofs.Common.{◌≡◌, ℕ, zero, suc, Bool, List, IfSome, Some, None, Option, ap, ◌∙◌, subst, arith}
 use Rattle.meta_types.specs.SharedNames.{AreDifferentNames}
 use Rattle.meta_meaning.specs.Tables.{TableContents, at_opcode}
 use Rattle.meta_unique.specs.Probing.{IsLookup}
@@ -21,11 +21,11 @@ finds_opcode : (names : List (List ℕ)) (slots : List (Option ℕ)) (name : Lis
 finds_opcode names slots name None last s different l = (tt, λ op at. absurd (found_none 1 names slots s name last l op (opcode_number names name op at)))
 finds_opcode names slots name (Some e) last s different l =
     let f = found_first 1 names slots s name last e l in (
-      number_opcode names name e f.is_number,
+      number_opcode names name e f.holds,
       λ op at.
           let n = opcode_number names name op at in
-          let same = different f.is_number.place n.place name f.is_number.there n.there in
-          ap Some (omega (arith, f.is_number.number_is, n.number_is, same)),
+          let same = different f.holds.place n.place name f.holds.there n.there in
+          ap Some (omega (arith, f.holds.number_is, n.number_is, same)),
     )
 
 -- a lookup in the slots of the tables finds the one opcode that has the name

@@ -3,14 +3,16 @@ use Rattle.std.proofs.Common.{◌≡◌, ◌↔◌, ◌≤◌, ◌-◌, ◌/◌,
 use Rattle.std.proofs.lemmas.Bool.{false≢true}
 use Rattle.std.proofs.lemmas.Option.{slice_get-map}
 use Rattle.std.proofs.lemmas.List.{length-map}
+use Rattle.meta_lists.proofs.Mapped.{get_mapped}
+use Rattle.meta_lists.proofs.Places.{get_taken}
 use Rattle.meta_typevar.specs.Registry.{variable_at, IsRegistry}
 use Rattle.meta_typevar.specs.declared.content.TypeVarContent.{TypeVarContent}
 use Rattle.meta_inst.specs.Instruction.{Instruction}
 use Rattle.meta_inst.specs.Operands.{OperandList, instruction_with, designated_number, AreOf}
-use Rattle.meta_inst.proofs.Meaning.{results_length, designated_is, designated_from, designated_of, first_taken}
+use Rattle.meta_inst.proofs.Meaning.{results_length, designated_is, designated_from, designated_of}
 use Rattle.meta_meaning.specs.Tables.{AreFlagsOf, DesignatedControls, FirstResultDiffers, result_count, value_count}
 use Rattle.meta_declared.specs.Needed.{control_at, IsOfRegistry}
-use Rattle.meta_opcode_tables.proofs.Describing.{mapped, control_is, control_from}
+use Rattle.meta_opcode_tables.proofs.Describing.{control_is, control_from}
 
 -- what isn't true is false
 not_true : (b : Bool) → (IsTrue b → ⊥) → b ≡ false
@@ -38,8 +40,8 @@ module _ (vars : List TypeVarContent) (o : OperandList) (within : o.result_count
 
   first_differs : (IsFirstNumber → ⊥) → FirstResultDiffers i (control_at vars control)
   first_differs other w at is =
-      let (v, at_v, e) = mapped (variable_at vars) (slice_get (take o.result_count o.variables) 0) w (sym (slice_get-map (variable_at vars) (take o.result_count o.variables) 0) ∙ at) in
-      other (v, control_from vars registry control of v (are 0 v (first_taken o.variables o.result_count v at_v)) (is ∙ ap Some (sym e)), at_v)
+      let (v, at_v, e) = get_mapped (variable_at vars) (take o.result_count o.variables) 0 w at in
+      other (v, control_from vars registry control of v (are 0 v (get_taken o.variables o.result_count 0 v at_v)) (is ∙ ap Some (sym e)), at_v)
 
   no_first_number : FirstResultDiffers i (control_at vars control) → IsFirstNumber → ⊥
   no_first_number differs (v, is, at) = differs (variable_at vars v) (slice_get-map (variable_at vars) (take o.result_count o.variables) 0 ∙ control_is vars (slice_get (take o.result_count o.variables) 0) v at) (control_is vars control v is)

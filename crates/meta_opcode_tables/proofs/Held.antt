@@ -23,13 +23,13 @@ use Rattle.meta_unique.specs.Overlap.{added, added_at}
 use Rattle.meta_opcode_tables.specs.ConstraintLists.{same_constraint, three_same, overlapped, IsConstraintAt, IsConstraintList, AreOverlapped}
 use Rattle.meta_opcode_tables.specs.Entries.{StaysIn, IsHeld, HoldNeeded, HoldFree, HasTypeSets, IsDescribedAt, AreDescribed, EntryHolds, IsAdded, AreAdded, IsListOf, IsHeldAt, set_with}
 use Rattle.meta_declared.specs.Needed.{IsOfRegistry, control_at}
-use Rattle.meta_opcode_tables.proofs.Describing.{mapped, control_is, control_from}
-use Rattle.meta_inst.proofs.Appended.{stays, last, one_longer}
-use Rattle.meta_types.proofs.ListPlaces.{get_before, get_pushed_below}
+use Rattle.meta_opcode_tables.proofs.Describing.{control_is, control_from}
 use Rattle.meta_opcode_tables.proofs.Overlapping.{one_list_more}
-use Rattle.meta_inst.proofs.Places.{slice_get-append_left}
 use Rattle.std.proofs.Math.Seq.{take-append_seam}
 use Rattle.std.proofs.lemmas.List.{take-append-le, length-map}
+use Rattle.meta_lists.proofs.Places.{get_stays}
+use Rattle.meta_lists.proofs.Pushed.{get_before, get_pushed_below, stays, last, one_longer}
+use Rattle.meta_lists.proofs.Mapped.{get_mapped}
 
 -- the needed sets hold what each instruction needs
 pub needed_held : (d : InstructionSet) (type_sets : List FourSets) → AreNeededSets d type_sets → (k : ℕ) (b : Builder) → IsAt d k b → HoldNeeded type_sets (root_sets d) (instruction_of d b)
@@ -53,9 +53,6 @@ module _ (vars : List TypeVarContent) (o : OperandList) (within : o.result_count
     several = f.several;
   })
 
-map_length : {X Y : Type 0} (f : X → Y) (xs : List X) → length (map f xs) ≡ length xs
-map_length f xs = length-map xs f
-
 module _ (vars : List TypeVarContent) (o : OperandList) (within : o.result_count ≤ length o.variables) (registry : IsRegistry vars) (are : AreOf vars o.variables) (control : Option ℕ) (type_sets : List FourSets) (list : List Constraint) (described : AreDescribed vars control type_sets list o.variables) where
   -- the constraint of an operand
   constraint_at : (tables : TableContents) → HasTypeSets tables type_sets → (k : ℕ) (w : Variable) → IsOperand (instruction_with vars o) k w → IsConstraintAt (sets_of vars) (control_at vars control) tables list k w
@@ -74,7 +71,7 @@ module _ (vars : List TypeVarContent) (o : OperandList) (within : o.result_count
   list_length : length list ≡ length (instruction_with vars o).results + length (instruction_with vars o).values
   list_length =
       let results : length (instruction_with vars o).results ≡ o.result_count = results_length vars o within registry are in
-      let values : length (instruction_with vars o).values ≡ length o.variables - o.result_count = map_length (variable_at vars) (drop o.result_count o.variables) ∙ length-drop o.result_count o.variables in
+      let values : length (instruction_with vars o).values ≡ length o.variables - o.result_count = length-map (drop o.result_count o.variables) (variable_at vars) ∙ length-drop o.result_count o.variables in
       omega (arith, described.count, results, values, within)
 
   pub is_list : (tables : TableContents) → HasTypeSets tables type_sets → IsConstraintList (sets_of vars) (control_at vars control) tables (instruction_with vars o) list
@@ -168,7 +165,7 @@ module _ (vars : List TypeVarContent) (formats : List InstructionFormat) (type_s
           control = x.control;
           is_control = x.is_control;
           list = x.list;
-          at = slice_get-append_left lists (a.list ∷ []) k x.list x.at;
+          at = get_stays lists (a.list ∷ []) k x.list x.at;
           is_list = x.is_list;
         })
         (λ c at_c. subst (λ y. IsListOf vars formats type_sets (lists ++ a.list ∷ []) (length entries) y) (same_Some b c (sym at ∙ at_c)) (record {
@@ -219,6 +216,6 @@ are_overlapped d type_sets tables constraints entries lists has has_constraints 
   };
   whole = has_constraints ∙ ap (map number_constraint_of) h.whole;
   offsets = λ k list entry at at_e.
-      let (e, at_own, is) = mapped entry_of (slice_get entries k) entry (sym (ap (λ xs. slice_get xs k) has_entries ∙ slice_get-map entry_of entries k) ∙ at_e) in
+      let (e, at_own, is) = get_mapped entry_of entries k entry (sym (ap (λ xs. slice_get xs k) has_entries) ∙ at_e) in
       ap (λ (x : Entry). x.constraint_offset) (sym is) ∙ h.offsets k list e at at_own;
 }

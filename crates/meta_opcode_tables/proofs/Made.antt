@@ -2,6 +2,7 @@
 use Rattle.std.proofs.Common.{◌≡◌, ◌+◌, ◌<◌, ℕ, List, [], ◌∷◌, ◌++◌, length, map, take, slice_get, Some, refl, sym, ap, ◌∙◌, subst, below_more}
 use Rattle.std.proofs.lemmas.Option.{slice_get_within, get_or_from_slice_get, same_Some}
 use Rattle.std.proofs.lemmas.List.{take_more, map-append, length-map}
+use Rattle.meta_lists.proofs.Pushed.{stays, last}
 use Rattle.meta_typevar.specs.FourSets.{FourSets}
 use Rattle.meta_typevar.specs.declared.masks.Masks.{Masks}
 use Rattle.meta_declared.specs.Needed.{StandForSets, AreSetsByNeed}
@@ -18,7 +19,6 @@ use Rattle.meta_opcode_tables.specs.TablesOf.{IsFormatName, AreFormatNames, AreT
 use Rattle.meta_opcode_tables.specs.Entries.{IsHeldAt, AreAdded}
 use Rattle.meta_opcode_tables.proofs.Held.{instruction_held, are_overlapped}
 use Rattle.meta_unique.specs.NameSlots.{AreNameSlots}
-use Rattle.meta_inst.proofs.Appended.{stays, last}
 
 -- one more name is copied
 pub copied_more : (xs : List Builder) (k : ℕ) (b : Builder) (old new : List (List ℕ)) (x : List ℕ) → slice_get xs k ≡ Some b → x ≡ b.name → old ≡ map (λ (b : Builder). b.name) (take k xs) → new ≡ old ++ x ∷ [] → new ≡ map (λ (b : Builder). b.name) (take (k + 1) xs)

@@ -1,11 +1,10 @@
 -- The masks of the sets, one after another.
-use Rattle.std.proofs.Common.{◌≡◌, ◌+◌, ⊎_elim, ℕ, List, [], ◌∷◌, ◌++◌, length, length-append, Bor, Some, slice_get, refl, sym, ap, ◌∙◌, subst, arith}
+use Rattle.std.proofs.Common.{◌≡◌, ◌+◌, ⊎_elim, List, [], ◌∷◌, ◌++◌, length, length-append, Bor, refl, sym, ap, ◌∙◌, subst, arith}
 use Rattle.std.proofs.lemmas.List.{append-nil}
-use Rattle.meta_types.proofs.ListPlaces.{get_pushed_below}
+use Rattle.meta_lists.proofs.Pushed.{get_pushed_below, stays, last, one_longer}
 use Rattle.meta_typevar.specs.FourSets.{FourSets}
 use Rattle.meta_typevar.specs.Masks.{AreMasksOf}
 use Rattle.meta_typevar.specs.declared.masks.Masks.{Masks}
-use Rattle.meta_inst.proofs.Appended.{stays, last, one_longer}
 use Rattle.meta_unique.specs.Interning.{pointed_to}
 use Rattle.meta_declared.specs.Needed.{StandForSets}
 

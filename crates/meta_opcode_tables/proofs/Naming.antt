@@ -1,14 +1,15 @@
 -- The opcode that has a name, and the instruction that has it.
 use Rattle.std.proofs.Common.{◌≡◌, ◌≢◌, ℕ, zero, suc, List, Option, None, Some, IfSome, IfNone, slice_get, sym, ap, ◌∙◌, subst, add-one, arith}
 use Rattle.std.proofs.lemmas.Option.{same_Some}
-use Rattle.meta_types.proofs.ListPlaces.{get_map, get_mapped}
+use Rattle.meta_lists.proofs.Mapped.{get_map, get_mapped}
+use Rattle.meta_lists.specs.First.{IsFirst}
 use Rattle.meta_inst.specs.Builder.{Builder}
 use Rattle.meta_inst.specs.InstructionSet.{InstructionSet}
 use Rattle.meta_inst.specs.Faults.{IsAt}
 use Rattle.meta_meaning.specs.Tables.{TableContents, at_opcode}
 use Rattle.meta_opcode_tables.specs.TablesOf.{AreTablesOf}
-use Rattle.meta_opcode_tables.specs.Contents.{IsFirstOpcodeNamed}
-use Rattle.meta_opcode_tables.specs.Found.{IsFirstDeclared, FindsName}
+use Rattle.meta_opcode_tables.specs.Contents.{IsOpcodeNamed}
+use Rattle.meta_opcode_tables.specs.Found.{IsDeclaredNamed, FindsName}
 
 -- a declared instruction's name is that of its opcode
 declared_name : (d : InstructionSet) (tables : TableContents) (k : ℕ) (b : Builder) → AreTablesOf d tables → IsAt d k b → slice_get tables.names k ≡ Some b.name
@@ -20,11 +21,11 @@ abbrev pub FindsNamed : List (List ℕ) → List ℕ → Option ℕ → Type 0
 FindsNamed names name found = (op : ℕ) → at_opcode names op ≡ Some name → found ≡ Some op
 
 -- what is found is the first that has the name
-pub first_named : (names : List (List ℕ)) (name : List ℕ) (found : Option ℕ) → IfSome found (λ op. at_opcode names op ≡ Some name) → FindsNamed names name found → IfSome found (IsFirstOpcodeNamed names name)
+pub first_named : (names : List (List ℕ)) (name : List ℕ) (found : Option ℕ) → IfSome found (λ op. at_opcode names op ≡ Some name) → FindsNamed names name found → IfSome found (IsFirst (IsOpcodeNamed names name))
 first_named names name None named finds = tt
 first_named names name (Some op) named finds = record {
-  named = named;
-  first = λ k below at. let e : op ≡ k = same_Some op k (finds k at) in omega arith;
+  holds = named;
+  none_before = λ k below at. let e : op ≡ k = same_Some op k (finds k at) in omega arith;
 }
 
 -- where nothing is found, no opcode has the name
@@ -33,19 +34,15 @@ none_named names name None finds = λ k at. let e : None ≡ Some k = finds k at
 none_named names name (Some op) finds = tt
 
 -- the declared instruction that has the name of an opcode
-first_declared : (d : InstructionSet) (tables : TableContents) (name : List ℕ) (op : ℕ) → AreTablesOf d tables → at_opcode tables.names op ≡ Some name → FindsNamed tables.names name (Some op) → IsFirstDeclared d name op
-first_declared d tables name zero h at finds = absurd (cc)
-first_declared d tables name (suc place) h at finds =
-    let (b, b_at, named) = get_mapped (λ (x : Builder). x.name) d.instructions place name (subst (λ names. slice_get names place ≡ Some name) h.names at) in
+first_declared : (d : InstructionSet) (tables : TableContents) (name : List ℕ) (op : ℕ) → AreTablesOf d tables → at_opcode tables.names op ≡ Some name → FindsNamed tables.names name (Some op) → IsFirst (IsDeclaredNamed d name) op
+first_declared d tables name zero tables_of at finds = absurd (cc)
+first_declared d tables name (suc place) tables_of at finds =
+    let (b, b_at, named) = get_mapped (λ (x : Builder). x.name) d.instructions place name (subst (λ names. slice_get names place ≡ Some name) tables_of.names at) in
     record {
-      place = place;
-      builder = b;
-      at = b_at;
-      number = sym (add-one place);
-      named = named;
-      first = λ k other lt other_at same.
-          let e : suc place ≡ suc k = same_Some (suc place) (suc k) (finds (suc k) (declared_name d tables k other h other_at ∙ ap Some same)) in
-          omega arith;
+      holds = record { place = place; builder = b; at = b_at; number = sym (add-one place); named = named };
+      none_before = λ other lt h.
+          let e : suc place ≡ suc h.place = same_Some (suc place) (suc h.place) (finds (suc h.place) (declared_name d tables h.place h.builder tables_of h.at ∙ ap Some h.named)) in
+          omega (arith, h.number, lt, e);
     }
 
 -- what is found is the number of the first instruction that has the name

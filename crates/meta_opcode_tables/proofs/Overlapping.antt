@@ -1,15 +1,15 @@
 -- Lists of constraints that overlap.
-use Rattle.std.proofs.Common.{rules, ◌≡◌, ◌≤◌, ◌<◌, ◌+◌, ℕ, zero, suc, true, List, [], ◌∷◌, ◌++◌, length, take, drop, slice_get, Some, refl, sym, ap, ◌∙◌, subst, arith, length-append}
+use Rattle.std.proofs.Common.{rules, ◌≡◌, ◌≤◌, ◌<◌, ◌+◌, ℕ, true, List, [], ◌∷◌, ◌++◌, length, take, drop, slice_get, Some, refl, sym, ap, ◌∙◌, subst, arith, length-append}
 use Rattle.std.specs.Bool.{Decides}
 use Rattle.std.specs.List.{starts_with}
 use Rattle.std.specs.Cmp.Lexicographic.{pointwise, pointwise_decides}
 use Rattle.std.proofs.Math.Seq.{take-append_seam, drop-append_seam, take-length}
 use Rattle.std.proofs.lemmas.List.Sums.{fold-append}
-use Rattle.std.proofs.lemmas.Option.{slice_get_within, slice_get_past}
+use Rattle.std.proofs.lemmas.Option.{slice_get_within}
+use Rattle.meta_lists.proofs.Places.{get_take, get_drop}
 use Rattle.meta_unique.specs.Overlap.{AreAlike, added, added_at, stands_at, IsShortest}
 use Rattle.meta_opcode_tables.specs.Entries.{StaysIn}
 use Rattle.meta_opcode_tables.specs.ConstraintLists.{same_constraint, three_same, overlapped}
-use Rattle.meta_types.proofs.ListPlaces.{get_take}
 use Rattle.meta_opcode_tables.specs.declared.constraint.Constraint.{Constraint}
 use Rattle.meta_opcode_tables.specs.declared.constraint.Constraint.TheVariants.{Concrete, Free, Same, LaneOf, AsTruthy, HalfWidth, DoubleWidth, SplitLanes, MergeLanes, DynamicToVector, Narrower, Wider}
 
@@ -45,12 +45,6 @@ unlike xs ys = (pointwise_decides decides xs ys).1
 pub made_is : (old list new : List Constraint) → AreAlike same_constraint (added same_constraint old list) new → new ≡ added same_constraint old list
 made_is old list new e = sym (alike (added same_constraint old list) new e)
 
-slice_get-drop : {X : Type 0} (xs : List X) (n k : ℕ) → slice_get (drop n xs) k ≡ slice_get xs (n + k)
-slice_get-drop [] zero k = refl
-slice_get-drop [] (suc n) k = sym (slice_get_past [] (suc n + k) (omega arith))
-slice_get-drop (x ∷ xs) zero k = let e : k ≡ 0 + k = omega arith in ap (slice_get (x ∷ xs)) e
-slice_get-drop (x ∷ xs) (suc n) k = let e : suc (n + k) ≡ suc n + k = omega arith in slice_get-drop xs n k ∙ ap (slice_get (x ∷ xs)) e
-
 -- what the longer list keeps in front stays
 pub kept_stays : (old new : List Constraint) → take (length old) new ≡ old → StaysIn old new
 kept_stays old new kept k x at =
@@ -62,7 +56,7 @@ pub stands_read : (table list : List Constraint) (place : ℕ) → stands_at sam
 stands_read table list place e k x at =
     let inside = slice_get_within list k x at in
     let same : list ≡ take (length list) (drop place table) = alike list (take (length list) (drop place table)) e in
-    sym (sym at ∙ ap (λ xs. slice_get xs k) same ∙ get_take (drop place table) (length list) k inside ∙ slice_get-drop table place k)
+    sym (sym at ∙ ap (λ xs. slice_get xs k) same ∙ get_take (drop place table) (length list) k inside ∙ get_drop table place k)
 
 -- the table grows by the list at most
 pub grows : (old list new : List Constraint) → IsShortest same_constraint old list new → length new ≤ length old + length list

@@ -1,25 +1,14 @@
 -- The decoding of an opcode in steps: the counts, the control, the results and then the values.
-use Rattle.std.proofs.Common.{◌≡◌, ◌↔◌, ◌⊎◌, inl, inr, IsTrue, ℕ, zero, suc, ◌+◌, List, [], ◌∷◌, ◌++◌, length, Bool, false, Option, Some, slice_get, sym, ◌∙◌, subst, arith}
+use Rattle.std.proofs.Common.{◌≡◌, ◌↔◌, inl, inr, IsTrue, ℕ, ◌+◌, List, ◌++◌, length, Bool, false, Option, Some, slice_get, sym, ◌∙◌, subst, arith}
 use Rattle.std.proofs.lemmas.Option.{same_Some}
 use Rattle.std.proofs.lemmas.Bool.{false≢true}
+use Rattle.meta_lists.proofs.Places.{get_stays, get_right, get_cases}
 use Rattle.meta_typevar.specs.Registry.{HoldTypeSets}
 use Rattle.meta_inst.specs.InstructionSet.{InstructionSet}
 use Rattle.meta_meaning.specs.Tables.{TableContents, Entry, PassesAt, ControlNumberFits, Allows, at_opcode, result_count, value_count}
-use Rattle.meta_inst.proofs.Places.{slice_get-append_left, slice_get-append_right}
 use Rattle.meta_opcode_tables.specs.TablesOf.{AreTablesOf, AcceptsOpcode}
 use Rattle.meta_opcode_tables.specs.Contents.{AllPass}
 use Rattle.meta_opcode_tables.proofs.Decoded.{tables_of_mean}
-
--- a place of two lists joined is one of the first, or one of the second behind it
-append_places : {X : Type 0} (xs ys : List X) (k : ℕ) (x : X) → slice_get (xs ++ ys) k ≡ Some x → (slice_get xs k ≡ Some x) ⊎ ((j : ℕ) × (k ≡ length xs + j) × (slice_get ys j ≡ Some x))
-append_places [] ys k x e = inr (k, omega arith, e)
-append_places (z ∷ xs) ys zero x e = inl e
-append_places {X} (z ∷ xs) ys (suc k) x e =
-    elim (append_places xs ys k x e) [ inl h ↦ inl h | inr h ↦ inr (h.0, behind h.0 h.1, h.2) ]
-  where
-    -- one more stands before the second list
-    behind : (j : ℕ) → k ≡ length xs + j → suc k ≡ length (z ∷ xs) + j
-    behind j h = omega arith
 
 module _ (tables : TableContents) (op : ℕ) (c : Option ℕ) (rs vs : List ℕ) (entry : Entry) (at : at_opcode tables.entries op ≡ Some entry) where
   -- an opcode has one entry
@@ -40,19 +29,19 @@ module _ (tables : TableContents) (op : ℕ) (c : Option ℕ) (rs vs : List ℕ)
 
   -- no results are allowed of which one doesn't pass
   pub refused_results : (AllPass tables c entry.constraint_offset rs → ⊥) → Allows tables op c rs vs → ⊥
-  refused_results unfit a = unfit (λ k n e. subst (λ x. PassesAt tables c (x.constraint_offset + k) n) (same_entry a) (a.passes k n (slice_get-append_left rs vs k n e)))
+  refused_results unfit a = unfit (λ k n e. subst (λ x. PassesAt tables c (x.constraint_offset + k) n) (same_entry a) (a.passes k n (get_stays rs vs k n e)))
 
   -- the values that are allowed pass behind the results
   values_pass : Allows tables op c rs vs → AllPass tables c (entry.constraint_offset + length rs) vs
   values_pass a k n e =
       let there : entry.constraint_offset + (length rs + k) ≡ entry.constraint_offset + length rs + k = omega arith in
       subst (λ m. PassesAt tables c m n) there
-      (subst (λ x. PassesAt tables c (x.constraint_offset + (length rs + k)) n) (same_entry a) (a.passes (length rs + k) n (slice_get-append_right rs vs k ∙ e)))
+      (subst (λ x. PassesAt tables c (x.constraint_offset + (length rs + k)) n) (same_entry a) (a.passes (length rs + k) n (get_right rs vs k ∙ e)))
 
   -- results and values that pass, pass one after another
   both_pass : AllPass tables c entry.constraint_offset rs → AllPass tables c (entry.constraint_offset + length rs) vs → (k n : ℕ) → slice_get (rs ++ vs) k ≡ Some n → PassesAt tables c (entry.constraint_offset + k) n
   both_pass first second k n e =
-      elim (append_places rs vs k n e) [ inl h ↦ first k n h | inr h ↦ subst (λ m. PassesAt tables c m n) (placed h.0 h.1) (second h.0 n h.2) ]
+      elim (get_cases rs vs k n e) [ inl h ↦ first k n h | inr h ↦ subst (λ m. PassesAt tables c m n) (placed h.0 h.1) (second h.0 n h.2) ]
     where
       -- the place behind the results
       placed : (j : ℕ) → k ≡ length rs + j → entry.constraint_offset + length rs + j ≡ entry.constraint_offset + k

@@ -1,10 +1,7 @@
 -- Lists that compare equal are the same.
-use Rattle.std.proofs.Common.{rules, ◌≡◌, ◌==◌, ℕ, zero, suc, true, List, [], ◌∷◌, length, map, slice_get, ◌<◌, Option, None, Some, refl, sym, ap, ◌∙◌, arith}
+use Rattle.std.proofs.Common.{rules, ◌≡◌, true, List, map, refl}
 use Rattle.std.specs.Bool.{Decides}
-use Rattle.std.specs.Option.{option_eq}
-use Rattle.std.specs.Cmp.Lexicographic.{pointwise, pointwise_decides}
-use Rattle.std.proofs.lemmas.Bool.Decides.{Decides-eqb}
-use Rattle.std.proofs.lemmas.Option.{same_Some}
+use Rattle.meta_lists.proofs.Mapped.{same_mapped}
 use Rattle.meta_types.specs.Function.{Function, LaneOf as LaneOfFunction, AsTruthy as AsTruthyFunction, HalfWidth as HalfWidthFunction, DoubleWidth as DoubleWidthFunction, SplitLanes as SplitLanesFunction, MergeLanes as MergeLanesFunction, DynamicToVector as DynamicToVectorFunction, Narrower as NarrowerRelation, Wider as WiderRelation}
 use Rattle.meta_typevar.specs.declared.masks.Masks.{Masks}
 use Rattle.meta_typevar.specs.contracts.masks.MasksPartialEq.TheImpl.{eq-value as masks_eq}
@@ -14,9 +11,6 @@ use Rattle.meta_opcode_tables.specs.contracts.constraint.OpcodeConstraintsPartia
 use Rattle.meta_opcode_tables.specs.declared.constraint.Constraint.{Constraint}
 use Rattle.meta_opcode_tables.specs.declared.constraint.Constraint.TheVariants.{Concrete, Free, Same, LaneOf, AsTruthy, HalfWidth, DoubleWidth, SplitLanes, MergeLanes, DynamicToVector, Narrower, Wider}
 use Rattle.meta_opcode_tables.specs.declared.constraint.OpcodeConstraints.{OpcodeConstraints}
-
-pub text_decides : (a b : List ℕ) → Decides (pointwise ◌==◌ a b) (a ≡ b)
-text_decides = pointwise_decides Decides-eqb
 
 masks_are : (a b : Masks) → masks_eq.it a b ≡ true → a ≡ b
 masks_are a b e =
@@ -44,14 +38,6 @@ is_entry a b e = search rules
 
 pub entry_decides : (a b : OpcodeConstraints) → Decides (entry_eq.it a b) (a ≡ b)
 entry_decides a b = (entry_is a b, is_entry a b)
-
--- a list that is mapped and can be mapped back
-map_back : {X Y : Type 0} (f : X → Y) (g : Y → X) → ((x : X) → g (f x) ≡ x) → (xs : List X) → map g (map f xs) ≡ xs
-map_back f g back [] = refl
-map_back f g back (x ∷ xs) = λ i. back x i ∷ map_back f g back xs i
-
-same_mapped : {X Y : Type 0} (f : X → Y) (g : Y → X) → ((x : X) → g (f x) ≡ x) → (xs ys : List X) → map f xs ≡ map f ys → xs ≡ ys
-same_mapped f g back xs ys e = sym (map_back f g back xs) ∙ ap (map g) e ∙ map_back f g back ys
 
 abbrev by_function : Function → Constraint
 by_function LaneOfFunction = LaneOf
@@ -92,19 +78,3 @@ entry_from e = record { flags = e.flags; typeset_offset = e.typeset_offset; cons
 
 pub same_entry_lists : (xs ys : List OpcodeConstraints) → map entry_of xs ≡ map entry_of ys → xs ≡ ys
 same_entry_lists = same_mapped entry_of entry_from (λ x. refl)
-
-slot_is : (a b : Option ℕ) → option_eq ◌==◌ a b ≡ true → a ≡ b
-slot_is None None e = refl
-slot_is None (Some n) e = absurd (cc)
-slot_is (Some m) None e = absurd (cc)
-slot_is (Some m) (Some n) e = ap Some ((Decides-eqb m n).0 e)
-
-is_slot : (a b : Option ℕ) → a ≡ b → option_eq ◌==◌ a b ≡ true
-is_slot a b e = ap (option_eq ◌==◌ a) (sym e) ∙ own a
-  where
-    own : (a : Option ℕ) → option_eq ◌==◌ a a ≡ true
-    own None = refl
-    own (Some m) = (Decides-eqb m m).1 refl
-
-pub slot_decides : (a b : Option ℕ) → Decides (option_eq ◌==◌ a b) (a ≡ b)
-slot_decides a b = (slot_is a b, is_slot a b)

@@ -2,7 +2,7 @@
 --     contents_of names type_sets operand_constraints constraints     the tables that are kept as these lists
 --     AreIndexed names entries                                        each entry has a name of its own, which the slots find
 --     IsOpcode tables op                                              op is an opcode of the tables
-use Rattle.std.specs.Prelude.{◌≡◌, ◌≢◌, ◌<◌, ◌≤◌, ◌+◌, ℕ, List, length, map, slice_get, Contains, Option, None, Some}
+use Rattle.std.specs.Prelude.{◌≡◌, ◌<◌, ◌≤◌, ◌+◌, ℕ, List, length, map, slice_get, Contains, Option, None, Some}
 use Rattle.meta_types.specs.SharedNames.{AreDifferentNames}
 use Rattle.meta_typevar.specs.declared.masks.Masks.{Masks}
 use Rattle.meta_meaning.specs.Tables.{TableContents, at_opcode, PassesAt}
@@ -42,10 +42,9 @@ pub record AreIndexed (names : OpcodeNames) (constraints : List OpcodeConstraint
 abbrev pub IsOpcode : TableContents → ℕ → Type 0
 IsOpcode tables op = (0 < op) × (op ≤ length tables.entries)
 
--- op is the first opcode that has this name
-pub record IsFirstOpcodeNamed (names : List (List ℕ)) (name : List ℕ) (op : ℕ) : Type 0 where
-  pub named : at_opcode names op ≡ Some name
-  pub first : (k : ℕ) → k < op → at_opcode names k ≢ Some name
+-- op is an opcode that has this name
+abbrev pub IsOpcodeNamed : List (List ℕ) → List ℕ → ℕ → Type 0
+IsOpcodeNamed names name op = at_opcode names op ≡ Some name
 
 -- under the controlling number c each number passes the constraint that stands at its place behind the offset
 abbrev pub AllPass : TableContents → Option ℕ → ℕ → List ℕ → Type 0

@@ -1,7 +1,8 @@
 -- What answers about tables say of the declarations that the tables are of.
 --     IsDeclaredAs d tables op entry     the entry is that of the instruction with the number op
 --     FindsName d name answer            the answer is the number of the first instruction with the name, or none has it
-use Rattle.std.specs.Prelude.{◌≡◌, ◌≢◌, ◌<◌, ◌+◌, ℕ, List, Option, None, Some}
+use Rattle.std.specs.Prelude.{◌≡◌, ◌≢◌, ◌+◌, ℕ, List, Option, None, Some}
+use Rattle.meta_lists.specs.First.{IsFirst}
 use Rattle.meta_typevar.specs.Variable.{Variable}
 use Rattle.meta_inst.specs.Builder.{Builder}
 use Rattle.meta_inst.specs.Control.{IsControl}
@@ -20,14 +21,13 @@ pub record IsDeclaredAs (d : InstructionSet) (tables : TableContents) (op : ℕ)
   pub is_control : IsControl (root_sets d) (instruction_of d builder) control
   pub is_entry : IsEntry (root_sets d) (instruction_of d builder) control tables entry
 
--- op is the number of the first declared instruction that has the name
-pub record IsFirstDeclared (d : InstructionSet) (name : List ℕ) (op : ℕ) : Type 0 where
+-- op is the number of a declared instruction that has the name
+pub record IsDeclaredNamed (d : InstructionSet) (name : List ℕ) (op : ℕ) : Type 0 where
   pub place : ℕ
   pub builder : Builder
   pub at : IsAt d place builder
   pub number : op ≡ place + 1
   pub named : builder.name ≡ name
-  pub first : (k : ℕ) (b : Builder) → k < place → IsAt d k b → b.name ≢ name
 
 -- no declared instruction has the name
 abbrev pub IsUndeclared : InstructionSet → List ℕ → Type 0
@@ -36,4 +36,4 @@ IsUndeclared d name = (k : ℕ) (b : Builder) → IsAt d k b → b.name ≢ name
 -- the answer is the number of the first declared instruction that has the name, and none exactly where none has it
 abbrev pub FindsName : InstructionSet → List ℕ → Option ℕ → Type 0
 FindsName d name None = IsUndeclared d name
-FindsName d name (Some op) = IsFirstDeclared d name op
+FindsName d name (Some op) = IsFirst (IsDeclaredNamed d name) op

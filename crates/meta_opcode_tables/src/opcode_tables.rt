@@ -1,4 +1,5 @@
 ghost use Rattle.std.specs.Prelude.{◌≡◌, ◌≢◌, ◌↔◌, ◌≤◌, ◌+◌, ◌^◌, ◌<◌, ℕ, List, Option, IsTrue, IsSome, IfSome, IfNone, IfOk, length, map, slice_get, Contains, None, Some};
+ghost use Rattle.meta_lists.specs.First.{IsFirst};
 ghost use Rattle.meta_types.specs.DerivedFunc.{function_of};
 ghost use Rattle.meta_types.specs.Function.{StepsNumbers};
 ghost use Rattle.meta_types.specs.SharedNames.{AreDifferentNames};
@@ -7,7 +8,7 @@ ghost use Rattle.meta_inst.specs.InstructionSet.{InstructionSet};
 ghost use Rattle.meta_meaning.specs.Tables.{TableContents, at_opcode, Allows, SetContains, ControlNumberFits, NumberPasses, PassesAt};
 ghost use Rattle.meta_opcode_tables.specs.TablesOf.{AreTablesOf, AcceptsOpcode};
 ghost use Rattle.meta_opcode_tables.specs.Constraint.{number_constraint_of, entry_of};
-ghost use Rattle.meta_opcode_tables.specs.Contents.{contents_of, IsOpcode, IsFirstOpcodeNamed, AllPass};
+ghost use Rattle.meta_opcode_tables.specs.Contents.{contents_of, IsOpcode, IsOpcodeNamed, AllPass};
 ghost use Rattle.meta_opcode_tables.specs.ConstraintLists.{same_constraint};
 ghost use Rattle.meta_unique.specs.NameSlots.{AreNameSlots, NameAnswers, IsNameLookup};
 ghost use Rattle.meta_opcode_tables.specs.Found.{IsDeclaredAs, FindsName};
@@ -16,11 +17,11 @@ use super::constraint::{Constraint, NO_TYPE_SET, OpcodeConstraints};
 use super::entries::entries;
 use super::masks::masks_of;
 use super::names::{copied_formats, copied_names};
-use super::same::{same_constraints, same_entries, same_masks, same_slots, same_texts};
+use super::same::{same_constraints, same_entries, same_masks};
 use meta_declared::Built;
-use meta_types::{DerivedFunc, Text};
+use meta_types::{DerivedFunc, Text, same_texts};
 use meta_typevar::Masks;
-use meta_unique::{Steps, name_slots, probe, probe_counted, simple_hash};
+use meta_unique::{Steps, name_slots, probe, probe_counted, same_slots, simple_hash};
 use std::alloc::{AllocError, Global};
 use std::marker::Model;
 use std::sync::ledger::Ledger;
@@ -228,7 +229,7 @@ impl OpcodeTables {
     /// The opcode that has the name, of which there is one at most, and `None` exactly where none has it. It costs the length
     /// of the name, and that of the look-up in the slots.
     pub fn find_opcode(&self, name: &[u8]) -> Option<u16>
-        ensures found { IfSome result (IsFirstOpcodeNamed self.now.names name.now) }
+        ensures found { IfSome result (IsFirst (IsOpcodeNamed self.now.names name.now)) }
         ensures finds { (op : ℕ) → at_opcode self.now.names op ≡ Some name.now → result ≡ Some op }
         ensures none { IfNone result ((k : ℕ) → at_opcode self.now.names k ≢ Some name.now) }
         ensures findings { (d : InstructionSet) → AreTablesOf d self.now → FindsName d name.now result }
@@ -242,7 +243,7 @@ impl OpcodeTables {
 
     /// As `find_opcode`, and `steps` rises by the length of the look-up, the number of slots that were looked at.
     pub fn find_opcode_counted<L: Ledger>(&self, name: &[u8], steps: &mut Steps<L>) -> Option<u16>
-        ensures found { IfSome result (IsFirstOpcodeNamed self.now.names name.now) }
+        ensures found { IfSome result (IsFirst (IsOpcodeNamed self.now.names name.now)) }
         ensures finds { (op : ℕ) → at_opcode self.now.names op ≡ Some name.now → result ≡ Some op }
         ensures none { IfNone result ((k : ℕ) → at_opcode self.now.names k ≢ Some name.now) }
         ensures findings { (d : InstructionSet) → AreTablesOf d self.now → FindsName d name.now result }

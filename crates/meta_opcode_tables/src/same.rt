@@ -2,22 +2,7 @@ ghost use Rattle.std.specs.Prelude.{◌≡◌, ◌↔◌, IsTrue, map};
 ghost use Rattle.meta_opcode_tables.specs.Constraint.{number_constraint_of, entry_of};
 
 use super::constraint::{Constraint, OpcodeConstraints};
-use meta_types::Text;
 use meta_typevar::Masks;
-
-/// Whether the texts are the same, in the same order.
-pub(crate) fn same_texts(one: &[Text], other: &[Text]) -> bool
-    ensures { IsTrue result ↔ (one.now ≡ other.now) }
-{
-    one == other
-}
-
-/// Whether the slots are the same.
-pub(crate) fn same_slots(one: &[Option<u16>], other: &[Option<u16>]) -> bool
-    ensures { IsTrue result ↔ (one.now ≡ other.now) }
-{
-    one == other
-}
 
 /// Whether the masks are the same, in the same order.
 pub(crate) fn same_masks(one: &[Masks], other: &[Masks]) -> bool

@@ -1,13 +1,13 @@
 -- The making of the line of a setting from the tables.
-use Rattle.std.proofs.Common.{◌≡◌, ℕ, zero, suc, ◌+◌, ◌≤◌, ◌==◌, ltb, Bool, true, false, List, [], ◌∷◌, ◌++◌, append_assoc, append-nil, length, map, take, drop, filter, slice_get, get_or, Option, None, Some, Bor, Fits, w8, refl, sym, ap, ◌∙◌, subst, add-one, unwrap_or, arith}
+use Rattle.std.proofs.Common.{◌≡◌, ℕ, ◌+◌, ◌≤◌, ◌==◌, ltb, Bool, true, false, List, [], ◌∷◌, ◌++◌, append_assoc, append-nil, length, map, take, drop, filter, slice_get, get_or, Option, None, Some, Bor, Fits, w8, refl, sym, ap, ◌∙◌, subst, unwrap_or, arith}
 use Rattle.std.specs.List.{join_by, join_with_byte, flat_map}
 use Rattle.std.specs.Option.{option_map}
 use Rattle.std.specs.Int.{bit_at}
-use Rattle.std.proofs.Math.Seq.{drop-cons}
 use Rattle.std.proofs.lemmas.Bool.{cond-true, cond-false, le-ltb}
 use Rattle.std.proofs.lemmas.List.Sums.{take_while-cons}
 use Rattle.std.proofs.lemmas.Nat.Bits.{bit_at_above}
-use Rattle.std.proofs.lemmas.Option.{slice_get-map, slice_get_within, get_or_from_slice_get}
+use Rattle.std.proofs.lemmas.Option.{slice_get-map}
+use Rattle.meta_lists.proofs.Places.{drop_next, drop_past}
 use Rattle.meta_setting_tables.specs.declared.descriptor.Detail.{Detail}
 use Rattle.meta_setting_tables.specs.declared.descriptor.Detail.TheVariants.{Bool as BoolDetail, Enum as EnumDetail, Num as NumDetail, Preset}
 use Rattle.meta_setting_tables.specs.declared.descriptor.Descriptor.{Descriptor}
@@ -53,16 +53,6 @@ other_is_setting (BoolDetail bit) other = refl
 other_is_setting (EnumDetail last enumerators) other = refl
 other_is_setting NumDetail other = refl
 other_is_setting Preset other = absurd (other refl)
-
-drop_next : {X : Type 0} (xs : List X) (i : ℕ) (x : X) → slice_get xs i ≡ Some x → drop i xs ≡ x ∷ drop (i + 1) xs
-drop_next xs i x e =
-    drop-cons xs i x (slice_get_within xs i x e) ∙ ap (λ y. y ∷ drop (suc i) xs) (get_or_from_slice_get xs i x x e) ∙ ap (λ n. x ∷ drop n xs) (sym (add-one i))
-
-drop_past : {X : Type 0} (xs : List X) (i : ℕ) → slice_get xs i ≡ None → drop i xs ≡ []
-drop_past [] zero e = refl
-drop_past [] (suc i) e = refl
-drop_past (y ∷ ys) zero e = absurd (cc)
-drop_past (y ∷ ys) (suc i) e = drop_past ys i e
 
 module _ (masks : List ℕ) (start : ℕ) where
   abbrev is_on : Descriptor → Bool
@@ -141,6 +131,6 @@ module _ (tables : WholeTables) (name : List ℕ) (number : ℕ) (found : Option
   pub has_descriptor : OfGroup tables 0 (λ g. None ≡ slice_get g.descriptors number) → ⊥
   has_descriptor none =
       let (g, at) = first_group tables.groups refl in
-      let named = (finds_number g at).there in
+      let named = (finds_number g at).holds in
       let missing : None ≡ slice_get (names_in g.descriptors) number = ap (option_map (λ (d : Descriptor). d.name)) (none g at) ∙ sym (slice_get-map (λ (d : Descriptor). d.name) g.descriptors number) in
       absurd (cc)

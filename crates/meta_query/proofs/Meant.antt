@@ -1,7 +1,9 @@
 -- What tables answer is what the declarations mean that they were made for.
-use Rattle.std.proofs.Common.{◌≡◌, ◌↔◌, ◌+◌, inl, inr, ℕ, zero, suc, List, [], ◌∷◌, length, map, slice_get, Option, None, Some, IfSome, All, refl, sym, ap, ◌∙◌, subst, add-one, arith}
+use Rattle.std.proofs.Common.{◌≡◌, ◌↔◌, ◌+◌, inl, inr, ℕ, zero, suc, List, [], ◌∷◌, map, slice_get, Option, None, Some, IfSome, All, refl, sym, ap, ◌∙◌, subst, add-one, arith}
 use Rattle.std.specs.Option.{option_map}
-use Rattle.std.proofs.lemmas.Option.{slice_get-map, slice_get_within, get_or_from_slice_get}
+use Rattle.std.proofs.lemmas.Option.{slice_get-map, slice_get_within, get_or_from_slice_get, same_Some}
+use Rattle.meta_lists.proofs.Places.{get_beside}
+use Rattle.meta_lists.proofs.Mapped.{get_mapped}
 use Rattle.meta_types.specs.Shape.{Shape, IsType, number_of}
 use Rattle.meta_typevar.specs.Variable.{Variable, Sets}
 use Rattle.meta_inst.specs.Builder.{Builder}
@@ -87,13 +89,8 @@ module _ (d : InstructionSet) (tables : TableContents) (made : AreTablesOf d tab
   opcode_is : (op : ℕ) (name : List ℕ) → at_opcode tables.names op ≡ Some name → (k : ℕ) × (b : Builder) × (op ≡ k + 1) × IsAt d k b × (b.name ≡ name)
   opcode_is zero name e = absurd (cc)
   opcode_is (suc k) name e =
-      let (b, at, is) = mapped d.instructions k name (sym (ap (λ ns. slice_get ns k) made.names) ∙ e) in
+      let (b, at, is) = get_mapped (λ (b : Builder). b.name) d.instructions k name (sym (ap (λ ns. slice_get ns k) made.names) ∙ e) in
       (k, b, sym (add-one k), at, is)
-    where
-      mapped : (bs : List Builder) (k : ℕ) (name : List ℕ) → slice_get (map (λ (b : Builder). b.name) bs) k ≡ Some name → (b : Builder) × (slice_get bs k ≡ Some b) × (b.name ≡ name)
-      mapped [] k name e = absurd (cc)
-      mapped (b ∷ bs) zero name e = (b, refl, (cc))
-      mapped (b ∷ bs) (suc k) name e = mapped bs k name e
 
   -- what is accepted by numbers is accepted by types, and the other way round
   module _ (line : List ℕ) (q : Question) (asks : IsQuestion line q) (k : ℕ) (b : Builder) (at : IsAt d k b) (op : ℕ) (number : op ≡ k + 1) where
@@ -101,15 +98,12 @@ module _ (d : InstructionSet) (tables : TableContents) (made : AreTablesOf d tab
     accepts_asked allows =
         let h = (means op (option_map number_of q.control) (map number_of q.results) (map number_of q.values)).0 allows in
         let place : h.place ≡ k = (let e = h.number in omega arith) in
-        let same : h.builder ≡ b = builders_same (sym h.at ∙ ap (slice_get d.instructions) place ∙ at) in
+        let same : h.builder ≡ b = same_Some h.builder b (sym h.at ∙ ap (slice_get d.instructions) place ∙ at) in
         subst (λ b. AcceptsAsked d b q) same (record {
           control = h.control;
           is_control = h.is_control;
           accepts = types_from_numbers (root_sets d) (instruction_of d h.builder) h.control q.control q.results q.values asks.control (named_types q.results asks.results) (named_types q.values asks.values) h.accepts;
         })
-      where
-        builders_same : {x y : Builder} → Some x ≡ Some y → x ≡ y
-        builders_same e = cc
 
     allows_asked : AcceptsAsked d b q → AllowsAsked tables op q
     allows_asked h =
@@ -126,10 +120,10 @@ module _ (d : InstructionSet) (tables : TableContents) (made : AreTablesOf d tab
   -- what the tables allow is what the instruction accepts
   accepted : (line : List ℕ) (q : Question) → IsQuestion line q → (reply : Reply) → AllowedReply tables q reply → AcceptedReply d q reply
   accepted line q asks Accept (op, named, allows) =
-      let (k, b, number, at, is) = opcode_is op q.name named.named in
+      let (k, b, number, at, is) = opcode_is op q.name named.holds in
       (b, record { place = k; at = at; named = is }, accepts_asked line q asks k b at op number allows)
   accepted line q asks Refuse (op, named, never) =
-      let (k, b, number, at, is) = opcode_is op q.name named.named in
+      let (k, b, number, at, is) = opcode_is op q.name named.holds in
       (b, record { place = k; at = at; named = is }, λ h. never (allows_asked line q asks k b at op number h))
   accepted line q asks Unknown never = λ k b at e. never (k + 1) (opcode_named k b at ∙ ap (λ n. Some n) e)
   accepted line q asks Bad h = h
@@ -137,23 +131,17 @@ module _ (d : InstructionSet) (tables : TableContents) (made : AreTablesOf d tab
 
 -- ---- settings
 
--- where one of two lists of the same length has a first element, the other has one too
-first_there : {X Y : Type 0} (xs : List X) (ys : List Y) → length xs ≡ length ys → (y : Y) → slice_get ys 0 ≡ Some y → (x : X) × (slice_get xs 0 ≡ Some x)
-first_there [] [] e y at = absurd (cc)
-first_there [] (z ∷ ys) e y at = absurd (omega (arith, e))
-first_there (x ∷ xs) ys e y at = (x, refl)
-
 module _ (groups : List GroupDeclaration) (tables : WholeTables) (made : AreTablesOfGroups groups tables.groups) where
   -- the line of the entry of the tables is that of the entry of the declared group
   line_means : (name line : List ℕ) → IsLineInTables tables name line → IsLineOfEntry groups name line
   line_means name line h =
-      let (g, at) = first_there groups tables.groups (sym made.count) h.group h.group_is in
+      let (g, at) = get_beside tables.groups groups 0 h.group made.count h.group_is in
       let own = made.each 0 g h.group at h.group_is in
       record {
         group = g;
         group_is = at;
         entry = h.entry;
-        named = ap (λ names. slice_get names h.entry) (sym own.names) ∙ h.named.there;
+        named = ap (λ names. slice_get names h.entry) (sym own.names) ∙ h.named.holds;
         line_is = same_line g h.group own h.entry h.descriptor h.there ∙ ap (λ l. Some l) (sym h.line_is);
       }
 
@@ -162,7 +150,7 @@ module _ (groups : List GroupDeclaration) (tables : WholeTables) (made : AreTabl
   setting_means name Accept h = h
   setting_means name Refuse h = h
   setting_means name Unknown h = λ g at e named.
-      let (t, there) = first_there tables.groups groups made.count g at in
+      let (t, there) = get_beside groups tables.groups 0 g (sym made.count) at in
       h t there e (ap (λ names. slice_get names e) (made.each 0 g t at there).names ∙ named)
   setting_means name Bad h = h
   setting_means name (Setting line) h = line_means name line h

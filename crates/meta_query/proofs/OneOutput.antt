@@ -1,10 +1,10 @@
 -- Valid declarations answer an input with one output at most.
 use Rattle.std.proofs.Common.{◌≡◌, ◌+◌, inl, inr, ℕ, List, [], ◌∷◌, ◌++◌, slice_get, Some, refl, sym, ap, ap₂, ◌∙◌, subst}
 use Rattle.std.proofs.lemmas.Option.{same_Some}
+use Rattle.meta_lists.proofs.Mapped.{get_map}
 use Rattle.meta_inst.specs.Builder.{Builder}
 use Rattle.meta_inst.specs.InstructionSet.{InstructionSet}
 use Rattle.meta_types.specs.SharedNames.{AreDifferentNames}
-use Rattle.meta_types.proofs.ListPlaces.{get_map}
 use Rattle.meta_inst.specs.Faults.{IsAt, names_of, IsValid}
 use Rattle.meta_query.specs.Lines.{lines_of}
 use Rattle.meta_settings.specs.GroupDeclaration.{GroupDeclaration}

@@ -7,7 +7,7 @@ use Rattle.std.proofs.lemmas.Bool.{cond-true, cond-false, cases_lt}
 use Rattle.std.proofs.lemmas.List.{length-map}
 use Rattle.std.proofs.lemmas.List.Sums.{take_while-cons}
 use Rattle.std.proofs.lemmas.Option.{slice_get-map, slice_get_within, slice_get-get_or, get_or_from_slice_get, same_Some}
-use Rattle.meta_inst.proofs.Places.{slice_get-append_left, slice_get-append_right, slice_get-append_cases}
+use Rattle.meta_lists.proofs.Places.{get_stays, get_right, get_cases}
 use Rattle.meta_settings.specs.declared.proto.ProtoSpecificSetting.{ProtoSpecificSetting}
 use Rattle.meta_settings.specs.declared.proto.ProtoSpecificSetting.TheVariants.{Bool as DeclaredBool, Enum as DeclaredEnum, Num as DeclaredNum}
 use Rattle.meta_settings.specs.declared.setting.BoolSetting.{BoolSetting}
@@ -107,8 +107,8 @@ module _ (b : BoolSetting) where
 in_place : (g : GroupDeclaration) (k : ℕ) (s : PlacedSetting) (b : BoolSetting) → slice_get (laid_out g) k ≡ Some s → s.specific ≡ ABool b → HasItsPlace (start_of g) s b
 in_place g k s b e is = ⊎_elim
     (λ h. absurd (in_bytes_none b 0 g.settings k s h is))
-    (λ h. in_bits_placed b (start_of g) 0 (booleans_among g.settings) h.0 s h.1 is)
-    (slice_get-append_cases (in_bytes 0 (others_among g.settings)) (in_bits (start_of g) 0 (booleans_among g.settings)) k s e)
+    (λ h. in_bits_placed b (start_of g) 0 (booleans_among g.settings) h.0 s h.2 is)
+    (get_cases (in_bytes 0 (others_among g.settings)) (in_bits (start_of g) 0 (booleans_among g.settings)) k s e)
 
 -- ---- what is told of settings
 
@@ -259,7 +259,7 @@ module _ (g : GroupDeclaration) (t : GroupContents) (made : AreTablesOfGroup (bu
           let held = made.defaults.hold e s s_at in
           let line : setting_line s ≡ line_in t d =
           ap₂ line_of_facts (sym says.name) (same_facts t (take e layout.settings) s.byte_offset s.specific d.detail held.byte says.detail held.there held.holds ∙ ap (λ offset. facts_in t offset d.detail) (sym says.offset)) in
-          slice_get-append_left (map setting_line layout.settings) (map (preset_line layout) layout.presets) e (setting_line s) (slice_get-map setting_line layout.settings e ∙ ap (option_map setting_line) s_at) ∙ ap (λ l. Some l) line
+          get_stays (map setting_line layout.settings) (map (preset_line layout) layout.presets) e (setting_line s) (slice_get-map setting_line layout.settings e ∙ ap (option_map setting_line) s_at) ∙ ap (λ l. Some l) line
 
       of_preset : (k : ℕ) → e ≡ length layout.settings + k → slice_get (entry_lines layout) e ≡ Some (line_in t d)
       of_preset k behind =
@@ -272,5 +272,5 @@ module _ (g : GroupDeclaration) (t : GroupContents) (made : AreTablesOfGroup (bu
           let line : preset_line layout p ≡ line_in t d =
           ap (λ names. line_of_facts p.name (PresetFacts names)) (sym (same_enabled_names k p p_at)) ∙ ap (line_in t) (sym is) in
           ap (slice_get (entry_lines layout)) (behind ∙ ap (λ n. n + k) (sym (length-map layout.settings setting_line)))
-          ∙ slice_get-append_right (map setting_line layout.settings) (map (preset_line layout) layout.presets) k
+          ∙ get_right (map setting_line layout.settings) (map (preset_line layout) layout.presets) k
           ∙ slice_get-map (preset_line layout) layout.presets k ∙ ap (option_map (preset_line layout)) p_at ∙ ap (λ l. Some l) line

@@ -5,6 +5,7 @@
 --     IsOutput d input out               out answers the whole input as the declarations mean
 use Rattle.std.specs.Prelude.{◌≡◌, ◌≢◌, ℕ, List, [], ◌∷◌, ◌++◌, ◌⊎◌, map, slice_get, Option, None, Some, codes}
 use Rattle.std.specs.Option.{option_map}
+use Rattle.meta_lists.specs.First.{IsFirst}
 use Rattle.meta_types.specs.Shape.{number_of}
 use Rattle.meta_types.specs.Fault.{line_of}
 use Rattle.meta_types.specs.declared.fault.DefinitionError.{DefinitionError}
@@ -18,7 +19,7 @@ use Rattle.meta_meaning.specs.Tables.{TableContents, at_opcode, Allows}
 use Rattle.meta_settings.specs.GroupDeclaration.{GroupDeclaration}
 use Rattle.meta_settings.specs.LaidOut.{built_of}
 use Rattle.meta_setting_tables.specs.declared.descriptor.Descriptor.{Descriptor}
-use Rattle.meta_opcode_tables.specs.Contents.{IsFirstOpcodeNamed}
+use Rattle.meta_opcode_tables.specs.Contents.{IsOpcodeNamed}
 use Rattle.meta_setting_tables.specs.FoundSetting.{entry_names, FindsEntry}
 use Rattle.meta_setting_tables.specs.GroupTables.{GroupContents, names_in}
 use Rattle.meta_declared.specs.AllDeclared.{Declared}
@@ -45,8 +46,8 @@ AllowsAsked tables op q = Allows tables op (option_map number_of q.control) (map
 
 -- whether the decoding allows, for the opcode that has the name, what is asked; `unknown` where no opcode has it
 abbrev pub AllowedReply : TableContents → Question → Reply → Type 0
-AllowedReply tables q Accept = (op : ℕ) × IsFirstOpcodeNamed tables.names q.name op × AllowsAsked tables op q
-AllowedReply tables q Refuse = (op : ℕ) × IsFirstOpcodeNamed tables.names q.name op × (AllowsAsked tables op q → ⊥)
+AllowedReply tables q Accept = (op : ℕ) × IsFirst (IsOpcodeNamed tables.names q.name) op × AllowsAsked tables op q
+AllowedReply tables q Refuse = (op : ℕ) × IsFirst (IsOpcodeNamed tables.names q.name) op × (AllowsAsked tables op q → ⊥)
 AllowedReply tables q Unknown = (op : ℕ) → at_opcode tables.names op ≢ Some q.name
 AllowedReply tables q Bad = ⊥
 AllowedReply tables q (Setting line) = ⊥

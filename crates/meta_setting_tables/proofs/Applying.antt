@@ -5,12 +5,12 @@ use Rattle.std.specs.Int.RustNames.{bit_or}
 use Rattle.std.proofs.lemmas.Bool.{cases_eq}
 use Rattle.std.proofs.lemmas.Nat.Bits.{bit_at_or, bit_at-lt}
 use Rattle.std.proofs.lemmas.Option.{slice_get_within, same_Some}
+use Rattle.meta_lists.proofs.Places.{get_take, get_drop, get_there}
 use Rattle.meta_settings.specs.Layout.{Layout}
 use Rattle.meta_setting_tables.specs.declared.descriptor.Descriptor.{Descriptor}
 use Rattle.meta_setting_tables.specs.PresetMasks.{AreJoined}
 use Rattle.meta_setting_tables.specs.GroupTables.{GroupContents, IsPresetIn, AreTablesOfGroup, Applies}
-use Rattle.meta_types.proofs.ListPlaces.{get_take, get_drop}
-use Rattle.meta_setting_tables.proofs.EntriesRead.{there_is, preset_entry, preset_there, preset_is}
+use Rattle.meta_setting_tables.proofs.EntriesRead.{preset_entry, preset_there, preset_is}
 
 -- a bit of two bytes joined
 joined_bit : (x y m : ℕ) → m ≡ max x y → x < 2 → y < 2 → (m ≡ 1) ↔ ((x ≡ 1) ⊎ (y ≡ 1))
@@ -41,7 +41,7 @@ applies g t e d old masks new at m long size joined h = record {
       size = joined.size;
       bits = λ byte b c bit at_old at_new low.
           let inside : byte < length masks = let l = slice_get_within old byte b at_old in omega (arith, l, long) in
-          let mask = there_is masks byte inside in
+          let mask = get_there masks byte inside in
           let within : byte < g.settings_size = let s = h.defaults.size in omega (arith, inside, size, s) in
           let offset : d.offset ≡ is.number * g.settings_size = ap (λ (d : Descriptor). d.offset) (preset_entry g t e p d h is at.there) in
           let there : slice_get t.preset_masks (is.number * g.settings_size + byte) ≡ Some mask.0 =

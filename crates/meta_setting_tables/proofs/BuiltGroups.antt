@@ -5,6 +5,7 @@ use Rattle.std.specs.Option.{option_map}
 use Rattle.std.proofs.lemmas.Bool.{cases_lt}
 use Rattle.std.proofs.lemmas.List.{length-map, length-drop}
 use Rattle.std.proofs.lemmas.Option.{slice_get-map, slice_get_within, slice_get-get_or, same_Some}
+use Rattle.meta_lists.proofs.Places.{get_left, get_right, get_drop, get_cases, get_there}
 use Rattle.meta_settings.specs.declared.index.PresetType.TheVariants.{BoolSetting as NamedBool}
 use Rattle.meta_settings.specs.declared.proto.ProtoSpecificSetting.{ProtoSpecificSetting}
 use Rattle.meta_settings.specs.declared.proto.ProtoSpecificSetting.TheVariants.{Bool as DeclaredBool, Enum as DeclaredEnum, Num as DeclaredNum}
@@ -17,8 +18,6 @@ use Rattle.meta_settings.specs.Layout.{PlacedSetting, BuiltPreset, booleans_in}
 use Rattle.meta_settings.specs.LaidOut.{placed_specific, placed_at, in_bytes, in_bits, laid_out, built_of}
 use Rattle.meta_settings.specs.TurnedOn.{built_preset, presets_after, built_presets, booleans_at}
 use Rattle.meta_setting_tables.specs.BuiltLayout.{HaveNumbers, IsBuiltLayout}
-use Rattle.meta_types.proofs.ListPlaces.{get_left, get_right, get_drop, get_cases}
-use Rattle.meta_setting_tables.proofs.EntriesRead.{there_is}
 use Rattle.meta_setting_tables.proofs.Joining.{filter_from}
 
 -- ---- counts
@@ -111,7 +110,7 @@ module _ (d : GroupDeclaration) (valid : IsValidGroup d) where
     below_all : (n k b : ℕ) → k < n → k < length d.presets → TurnsOn d.presets k b → b < boolean_count d
     below_all zero k b l inside on = absurd (omega arith)
     below_all (suc n) k b l inside on =
-        let p = there_is d.presets k inside in
+        let p = get_there d.presets k inside in
         ⊎_elim (λ own. named_boolean k b p.0 p.1 own) (λ other. below_all n other.0 b (let q = other.2 in omega (arith, q, l)) (let q = other.2 in omega (arith, q, inside)) other.3) ((named k b p.0 p.1).0 on)
 
     start_is : length (in_bytes 0 (others_among d.settings)) ≡ start_of d

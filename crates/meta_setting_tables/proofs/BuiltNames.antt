@@ -3,6 +3,8 @@ use Rattle.std.proofs.Common.{◌≡◌, ◌⊎◌, inl, inr, ⊎_elim, ℕ, ◌
 use Rattle.std.specs.Prelude.{filter}
 use Rattle.std.proofs.lemmas.List.{map-append}
 use Rattle.std.proofs.lemmas.Option.{slice_get_within, same_Some}
+use Rattle.meta_lists.proofs.Places.{get_cases}
+use Rattle.meta_lists.proofs.Mapped.{get_map, get_mapped}
 use Rattle.meta_types.specs.SharedNames.{AreDifferentNames}
 use Rattle.meta_settings.specs.GroupDeclaration.{SettingDeclaration, PresetDeclaration, GroupDeclaration, Entry, is_bool, has_own_byte, booleans_among, others_among, start_of, setting_entry, preset_entry, entries_of, names_of}
 use Rattle.meta_settings.specs.GroupFaults.{DuplicateRule, OfEntry, IsValidGroup}
@@ -10,7 +12,6 @@ use Rattle.meta_settings.specs.Layout.{PlacedSetting, BuiltPreset}
 use Rattle.meta_settings.specs.LaidOut.{in_bytes, in_bits, laid_out, built_of}
 use Rattle.meta_settings.specs.TurnedOn.{built_preset, presets_after, built_presets}
 use Rattle.meta_setting_tables.specs.FoundSetting.{entry_names}
-use Rattle.meta_types.proofs.ListPlaces.{get_cases, get_map, get_mapped}
 use Rattle.meta_types.proofs.SharedNames.{distinct_differ}
 use Rattle.meta_setting_tables.proofs.Joining.{filter_from}
 use Rattle.meta_setting_tables.proofs.BuiltGroups.{entry_setting, entry_preset}

@@ -1,9 +1,11 @@
 -- The descriptors of a group's entries, one after another.
 use Rattle.std.proofs.Common.{◌≡◌, ◌⊎◌, inl, inr, ℕ, ◌+◌, ◌-◌, ◌*◌, ◌<◌, ◌≤◌, List, [], ◌∷◌, ◌++◌, length, take, drop, map, slice_get, Some, refl, sym, ap, ◌∙◌, subst, arith}
-use Rattle.std.proofs.lemmas.List.{take_more, take_all, length-map, length-take-le, length-take, length-drop, drop-take, take-take, map-append}
+use Rattle.std.proofs.lemmas.List.{take_all, length-map, length-take-le, length-take, length-drop, drop-take, take-take, map-append}
 use Rattle.std.proofs.lemmas.Bool.{cases_lt}
 use Rattle.std.proofs.lemmas.List.Sums.{fold-append}
-use Rattle.std.proofs.lemmas.Option.{slice_get_within, get_or_from_slice_get, same_Some}
+use Rattle.std.proofs.lemmas.Option.{slice_get_within, same_Some}
+use Rattle.meta_lists.proofs.Places.{get_left, take_next}
+use Rattle.meta_lists.proofs.Pushed.{get_pushed, get_end}
 use Rattle.meta_settings.specs.declared.setting.SpecificSetting.{SpecificSetting}
 use Rattle.meta_settings.specs.declared.setting.SpecificSetting.TheVariants.{Bool as ABool, Enum as AnEnum, Num as ANum}
 use Rattle.meta_settings.specs.Layout.{PlacedSetting, BuiltPreset}
@@ -12,10 +14,6 @@ use Rattle.meta_setting_tables.specs.declared.descriptor.Descriptor.{Descriptor}
 use Rattle.meta_setting_tables.specs.Descriptor.{IsDetailOf, DescribesSetting, setting_descriptor, preset_descriptor}
 use Rattle.meta_setting_tables.specs.EnumeratorList.{enumerators_of, values_of, with_values, StandAt, HasGrown}
 use Rattle.meta_setting_tables.specs.GroupTables.{names_in}
-use Rattle.meta_types.proofs.ListPlaces.{get_pushed, get_end, get_left}
-
-take_next : {X : Type 0} (xs : List X) (k : ℕ) (x : X) → slice_get xs k ≡ Some x → take (k + 1) xs ≡ take k xs ++ x ∷ []
-take_next xs k x at = take_more xs k x (slice_get_within xs k x at) ∙ ap (λ w. take k xs ++ w ∷ []) (get_or_from_slice_get xs k x x at)
 
 -- as many descriptors as things, by their names
 as_many : {X : Type 0} (name : X → List ℕ) (xs : List X) (k : ℕ) (ds : List Descriptor) → k ≤ length xs → names_in ds ≡ map name (take k xs) → length ds ≡ k

@@ -1,11 +1,12 @@
 -- What is read at an entry of the tables.
-use Rattle.std.proofs.Common.{◌≡◌, ℕ, ◌+◌, ◌-◌, ◌/◌, ◌^◌, ◌<◌, ◌≤◌, Bool, false, List, [], ◌∷◌, zero, suc, nat_eq, length, take, slice_get, get_or, Some, None, Option, inl, inr, refl, sym, ap, ◌∙◌, subst, bit_and, arith}
+use Rattle.std.proofs.Common.{◌≡◌, ℕ, ◌+◌, ◌-◌, ◌/◌, ◌^◌, ◌<◌, ◌≤◌, Bool, false, List, nat_eq, length, take, slice_get, get_or, Some, None, Option, inl, inr, refl, sym, ap, ◌∙◌, subst, bit_and, arith}
 use Rattle.std.specs.Int.{bit_at}
 use Rattle.std.specs.Option.{option_map}
 use Rattle.std.specs.Cmp.Lexicographic.{pointwise}
 use Rattle.std.proofs.lemmas.Bool.{cases_lt}
 use Rattle.std.proofs.lemmas.Nat.Bits.{shr_and_one}
 use Rattle.std.proofs.lemmas.Option.{slice_get-map, slice_get_within, slice_get_past, slice_get-get_or, get_or_from_slice_get, same_Some}
+use Rattle.meta_lists.proofs.Places.{get_there}
 use Rattle.meta_settings.specs.declared.setting.SpecificSetting.{SpecificSetting}
 use Rattle.meta_settings.specs.declared.setting.SpecificSetting.TheVariants.{Bool as ABool, Enum as AnEnum, Num as ANum}
 use Rattle.meta_settings.specs.Layout.{PlacedSetting, BuiltPreset, Layout}
@@ -35,20 +36,15 @@ has_no_name ds index name past = (
 
 -- ---- entries of a group
 
-pub there_is : {X : Type 0} (xs : List X) (k : ℕ) → k < length xs → (x : X) × (slice_get xs k ≡ Some x)
-there_is [] k l = absurd (omega arith)
-there_is (x ∷ xs) zero l = (x, refl)
-there_is (x ∷ xs) (suc k) l = there_is xs k (omega arith)
-
 -- an entry with a descriptor that is no setting is a preset
 pub preset_behind : (g : Layout) (t : GroupContents) (e : ℕ) (d : Descriptor) → AreTablesOfGroup g t → slice_get t.descriptors e ≡ Some d → slice_get g.settings e ≡ None → (k : ℕ) × (e ≡ length g.settings + k) × ((p : BuiltPreset) × (slice_get g.presets k ≡ Some p) × (d ≡ preset_descriptor g.settings_size k p))
 preset_behind g t e d h at none =
     elim (cases_lt e (length g.settings)) [
-      | inl before ↦ let x = there_is g.settings e before in let bad : None ≡ Some x.0 = sym none ∙ x.1 in absurd (cc)
+      | inl before ↦ let x = get_there g.settings e before in let bad : None ≡ Some x.0 = sym none ∙ x.1 in absurd (cc)
       | inr behind ↦
           let l = slice_get_within t.descriptors e d at in
           let count = h.count in
-          let p = there_is g.presets (e - length g.settings) (omega (arith, l, count, behind)) in
+          let p = get_there g.presets (e - length g.settings) (omega (arith, l, count, behind)) in
           let place : e ≡ length g.settings + (e - length g.settings) = omega arith in
           (e - length g.settings, place, (p.0, p.1, (h.entries e d at).preset (e - length g.settings) p.0 place p.1))
     ]
@@ -62,7 +58,7 @@ preset_there g t e p h is =
     let l = slice_get_within g.presets is.number p is.there in
     let count = h.count in
     let behind = is.behind in
-    let d = there_is t.descriptors e (omega (arith, l, count, behind)) in
+    let d = get_there t.descriptors e (omega (arith, l, count, behind)) in
     (d.0, record { there = d.1; is_preset = ap (λ (d : Descriptor). d.detail) (preset_entry g t e p d.0 h is d.1) })
 
 -- no setting's detail is that of a preset

@@ -1,15 +1,16 @@
 -- Enumerators by the numbers of their texts.
-use Rattle.std.proofs.Common.{◌≡◌, ◌⊎◌, inl, inr, ℕ, ◌+◌, ◌<◌, ◌≤◌, zero, suc, Bool, true, false, eqb, List, [], ◌∷◌, ◌++◌, All, length, take, drop, slice_get, get_or, Some, None, Ok, Err, IfOk, OnOk, OnErr, Result, Bor, refl, sym, ap, ◌∙◌, subst, arith}
+use Rattle.std.proofs.Common.{◌≡◌, ◌⊎◌, inl, inr, ℕ, ◌+◌, ◌<◌, ◌≤◌, zero, suc, Bool, true, false, eqb, List, [], ◌∷◌, ◌++◌, All, length, take, drop, slice_get, get_or, Some, None, Ok, Err, OnOk, OnErr, Result, Bor, refl, sym, ap, ◌∙◌, subst, arith}
 use Rattle.std.specs.Cmp.Lexicographic.{pointwise, bytes_decides}
+use Rattle.std.proofs.Math.Seq.{take-append_seam, take-length}
 use Rattle.std.proofs.lemmas.Bool.{cases_eq, eq-eqb, ne_eqb}
 use Rattle.std.proofs.lemmas.List.{take_more, take-map, drop-map, take-take, length-take, length-map, map-append}
 use Rattle.std.proofs.lemmas.List.Elements.{All-append}
 use Rattle.std.proofs.lemmas.Option.{slice_get_within, slice_get-get_or, get_or_from_slice_get, same_Some}
+use Rattle.meta_lists.proofs.Places.{get_take}
 use Rattle.meta_unique.specs.Interning.{pointed_to, IsIndexOf, IsNew, AreDifferent}
 use Rattle.meta_unique.specs.Overlap.{stands_at, added, added_at}
 use Rattle.meta_setting_tables.specs.EnumeratorList.{same_text, with_values, values_at, StandAt}
 use Rattle.meta_setting_tables.specs.NumberedTexts.{texts_of, AreNumbered, AreNumbersOf, KeepsNumbers}
-use Rattle.meta_types.proofs.ListPlaces.{get_take}
 use Rattle.meta_unique.proofs.Numbered.{name_pointed}
 use Rattle.meta_setting_tables.proofs.Renaming.{same_added, same_place, place_inside, added_most, added_all}
 
@@ -36,15 +37,7 @@ pub kept_then : (a b c : List (List ℕ)) → KeepsNumbers a b → KeepsNumbers 
 kept_then a b c k l = let m = long_kept a b k in record { kept = sym (take-take (length a) (length b) c m) ∙ ap (take (length a)) l.kept ∙ k.kept }
 
 pub kept_same : (a b : List (List ℕ)) → b ≡ a → KeepsNumbers a b
-kept_same a b e = record { kept = ap (take (length a)) e ∙ take_whole a }
-  where
-    take_whole : (xs : List (List ℕ)) → take (length xs) xs ≡ xs
-    take_whole [] = refl
-    take_whole (x ∷ xs) = ap (λ w. x ∷ w) (take_whole xs)
-
-kept_front : (xs ys : List (List ℕ)) → take (length xs) (xs ++ ys) ≡ xs
-kept_front [] ys = refl
-kept_front (x ∷ xs) ys = ap (λ w. x ∷ w) (kept_front xs ys)
+kept_same a b e = record { kept = ap (take (length a)) e ∙ take-length a }
 
 -- a text has an index, or it is new
 known_or_new : (texts : List (List ℕ)) (x : List ℕ) → ((i : ℕ) × IsIndexOf same_text texts x i) ⊎ IsNew same_text texts x
@@ -66,7 +59,7 @@ kept_added old new x known fresh = go (known_or_new old x)
   where
     go : (((i : ℕ) × IsIndexOf same_text old x i) ⊎ IsNew same_text old x) → KeepsNumbers old new
     go (inl k) = kept_same old new (known k.0 k.1)
-    go (inr n) = record { kept = ap (take (length old)) (fresh n) ∙ kept_front old (x ∷ []) }
+    go (inr n) = record { kept = ap (take (length old)) (fresh n) ∙ take-append_seam old (x ∷ []) }
 
 -- one number more
 pub numbers_next : (old new values : List (List ℕ)) (k n : ℕ) (x : List ℕ) (numbers more : List ℕ) → slice_get values k ≡ Some x → KeepsNumbers old new → IsIndexOf same_text new x n → AreNumbersOf old (take k values) numbers → more ≡ numbers ++ n ∷ [] → AreNumbersOf new (take (k + 1) values) more
@@ -150,8 +143,3 @@ pub numbered_still : (old new : List (List ℕ)) → KeepsNumbers old new → Ar
     → OnOk r (pointwise eqb (added eqb table numbers) after ≡ true) → OnErr r (after ≡ table) → AreNumbered new after
 numbered_still old new kept different table within values numbers own (Ok place) after made err = numbered_after old new kept different table within values numbers own after made
 numbered_still old new kept different table within values numbers own (Err e) after made err = record { different = different; within = subst (All (λ n. n < length new)) (sym err) (within_kept old new table kept within) }
-
--- what follows from two facts of an Ok
-pub both_ok : {X E : Type 0} (r : Result X E) (P Q R : X → Type 0) → ((x : X) → P x → Q x → R x) → IfOk r P → IfOk r Q → IfOk r R
-both_ok (Ok x) P Q R h p q = h x p q
-both_ok (Err e) P Q R h p q = tt

@@ -1,5 +1,5 @@
 -- What a lookup finds in the slots of the names of entries, which are numbered from 0.
-use Rattle.std.proofs.Common.{◌≡◌, ◌↔◌, ℕ, ◌+◌, ◌<◌, ◌≤◌, Bool, List, length, slice_get, Some, None, Option, sym, ap, ◌∙◌, arith}
+use Rattle.std.proofs.Common.{◌≡◌, ◌↔◌, ℕ, Bool, List, slice_get, Some, None, Option, sym, ap, ◌∙◌, arith}
 use Rattle.std.proofs.lemmas.Option.{same_Some}
 use Rattle.meta_types.specs.SharedNames.{AreDifferentNames}
 use Rattle.meta_unique.specs.Probing.{IsLookup}
@@ -12,10 +12,10 @@ pub finds_entry : (names : List (List ℕ)) (slots : List (Option ℕ)) (name : 
 finds_entry names slots name None last s l = λ e at. found_none 0 names slots s name last l e (record { place = e; number_is = omega arith; there = at })
 finds_entry names slots name (Some e) last s l =
     let f = found_first 0 names slots s name last e l in
-    let same : f.is_number.place ≡ e = omega (arith, f.is_number.number_is) in
+    let same : f.holds.place ≡ e = omega (arith, f.holds.number_is) in
     record {
-      there = ap (slice_get names) (sym same) ∙ f.is_number.there;
-      is_first = λ j before at. let least = f.is_first j (record { place = j; number_is = omega arith; there = at }) in omega (arith, least, before);
+      holds = ap (slice_get names) (sym same) ∙ f.holds.there;
+      none_before = λ j before at. f.none_before j before (record { place = j; number_is = omega arith; there = at });
     }
 
 -- what a probe finds in the slots of names
@@ -28,4 +28,4 @@ finds_in names name says own slots start found s e h so l =
 pub finds_exactly : (names : List (List ℕ)) (name : List ℕ) (found : Option ℕ) → FindsEntry names name found → AreDifferentNames names → (e : ℕ) → (found ≡ Some e) ↔ (slice_get names e ≡ Some name)
 finds_exactly names name None f apart e = (λ is. absurd (cc), λ at. absurd (f e at))
 finds_exactly names name (Some k) f apart e =
-    (λ is. let same : k ≡ e = same_Some k e is in ap (slice_get names) (sym same) ∙ f.there, λ at. ap Some (apart k e name f.there at))
+    (λ is. let same : k ≡ e = same_Some k e is in ap (slice_get names) (sym same) ∙ f.holds, λ at. ap Some (apart k e name f.holds at))

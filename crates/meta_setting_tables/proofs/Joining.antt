@@ -10,13 +10,13 @@ use Rattle.std.proofs.lemmas.Nat.Bits.{bit_at_or, bit_at-zero, bit_at-pow_same, 
 use Rattle.std.proofs.lemmas.List.Elements.{filter-append}
 use Rattle.std.proofs.lemmas.List.Sums.{fold-append}
 use Rattle.std.proofs.lemmas.Option.{slice_get_within, get_or_from_slice_get, same_Some}
+use Rattle.meta_lists.proofs.Places.{get_set_here, get_set_other, get_drop}
 use Rattle.meta_settings.specs.declared.setting.BoolSetting.{BoolSetting}
 use Rattle.meta_settings.specs.declared.setting.SpecificSetting.{SpecificSetting}
 use Rattle.meta_settings.specs.declared.setting.SpecificSetting.TheVariants.{Bool as ABool, Enum as AnEnum, Num as ANum}
 use Rattle.meta_settings.specs.Layout.{PlacedSetting, Layout, IsSized, booleans_in, default_byte_of, default_of}
 use Rattle.meta_setting_tables.specs.BuiltLayout.{IsBuiltLayout, HasByte, HasBit}
 use Rattle.meta_setting_tables.specs.DefaultBytes.{is_in_byte, joined_at, HoldsDefault, AreDefaultsOf}
-use Rattle.meta_types.proofs.ListPlaces.{get_set_here, get_set_other, get_drop}
 
 -- ---- one setting more
 

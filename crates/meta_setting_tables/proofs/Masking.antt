@@ -4,10 +4,10 @@ use Rattle.std.proofs.Math.Nat.{mul-le-mul_right}
 use Rattle.std.proofs.lemmas.Bool.{cases_order}
 use Rattle.std.proofs.lemmas.List.{length-map}
 use Rattle.std.proofs.lemmas.Option.{slice_get_within, same_Some}
+use Rattle.meta_lists.proofs.Places.{get_left, get_right}
 use Rattle.meta_settings.specs.Layout.{Layout, BuiltPreset}
 use Rattle.meta_settings.specs.PresetLayout.{IsLayoutOf, HasBitsOf}
 use Rattle.meta_setting_tables.specs.PresetMasks.{ArePresetMasks}
-use Rattle.meta_types.proofs.ListPlaces.{get_left, get_right}
 
 -- these are the masks of the first `count` presets
 pub record AreMasksTo (g : Layout) (count : ℕ) (masks : List ℕ) : Type 0 where

@@ -3,6 +3,7 @@ use Rattle.std.proofs.Common.{◌≡◌, ⊎_elim, ℕ, ◌+◌, ◌*◌, ◌<�
 use Rattle.std.proofs.Math.Nat.{mul-le-mul_right, mod-lt}
 use Rattle.std.proofs.lemmas.List.{length-map, map-append}
 use Rattle.std.proofs.lemmas.Option.{slice_get_within, same_Some}
+use Rattle.meta_lists.proofs.Places.{get_left, get_right, get_cases, get_there}
 use Rattle.meta_settings.specs.declared.setting.BoolSetting.{BoolSetting}
 use Rattle.meta_settings.specs.declared.setting.SpecificSetting.{SpecificSetting}
 use Rattle.meta_settings.specs.declared.setting.SpecificSetting.TheVariants.{Bool as ABool, Enum as AnEnum, Num as ANum}
@@ -15,8 +16,6 @@ use Rattle.meta_setting_tables.specs.DefaultBytes.{AreDefaultsOf}
 use Rattle.meta_setting_tables.specs.PresetMasks.{ArePresetMasks}
 use Rattle.meta_setting_tables.specs.FoundSetting.{entry_names, entry_count}
 use Rattle.meta_setting_tables.specs.GroupTables.{names_in, IsInside}
-use Rattle.meta_types.proofs.ListPlaces.{get_left, get_right, get_cases}
-use Rattle.meta_setting_tables.proofs.EntriesRead.{there_is}
 use Rattle.meta_setting_tables.proofs.Joining.{placed, byte_inside}
 
 -- the enums are among the first 255 settings
@@ -81,7 +80,7 @@ module _ (g : Layout) (enumerators : List (List ℕ)) (settings presets ds : Lis
         (λ own.
         let count = setting_count in
         let l = slice_get_within settings e d own in
-        let s = there_is g.settings e (omega (arith, l, count)) in
+        let s = get_there g.settings e (omega (arith, l, count)) in
         let describes = h.described e s.0 d s.1 own in
         let b = byte_inside g built sized e s.0 s.1 in
         let size = def.size in
@@ -90,7 +89,7 @@ module _ (g : Layout) (enumerators : List (List ℕ)) (settings presets ds : Lis
         (λ behind.
         let count = preset_count in
         let l = slice_get_within presets behind.0 d behind.2 in
-        let p = there_is g.presets behind.0 (omega (arith, l, count)) in
+        let p = get_there g.presets behind.0 (omega (arith, l, count)) in
         let is : d ≡ preset_descriptor g.settings_size behind.0 p.0 = same_Some d (preset_descriptor g.settings_size behind.0 p.0) (sym behind.2 ∙ h.preset_described behind.0 p.0 p.1) in
         let room : (behind.0 + 1) * g.settings_size ≤ length g.presets * g.settings_size = mul-le-mul_right g.settings_size (omega (arith, l, count)) in
         let all = mask.size in

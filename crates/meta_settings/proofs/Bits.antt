@@ -7,7 +7,8 @@ use Rattle.std.proofs.lemmas.Bool.{cases_eq}
 use Rattle.std.proofs.lemmas.List.Elements.{Contains-append_left, Contains-append_right, Contains-append_cases}
 use Rattle.std.proofs.lemmas.Option.{slice_get-get_or, same_Some}
 use Rattle.std.proofs.lemmas.List.{length-set, drop_all, take_all, append-nil}
-use Rattle.meta_types.proofs.ListPlaces.{get_set_here, get_set_other, get_pushed}
+use Rattle.meta_lists.proofs.Places.{get_set_here, get_set_other}
+use Rattle.meta_lists.proofs.Pushed.{get_pushed}
 use Rattle.meta_settings.specs.Layout.{Layout, BuiltPreset, IsSized}
 use Rattle.meta_settings.specs.PresetLayout.{HasAll, IsOnAt, HasBitsOf, IsLayoutOn, with_bit, with_bit_at}
 

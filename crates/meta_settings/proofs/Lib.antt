@@ -1,5 +1,4 @@
 -- what a search tells
-mod Told
 -- faults
 mod Rules
 mod Valid

@@ -1,14 +1,9 @@
 -- The settings by their places.
-use Rattle.std.proofs.Common.{◌≡◌, ◌+◌, ◌/◌, ℕ, zero, suc, List, [], ◌∷◌, ◌++◌, slice_get, Some, ap, ◌∙◌, subst, arith, add-zero}
+use Rattle.std.proofs.Common.{◌≡◌, ◌+◌, ◌/◌, ℕ, zero, suc, List, [], ◌∷◌, slice_get, Some, ap, ◌∙◌, subst, arith, add-zero}
+use Rattle.meta_lists.proofs.Places.{get_right, get_stays}
 use Rattle.meta_settings.specs.GroupDeclaration.{SettingDeclaration, GroupDeclaration, booleans_among, others_among, start_of}
 use Rattle.meta_settings.specs.LaidOut.{placed_at, in_bytes, in_bits, laid_out}
 use Rattle.meta_settings.proofs.Placing.{length-in_bytes}
-use Rattle.meta_settings.proofs.Valid.{get_behind}
-
-get_in_front : {X : Type 0} (xs ys : List X) (k : ℕ) (x : X) → slice_get xs k ≡ Some x → slice_get (xs ++ ys) k ≡ Some x
-get_in_front [] ys k x at = absurd (cc)
-get_in_front (y ∷ xs) ys zero x at = at
-get_in_front (y ∷ xs) ys (suc k) x at = get_in_front xs ys k x at
 
 in_bytes_at : (byte : ℕ) (xs : List SettingDeclaration) (j : ℕ) (s : SettingDeclaration) → slice_get xs j ≡ Some s → slice_get (in_bytes byte xs) j ≡ Some (placed_at s (byte + j) 0)
 in_bytes_at byte [] j s at = absurd (cc)
@@ -27,10 +22,10 @@ in_bits_at start first (x ∷ xs) (suc k) s at =
 pub byte_place : (d : GroupDeclaration) (j : ℕ) (s : SettingDeclaration) → slice_get (others_among d.settings) j ≡ Some s → slice_get (laid_out d) j ≡ Some (placed_at s j 0)
 byte_place d j s at =
     let same : 0 + j ≡ j = omega arith in
-    get_in_front (in_bytes 0 (others_among d.settings)) (in_bits (start_of d) 0 (booleans_among d.settings)) j _ (in_bytes_at 0 (others_among d.settings) j s at) ∙ ap (λ n. Some (placed_at s n 0)) same
+    get_stays (in_bytes 0 (others_among d.settings)) (in_bits (start_of d) 0 (booleans_among d.settings)) j _ (in_bytes_at 0 (others_among d.settings) j s at) ∙ ap (λ n. Some (placed_at s n 0)) same
 
 pub bit_place : (d : GroupDeclaration) (k : ℕ) (s : SettingDeclaration) → slice_get (booleans_among d.settings) k ≡ Some s → slice_get (laid_out d) (start_of d + k) ≡ Some (placed_at s (start_of d + k / 8) k)
 bit_place d k s at =
     let same : 0 + k ≡ k = omega arith in
     subst (λ n. slice_get (laid_out d) (n + k) ≡ Some (placed_at s (start_of d + k / 8) k)) (length-in_bytes 0 (others_among d.settings))
-    (get_behind (in_bytes 0 (others_among d.settings)) (in_bits (start_of d) 0 (booleans_among d.settings)) k ∙ in_bits_at (start_of d) 0 (booleans_among d.settings) k s at ∙ ap (λ n. Some (placed_at s (start_of d + n / 8) n)) same)
+    (get_right (in_bytes 0 (others_among d.settings)) (in_bits (start_of d) 0 (booleans_among d.settings)) k ∙ in_bits_at (start_of d) 0 (booleans_among d.settings) k s at ∙ ap (λ n. Some (placed_at s (start_of d + n / 8) n)) same)

@@ -3,12 +3,12 @@ use Rattle.std.proofs.Common.{◌≡◌, ◌∙◌, ◌<◌, ◌+◌, ◌-◌, �
 use Rattle.std.specs.Prelude.{map}
 use Rattle.std.proofs.lemmas.List.{length-map}
 use Rattle.std.proofs.lemmas.Option.{same_Some, slice_get_within}
+use Rattle.meta_lists.proofs.Mapped.{get_map}
 use Rattle.meta_types.specs.Name.{IsName}
 use Rattle.meta_types.specs.declared.fault.DefinitionError.{DefinitionError}
 use Rattle.meta_types.specs.SharedNames.{IsDuplicate}
 use Rattle.meta_types.specs.FirstFault.{Key}
 use Rattle.meta_types.proofs.SharedNames.{one_earlier}
-use Rattle.meta_types.proofs.ListPlaces.{get_map}
 use Rattle.meta_types.proofs.FirstFault.{IsIn, IsSearchable, start, passed, next_place, next_part, none_left}
 use Rattle.meta_settings.specs.GroupDeclaration.{GroupDeclaration, Entry, entries_of, setting_entry, preset_entry, names_of, entry_count, boolean_count}
 use Rattle.meta_settings.specs.GroupFaults.{IsWellNamed, IsGoodEnum, AreMet, HasTooMany, Rule, NameRule, DuplicateRule, EnumRule, PresetRule, rule_number, Position, OfGroupName, OfEntry, OfCounts, position_key, BreaksRule, ShowsAt, IsValidGroup}

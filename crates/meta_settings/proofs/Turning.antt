@@ -1,53 +1,35 @@
 -- What presets turn on, as a set.
-use Rattle.std.proofs.Common.{◌≡◌, ◌+◌, ◌⊎◌, inl, inr, ⊎_elim, ℕ, zero, suc, List, [], ◌∷◌, ◌++◌, length, length-append, take, slice_get, Some, Contains, refl, sym, ap, ◌∙◌, subst, arith}
+use Rattle.std.proofs.Common.{◌≡◌, ◌+◌, ⊎_elim, ℕ, zero, suc, List, [], ◌∷◌, ◌++◌, length, length-append, take, slice_get, Some, Contains, sym, ap, ◌∙◌, subst, arith}
 use Rattle.std.specs.List.{flat_map}
 use Rattle.std.proofs.Math.Seq.{take-append_seam}
 use Rattle.std.proofs.lemmas.List.{append_assoc, append-nil}
 use Rattle.std.proofs.lemmas.List.Elements.{Contains-append_left, Contains-append_right, Contains-append_cases}
+use Rattle.meta_lists.proofs.Places.{get_seam}
+use Rattle.meta_lists.proofs.Contained.{contains_behind, contains_cases, contains_first, contains_none}
 use Rattle.meta_settings.specs.declared.index.PresetType.{PresetType}
 use Rattle.meta_settings.specs.GroupDeclaration.{PresetDeclaration}
 use Rattle.meta_settings.specs.Layout.{BuiltPreset}
 use Rattle.meta_settings.specs.TurnedOn.{meant_by, built_preset, presets_after}
 
--- ---- elements
-
-pub front : {X : Type 0} (x : X) (xs : List X) → Contains (x ∷ xs) x
-front x xs = (0, omega arith, refl)
-
-pub behind : {X : Type 0} (x y : X) (xs : List X) → Contains xs y → Contains (x ∷ xs) y
-behind x y xs (k, l, e) = (suc k, omega (arith, l), e)
-
--- an element is the first, or stands behind it
-pub parts : {X : Type 0} (x y : X) (xs : List X) → Contains (x ∷ xs) y → (x ≡ y) ⊎ Contains xs y
-parts x y xs (zero, l, e) = inl e
-parts x y xs (suc k, l, e) = inr (k, omega (arith, l), e)
-
-pub none : {X : Type 0} (y : X) → Contains [] y → ⊥
-none y (k, l, e) = omega (arith, l)
-
 -- ---- the booleans of several names
 
 pub meant_from : (earlier : List BuiltPreset) (args : List PresetType) (b : ℕ) → Contains (flat_map (meant_by earlier) args) b → (a : PresetType) × Contains args a × Contains (meant_by earlier a) b
-meant_from earlier [] b c = absurd (none b c)
+meant_from earlier [] b c = absurd (contains_none b c)
 meant_from earlier (a ∷ rest) b c =
     ⊎_elim
-    (λ here. (a, front a rest, here))
-    (λ later. let (x, at, meant) = meant_from earlier rest b later in (x, behind a x rest at, meant))
+    (λ here. (a, contains_first a rest, here))
+    (λ later. let (x, at, meant) = meant_from earlier rest b later in (x, contains_behind a x rest at, meant))
     (Contains-append_cases (meant_by earlier a) (flat_map (meant_by earlier) rest) b c)
 
 pub meant_to : (earlier : List BuiltPreset) (args : List PresetType) (b : ℕ) (a : PresetType) → Contains args a → Contains (meant_by earlier a) b → Contains (flat_map (meant_by earlier) args) b
-meant_to earlier [] b a at c = absurd (none a at)
+meant_to earlier [] b a at c = absurd (contains_none a at)
 meant_to earlier (x ∷ xs) b a at c =
     ⊎_elim
     (λ same. Contains-append_left (meant_by earlier x) (flat_map (meant_by earlier) xs) b (subst (λ z. Contains (meant_by earlier z) b) (sym same) c))
     (λ later. Contains-append_right (meant_by earlier x) (flat_map (meant_by earlier) xs) b (meant_to earlier xs b a later c))
-    (parts x a xs at)
+    (contains_cases x a xs at)
 
 -- ---- the presets in order
-
-get_seam : {X : Type 0} (xs : List X) (y : X) (more : List X) → slice_get (xs ++ y ∷ more) (length xs) ≡ Some y
-get_seam [] y more = refl
-get_seam (x ∷ xs) y more = get_seam xs y more
 
 -- the presets that were built stay in front
 earlier_stay : (earlier : List BuiltPreset) (ps : List PresetDeclaration) → (more : List BuiltPreset) × (presets_after earlier ps ≡ earlier ++ more)

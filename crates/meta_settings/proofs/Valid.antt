@@ -1,10 +1,11 @@
 -- What a group without faults has.
-use Rattle.std.proofs.Common.{◌≡◌, ◌∙◌, ◌≤◌, ◌+◌, ◌-◌, ℕ, suc, List, [], ◌∷◌, ◌++◌, length, length-append, drop, slice_get, slice_index_or, Some, refl, sym, ap, subst, arith, ◌⊎◌, inl, inr, ⊎_elim}
+use Rattle.std.proofs.Common.{◌≡◌, ◌∙◌, ◌≤◌, ◌+◌, ◌-◌, ℕ, List, length, length-append, drop, slice_get, slice_index_or, Some, refl, sym, ap, subst, arith, ◌⊎◌, inl, inr, ⊎_elim}
 use Rattle.std.specs.Prelude.{map, option_map}
 use Rattle.std.proofs.Math.Seq.{drop-append_seam}
 use Rattle.std.proofs.lemmas.Bool.{cases_lt}
 use Rattle.std.proofs.lemmas.List.{length-map}
 use Rattle.std.proofs.lemmas.Option.{slice_get-map}
+use Rattle.meta_lists.proofs.Places.{get_right}
 use Rattle.meta_settings.specs.declared.index.PresetType.{PresetType}
 use Rattle.meta_settings.specs.declared.index.PresetType.TheVariants.{BoolSetting, OtherPreset}
 use Rattle.meta_settings.specs.GroupDeclaration.{GroupDeclaration, PresetDeclaration, entries_of, setting_entry, preset_entry, boolean_count, byte_count, start_of, booleans_among, others_among}
@@ -14,11 +15,6 @@ use Rattle.meta_settings.specs.Layout.{Layout, IsSized}
 use Rattle.meta_settings.specs.TurnedOn.{built_presets}
 use Rattle.meta_settings.specs.LaidOut.{in_bytes, in_bits, laid_out, built_of}
 use Rattle.meta_settings.proofs.Placing.{length-in_bytes, length-in_bits}
-
--- an element behind the first list
-pub get_behind : {X : Type 0} (xs ys : List X) (k : ℕ) → slice_get (xs ++ ys) (length xs + k) ≡ slice_get ys k
-get_behind {X} [] ys k = let same : length {A = X} [] + k ≡ k = omega arith in ap (slice_get ys) same
-get_behind (x ∷ xs) ys k = let next : length (x ∷ xs) + k ≡ suc (length xs + k) = omega arith in ap (slice_get (x ∷ (xs ++ ys))) next ∙ get_behind xs ys k
 
 -- a bound on a name in a preset can be told, so it holds where it can't fail
 met_or_not : (booleans earlier : ℕ) (a : PresetType) → IsMet booleans earlier a ⊎ (IsMet booleans earlier a → ⊥)
@@ -43,7 +39,7 @@ module _ (d : GroupDeclaration) (valid : IsValidGroup d) where
   preset_at : (k : ℕ) (p : PresetDeclaration) → slice_get d.presets k ≡ Some p → slice_get (entries_of d) (length d.settings + k) ≡ Some (preset_entry p)
   preset_at k p at =
       ap (λ n. slice_get (entries_of d) (n + k)) (sym (length-map d.settings setting_entry))
-      ∙ get_behind (map setting_entry d.settings) (map preset_entry d.presets) k ∙ slice_get-map preset_entry d.presets k ∙ ap (option_map preset_entry) at
+      ∙ get_right (map setting_entry d.settings) (map preset_entry d.presets) k ∙ slice_get-map preset_entry d.presets k ∙ ap (option_map preset_entry) at
 
   met : (k : ℕ) (p : PresetDeclaration) → slice_get d.presets k ≡ Some p → AreMet (boolean_count d) k p.args
   met k p at =

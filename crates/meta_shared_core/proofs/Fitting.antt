@@ -1,6 +1,7 @@
 -- Instructions of rows fit the registries.
 use Rattle.std.proofs.Common.{◌≡◌, ◌∙◌, ◌<◌, ◌+◌, ℕ, List, [], ◌∷◌, ◌++◌, length, map, slice_get, Option, Some, None, zero, suc, ap, sym, subst, refl, ⊎_elim, rules, arith}
 use Rattle.std.proofs.lemmas.List.{length-append, map-append}
+use Rattle.meta_lists.proofs.Places.{get_cases}
 use Rattle.meta_typevar.specs.declared.content.TypeVarContent.{TypeVarContent}
 use Rattle.meta_operands.specs.Kind.{variable_in}
 use Rattle.meta_operands.specs.Operand.{variable_of, variables_of}
@@ -8,7 +9,6 @@ use Rattle.meta_operands.specs.declared.operand.Operand.{Operand}
 use Rattle.meta_operands.specs.declared.kind.OperandKind.{OperandKind}
 use Rattle.meta_inst.specs.Builder.{Builder, inputs_of, outputs_of}
 use Rattle.meta_inst.specs.Operands.{AreOf}
-use Rattle.meta_inst.proofs.Places.{slice_get-append_cases}
 use Rattle.meta_shared_core.specs.declared.formats.Formats.{Formats}
 use Rattle.meta_shared_core.proofs.Growing.{meant_grows}
 use Rattle.meta_shared_core.specs.declared.entities.EntityRefs.{EntityRefs}
@@ -129,5 +129,5 @@ fits_grow {n} {old} {new} f b grows h formats of =
 pub all_fit : {n : ℕ} {old new : List TypeVarContent} {m : Meanings} {rows : List Row} {start all : List Builder} → Grows n old new → AreMeant old m → AddsRows new m rows start all → ((k : ℕ) (b : Builder) → slice_get start k ≡ Some b → FitsNames old m.formats b) → (k : ℕ) (b : Builder) → slice_get all k ≡ Some b → FitsNames new m.formats b
 all_fit {n} {old} {new} {m} {rows} {start} {all} grows meant adds fit k b at = ⊎_elim
     (λ e. fits_grow m.formats b grows (fit k b e))
-    (λ e. builders_fit new m rows adds.more (meant_grows grows meant) adds.builders e.0 b e.1)
-    (slice_get-append_cases start adds.more k b (ap (λ xs. slice_get xs k) (sym adds.is) ∙ at))
+    (λ e. builders_fit new m rows adds.more (meant_grows grows meant) adds.builders e.0 b e.2)
+    (get_cases start adds.more k b (ap (λ xs. slice_get xs k) (sym adds.is) ∙ at))

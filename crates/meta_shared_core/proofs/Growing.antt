@@ -1,7 +1,8 @@
 -- What stays where a registry grows.
-use Rattle.std.proofs.Common.{◌≡◌, ◌∙◌, ◌<◌, ◌≤◌, ◌+◌, ℕ, List, [], ◌∷◌, ◌++◌, length, slice_get, sym, ap, subst, arith}
-use Rattle.std.specs.List.{AllZip}
+use Rattle.std.proofs.Common.{◌≡◌, ◌∙◌, ◌<◌, ◌≤◌, ◌+◌, ℕ, List, [], ◌++◌, length, slice_get, sym, ap, subst, arith}
 use Rattle.std.proofs.lemmas.List.{append_assoc, append-nil, length-append}
+use Rattle.meta_lists.proofs.Places.{get_left}
+use Rattle.meta_lists.proofs.Pairs.{pairs_imply}
 use Rattle.meta_typevar.specs.FourSets.{FourSets}
 use Rattle.meta_typevar.specs.Variable.{Variable}
 use Rattle.meta_typevar.specs.Registry.{variable_of, set_at}
@@ -16,7 +17,6 @@ use Rattle.meta_shared_core.specs.declared.word.Word.TheVariants.{Kind, Root, De
 use Rattle.meta_shared_core.specs.Roots.{IsRootWith, root_of, set_of_root}
 use Rattle.meta_shared_core.specs.Words.{Meanings, AreMeant, Grows, IsValueOf, IsKindOfWord}
 use Rattle.meta_shared_core.specs.Rows.{IsOperandOf, AreOperandsOf, IsBuilderOf, AreBuildersOf}
-use Rattle.meta_shared_core.proofs.Lists.{before_last}
 
 pub grows_none : (vars : List TypeVarContent) → Grows 0 vars vars
 grows_none vars = record { more = []; is = sym (append-nil vars); few = omega arith }
@@ -43,7 +43,7 @@ grown_count {n} {old} {new} g =
 
 pub root_stays : {vars : List TypeVarContent} {v : ℕ} {s : FourSets} (more : List TypeVarContent) → IsRootWith vars v s → IsRootWith (vars ++ more) v s
 root_stays {vars} {v} {s} more r =
-    let same : slice_get (vars ++ more) v ≡ slice_get vars v = before_last vars more v r.of in
+    let same : slice_get (vars ++ more) v ≡ slice_get vars v = get_left vars more v r.of in
     let of : v < length vars = r.of in
     record {
       of = omega (arith, length-append vars more);
@@ -65,7 +65,7 @@ value_stays {vars} more h =
       number = h.number;
       fields_are = h.fields_are;
       of = omega (arith, length-append vars more);
-      variable = ap (variable_of h.number) (before_last vars more h.number h.of) ∙ h.variable;
+      variable = ap (variable_of h.number) (get_left vars more h.number h.of) ∙ h.variable;
       field_name = h.field_name;
       rust_type = h.rust_type;
       doc = h.doc;
@@ -78,13 +78,6 @@ kind_stays vars more m (Derived function root) kind h = value_stays more h
 
 operand_stays : (vars more : List TypeVarContent) (m : Meanings) (row : OperandRow) (o : Operand) → IsOperandOf vars m row o → IsOperandOf (vars ++ more) m row o
 operand_stays vars more m row o h = record { name = h.name; doc = h.doc; kind = kind_stays vars more m row.word o.kind h.kind }
-
--- what holds of pairs and implies something else
-pairs_imply : {X Y : Type 0} (R S : X → Y → Type 0) → ((x : X) (y : Y) → R x y → S x y) → (xs : List X) (ys : List Y) → AllZip R xs ys → AllZip S xs ys
-pairs_imply R S g [] [] h = h
-pairs_imply R S g [] (y ∷ ys) h = h
-pairs_imply R S g (x ∷ xs) [] h = h
-pairs_imply R S g (x ∷ xs) (y ∷ ys) h = (g x y h.0, pairs_imply R S g xs ys h.1)
 
 operands_stay : (vars more : List TypeVarContent) (m : Meanings) (rows : List OperandRow) (operands : List Operand) → AreOperandsOf vars m rows operands → AreOperandsOf (vars ++ more) m rows operands
 operands_stay vars more m rows operands h = pairs_imply (IsOperandOf vars m) (IsOperandOf (vars ++ more) m) (operand_stays vars more m) rows operands h

@@ -1,5 +1,5 @@
 mod Kinded
-mod Lists
+mod Numbered
 mod Tests
 mod Parts
 mod Added

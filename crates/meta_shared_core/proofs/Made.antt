@@ -1,11 +1,13 @@
 -- What is made of rows, one after the other.
 use Rattle.std.proofs.Common.{◌≡◌, ◌∙◌, ◌<◌, ◌≤◌, ◌+◌, ◌&&◌, ℕ, zero, suc, true, List, [], ◌∷◌, ◌++◌, length, take, drop, get_or, map, cond, sym, ap, subst, arith}
-use Rattle.std.specs.List.{AllZip, list_all}
+use Rattle.std.specs.List.{list_all}
 use Rattle.std.specs.Borrow.{Bor}
 use Rattle.std.proofs.lemmas.List.{append_assoc, append-nil, map-append, take_more, take-append-drop}
 use Rattle.std.proofs.lemmas.List.Concat.{flat_map-append}
 use Rattle.std.proofs.lemmas.List.Folds.{list_all-append}
 use Rattle.std.proofs.lemmas.List.Sums.{sum_by-append, sum_by_push}
+use Rattle.std.proofs.lemmas.Bool.{and_parts}
+use Rattle.meta_lists.proofs.Pairs.{pairs_joined}
 use Rattle.meta_typevar.specs.declared.content.TypeVarContent.{TypeVarContent}
 use Rattle.meta_operands.specs.declared.operand.Operand.{Operand}
 use Rattle.meta_inst.specs.Builder.{Builder}
@@ -13,14 +15,7 @@ use Rattle.meta_shared_core.specs.declared.row.OperandRow.{OperandRow}
 use Rattle.meta_shared_core.specs.declared.row.Row.{Row}
 use Rattle.meta_shared_core.specs.Words.{Meanings, Grows, is_derived, derived_count}
 use Rattle.meta_shared_core.specs.Rows.{IsOperandOf, AreOperandsOf, IsBuilderOf, AreBuildersOf, AddsRows, derived_among, derived_in_row, derived_in, is_derivable_row, rows_in, row_name, IsTable}
-use Rattle.meta_shared_core.proofs.Tests.{and_left, and_right}
 use Rattle.meta_shared_core.proofs.Growing.{builders_grow}
-
-pub pairs_joined : {X Y : Type 0} (R : X → Y → Type 0) (xs more : List X) (ys others : List Y) → AllZip R xs ys → AllZip R more others → AllZip R (xs ++ more) (ys ++ others)
-pairs_joined R [] more [] others h g = g
-pairs_joined R [] more (y ∷ ys) others h g = absurd h
-pairs_joined R (x ∷ xs) more [] others h g = absurd h
-pairs_joined R (x ∷ xs) more (y ∷ ys) others h g = (h.0, pairs_joined R xs more ys others h.1 g)
 
 -- the operands of one row more
 pub operands_more : (vars : List TypeVarContent) (m : Meanings) (rows : List OperandRow) (k : ℕ) (d : OperandRow) (operands : List Operand) (o : Operand) → k < length rows → AreOperandsOf vars m (take k rows) operands → IsOperandOf vars m (get_or rows k d) o → AreOperandsOf vars m (take (k + 1) rows) (operands ++ o ∷ [])
@@ -70,8 +65,8 @@ table_derives tables k d within = sym (sum_by-append derived_in_row (rows_in (ta
 -- each table passes the test that all rows pass
 pub table_derivable : (tables : List (Bor (List Row))) (k : ℕ) (d : Bor (List Row)) → k < length tables → list_all is_derivable_row (rows_in tables) ≡ true → list_all is_derivable_row (get_or tables k d).now ≡ true
 table_derivable [] k d within e = absurd (omega arith)
-table_derivable (t ∷ tables) zero d within e = and_left (list_all is_derivable_row t.now) (list_all is_derivable_row (rows_in tables)) (sym (list_all-append is_derivable_row t.now (rows_in tables)) ∙ e)
-table_derivable (t ∷ tables) (suc k) d within e = table_derivable tables k d (omega arith) (and_right (list_all is_derivable_row t.now) (list_all is_derivable_row (rows_in tables)) (sym (list_all-append is_derivable_row t.now (rows_in tables)) ∙ e))
+table_derivable (t ∷ tables) zero d within e = (and_parts (list_all is_derivable_row t.now) (list_all is_derivable_row (rows_in tables)) (sym (list_all-append is_derivable_row t.now (rows_in tables)) ∙ e)).0
+table_derivable (t ∷ tables) (suc k) d within e = table_derivable tables k d (omega arith) (and_parts (list_all is_derivable_row t.now) (list_all is_derivable_row (rows_in tables)) (sym (list_all-append is_derivable_row t.now (rows_in tables)) ∙ e)).1
 
 -- the rows of a table before those of others
 pub tables_joined : (names others : List (List ℕ)) (derived more : ℕ) (rows behind : List Row) → IsTable names derived rows → IsTable others more behind → IsTable (names ++ others) (derived + more) (rows ++ behind)

@@ -1,7 +1,7 @@
 -- Formats as their parts are added.
 use Rattle.std.proofs.Common.{◌≡◌, ◌∙◌, ◌<◌, ◌+◌, true, List, [], ◌∷◌, length, None, Some, nat_lt, cond, refl, sym, ap, arith}
 use Rattle.std.specs.List.{count_by}
-use Rattle.std.proofs.lemmas.Bool.{ltb-true}
+use Rattle.std.proofs.lemmas.Bool.{ltb-true, and_parts}
 use Rattle.std.proofs.lemmas.List.Sums.{sum_by-cons}
 use Rattle.meta_operands.specs.declared.format.InstructionFormat.{InstructionFormat}
 use Rattle.meta_shared_core.specs.declared.entities.EntityRefs.{EntityRefs}
@@ -10,7 +10,6 @@ use Rattle.meta_shared_core.specs.declared.formats.FormatRow.{FormatRow}
 use Rattle.meta_shared_core.specs.declared.formats.Part.{Part}
 use Rattle.meta_shared_core.specs.declared.formats.Part.TheVariants.{Value, Varargs, Block, RawBlock, Immediate}
 use Rattle.meta_shared_core.specs.Formats.{with_part, parts_added, is_value, is_place_within, IsFormatRow, CanPlace}
-use Rattle.meta_shared_core.proofs.Tests.{and_right}
 
 -- no part designates a value
 undesignated : (imm : Immediates) (entities : EntityRefs) (f : InstructionFormat) (parts : List Part) → (parts_added imm entities f parts).typevar_operand ≡ f.typevar_operand
@@ -36,7 +35,7 @@ values_counted imm entities f (Immediate kind ∷ parts) = values_counted imm en
 -- what a row designates is one of its values
 pub can_place : (imm : Immediates) (entities : EntityRefs) (f : InstructionFormat) (row : FormatRow) → f.typevar_operand ≡ None → IsFormatRow row → CanPlace (parts_added imm entities f row.parts.now) row.designated
 can_place imm entities f row none sound place told =
-    let within : is_place_within (count_by is_value row.parts.now) (Some place) ≡ true = ap (is_place_within (count_by is_value row.parts.now)) (sym told) ∙ and_right (nat_lt (length row.parts.now) 10) (is_place_within (count_by is_value row.parts.now) row.designated) sound in
+    let within : is_place_within (count_by is_value row.parts.now) (Some place) ≡ true = ap (is_place_within (count_by is_value row.parts.now)) (sym told) ∙ (and_parts (nat_lt (length row.parts.now) 10) (is_place_within (count_by is_value row.parts.now) row.designated) sound).1 in
     let below : place < count_by is_value row.parts.now = ltb-true place (count_by is_value row.parts.now) within in
     record {
       undesignated = undesignated imm entities f row.parts.now ∙ none;

@@ -3,8 +3,10 @@ use Rattle.std.proofs.Common.{◌≡◌, ◌∙◌, ◌<◌, ◌+◌, ◌&&◌, 
 use Rattle.std.specs.List.{list_any}
 use Rattle.std.proofs.lemmas.List.{length-append, length-map, length-take-le, map-append, take_more}
 use Rattle.std.proofs.lemmas.Option.{slice_get_within, get_or_from_slice_get}
-use Rattle.std.proofs.lemmas.Bool.{eqb-true, leb-true}
+use Rattle.std.proofs.lemmas.Bool.{eqb-true, leb-true, and_parts}
 use Rattle.std.proofs.lemmas.Map.Views.{Contains-from_any}
+use Rattle.meta_lists.proofs.Pushed.{get_pushed}
+use Rattle.meta_lists.proofs.Mapped.{get_mapped}
 use Rattle.meta_types.specs.Shape.{IntKind, FloatKind, widths, lane_counts}
 use Rattle.meta_typevar.specs.FourSets.{FourSets}
 use Rattle.meta_typevar.specs.Intervals.{IsWithin, CanBuild}
@@ -20,8 +22,7 @@ use Rattle.meta_shared_core.specs.declared.root_rows.RootRow.TheVariants.{Set, S
 use Rattle.meta_shared_core.specs.Formats.{AreNumbered}
 use Rattle.meta_shared_core.specs.Roots.{place_of, set_of_root, IsRootWith}
 use Rattle.meta_shared_core.specs.RootRows.{roots_in_order, parts_of, interval_of, sets_of_row, content_of, contents_of, is_within, can_build_row, AreRootRows, AreAdded, AreFirstRoots}
-use Rattle.meta_shared_core.proofs.Lists.{before_or_last, mapped_at, numbered_more}
-use Rattle.meta_shared_core.proofs.Tests.{and_left, and_right}
+use Rattle.meta_shared_core.proofs.Numbered.{numbered_more}
 
 within : (all : List ℕ) (s : Span) → is_within all s ≡ true → IsWithin all (interval_of s)
 within all Nothing e = tt
@@ -29,8 +30,8 @@ within all Everything e = tt
 within all (Between low high) e =
     let a = list_any (nat_eq low) all in
     let b = list_any (nat_eq high) all in
-    let rest : (b && nat_le low high) ≡ true = and_right a (b && nat_le low high) e in
-    (Contains-from_any eqb-true low all (and_left a (b && nat_le low high) e), Contains-from_any eqb-true high all (and_left b (nat_le low high) rest), leb-true low high (and_right b (nat_le low high) rest))
+    let rest : (b && nat_le low high) ≡ true = (and_parts a (b && nat_le low high) e).1 in
+    (Contains-from_any eqb-true low all (and_parts a (b && nat_le low high) e).0, Contains-from_any eqb-true high all (and_parts b (nat_le low high) rest).0, leb-true low high (and_parts b (nat_le low high) rest).1)
 
 -- a row that passes the test can be built
 pub buildable : (row : SetRow) → can_build_row (Set row) ≡ true → CanBuild (parts_of row)
@@ -39,13 +40,13 @@ buildable row e =
     let b = is_within (widths FloatKind) row.floats in
     let c = is_within (lane_counts false) row.lanes in
     let d = is_within (lane_counts true) row.dynamic_lanes in
-    let r1 : (b && (c && d)) ≡ true = and_right a (b && (c && d)) e in
-    let r2 : (c && d) ≡ true = and_right b (c && d) r1 in
+    let r1 : (b && (c && d)) ≡ true = (and_parts a (b && (c && d)) e).1 in
+    let r2 : (c && d) ≡ true = (and_parts b (c && d) r1).1 in
     record {
-      ints = within (widths IntKind) row.ints (and_left a (b && (c && d)) e);
-      floats = within (widths FloatKind) row.floats (and_left b (c && d) r1);
-      simd_lanes = within (lane_counts false) row.lanes (and_left c d r2);
-      dynamic_simd_lanes = within (lane_counts true) row.dynamic_lanes (and_right c d r2);
+      ints = within (widths IntKind) row.ints (and_parts a (b && (c && d)) e).0;
+      floats = within (widths FloatKind) row.floats (and_parts b (c && d) r1).0;
+      simd_lanes = within (lane_counts false) row.lanes (and_parts c d r2).0;
+      dynamic_simd_lanes = within (lane_counts true) row.dynamic_lanes (and_parts c d r2).1;
     }
 
 -- the content of one row more
@@ -112,7 +113,7 @@ contents_placed rows k c at = let place : 0 + k ≡ k = omega arith in subst (λ
 -- where each content is that of a root, each set has its root
 root_placed : (vars : List TypeVarContent) (sets : List FourSets) (k : ℕ) (s : FourSets) → map set_of vars ≡ sets → ((j : ℕ) (c : TypeVarContent) → slice_get vars j ≡ Some c → IsRootAt j c) → slice_get sets k ≡ Some s → IsRootWith vars k s
 root_placed vars sets k s are roots at =
-    let (content, kept, set_is) = mapped_at set_of vars k s (ap (λ xs. slice_get xs k) are ∙ at) in
+    let (content, kept, set_is) = get_mapped set_of vars k s (ap (λ xs. slice_get xs k) are ∙ at) in
     let placed : IsRootAt k content = roots k content kept in
     record {
       of = slice_get_within vars k content kept;
@@ -225,6 +226,6 @@ roots_whole {vars} held new name s same added root =
     let sets : map set_of new ≡ all_sets = ap (map set_of) added ∙ (map-append set_of vars (last ∷ []) ∙ (ap (λ xs. xs ++ s ∷ []) (ap (map set_of) contents ∙ (contents_sets 0 held.rows ∙ held.are_rows.sets)) ∙ ap (λ t. map set_of_root roots_in_order ++ t ∷ []) same)) in
     let roots : (k : ℕ) (c : TypeVarContent) → slice_get new k ≡ Some c → IsRootAt k c = λ k c at. ⊎_elim
     (λ e. contents_placed held.rows k c (ap (λ xs. slice_get xs k) (sym contents) ∙ e))
-    (λ e. subst (IsRootAt k) e.0 (subst (λ j. IsRootAt j last) (sym e.1) (record { root = refl; chain = refl })))
-    (before_or_last vars last k c (ap (λ xs. slice_get xs k) (sym added) ∙ at)) in
+    (λ e. subst (IsRootAt k) e.1 (subst (λ j. IsRootAt j last) (sym e.0) (record { root = refl; chain = refl })))
+    (get_pushed vars last k c (ap (λ xs. slice_get xs k) (sym added) ∙ at)) in
     root_placed new all_sets (place_of root) (set_of_root root) sets roots (listed root)

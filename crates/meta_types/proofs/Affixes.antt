@@ -1,9 +1,9 @@
 -- Fronts and ends of texts, as the tests on slices tell them.
-use Rattle.std.proofs.Common.{◌≡◌, ℕ, ◌-◌, ◌∙◌, ap, sym, arith, List, [], ◌∷◌, ◌++◌, length, take, drop, true, false, eqb, length-append, refl}
+use Rattle.std.proofs.Common.{◌≡◌, ℕ, ◌-◌, ◌∙◌, ap, sym, arith, List, ◌++◌, length, take, drop, true, false, eqb, length-append}
 use Rattle.std.specs.Cmp.Lexicographic.{bytes_decides}
 use lib.Pointwise.{pointwise}
 use Rattle.std.proofs.lemmas.Bool.{false≢true}
-use Rattle.std.proofs.Math.Seq.{drop-append_seam}
+use Rattle.std.proofs.Math.Seq.{take-append_seam, drop-append_seam}
 use Rattle.std.proofs.lemmas.List.{take-append-drop}
 
 -- texts that a test told apart differ
@@ -12,11 +12,7 @@ told_apart xs ys f e = false≢true (f ∙ (bytes_decides xs ys).1 e)
 
 -- a text that was told to begin with p doesn't, where the test on its front failed
 pub no_front : (text p rest : List ℕ) → pointwise eqb (take (length p) text) p ≡ false → text ≡ p ++ rest → ⊥
-no_front text p rest f e = told_apart _ _ (sym f) (ap (take (length p)) e ∙ front p rest)
-  where
-    front : (p rest : List ℕ) → take (length p) (p ++ rest) ≡ p
-    front [] rest = refl
-    front (x ∷ xs) rest = ap (◌∷◌ x) (front xs rest)
+no_front text p rest f e = told_apart _ _ (sym f) (ap (take (length p)) e ∙ take-append_seam p rest)
 
 -- it is its front and the rest, where the test passed
 pub front_and_rest : (text p rest : List ℕ) → pointwise eqb (take (length p) text) p ≡ true → rest ≡ drop (length p) text → text ≡ p ++ rest

@@ -1,8 +1,9 @@
 -- A Bool test at all 153 types. Of types alone: nothing here speaks of sets, variables or instructions.
 --     at_all p               p passes at each of them
 --     at_all_types           what passes at each of them passes at each type
-use Rattle.std.proofs.Common.{◌≡◌, ℕ, zero, suc, ◌==◌, Bool, true, false, ◌&&◌, List, [], ◌∷◌, Contains, refl, subst, le_of_suc-le-suc, arith, inl, inr, ◌⊎◌}
+use Rattle.std.proofs.Common.{◌≡◌, ℕ, ◌==◌, Bool, true, false, ◌&&◌, List, [], ◌∷◌, Contains, refl, subst, arith, inl, inr, ◌⊎◌}
 use Rattle.std.proofs.lemmas.Bool.{and_parts, and_from, eqb-true, eq-eqb}
+use Rattle.meta_lists.proofs.Contained.{contains_cases}
 use Rattle.meta_types.specs.Shape.{Kind, IntKind, FloatKind, Shape, IsType, widths, lane_counts}
 use Rattle.meta_types.specs.Function.{same_kind, same_mark}
 
@@ -19,15 +20,10 @@ at_kind_and_mark p kind mark = at_each (λ w. at_each (λ l. p (record { kind = 
 abbrev pub at_all : (Shape → Bool) → Bool
 at_all p = (at_kind_and_mark p IntKind false && at_kind_and_mark p IntKind true) && (at_kind_and_mark p FloatKind false && at_kind_and_mark p FloatKind true)
 
--- what a list with one more in front contains is that one, or the list contains it
-pub Contains-cases : (x : ℕ) (xs : List ℕ) (n : ℕ) → Contains (x ∷ xs) n → (x ≡ n) ⊎ Contains xs n
-Contains-cases x xs n (zero, l, e) = inl e
-Contains-cases x xs n (suc k, l, e) = inr (k, le_of_suc-le-suc l, e)
-
 -- what passes at each number of a list passes at what the list contains
 pub at_each_contained : (p : ℕ → Bool) (xs : List ℕ) (n : ℕ) → at_each p xs ≡ true → Contains xs n → p n ≡ true
 at_each_contained p [] n all (k, l, e) = absurd (omega arith)
-at_each_contained p (x ∷ xs) n all c = by_case (and_parts (p x) (at_each p xs) all) (Contains-cases x xs n c) (at_each_contained p xs n)
+at_each_contained p (x ∷ xs) n all c = by_case (and_parts (p x) (at_each p xs) all) (contains_cases x n xs c) (at_each_contained p xs n)
   where
     -- it is the first, or one of the rest
     by_case : (p x ≡ true) × (at_each p xs ≡ true) → (x ≡ n) ⊎ Contains xs n → (at_each p xs ≡ true → Contains xs n → p n ≡ true) → p n ≡ true

@@ -1,6 +1,6 @@
 -- Types that compare equal are one, and a type compares equal to itself.
-use Rattle.std.proofs.Common.{rules, ◌≡◌, ◌&&◌, Bool, true, false, ap, refl}
-use Rattle.std.proofs.lemmas.Bool.{false≢true}
+use Rattle.std.proofs.Common.{rules, ◌≡◌, true, ap}
+use Rattle.std.proofs.lemmas.Bool.{and_parts}
 use Rattle.meta_types.specs.declared.lane.Int.{Int}
 use Rattle.meta_types.specs.declared.lane.Int.TheVariants.{I8, I16, I32, I64, I128}
 use Rattle.meta_types.specs.declared.lane.Float.{Float}
@@ -16,14 +16,6 @@ use Rattle.meta_types.specs.contracts.lane.FloatPartialEq.TheImpl.{eq-value as f
 use Rattle.meta_types.specs.contracts.lane.LaneTypePartialEq.TheImpl.{eq-value as lane_eq}
 use Rattle.meta_types.specs.contracts.lane_count.LaneCountPartialEq.TheImpl.{eq-value as count_eq}
 use Rattle.meta_types.specs.contracts.value_type.ValueTypePartialEq.TheImpl.{eq-value}
-
-and_left : (x y : Bool) → (x && y) ≡ true → x ≡ true
-and_left true y e = refl
-and_left false y e = e
-
-and_right : (x y : Bool) → (x && y) ≡ true → y ≡ true
-and_right true y e = e
-and_right false y e = absurd (false≢true e)
 
 same_int : (a b : Int) → int_eq.it a b ≡ true → a ≡ b
 same_int I8 b e = search rules
@@ -59,11 +51,11 @@ same_type (Lane a) (Lane b) e = ap Lane (same_lane a b e)
 same_type (Lane a) (Vector b) e = cc
 same_type (Lane a) (DynamicVector b) e = cc
 same_type (Vector a) (Lane b) e = cc
-same_type (Vector a) (Vector b) e = λ i. Vector (record { base = same_lane a.base b.base (and_left _ _ e) i; lanes = same_count a.lanes b.lanes (and_right _ _ e) i })
+same_type (Vector a) (Vector b) e = λ i. Vector (record { base = same_lane a.base b.base (and_parts _ _ e).0 i; lanes = same_count a.lanes b.lanes (and_parts _ _ e).1 i })
 same_type (Vector a) (DynamicVector b) e = cc
 same_type (DynamicVector a) (Lane b) e = cc
 same_type (DynamicVector a) (Vector b) e = cc
-same_type (DynamicVector a) (DynamicVector b) e = λ i. DynamicVector (record { base = same_lane a.base b.base (and_left _ _ e) i; unscaled_lanes = same_count a.unscaled_lanes b.unscaled_lanes (and_right _ _ e) i })
+same_type (DynamicVector a) (DynamicVector b) e = λ i. DynamicVector (record { base = same_lane a.base b.base (and_parts _ _ e).0 i; unscaled_lanes = same_count a.unscaled_lanes b.unscaled_lanes (and_parts _ _ e).1 i })
 
 equal_lane : (a : LaneType) → lane_eq.it a a ≡ true
 equal_lane a = search rules

@@ -10,10 +10,10 @@ use Rattle.std.proofs.lemmas.List.{map-append, length-map}
 use Rattle.std.proofs.lemmas.Map.Text.{is_eq-slice_cmp}
 use Rattle.std.proofs.lemmas.Iterator.Adapters.{position_from-zero}
 use Rattle.std.proofs.lemmas.Option.{slice_get_within, same_Some}
+use Rattle.meta_lists.proofs.Pushed.{get_end, get_before}
 use lib.Pointwise.{pointwise}
 use Rattle.meta_types.specs.CamelCase.{camel_case_of}
 use Rattle.meta_types.specs.SharedNames.{IsDuplicate, SharesName, Keeps, place_of}
-use Rattle.meta_types.proofs.ListPlaces.{get_end, get_before}
 
 -- ---- the first place that passes
 

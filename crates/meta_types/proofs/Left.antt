@@ -1,17 +1,12 @@
 -- What an iterator has still to give.
-use Rattle.std.proofs.Common.{◌≡◌, zero, suc, List, [], ◌∷◌, Contains, subst, arith, le_of_suc-le-suc}
+use Rattle.std.proofs.Common.{◌≡◌, List, [], ◌∷◌, Contains, subst, ⊎_elim}
+use Rattle.meta_lists.proofs.Contained.{contains_cases, contains_none}
 
 -- what isn't the item that came is still to come
 pub still_left : {X : Type 0} → (left rest : List X) (came x : X) → left ≡ came ∷ rest → Contains left x → (came ≡ x → ⊥) → Contains rest x
-still_left {X = X} left rest came x e c other = past (subst (λ (xs : List X). Contains xs x) e c)
-  where
-    past : Contains (came ∷ rest) x → Contains rest x
-    past (zero, l, is) = absurd (other is)
-    past (suc k, l, is) = (k, le_of_suc-le-suc l, is)
+still_left left rest came x e c other =
+    ⊎_elim (λ is. absurd (other is)) (λ still. still) (contains_cases came x rest (subst (λ xs. Contains xs x) e c))
 
 -- nothing is left of nothing
 pub none_left : {X : Type 0} → (left : List X) (x : X) → left ≡ [] → Contains left x → ⊥
-none_left {X = X} left x e c = empty (subst (λ (xs : List X). Contains xs x) e c)
-  where
-    empty : Contains {X = X} [] x → ⊥
-    empty (k, l, is) = omega arith
+none_left left x e c = contains_none x (subst (λ xs. Contains xs x) e c)

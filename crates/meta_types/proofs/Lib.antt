@@ -17,8 +17,7 @@ mod Endings
 mod EqualTypes
 mod Docs
 mod Camel
--- lists, and names that are shared
-pub mod ListPlaces
+-- names that are shared
 mod KeptNames
 pub mod NamesSoFar
 pub mod SharedNames

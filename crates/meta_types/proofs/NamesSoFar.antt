@@ -2,8 +2,8 @@
 use Rattle.std.proofs.Common.{◌≡◌, ◌+◌, ℕ, List, [], ◌∷◌, ◌++◌, length, take, slice_get, Some, sym, ap, ◌∙◌, subst, arith}
 use Rattle.std.proofs.lemmas.Option.{slice_get_within, get_or_from_slice_get}
 use Rattle.std.proofs.lemmas.List.{take_more, length-take}
+use Rattle.meta_lists.proofs.Places.{get_take}
 use Rattle.meta_types.specs.SharedNames.{IsDuplicate}
-use Rattle.meta_types.proofs.ListPlaces.{get_take}
 
 -- a name that is shared among the names up to its place is shared among all, and the other way round
 duplicate_of_all : (names : List (List ℕ)) (k j : ℕ) → IsDuplicate (take (k + 1) names) k j → IsDuplicate names k j

@@ -26,6 +26,6 @@ pub use laws::{
     there_are_153_types,
 };
 pub use name::{camel_case, is_name};
-pub use text::Text;
+pub use text::{Text, same_texts};
 pub use value_type::ValueType;
 pub use vector::{DynamicVectorType, VectorType};

@@ -1,14 +1,10 @@
 -- Tests of each number of a list, each kind and each mark.
 use Rattle.std.proofs.Common.{◌≡◌, ℕ, ◌+◌, ◌==◌, ◌<◌, ◌≤◌, ◌↔◌, inl, inr, ⊎_elim, Bool, true, false, not, ◌&&◌, ◌||◌, cond, List, [], ◌∷◌, eqb, ap, sym, subst, refl, ◌∙◌, zero, suc, arith}
 use Rattle.std.specs.List.{filter}
-use Rattle.std.proofs.lemmas.Bool.{false≢true, cases_lt, eqb-true}
+use Rattle.std.proofs.lemmas.Bool.{false≢true, cases_lt, eqb-true, and_parts}
 use Rattle.meta_types.specs.Shape.{Kind, IntKind, FloatKind}
 use Rattle.meta_types.specs.Function.{same_kind, same_mark}
 use Rattle.meta_types.proofs.Among.{Among}
-
-pub both : (a b : Bool) → (a && b) ≡ true → (a ≡ true) × (b ≡ true)
-both true b e = (refl, e)
-both false b e = absurd (false≢true e)
 
 -- where one test implies another
 pub implies : (a b : Bool) → (not a || b) ≡ true → a ≡ true → b ≡ true
@@ -22,8 +18,8 @@ all_in (x ∷ xs) p = p x && all_in xs p
 
 pub all_in_at : (xs : List ℕ) (p : ℕ → Bool) → all_in xs p ≡ true → (x : ℕ) → Among xs x → p x ≡ true
 all_in_at [] p e x h = absurd h
-all_in_at (y ∷ ys) p e x (inl h) = subst (λ (z : ℕ). p z ≡ true) (sym h) (both _ _ e).0
-all_in_at (y ∷ ys) p e x (inr h) = all_in_at ys p (both _ _ e).1 x h
+all_in_at (y ∷ ys) p e x (inl h) = subst (λ (z : ℕ). p z ≡ true) (sym h) (and_parts _ _ e).0
+all_in_at (y ∷ ys) p e x (inr h) = all_in_at ys p (and_parts _ _ e).1 x h
 
 -- whether the number is in the list
 abbrev pub is_in : List ℕ → ℕ → Bool
@@ -51,15 +47,15 @@ abbrev pub at_kinds : (Kind → Bool) → Bool
 at_kinds p = p IntKind && p FloatKind
 
 pub at_kind : (p : Kind → Bool) → at_kinds p ≡ true → (k : Kind) → p k ≡ true
-at_kind p e IntKind = (both _ _ e).0
-at_kind p e FloatKind = (both _ _ e).1
+at_kind p e IntKind = (and_parts _ _ e).0
+at_kind p e FloatKind = (and_parts _ _ e).1
 
 abbrev pub at_bools : (Bool → Bool) → Bool
 at_bools p = p false && p true
 
 pub at_bool : (p : Bool → Bool) → at_bools p ≡ true → (b : Bool) → p b ≡ true
-at_bool p e false = (both _ _ e).0
-at_bool p e true = (both _ _ e).1
+at_bool p e false = (and_parts _ _ e).0
+at_bool p e true = (and_parts _ _ e).1
 
 pub same_kind_is : (a b : Kind) → same_kind a b ≡ true → a ≡ b
 same_kind_is IntKind IntKind e = refl

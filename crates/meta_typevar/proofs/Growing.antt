@@ -1,8 +1,7 @@
 -- A registry that gains a variable.
 use Rattle.std.proofs.Common.{◌≡◌, ℕ, ◌<◌, ◌-◌, ◌^◌, false, List, [], ◌∷◌, ◌++◌, length, refl, sym, ap, ◌∙◌, subst, arith, length-append, zero, suc, Option, None, Some, inl, inr}
-use Rattle.std.specs.Prelude.{take}
-use Rattle.std.proofs.Math.Seq.{take-append_seam}
 use Rattle.std.proofs.lemmas.Option.{slice_get_within}
+use Rattle.meta_lists.proofs.Pushed.{get_pushed_below, get_kept, get_end}
 use Rattle.meta_types.specs.Function.{Function}
 use Rattle.meta_types.specs.declared.derived_func.DerivedFunc.{DerivedFunc}
 use Rattle.meta_typevar.specs.FourSets.{FourSets, IsTypeSet, no_types}
@@ -10,7 +9,6 @@ use Rattle.meta_typevar.specs.Registry.{set_of, set_at, sets_of, variable_of, co
 use Rattle.meta_typevar.specs.Children.{IsChild}
 use Rattle.meta_typevar.specs.declared.content.TypeVarContent.{TypeVarContent}
 use Rattle.meta_typevar.specs.declared.content.TypeVarParent.{TypeVarParent}
-use Rattle.meta_types.proofs.ListPlaces.{get_pushed_below, get_kept, get_end}
 
 no_types_is : IsTypeSet no_types
 no_types_is = record {
@@ -107,9 +105,6 @@ registry_root vars name doc s r is room =
 coded_kept : (vars : List TypeVarContent) (n : ℕ) (c : TypeVarContent) → IsKept vars n c → coded_at vars n ≡ coded_along c.chain (sets_of vars c.root)
 coded_kept vars n c k = ap (λ (o : Option TypeVarContent). coded_of vars (variable_of n o)) k
 
-pub same_parent : (p q : TypeVarParent) → Some p ≡ Some q → p ≡ q
-same_parent p q e = (cc)
-
 pub registry_derived : (vars : List TypeVarContent) (n : ℕ) (f : DerivedFunc) (c : TypeVarContent) → IsRegistry vars → IsKept vars n c → IsTypeSet (coded_at vars n) → length vars < 2 ^ 32 - 1 → ((m : ℕ) (d : TypeVarContent) → IsKept vars m d → d.base ≡ Some (record { type_var = n; derived_func = f }) → ⊥) → IsRegistry (vars ++ derived_content vars n c f ∷ [])
 registry_derived vars n f c r k is room new =
     let d : TypeVarContent = derived_content vars n c f in
@@ -143,9 +138,3 @@ derived_added vars shown vars' n f d same r h is room new more =
     let set : IsTypeSet (coded_at vars n) = subst (λ (x : TypeVarContent). IsTypeSet (set_of x)) made.is is in
     let at : IsRegistry (vars ++ derived_content vars n made.parent f ∷ []) = registry_derived vars n f made.parent r made.kept set few (λ m x k b. first m (record { content = x; kept = k; derived = b })) in
     subst IsRegistry (sym (more ∙ ap (λ (x : TypeVarContent). vars ++ x ∷ []) made.is)) at
-
--- a list that lost what it had gained
-pub popped : {X : Type 0} (xs more less : List X) (x : X) (n : ℕ) → more ≡ xs ++ x ∷ [] → n ≡ length more → less ≡ take (n - 1) more → less ≡ xs
-popped {X} xs more less x n e len f =
-    let at : n - 1 ≡ length xs = omega (arith, len, ap length e, length-append xs (x ∷ [])) in
-    f ∙ ap (λ k. take k more) at ∙ ap (take (length xs)) e ∙ take-append_seam xs (x ∷ [])

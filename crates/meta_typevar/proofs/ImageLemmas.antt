@@ -3,7 +3,7 @@ use Rattle.std.proofs.Common.{◌≡◌, ℕ, ◌*◌, ◌/◌, ◌^◌, ◌%◌
 use Rattle.std.specs.Prelude.{nat_lt, if◌then◌else◌}
 use Rattle.std.specs.List.{filter, list_all}
 use Rattle.std.proofs.lemmas.List.{length-map}
-use Rattle.std.proofs.lemmas.Bool.{eqb-true, eq-eqb}
+use Rattle.std.proofs.lemmas.Bool.{eqb-true, eq-eqb, and_parts}
 use Rattle.std.specs.Cmp.Lexicographic.{bytes_decides}
 use lib.Pointwise.{pointwise}
 use Rattle.meta_types.specs.Shape.{IntKind, FloatKind, widths, lane_counts}
@@ -13,7 +13,7 @@ use Rattle.meta_typevar.specs.Image.{halves, doubles, is_among, is_scalar, has_s
 use Rattle.meta_typevar.specs.MaskImage.{IsMaskImage}
 use Rattle.meta_typevar.specs.declared.masks.Masks.{Masks}
 use Rattle.meta_typevar.proofs.MaskLemmas.{masks_of}
-use Rattle.meta_typevar.proofs.Finite.{both, same_mark_is}
+use Rattle.meta_typevar.proofs.Finite.{same_mark_is}
 use Rattle.meta_typevar.proofs.Marks.{at_marks, marked, at_each, filter_marked}
 
 -- what a test of all masks of some numbers says of one mask
@@ -33,7 +33,7 @@ stands_for all n ys = pointwise eqb (filter (holds n) all) ys && (n == sum (filt
 
 pub stands : (all : List ℕ) (n : ℕ) (ys : List ℕ) → stands_for all n ys ≡ true → StandsFor all n ys
 stands all n ys e =
-    let b = both _ _ e in
+    let b = and_parts _ _ e in
     record { set = (bytes_decides _ _).0 b.0; mask = eqb-true _ _ b.1 }
 
 -- half and twice the widths

@@ -2,8 +2,10 @@
 use Rattle.std.proofs.Common.{◌≡◌, ◌≢◌, ℕ, ◌<◌, ◌⊎◌, inl, inr, true, false, eqb, List, [], ◌∷◌, ◌++◌, length, refl, sym, ap, ◌∙◌, subst, arith, length-append, Option, None, Some}
 use Rattle.std.specs.Prelude.{slice_get, slice_set, slice_index_or}
 use Rattle.std.proofs.lemmas.Bool.{eqb-true, eqb-false}
-use Rattle.std.proofs.lemmas.Option.{slice_get_within, slice_get_read}
+use Rattle.std.proofs.lemmas.Option.{slice_get_within, slice_get_read, same_Some}
 use Rattle.std.proofs.lemmas.List.{length-set}
+use Rattle.meta_lists.proofs.Places.{get_set_here, get_set_other}
+use Rattle.meta_lists.proofs.Pushed.{get_pushed_below, get_kept, get_end}
 use Rattle.meta_types.specs.declared.derived_func.DerivedFunc.{DerivedFunc}
 use Rattle.meta_types.specs.declared.derived_func.DerivedFunc.TheVariants.{LaneOf, AsTruthy, HalfWidth, DoubleWidth, SplitLanes, MergeLanes, DynamicToVector, Narrower, Wider}
 use Rattle.meta_typevar.specs.Registry.{IsPlaced, IsDerivation, IsRegistry}
@@ -11,8 +13,6 @@ use Rattle.meta_typevar.specs.Children.{child_of, no_children, IsChild, AreKnown
 use Rattle.meta_typevar.specs.declared.children.Children.{Children}
 use Rattle.meta_typevar.specs.declared.content.TypeVarContent.{TypeVarContent}
 use Rattle.meta_typevar.specs.declared.content.TypeVarParent.{TypeVarParent}
-use Rattle.meta_typevar.proofs.Growing.{same_parent}
-use Rattle.meta_types.proofs.ListPlaces.{get_pushed_below, get_kept, get_end, get_set_here, get_set_other}
 
 -- functions are told apart by their places
 abbrev place : DerivedFunc → ℕ
@@ -183,7 +183,7 @@ module _ (vars : List TypeVarContent) (children : List Children) (d : TypeVarCon
       where
         at_new : (m : ℕ) → m ≡ length vars → ◌≡◌ {A = Option TypeVarParent} (Some (record { type_var = n0; derived_func = f0 })) (Some (record { type_var = n; derived_func = f })) → child_of c f ≡ Some m
         at_new m at same =
-            let parents = same_parent (record { type_var = n0; derived_func = f0 }) (record { type_var = n; derived_func = f }) same in
+            let parents = same_Some (record { type_var = n0; derived_func = f0 }) (record { type_var = n; derived_func = f }) same in
             let p : n ≡ n0 = sym (ap (λ (q : TypeVarParent). q.type_var) parents) in
             let g : f ≡ f0 = sym (ap (λ (q : TypeVarParent). q.derived_func) parents) in
             ap (λ (z : Children). child_of z f) (sym (is_noted n c p e)) ∙ ap (child_of noted) g ∙ this ∙ ap Some (sym at)

@@ -5,7 +5,6 @@ pub mod Size
 pub mod Numbers
 pub mod ImageLemmas
 pub mod Singleton
-pub mod Places
 pub mod Growing
 pub mod Known
 pub mod Fixing

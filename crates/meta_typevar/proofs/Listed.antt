@@ -2,14 +2,14 @@
 use Rattle.std.proofs.Common.{◌≡◌, ℕ, ◌+◌, ◌*◌, ◌==◌, ◌&&◌, ◌↔◌, ◌⊎◌, inl, inr, ⊎_elim, Bool, true, false, not, cond, List, [], ◌∷◌, ◌++◌, length, ap, ◌∙◌, sym, subst, refl, zero, suc, arith, Contains, length-append}
 use Rattle.std.specs.Prelude.{slice_get, Some}
 use Rattle.std.specs.List.{filter, flat_map}
-use Rattle.std.proofs.lemmas.Bool.{false≢true, eq-eqb}
+use Rattle.std.proofs.lemmas.Bool.{false≢true, eq-eqb, and_parts}
 use Rattle.std.proofs.lemmas.List.{length-map}
 use Rattle.std.proofs.Math.Nat.{add-mul, suc-mul}
 use Rattle.meta_types.specs.Shape.{Kind, IntKind, FloatKind, Shape, widths, lane_counts}
 use Rattle.meta_types.proofs.Among.{Among, among, contains}
 use Rattle.meta_typevar.specs.FourSets.{FourSets, widths_in, lanes_in, IsMember, IsPart, IsTypeSet}
 use Rattle.meta_typevar.specs.Concrete.{types_of, types_at, types_in}
-use Rattle.meta_typevar.proofs.Finite.{both, all_in, all_in_at, among_filter}
+use Rattle.meta_typevar.proofs.Finite.{all_in, all_in_at, among_filter}
 use Rattle.meta_typevar.proofs.MaskLemmas.{members}
 use Rattle.meta_typevar.proofs.Size.{kinds_differ, widths_part, lanes_part, part_contains}
 
@@ -147,7 +147,7 @@ differs (x ∷ xs) = all_in xs (λ y. not (x == y)) && differs xs
 apart : (xs : List ℕ) → differs xs ≡ true → Apart xs
 apart [] e = tt
 apart (x ∷ xs) e =
-    let r = both _ _ e in
+    let r = and_parts _ _ e in
     (λ h. false≢true (sym (ap not (eq-eqb x x refl)) ∙ all_in_at xs (λ y. not (x == y)) r.0 x h), apart xs r.1)
 
 apart_filter : (p : ℕ → Bool) (xs : List ℕ) → Apart xs → Apart (filter p xs)

@@ -2,13 +2,12 @@
 use Rattle.std.proofs.Common.{◌≡◌, ℕ, ◌==◌, ◌&&◌, Bool, true, false, not, cond, List, [], ◌∷◌, length, map, sum, eqb, ap, ◌∙◌, refl, zero, suc}
 use Rattle.std.specs.List.{filter}
 use Rattle.std.proofs.lemmas.List.{length-map}
-use Rattle.std.proofs.lemmas.Bool.{eqb-true}
+use Rattle.std.proofs.lemmas.Bool.{eqb-true, and_parts}
 use Rattle.std.specs.Cmp.Lexicographic.{bytes_decides}
 use lib.Pointwise.{pointwise}
 use lib.Count.{ones}
 use Rattle.meta_types.specs.Shape.{IntKind, FloatKind, widths, lane_counts}
 use Rattle.meta_typevar.specs.MaskSets.{holds}
-use Rattle.meta_typevar.proofs.Finite.{both}
 
 -- the test passes at each list of n marks
 abbrev pub at_marks : ℕ → (List Bool → Bool) → Bool
@@ -23,8 +22,8 @@ marked (m ∷ ms) (x ∷ xs) = cond m (x ∷ marked ms xs) (marked ms xs)
 
 pub at_each : (p : List Bool → Bool) (ms : List Bool) → at_marks (length ms) p ≡ true → p ms ≡ true
 at_each p [] e = e
-at_each p (true ∷ ms) e = at_each (λ ms. p (true ∷ ms)) ms (both _ _ e).0
-at_each p (false ∷ ms) e = at_each (λ ms. p (false ∷ ms)) ms (both _ _ e).1
+at_each p (true ∷ ms) e = at_each (λ ms. p (true ∷ ms)) ms (and_parts _ _ e).0
+at_each p (false ∷ ms) e = at_each (λ ms. p (false ∷ ms)) ms (and_parts _ _ e).1
 
 pub filter_marked : (p : ℕ → Bool) (xs : List ℕ) → filter p xs ≡ marked (map p xs) xs
 filter_marked p [] = refl
@@ -66,10 +65,10 @@ kept all e p =
     ap (is_kept all) (filter_marked p all) ∙ at_each (λ ms. is_kept all (marked ms all)) (map p all) n
 
 pub holds_sum : (all : List ℕ) → keeps all ≡ true → (p : ℕ → Bool) → filter (holds (sum (filter p all))) all ≡ filter p all
-holds_sum all e p = (bytes_decides _ _).0 (both _ _ (kept all e p)).0
+holds_sum all e p = (bytes_decides _ _).0 (and_parts _ _ (kept all e p)).0
 
 pub ones_sum : (all : List ℕ) → keeps all ≡ true → (p : ℕ → Bool) → ones (sum (filter p all)) ≡ length (filter p all)
-ones_sum all e p = eqb-true _ _ (both _ _ (both _ _ (kept all e p)).1).0
+ones_sum all e p = eqb-true _ _ (and_parts _ _ (and_parts _ _ (kept all e p)).1).0
 
 pub filter_differ : (all : List ℕ) → keeps all ≡ true → (p : ℕ → Bool) → differ (filter p all) ≡ true
-filter_differ all e p = (both _ _ (both _ _ (kept all e p)).1).1
+filter_differ all e p = (and_parts _ _ (and_parts _ _ (kept all e p)).1).1

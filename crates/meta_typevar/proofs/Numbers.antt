@@ -2,7 +2,7 @@
 use Rattle.std.proofs.Common.{◌≡◌, ℕ, ◌+◌, ◌-◌, ◌*◌, ◌/◌, ◌%◌, ◌^◌, ◌==◌, ◌<◌, ◌≤◌, ◌↔◌, Bool, true, false, not, ◌&&◌, ◌||◌, List, ◌∙◌, sym, subst, refl, arith, Contains}
 use Rattle.std.specs.Prelude.{if◌then◌else◌, nat_lt, IsTrue}
 use Rattle.std.specs.List.{filter}
-use Rattle.std.proofs.lemmas.Bool.{eqb-true, eq-eqb, ltb-true}
+use Rattle.std.proofs.lemmas.Bool.{eqb-true, eq-eqb, ltb-true, and_parts}
 use Rattle.meta_types.specs.Shape.{Kind, IntKind, FloatKind, Shape, IsType, widths, lane_counts, lane_code, log2, number_of}
 use Rattle.meta_types.specs.Function.{same_kind, same_mark}
 use Rattle.meta_types.specs.ValueTypes.{shape_of}
@@ -14,7 +14,7 @@ use Rattle.meta_typevar.specs.Masks.{Holds, width_mask, lane_mask, ContainsType,
 use Rattle.meta_typevar.specs.MaskSets.{holds, sets_in}
 use Rattle.meta_typevar.specs.Decoding.{HoldsLane, HoldsLanes}
 use Rattle.meta_typevar.specs.declared.masks.Masks.{Masks}
-use Rattle.meta_typevar.proofs.Finite.{both, implies, all_in, all_in_at, is_in, is_in_among, from, from_has, at_kinds, at_kind, at_bools, at_bool, same_kind_is, same_mark_is, among_filter, among_kept, both_ways}
+use Rattle.meta_typevar.proofs.Finite.{implies, all_in, all_in_at, is_in, is_in_among, from, from_has, at_kinds, at_kind, at_bools, at_bool, same_kind_is, same_mark_is, among_filter, among_kept, both_ways}
 
 -- the test passes at each width of each kind
 abbrev at_widths : (Kind → ℕ → Bool) → Bool
@@ -50,13 +50,13 @@ all_rows_tell = refl
 same_lane : (k : Kind) (w : ℕ) (l : Kind) (v : ℕ) → Contains (widths k) w → Contains (widths l) v → lane_code k w ≡ lane_code l v → (k ≡ l) × (w ≡ v)
 same_lane k w l v h i e =
     let t = at_width (λ l v. codes_tell k w l v) (at_width (λ k w. at_widths (λ l v. codes_tell k w l v)) all_codes_tell k w h) l v i in
-    let r = both _ _ (implies _ _ t (eq-eqb _ _ e)) in
+    let r = and_parts _ _ (implies _ _ t (eq-eqb _ _ e)) in
     (same_kind_is k l r.0, eqb-true w v r.1)
 
 same_count : (b : Bool) (m : ℕ) (c : Bool) (n : ℕ) → Contains (lane_counts b) m → Contains (lane_counts c) n → row_of b m ≡ row_of c n → (b ≡ c) × (m ≡ n)
 same_count b m c n h i e =
     let t = at_lane (λ c n. rows_tell b m c n) (at_lane (λ b m. at_lanes (λ c n. rows_tell b m c n)) all_rows_tell b m h) c n i in
-    let r = both _ _ (implies _ _ t (eq-eqb _ _ e)) in
+    let r = and_parts _ _ (implies _ _ t (eq-eqb _ _ e)) in
     (same_mark_is b c r.0, eqb-true m n r.1)
 
 -- the mask of a lane's kind is asked, and no other
@@ -102,12 +102,12 @@ dynamic_bits = refl
 
 lane_bit : (m : Masks) (k : Kind) (n code : ℕ) → is_lane_bit k n code ≡ true → (Holds (width_mask m k) (bit n) ↔ HoldsLane m code)
 lane_bit m k n code e =
-    let r = both _ _ e in
+    let r = and_parts _ _ e in
     subst (λ (c : ℕ). Holds (width_mask m k) (bit n) ↔ HoldsLane m c) (eqb-true _ _ r.1) (lane_told m k (bit n) (contains _ _ (is_in_among _ _ r.0)))
 
 count_bit : (m : Masks) (b : Bool) (n row : ℕ) → is_count_bit b n row ≡ true → (Holds (lane_mask m b) (bit n) ↔ HoldsLanes m row)
 count_bit m b n row e =
-    let r = both _ _ e in
+    let r = and_parts _ _ e in
     subst (λ (c : ℕ). Holds (lane_mask m b) (bit n) ↔ HoldsLanes m c) (eqb-true _ _ r.1) (lanes_told m b (bit n) (contains _ _ (is_in_among _ _ r.0)))
 
 pub int_lane : (m : Masks) (code : ℕ) → 4 ≤ code → code < 9 → (Holds m.ints (bit (code - 1)) ↔ HoldsLane m code)

@@ -4,10 +4,10 @@ use Rattle.std.specs.List.{flat_map}
 use Rattle.std.proofs.lemmas.List.{map-append, map_more, take_more, flat_map_more}
 use Rattle.std.proofs.lemmas.List.Elements.{Contains-get_or}
 use Rattle.std.proofs.lemmas.Simd.{map-map}
+use Rattle.meta_lists.proofs.Contained.{contains_cases}
 use Rattle.meta_types.specs.Shape.{IntKind, FloatKind, Shape, scalar, lane_counts}
 use Rattle.meta_types.specs.Lane.{lane_shape}
 use Rattle.meta_types.specs.declared.lane.LaneType.{LaneType}
-use Rattle.meta_types.proofs.AllTypes.{Contains-cases}
 use Rattle.meta_types.proofs.Among.{among}
 use Rattle.meta_typevar.specs.FourSets.{FourSets, IsPart}
 use Rattle.meta_typevar.specs.Concrete.{types_at}
@@ -19,7 +19,7 @@ one_of_all xs all items i h e l = part_contains items all (subst (λ (q : List �
 
 -- one lane, or the lanes of a vector
 pub one_or_more : (n : ℕ) → Contains (lane_counts false) n → (n ≡ 1) ⊎ Contains (lane_counts true) n
-one_or_more n c = ⊎_elim (λ e. inl (sym e)) (λ h. inr h) (Contains-cases 1 (lane_counts true) n c)
+one_or_more n c = ⊎_elim (λ e. inl (sym e)) (λ h. inr h) (contains_cases 1 n (lane_counts true) c)
 
 -- one more was added
 pub pushed_more : {X Y : Type 0} (g : Y → Shape) (f : X → Shape) (xs : List X) (i : ℕ) (d : X) (t : Y) (old new : List Y) (start : List Shape) → i < length xs → new ≡ old ++ t ∷ [] → g t ≡ f (slice_index_or xs i d) → map g old ≡ start ++ map f (take i xs) → map g new ≡ start ++ map f (take (i + 1) xs)

@@ -1,9 +1,10 @@
 -- The variables of a registry by what is kept of them.
-use Rattle.std.proofs.lemmas.List.{append-nil}
+use Rattle.std.proofs.lemmas.List.{append-nil, same_from_push}
 use Rattle.std.proofs.Common.{◌≡◌, ℕ, ◌<◌, ◌+◌, ◌↔◌, List, [], ◌∷◌, ◌++◌, length, refl, sym, ap, ◌∙◌, subst, arith, zero, suc, Option, None, Some}
 use Rattle.std.specs.Prelude.{slice_get, Result, Ok, Err, IsErr, IfOk, OnOk, OnErr}
 use Rattle.std.proofs.lemmas.Bool.{false≢true}
-use Rattle.std.proofs.lemmas.Option.{slice_get_within}
+use Rattle.std.proofs.lemmas.Option.{slice_get_within, same_Some}
+use Rattle.meta_lists.proofs.Pushed.{get_end, not_empty}
 use Rattle.meta_types.specs.Function.{Function, LaneOf, AsTruthy, HalfWidth, DoubleWidth, SplitLanes, MergeLanes, DynamicToVector, Narrower, Wider}
 use Rattle.meta_types.specs.DerivedFunc.{function_of}
 use Rattle.meta_types.specs.declared.derived_func.DerivedFunc.{DerivedFunc}
@@ -16,9 +17,6 @@ use Rattle.meta_typevar.specs.Children.{IsChild}
 use Rattle.meta_typevar.specs.Derivation.{Derives, GrowsByOne}
 use Rattle.meta_typevar.specs.declared.content.TypeVarContent.{TypeVarContent}
 use Rattle.meta_typevar.specs.declared.content.TypeVarParent.{TypeVarParent}
-use Rattle.meta_typevar.proofs.Places.{last_same, no_last}
-use Rattle.meta_types.proofs.ListPlaces.{get_end}
-use Rattle.meta_typevar.proofs.Growing.{same_parent}
 
 -- what is derived from what function
 func_of : Function → DerivedFunc
@@ -93,7 +91,7 @@ root_is vars n r h =
 -- and what has no chain has no parent
 pub base_of : (vars : List TypeVarContent) (n : ℕ) (c : TypeVarContent) (b : Option TypeVarParent) → IsPlaced vars n c b → c.chain ≡ [] → b ≡ None
 base_of vars n c None h e = refl
-base_of vars n c (Some p) h e = absurd (no_last h.parent_content.chain _ (sym h.chain ∙ e))
+base_of vars n c (Some p) h e = absurd (not_empty h.parent_content.chain _ (sym h.chain ∙ e))
 
 -- a variable has no parent exactly where it has no chain
 pub underived_told : (vars : List TypeVarContent) (n : ℕ) (c : TypeVarContent) → IsRegistry vars → IsKept vars n c → ((c.base ≡ None) ↔ ((variable_at vars n).chain ≡ []))
@@ -121,10 +119,10 @@ same_step vars r k ih n m c d l a b e f = go c.base d.base refl refl (r.variable
 
     go : (x y : Option TypeVarParent) → c.base ≡ x → d.base ≡ y → IsPlaced vars n c x → IsPlaced vars m d y → n ≡ m
     go None None s t (p, _) (q, _) = sym p ∙ e ∙ q
-    go None (Some y) s t (_, none) h = absurd (no_last h.parent_content.chain _ (sym h.chain ∙ sym f ∙ none))
-    go (Some x) None s t h (_, none) = absurd (no_last h.parent_content.chain _ (sym h.chain ∙ f ∙ none))
+    go None (Some y) s t (_, none) h = absurd (not_empty h.parent_content.chain _ (sym h.chain ∙ sym f ∙ none))
+    go (Some x) None s t h (_, none) = absurd (not_empty h.parent_content.chain _ (sym h.chain ∙ f ∙ none))
     go (Some x) (Some y) s t h j =
-        let chains = last_same h.parent_content.chain j.parent_content.chain _ _ (sym h.chain ∙ f ∙ j.chain) in
+        let chains = same_from_push h.parent_content.chain j.parent_content.chain _ _ (sym h.chain ∙ f ∙ j.chain) in
         let funcs = same_func x.derived_func y.derived_func chains.1 in
         let parents = ih x.type_var y.type_var h.parent_content j.parent_content (earlier x.type_var h.earlier) h.kept j.kept (sym h.root ∙ e ∙ j.root) chains.0 in
         let one : x ≡ y = λ i. record { type_var = parents i; derived_func = funcs i } in
@@ -151,7 +149,7 @@ child_by : (vars : List TypeVarContent) (n m : ℕ) (f : DerivedFunc) (d : TypeV
 child_by vars n m f d None e h = (cc)
 child_by vars n m f d (Some q) e h =
     let p : TypeVarParent = record { type_var = n; derived_func = f } in
-    let same = same_parent q p e in
+    let same = same_Some q p e in
     let at : IsDerivedFrom vars m d p = subst (λ (x : TypeVarParent). IsDerivedFrom vars m d x) same h in
     let parent = kept_variable vars n at.parent_content at.kept in
     (λ i. record { root = at.root i; chain = at.chain i }) ∙ ap (λ (v : Variable). longer v (function_of f)) (sym parent)
@@ -169,9 +167,9 @@ variable_child vars n m f r l j e =
     go c d k h (ap (λ (v : Variable). v.root) same) (ap (λ (v : Variable). v.chain) same) d.base refl (r.variables m d h).placed
   where
     go : (c d : TypeVarContent) → IsKept vars n c → IsKept vars m d → d.root ≡ c.root → d.chain ≡ c.chain ++ (function_of f ∷ []) → (b : Option TypeVarParent) → d.base ≡ b → IsPlaced vars m d b → IsChild vars n f m
-    go c d k h root chain None s (_, none) = absurd (no_last c.chain (function_of f) (sym chain ∙ none))
+    go c d k h root chain None s (_, none) = absurd (not_empty c.chain (function_of f) (sym chain ∙ none))
     go c d k h root chain (Some q) s p =
-        let chains = last_same p.parent_content.chain c.chain _ _ (sym p.chain ∙ chain) in
+        let chains = same_from_push p.parent_content.chain c.chain _ _ (sym p.chain ∙ chain) in
         let func = same_func q.derived_func f chains.1 in
         let parent = same_place vars r (q.type_var + 1) q.type_var n p.parent_content c (omega arith) p.kept k (sym p.root ∙ root) chains.0 in
         let one : q ≡ record { type_var = n; derived_func = f } = λ i. record { type_var = parent i; derived_func = func i } in

@@ -5,9 +5,10 @@ use Rattle.std.specs.Option.{option_copied, option_map}
 use Rattle.std.proofs.lemmas.Bool.{cases_lt, cases_order}
 use Rattle.std.proofs.lemmas.Option.{slice_get_within, slice_get-map, get_or_from_slice_get}
 use Rattle.std.proofs.lemmas.List.{length-set, length-map, length-replicate, take_more}
+use Rattle.meta_lists.proofs.Places.{get_set_here, get_set_other, get_there}
+use Rattle.meta_lists.proofs.Pushed.{get_pushed_below}
 use Rattle.meta_unique.specs.Probing.{slot_at, Holds, IsVacant, IsTaken}
 use Rattle.meta_unique.specs.Slots.{IsTableSize, IsFirstFree, IsTakenBefore, IsFilled}
-use Rattle.meta_unique.proofs.Places.{slice_get-set_here, slice_get-set_other, slice_get-push}
 use Rattle.meta_unique.proofs.Walks.{vacant_taken}
 
 -- how many slots are taken
@@ -65,11 +66,6 @@ placed_new n slot place = go (cases_lt n n)
     go (inl b) = absurd (omega arith)
     go (inr b) = refl
 
-item_there : {X : Type 0} (xs : List X) (j : ℕ) → j < length xs → (x : X) × (slice_get xs j ≡ Some x)
-item_there [] j h = absurd (omega arith)
-item_there (x ∷ xs) zero h = (x, refl)
-item_there (x ∷ xs) (suc j) h = item_there xs j (omega arith)
-
 -- `IsFirstFree` of another test that says the same
 same_free : (size size' h slot slot' : ℕ) (T T' : ℕ → Type 0) → size ≡ size' → slot ≡ slot' → ((s : ℕ) → T s → T' s) → (T' slot' → T slot) → IsFirstFree size h T slot → IsFirstFree size' h T' slot'
 same_free size size' h slot slot' T T' e f to back r = record {
@@ -82,17 +78,17 @@ same_free size size' h slot slot' T T' e f to back r = record {
 -- no item stands in a vacant slot
 away : {X : Type 0} (hashes : X → ℕ → Type 0) (xs : List X) (slots : List (Option X)) (slot i : ℕ) (f : IsFilled hashes xs slots) → IsVacant slots slot → i < length xs → f.place i ≢ slot
 away hashes xs slots slot i f v h e =
-    let x = item_there xs i h in
+    let x = get_there xs i h in
     vacant_taken slots slot v (x.0, subst (λ s. Holds slots s x.0) e (f.holds i x.0 x.1))
 
 -- an item is put into the first vacant slot of its probe
 put_holds : {X : Type 0} (hashes : X → ℕ → Type 0) (xs : List X) (slots : List (Option X)) (x : X) (slot : ℕ) (f : IsFilled hashes xs slots) → IsVacant slots slot → (i : ℕ) (y : X) → slice_get (xs ++ x ∷ []) i ≡ Some y
     → Holds (slice_set slots slot (Some x)) (placed (length xs) slot f.place i) y
-put_holds hashes xs slots x slot f v i y e = elim (slice_get-push xs x i y e) [
+put_holds hashes xs slots x slot f v i y e = elim (get_pushed_below xs x i y e) [
   | inl old ↦ subst (λ s. Holds (slice_set slots slot (Some x)) s y) (sym (placed_old (length xs) slot f.place i old.0))
-      (slice_get-set_other slots slot (f.place i) (Some x) (away hashes xs slots slot i f v old.0) ∙ f.holds i y old.1)
+      (get_set_other slots slot (f.place i) (Some x) (away hashes xs slots slot i f v old.0) ∙ f.holds i y old.1)
   | inr new ↦ subst (λ s. Holds (slice_set slots slot (Some x)) s y) (sym (ap (placed (length xs) slot f.place) new.0 ∙ placed_new (length xs) slot f.place))
-      (slice_get-set_here slots slot (Some x) (slice_get_within slots slot None v) ∙ ap (λ w. Some (Some w)) new.1)
+      (get_set_here slots slot (Some x) (slice_get_within slots slot None v) ∙ ap (λ w. Some (Some w)) new.1)
 ]
 
 put_only : {X : Type 0} (hashes : X → ℕ → Type 0) (xs : List X) (slots : List (Option X)) (x : X) (slot : ℕ) (f : IsFilled hashes xs slots) (s : ℕ) (y : X) → Holds (slice_set slots slot (Some x)) s y
@@ -100,14 +96,14 @@ put_only : {X : Type 0} (hashes : X → ℕ → Type 0) (xs : List X) (slots : L
 put_only {X} hashes xs slots x slot f s y h = elim (cases_order s slot) [
   | inl same ↦ (length xs, omega (arith, length-append {A = X}), placed_new (length xs) slot f.place ∙ sym same)
   | inr other ↦
-      let old = f.only s y (sym (slice_get-set_other slots slot s (Some x) (λ e. elim other [ inl b ↦ omega arith | inr b ↦ omega arith ])) ∙ h) in
+      let old = f.only s y (sym (get_set_other slots slot s (Some x) (λ e. elim other [ inl b ↦ omega arith | inr b ↦ omega arith ])) ∙ h) in
       (old.0, omega (arith, length-append {A = X}, old.1), placed_old (length xs) slot f.place old.0 old.1 ∙ old.2)
 ]
 
 put_first : {X : Type 0} (hashes : X → ℕ → Type 0) (xs : List X) (slots : List (Option X)) (x : X) (h slot : ℕ) (f : IsFilled hashes xs slots) → IsVacant slots slot → hashes x h → IsFirstFree (length slots) h (IsTaken slots) slot
     → (i : ℕ) (y : X) → slice_get (xs ++ x ∷ []) i ≡ Some y
     → (h' : ℕ) × hashes y h' × IsFirstFree (length (slice_set slots slot (Some x))) h' (IsTakenBefore (placed (length xs) slot f.place) i) (placed (length xs) slot f.place i)
-put_first hashes xs slots x h slot f v says free i y e = elim (slice_get-push xs x i y e) [
+put_first hashes xs slots x h slot f v says free i y e = elim (get_pushed_below xs x i y e) [
   | inl old ↦
       let was = f.first i y old.1 in (
         was.0,

@@ -1,12 +1,13 @@
 -- What a lookup finds in the slots of names.
-use Rattle.std.proofs.Common.{◌≡◌, ◌↔◌, ℕ, zero, suc, ◌+◌, ◌<◌, ◌≤◌, Bool, true, false, nat_eq, List, length, slice_get, IfSome, Some, None, Option, refl, sym, ap, ◌∙◌, subst, inl, inr, arith}
+use Rattle.std.proofs.Common.{◌≡◌, ℕ, ◌+◌, ◌<◌, ◌≤◌, Bool, true, false, nat_eq, List, length, slice_get, Some, None, Option, refl, sym, ap, ◌∙◌, subst, inl, inr, arith}
 use Rattle.std.specs.Cmp.Lexicographic.{pointwise, bytes_decides}
 use Rattle.std.proofs.lemmas.Bool.{cases_order}
 use Rattle.std.proofs.lemmas.Option.{slice_get_within, same_Some}
 use Rattle.meta_unique.specs.Probing.{slot_at, Holds, IsVacant, IsLookup}
+use Rattle.meta_lists.specs.First.{IsFirst}
 use Rattle.meta_unique.specs.SimpleHash.{hash_of}
 use Rattle.meta_unique.specs.Slots.{IsFirstFree, IsTakenBefore}
-use Rattle.meta_unique.specs.NameSlots.{IsNumberOf, AreNameSlots, NameAnswers, IsNameLookup, IsFirstNumberOf}
+use Rattle.meta_unique.specs.NameSlots.{IsNumberOf, AreNameSlots, NameAnswers, IsNameLookup}
 use Rattle.meta_unique.proofs.Numbered.{number_at}
 
 -- the number of a name answers whether that name is the one that is looked for
@@ -50,10 +51,10 @@ module _ (first : ℕ) (names : List (List ℕ)) (slots : List (Option ℕ)) (s 
       (t.0, b, subst (λ w. Holds slots w (first + t.0)) t.2 (s.filled.holds t.0 (first + t.0) (number_at first (length names) t.0 (omega arith))))
 
   module _ (last : ℕ) where
-    pub found_first : (e : ℕ) → IsLookup (NameAnswers first names name) slots (hash_of name) (Some e) last → IsFirstNumberOf first names name e
+    pub found_first : (e : ℕ) → IsLookup (NameAnswers first names name) slots (hash_of name) (Some e) last → IsFirst (IsNumberOf first names name) e
     found_first e l = record {
-      is_number = l.ends.1.0 refl;
-      is_first = λ other n. subst (λ w. e ≤ w) (sym n.number_is) (before n.place n.there);
+      holds = l.ends.1.0 refl;
+      none_before = λ other below n. let least = subst (λ w. e ≤ w) (sym n.number_is) (before n.place n.there) in omega (arith, below, least);
     }
       where
         before : (j : ℕ) → slice_get names j ≡ Some name → e ≤ first + j

@@ -1,12 +1,11 @@
 -- A look-up of indexes, beside a list of entries that gains one.
 use Rattle.std.specs.Option.{option_copied, is_some, IsSome}
-use Rattle.std.proofs.Common.{rules, IsTrue, ◌↔◌, ◌≡◌, ℕ, ◌-◌, refl, sym, ap, ◌∙◌, subst, inl, inr, arith, Bool, true, false, cond, List, [], ◌∷◌, ◌++◌, length, take, Some, None, Option, Bor, length-append}
+use Rattle.std.proofs.Common.{rules, IsTrue, ◌↔◌, ◌≡◌, ℕ, refl, sym, ap, ◌∙◌, subst, inl, inr, Bool, true, false, cond, List, [], ◌∷◌, ◌++◌, length, Some, None, Option, Bor}
 use Rattle.std.proofs.lemmas.List.{map-append, length-map}
-use Rattle.std.proofs.Math.Seq.{take-append_seam}
 use Rattle.std.specs.Prelude.{slice_get}
 use Rattle.std.specs.Cmp.{IsEquivalence}
+use Rattle.meta_lists.proofs.Pushed.{get_pushed_below, get_kept, get_end}
 use Rattle.meta_unique.specs.Interning.{pointed_to, IsIndexOf, IsNew, IsIndexed}
-use Rattle.meta_unique.proofs.Places.{slice_get-push, slice_get-push_old, slice_get-push_new}
 
 module _ {X : Type 0} (eq : X → X → Bool) (entries shown : List X) (look_up : Bor X → Option ℕ) (same : entries ≡ shown) (indexed : IsIndexed eq entries look_up) where
   shown_index : (x : X) (i : ℕ) → IsIndexOf eq shown x i → IsIndexOf eq entries x i
@@ -45,12 +44,12 @@ module _ {X : Type 0} (eq : X → X → Bool) (laws : IsEquivalence eq) (entries
   is_new i h = let f = indexed.complete r i h in (cc)
 
   different_more : (i j : ℕ) (x y : X) → slice_get (entries ++ r.now ∷ []) i ≡ Some x → slice_get (entries ++ r.now ∷ []) j ≡ Some y → eq x y ≡ true → i ≡ j
-  different_more i j x y e f h = elim (slice_get-push entries r.now i x e) [
-    | inl a ↦ elim (slice_get-push entries r.now j y f) [
+  different_more i j x y e f h = elim (get_pushed_below entries r.now i x e) [
+    | inl a ↦ elim (get_pushed_below entries r.now j y f) [
       | inl b ↦ indexed.different i j x y a.1 b.1 h
       | inr b ↦ absurd (is_new i (record { entry = x; there = a.1; equal = ap (λ w. eq w x) b.1 ∙ laws.symm y x ∙ h }))
     ]
-    | inr a ↦ elim (slice_get-push entries r.now j y f) [
+    | inr a ↦ elim (get_pushed_below entries r.now j y f) [
       | inl b ↦ absurd (is_new j (record { entry = y; there = b.1; equal = ap (λ w. eq w y) a.1 ∙ h }))
       | inr b ↦ a.0 ∙ sym b.0
     ]
@@ -63,13 +62,13 @@ module _ {X : Type 0} (eq : X → X → Bool) (laws : IsEquivalence eq) (entries
       go true h =
           let f : Some (length entries) ≡ Some i = sym (gains q ∙ ap (λ b. cond b (Some (length entries)) (look_up q)) h) ∙ e in
           let at : length entries ≡ i = (cc) in
-          record { entry = r.now; there = subst (λ k. slice_get (entries ++ r.now ∷ []) k ≡ Some r.now) at (slice_get-push_new entries r.now); equal = laws.symm q.now r.now ∙ h }
+          record { entry = r.now; there = subst (λ k. slice_get (entries ++ r.now ∷ []) k ≡ Some r.now) at (get_end entries r.now); equal = laws.symm q.now r.now ∙ h }
       go false h =
           let old = indexed.sound q i (sym (gains q ∙ ap (λ b. cond b (Some (length entries)) (look_up q)) h) ∙ e) in
-          record { entry = old.entry; there = slice_get-push_old entries r.now i old.entry old.there; equal = old.equal }
+          record { entry = old.entry; there = get_kept entries r.now i old.entry old.there; equal = old.equal }
 
   complete_more : (q : Bor X) (i : ℕ) → IsIndexOf eq (entries ++ r.now ∷ []) q.now i → look_up' q ≡ Some i
-  complete_more q i h = elim (slice_get-push entries r.now i h.entry h.there) [
+  complete_more q i h = elim (get_pushed_below entries r.now i h.entry h.there) [
     | inl a ↦ go (eq r.now q.now) refl a.1
     | inr a ↦ gains q ∙ ap (λ b. cond b (Some (length entries)) (look_up q)) (laws.symm r.now q.now ∙ ap (eq q.now) a.1 ∙ h.equal) ∙ ap Some (sym a.0)
   ]
@@ -102,12 +101,6 @@ module _ {X : Type 0} (eq : X → X → Bool) (laws : IsEquivalence eq) (raw raw
   index_push = record {
     entry = r.now;
     there = subst (λ (es : List X). slice_get es n ≡ Some r.now) (sym (pushed raw raw' r e))
-        (subst (λ k. slice_get (pointed_to raw ++ r.now ∷ []) k ≡ Some r.now) (length-map raw (λ p. p.now) ∙ sym len) (slice_get-push_new (pointed_to raw) r.now));
+        (subst (λ k. slice_get (pointed_to raw ++ r.now ∷ []) k ≡ Some r.now) (length-map raw (λ p. p.now) ∙ sym len) (get_end (pointed_to raw) r.now));
     equal = laws.refl r.now;
   }
-
--- the list as it was before a push, from a pop
-pub popped : {X : Type 0} (raw raw' raw'' : List X) (x : X) (n : ℕ) → raw' ≡ raw ++ x ∷ [] → n ≡ length raw' → raw'' ≡ take (n - 1) raw' → raw'' ≡ raw
-popped {X} raw raw' raw'' x n e len f =
-    let at : n - 1 ≡ length raw = omega (arith, len, ap length e, length-append raw (x ∷ [])) in
-    f ∙ ap (λ k. take k raw') at ∙ ap (take (length raw)) e ∙ take-append_seam raw (x ∷ [])

@@ -1,7 +1,6 @@
 mod ProbeOrder
 mod Walks
 mod Sizes
-mod Places
 mod Filling
 mod Indexes
 mod Selecting

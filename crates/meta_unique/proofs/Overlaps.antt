@@ -4,7 +4,7 @@ use Rattle.std.specs.Prelude.{Contains}
 use Rattle.std.specs.List.{starts_with, AllZip}
 use Rattle.std.specs.Cmp.{IsEquivalence}
 use Rattle.std.specs.Cmp.Lexicographic.{pointwise, as_long, lists_equiv}
-use Rattle.std.proofs.lemmas.Bool.{cases_lt, lt-ltb, le-ltb}
+use Rattle.std.proofs.lemmas.Bool.{cases_lt, lt-ltb, le-ltb, and_parts}
 use Rattle.std.proofs.lemmas.List.{take_all, take-take, drop-take, length-take, length-take-le, length-drop, take-append-drop, drop-append-le, nil_from_length, get_or-drop}
 use Rattle.meta_unique.specs.Overlap.{AreAlike, stands_at, is_shared, first_place, shared, added, IsShortest}
 
@@ -23,29 +23,25 @@ module _ {X : Type 0} (eq : X → X → Bool) where
   both : (a b : Bool) → a ≡ true → b ≡ true → (a && b) ≡ true
   both a b e f = ap (λ w. w && b) e ∙ f
 
-  split : (a b : Bool) → (a && b) ≡ true → (a ≡ true) × (b ≡ true)
-  split true b e = (refl, e)
-  split false b e = (cc)
-
   alike_append : (xs ys xs' ys' : List X) → AreAlike eq xs xs' → AreAlike eq ys ys' → AreAlike eq (xs ++ ys) (xs' ++ ys')
   alike_append [] ys [] ys' e f = f
   alike_append [] ys (x ∷ xs') ys' e f = (cc)
   alike_append (x ∷ xs) ys [] ys' e f = (cc)
-  alike_append (x ∷ xs) ys (x' ∷ xs') ys' e f = let p = split (eq x x') (pointwise eq xs xs') e in both (eq x x') _ p.0 (alike_append xs ys xs' ys' p.1 f)
+  alike_append (x ∷ xs) ys (x' ∷ xs') ys' e f = let p = and_parts (eq x x') (pointwise eq xs xs') e in both (eq x x') _ p.0 (alike_append xs ys xs' ys' p.1 f)
 
   alike_take : (n : ℕ) (xs ys : List X) → AreAlike eq xs ys → AreAlike eq (take n xs) (take n ys)
   alike_take zero xs ys e = refl
   alike_take (suc n) [] [] e = refl
   alike_take (suc n) [] (y ∷ ys) e = (cc)
   alike_take (suc n) (x ∷ xs) [] e = (cc)
-  alike_take (suc n) (x ∷ xs) (y ∷ ys) e = let p = split (eq x y) (pointwise eq xs ys) e in both (eq x y) _ p.0 (alike_take n xs ys p.1)
+  alike_take (suc n) (x ∷ xs) (y ∷ ys) e = let p = and_parts (eq x y) (pointwise eq xs ys) e in both (eq x y) _ p.0 (alike_take n xs ys p.1)
 
   alike_drop : (n : ℕ) (xs ys : List X) → AreAlike eq xs ys → AreAlike eq (drop n xs) (drop n ys)
   alike_drop zero xs ys e = e
   alike_drop (suc n) [] [] e = refl
   alike_drop (suc n) [] (y ∷ ys) e = (cc)
   alike_drop (suc n) (x ∷ xs) [] e = (cc)
-  alike_drop (suc n) (x ∷ xs) (y ∷ ys) e = alike_drop n xs ys (split (eq x y) (pointwise eq xs ys) e).1
+  alike_drop (suc n) (x ∷ xs) (y ∷ ys) e = alike_drop n xs ys (and_parts (eq x y) (pointwise eq xs ys) e).1
 
   -- clones of what equals its clones
   alike_clones : (is_clone : X → X → Type 0) (more ys : List X) → ((x y : X) → Contains more x → is_clone x y → eq x y ≡ true) → AllZip is_clone more ys → AreAlike eq more ys

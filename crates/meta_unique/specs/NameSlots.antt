@@ -2,7 +2,7 @@
 --     AreNameSlots first names slots       the slots of names that are numbered from `first` on
 --     NameAnswers first names name ..      what a lookup of a name asks of the number in a slot
 --     IsNameLookup first names slots ..    what a lookup of a name finds, and how far it looks
-use Rattle.std.specs.Prelude.{ℕ, zero, suc, ◌≡◌, ◌↔◌, ◌+◌, ◌≤◌, Bool, true, List, [], ◌∷◌, length, slice_get, Option, Some}
+use Rattle.std.specs.Prelude.{ℕ, zero, suc, ◌≡◌, ◌↔◌, ◌+◌, Bool, true, List, [], ◌∷◌, length, slice_get, Option, Some}
 use Rattle.meta_unique.specs.SimpleHash.{hash_of}
 use Rattle.meta_unique.specs.Probing.{IsLookup}
 use Rattle.meta_unique.specs.Slots.{IsSlots}
@@ -35,8 +35,3 @@ NameAnswers first names name number answer = (answer ≡ true) ↔ IsNumberOf fi
 -- a lookup of the name, from its hash on, finds this, and it ends at slot `last` of its probe
 abbrev pub IsNameLookup : ℕ → List (List ℕ) → List (Option ℕ) → List ℕ → Option ℕ → ℕ → Type 0
 IsNameLookup first names slots name found last = IsLookup (NameAnswers first names name) slots (hash_of name) found last
-
--- the number is that of the name, and no number before it is
-pub record IsFirstNumberOf (first : ℕ) (names : List (List ℕ)) (name : List ℕ) (number : ℕ) : Type 0 where
-  pub is_number : IsNumberOf first names name number
-  pub is_first : (other : ℕ) → IsNumberOf first names name other → number ≤ other

@@ -10,7 +10,7 @@ mod unique_seq_table;
 mod unique_table;
 
 pub use constant_hash::{generate_table, simple_hash};
-pub use names::name_slots;
+pub use names::{name_slots, same_slots};
 pub use probing::{can_probe, probe, probe_counted, visits_each};
 pub use steps::Steps;
 pub use unique_seq_table::UniqueSeqTable;

@@ -1,4 +1,4 @@
-ghost use Rattle.std.specs.Prelude.{◌≡◌, ◌+◌, ◌≤◌, ◌<◌, length, map, Contains, None, IfOk};
+ghost use Rattle.std.specs.Prelude.{◌≡◌, ◌↔◌, ◌+◌, ◌≤◌, ◌<◌, length, map, Contains, None, IfOk, IsTrue};
 ghost use Rattle.std.specs.Option.{option_copied};
 ghost use Rattle.meta_unique.specs.Interning.{pointed_to};
 ghost use Rattle.meta_unique.specs.NameSlots.{HashesTo, AreNameSlots, numbers_from};
@@ -56,4 +56,11 @@ pub fn name_slots(
         hash_at(names, first, *number)
     })?;
     pointed_at(alloc, table.as_slice())
+}
+
+/// Whether the slots hold the same.
+pub fn same_slots(one: &[Option<u16>], other: &[Option<u16>]) -> bool
+    ensures { IsTrue result ↔ (one.now ≡ other.now) }
+{
+    one == other
 }

@@ -1,16 +1,12 @@
-use Rattle.std.proofs.Common.{◌≡◌, ◌<◌, Bool, false, length, refl, sym, ap, ◌∙◌, subst, slice_get, Some, List, Result, Ok, Err, OnOk, is_err}
+use Rattle.std.proofs.Common.{◌<◌, length, refl, sym, ◌∙◌, subst, List}
 use Rattle.std.proofs.lemmas.Result.{IfOk-weaker}
 use Rattle.std.proofs.lemmas.Iterator.{items_from_collect}
 use Rattle.std.proofs.lemmas.Iterator.Consumers.{YieldsList-from_rest}
 use Rattle.std.proofs.lemmas.Option.{slice_get-get_or, slice_get_within, slice_get_read}
+use Rattle.meta_lists.proofs.Results.{from_ok}
 use Rattle.meta_declared.specs.declared.formats.UsedFormat.{UsedFormat}
 use Rattle.meta_declared.proofs.ByName.{Entry, AreOfFirst, none_yet, one_more, by_names}
 use Rattle.meta_declared.proofs.formats.by_name.Goals as goal
-
--- what holds where nothing was refused
-on_ok : {T E : Type 0} (r : Result T E) (P : Type 0) → is_err r ≡ false → OnOk r P → P
-on_ok (Ok x) P e h = h
-on_ok (Err x) P e h = absurd (cc)
 
 pub loop-place-init : goal.loop-place-init
 loop-place-init c = subst (λ (es : List Entry). AreOfFirst c.args.formats.now c.args.used.now 0 es) (sym c.new-ids.ensures.empty) (none_yet c.args.formats.now c.args.used.now)
@@ -25,7 +21,7 @@ pub loop-place-preserved : goal.loop-place-preserved
 loop-place-preserved c =
     let at = slice_get-get_or c.args.used.now c.loop-place.place c.index-used-place.result c.loop-place-test.true in
     one_more c.args.formats.now c.args.used.now c.requires.apart c.loop-place.place _ at _ c.get.ensures _ refl c.loop-place.ids.entries c.insert.new.self.entries c.loop-place.invariant
-    (on_ok c.insert.result _ (sym c.is_err.ensures.value ∙ c.if-is_err.false) c.insert.ensures.entries) c.insert.ensures.ordered
+    (from_ok c.insert.result _ (sym c.is_err.ensures.value ∙ c.if-is_err.false) c.insert.ensures.entries) c.insert.ensures.ordered
 
 pub returns : goal.returns
 returns c =

@@ -1,7 +1,6 @@
-use Rattle.std.proofs.Common.{◌≡◌, ℕ, List, Some, sym, ap, ◌∙◌, arith, slice_get, Result, Ok, Err, OnOk}
+use Rattle.std.proofs.Common.{◌≡◌, ℕ, List, Some, sym, ap, ◌∙◌, arith, slice_get}
 use Rattle.std.proofs.lemmas.Bool.{false≢true}
-use Rattle.meta_types.specs.declared.fault.DefinitionError.{DefinitionError}
-use Rattle.meta_inst.specs.Built.{Built}
+use Rattle.meta_lists.proofs.Results.{on_ok}
 use Rattle.meta_inst.specs.Builder.{Builder}
 use Rattle.meta_declared.proofs.Rules.{refused_on, refused_if, refused_first, clean_told, refused_told, built_told, shared_told}
 use Rattle.meta_declared.proofs.NamesSoFar.{shared_found, unshared_found, kept_more}
@@ -10,11 +9,6 @@ use Rattle.meta_declared.proofs.instructions.built_instruction.Goals as goal
 -- the instruction that was read
 read : (instructions all : List Builder) (k : ℕ) (b : Builder) → instructions ≡ all → slice_get instructions k ≡ Some b → slice_get all k ≡ Some b
 read instructions all k b e at = sym (ap (λ xs. slice_get xs k) e) ∙ at
-
--- what holds in any case
-on_any : (r : Result Built DefinitionError) (P : Type 0) → P → OnOk r P
-on_any (Ok c) P p = p
-on_any (Err e) P p = tt
 
 pub returns-then-is_refused_first-clause-kept : goal.returns-then-is_refused_first-clause-kept
 returns-then-is_refused_first-clause-kept c = refused_on _ _ (c.is_refused_first.ensures.0 c.if-is_refused_first.true)
@@ -50,7 +44,7 @@ returns-in-Some-clause-refused c = λ other.
 pub returns-clause-kept : goal.returns-clause-kept
 returns-clause-kept c =
     let at = read _ _ _ _ c.instructions.ensures.instructions c.get-builder.ensures in
-    on_any _ _ (kept_more c.args.set.now c.args.place _ at _ c.name.ensures _ c.requires.kept _ (rw c.in_default.is at c.in_ok-earlier.ensures.added))
+    on_ok _ (kept_more c.args.set.now c.args.place _ at _ c.name.ensures _ c.requires.kept _ (rw c.in_default.is at c.in_ok-earlier.ensures.added))
 
 pub returns-clause-clean : goal.returns-clause-clean
 returns-clause-clean c =

@@ -1,8 +1,7 @@
 use Rattle.std.proofs.Common.{◌≡◌, length, subst, sym, ap, ◌∙◌, arith, slice_get, Some, ⊎_elim}
+use Rattle.meta_lists.proofs.Pushed.{get_pushed, one_longer}
 use Rattle.meta_inst.specs.Built.{Built}
 use Rattle.meta_declared.specs.BuiltInstructions.{IsBuiltAt}
-use Rattle.meta_types.proofs.ListPlaces.{get_pushed}
-use Rattle.meta_inst.proofs.Appended.{one_longer}
 use Rattle.meta_declared.proofs.instructions.built_instructions.Goals as goal
 
 pub loop-place-preserved : goal.loop-place-preserved

@@ -1,6 +1,6 @@
 use Rattle.std.proofs.Common.{arith, refl}
 use Rattle.std.proofs.lemmas.Option.{slice_get_read, slice_get_within}
-use Rattle.meta_inst.proofs.Appended.{one_longer}
+use Rattle.meta_lists.proofs.Pushed.{one_longer}
 use Rattle.meta_opcode_tables.proofs.Describing.{one_more}
 use Rattle.meta_opcode_tables.proofs.describe.constraints_of.Goals as goal
 

@@ -1,9 +1,9 @@
 use Rattle.std.proofs.Common.{◌≡◌, arith, refl, sym, ap, ◌∙◌, subst, length, slice_get, [], ◌∷◌, ◌++◌, List, Some}
 use Rattle.std.proofs.lemmas.Option.{slice_get_read, slice_get_within}
+use Rattle.meta_lists.proofs.Pushed.{one_longer}
 use Rattle.meta_inst.specs.Built.{Built}
 use Rattle.meta_inst.specs.Instruction.{Instruction}
 use Rattle.meta_inst.specs.InstructionSet.{instruction_of}
-use Rattle.meta_inst.proofs.Appended.{one_longer}
 use Rattle.meta_declared.specs.BuiltInstructions.{IsBuiltAt}
 use Rattle.meta_declared.proofs.BuiltOperands.{meaning}
 use Rattle.meta_opcode_tables.specs.Entries.{EntryHolds, IsAdded}

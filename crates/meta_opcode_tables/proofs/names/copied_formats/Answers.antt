@@ -1,8 +1,8 @@
 use Rattle.std.proofs.Common.{arith, subst, sym, ◌<◌, length}
 use Rattle.std.proofs.lemmas.Option.{slice_get_within}
+use Rattle.meta_lists.proofs.Pushed.{one_longer}
 use Rattle.meta_operands.specs.declared.format.InstructionFormat.{InstructionFormat}
 use Rattle.meta_opcode_tables.proofs.Made.{one_format_more, format_at}
-use Rattle.meta_inst.proofs.Appended.{one_longer}
 use Rattle.meta_opcode_tables.proofs.names.copied_formats.Goals as goal
 
 pub get-format-requires : goal.get-format-requires

@@ -1,5 +1,5 @@
 use Rattle.std.proofs.Common.{refl, arith}
-use Rattle.meta_setting_tables.proofs.Sameness.{same_places}
+use Rattle.meta_lists.proofs.Places.{same_places}
 use Rattle.meta_setting_tables.proofs.same.same_descriptors.Goals as goal
 
 pub returns : goal.returns

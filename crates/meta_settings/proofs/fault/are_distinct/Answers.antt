@@ -1,9 +1,9 @@
 use Rattle.std.proofs.Common.{◌≡◌, ℕ, ◌<◌, ⊎_elim, List, refl, slice_index_or, subst, length, arith, slice_get, Some}
 use Rattle.std.proofs.lemmas.Option.{slice_get_read, slice_get_within}
 use Rattle.std.proofs.lemmas.Bool.{cases_eq, false≢true}
+use Rattle.meta_lists.proofs.Options.{told_some, told_none}
 use Rattle.meta_types.specs.SharedNames.{IsDuplicate}
 use Rattle.meta_types.proofs.NamesSoFar.{shared_found, unshared_found, kept_more}
-use Rattle.meta_settings.proofs.Told.{told_some, told_none}
 use Rattle.meta_settings.proofs.fault.are_distinct.Goals as goal
 
 -- the name that was read

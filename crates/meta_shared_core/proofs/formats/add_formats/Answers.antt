@@ -1,6 +1,7 @@
 use Rattle.std.proofs.Common.{subst, sym, ◌∙◌}
+use Rattle.meta_lists.proofs.Results.{on_err}
 use Rattle.meta_shared_core.specs.Formats.{AreNumbered}
-use Rattle.meta_shared_core.proofs.Lists.{numbered_more, on_err}
+use Rattle.meta_shared_core.proofs.Numbered.{numbered_more}
 use Rattle.meta_shared_core.proofs.Added.{formats_more, formats_counted, front}
 use Rattle.meta_shared_core.proofs.formats.add_formats.Goals as goal
 

@@ -1,14 +1,9 @@
-use Rattle.std.proofs.Common.{◌≡◌, ◌<◌, ◌↔◌, IsTrue, IfSome, Option, None, Some, length, nat_eq, refl, sym, subst}
+use Rattle.std.proofs.Common.{◌<◌, ◌↔◌, IsTrue, length, nat_eq, refl, sym, subst}
 use Rattle.std.specs.HashMap.{get}
-use Rattle.std.proofs.lemmas.Option.{slice_get_read, same_Some}
+use Rattle.std.proofs.lemmas.Option.{slice_get_read, MatchOption-at_some}
 use Rattle.meta_inst.specs.Operands.{OperandList, IsAlone}
 use Rattle.meta_inst.proofs.Counting.{alone_told}
 use Rattle.meta_inst.proofs.operands.Operands.is_alone.Goals as goal
-
--- what is said of what an option has
-at_some : {X : Type 0} (o : Option X) (P : X → Type 0) (x : X) → o ≡ Some x → IfSome o P → P x
-at_some None P x e h = absurd (cc)
-at_some (Some y) P x e h = subst P (same_Some y x e) h
 
 pub returns-in-Some : goal.returns-in-Some
 returns-in-Some c =
@@ -16,7 +11,7 @@ returns-in-Some c =
     let within = subst (λ (o : OperandList). c.args.place < length o.variables) (sym c.self.view_is) c.requires in
     subst (λ (o : OperandList). IsTrue c.is_once.result ↔ IsAlone o.variables o.result_count c.args.place) c.self.view_is
     (alone_told inside.variables.items inside.result_count c.args.place c.index.result.now (get nat_eq c.in-Some.counts.counts) c.is_once.result
-    c.if-place-self.false (slice_get_read inside.variables.items _ c.args.place c.index.result.now refl within c.index.ensures) (at_some inside.input_counts _ _ c.in-Some.is c.self.invariant.1) c.is_once.ensures)
+    c.if-place-self.false (slice_get_read inside.variables.items _ c.args.place c.index.result.now refl within c.index.ensures) (MatchOption-at_some {o = inside.input_counts} (Unit {0}) _ _ c.in-Some.is c.self.invariant.1) c.is_once.ensures)
 
 pub returns-in-None : goal.returns-in-None
 returns-in-None c = subst (λ (o : OperandList). IsTrue c.stands_alone.result ↔ IsAlone o.variables o.result_count c.args.place) c.self.view_is (rw c.deref.ensures.value at c.stands_alone.ensures)

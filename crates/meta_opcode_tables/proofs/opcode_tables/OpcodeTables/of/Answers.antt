@@ -1,7 +1,8 @@
 use Rattle.std.proofs.lemmas.List.{length-map}
 use Rattle.std.proofs.lemmas.Result.{IfOk-weaker}
 use Rattle.meta_typevar.specs.Registry.{HoldTypeSets}
-use Rattle.std.proofs.Common.{Result, Ok, Err, IfOk, ◌≡◌, length, map, arith, ap, sym, ◌∙◌, subst, List}
+use Rattle.std.proofs.Common.{◌≡◌, length, map, arith, ap, sym, ◌∙◌, subst, List}
+use Rattle.meta_lists.proofs.Results.{both_ok}
 use Rattle.meta_types.specs.SharedNames.{AreDifferentNames}
 use Rattle.meta_inst.specs.Builder.{Builder}
 use Rattle.meta_declared.specs.AllDeclared.{Declared}
@@ -54,16 +55,11 @@ new-requires-clause-formatted c =
     let same = ap (length {A = Builder}) (instructions_are _ _ c.args.built.now.declared c.instructions-instructions.ensures.instructions c.declarations-declarations.ensures.declarations) in
     omega arith
 
--- what two facts of an answer tell of it
-both : {T E : Type 0} (r : Result T E) (P Q R : T → Type 0) → ((t : T) → P t → Q t → R t) → IfOk r P → IfOk r Q → IfOk r R
-both (Ok t) P Q R f p q = f t p q
-both (Err e) P Q R f p q = tt
-
 pub returns-clause-tables : goal.returns-clause-tables
 returns-clause-tables c =
     let d = c.args.built.now.declared.set in
     let same = instructions_are _ _ c.args.built.now.declared c.instructions-instructions.ensures.instructions c.declarations-declarations.ensures.declarations in
-    both c.new.result _ _ (AreTablesOf d)
+    both_ok c.new.result _ _ (AreTablesOf d)
     (λ t parts slots.
     tables_made d (record { names = c.in_ok-names.names.items; formats = c.in_ok-format_names.format_names.items; slots = t.opcode_slots }) c.in_ok-masks.masks.items c.args.built.now.type_sets c.in_ok-parts.parts.constraints.items c.in_ok-parts.parts.entries.items c.in_ok-parts.ensures.added.0 t
     parts

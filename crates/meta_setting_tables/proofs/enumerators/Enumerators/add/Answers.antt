@@ -1,8 +1,9 @@
 use Rattle.std.proofs.Common.{◌+◌, ◌≤◌, length, take, sym, ap, ◌∙◌, subst}
 use Rattle.std.proofs.lemmas.Result.{IfOk-weaker}
+use Rattle.meta_lists.proofs.Results.{both_ok}
 use Rattle.meta_setting_tables.specs.EnumeratorList.{with_values, values_at}
 use Rattle.meta_setting_tables.specs.NumberedTexts.{texts_of, AreNumbersOf}
-use Rattle.meta_setting_tables.proofs.Enumerating.{numbered_still, texts_added, texts_kept_after, texts_stand, texts_most, texts_place, texts_inside, both_ok}
+use Rattle.meta_setting_tables.proofs.Enumerating.{numbered_still, texts_added, texts_kept_after, texts_stand, texts_most, texts_place, texts_inside}
 use Rattle.meta_setting_tables.proofs.enumerators.Enumerators.add.Goals as goal
 
 pub invariant_of-self-2 : goal.invariant_of-self-2

@@ -1,5 +1,6 @@
 use Rattle.std.proofs.Common.{◌∙◌, refl}
-use Rattle.meta_typevar.proofs.Growing.{derived_added, popped}
+use Rattle.meta_lists.proofs.Pushed.{popped}
+use Rattle.meta_typevar.proofs.Growing.{derived_added}
 use Rattle.meta_typevar.proofs.Known.{derived_noted, both_stay}
 use Rattle.meta_typevar.proofs.registry.TypeVars.add_derived.Goals as goal
 

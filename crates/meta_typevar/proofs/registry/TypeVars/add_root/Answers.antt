@@ -1,5 +1,6 @@
 use Rattle.std.proofs.Common.{◌∙◌, refl}
-use Rattle.meta_typevar.proofs.Growing.{root_added, popped}
+use Rattle.meta_lists.proofs.Pushed.{popped}
+use Rattle.meta_typevar.proofs.Growing.{root_added}
 use Rattle.meta_typevar.proofs.Known.{root_noted, both_stay}
 use Rattle.meta_typevar.proofs.registry.TypeVars.add_root.Goals as goal
 

@@ -1,7 +1,8 @@
 use Rattle.std.proofs.Common.{refl, ap, ◌∙◌, Ok}
 use Rattle.std.specs.Map.{lookup}
+use Rattle.meta_lists.proofs.Pushed.{popped}
 use Rattle.meta_unique.specs.Interning.{pointed_to}
-use Rattle.meta_unique.proofs.Indexes.{found_index, found_none, found_some, indexed_push, index_push, indexed_same, popped}
+use Rattle.meta_unique.proofs.Indexes.{found_index, found_none, found_some, indexed_push, index_push, indexed_same}
 use Rattle.meta_unique.proofs.unique_table.UniqueTable.add.Goals as goal
 
 pub returns-in-Some-clause-known : goal.returns-in-Some-clause-known
