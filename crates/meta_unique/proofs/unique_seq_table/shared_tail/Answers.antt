@@ -1,4 +1,4 @@
-use Rattle.std.proofs.Common.{◌-◌, sym, ◌∙◌, ap, arith, length}
+use Rattle.std.proofs.Common.{◌-◌, sym, ◌∙◌, ap, arith, rules, length}
 use Rattle.std.specs.List.{ends_with}
 use Rattle.meta_unique.specs.Overlap.{is_shared}
 use Rattle.meta_unique.proofs.Selecting.{greatest_is}
@@ -10,3 +10,6 @@ returns-then-ends_with-clause-count g c = sym (greatest_is (is_shared g.T.Partia
 
 pub returns-clause-count : goal.returns-clause-count
 returns-clause-count g c = sym (greatest_is (is_shared g.T.PartialEq.eq c.args.table.now c.args.values.now) (length c.args.values.now - 1) 0 (omega arith) (λ some. absurd (omega arith)) (λ k a b. c.loop-count.invariant.1 k (omega arith) (omega arith)))
+
+pub returns-then-ends_with-clause-longest : goal.returns-then-ends_with-clause-longest
+returns-then-ends_with-clause-longest g c = search rules

@@ -1,4 +1,4 @@
-use Rattle.std.proofs.Common.{◌≡◌, ◌<◌, ℕ, true, false, sym, ◌∙◌, ap, subst, length, List, ◌++◌, ◌-◌}
+use Rattle.std.proofs.Common.{◌≡◌, ◌<◌, ℕ, true, false, sym, ◌∙◌, ap, subst, rules, length, List, ◌++◌, ◌-◌}
 use Rattle.std.proofs.lemmas.Bool.{eqb-true}
 use Rattle.std.specs.List.{AllZip}
 use Rattle.meta_unique.specs.Overlap.{stands_at, is_shared, first_place, shared}
@@ -45,3 +45,6 @@ returns-clause-stands g c =
 
 pub returns-clause-shortest : goal.returns-clause-shortest
 returns-clause-shortest g c = shortest_new _ g.met.T.Eq.laws _ _ _ _ (extension g c)
+
+pub returns-then-is_empty-clause-place : goal.returns-then-is_empty-clause-place
+returns-then-is_empty-clause-place g c = search rules

@@ -1,4 +1,5 @@
-use Rattle.std.proofs.Common.{refl, ap, ◌∙◌, Ok}
+use Rattle.std.proofs.Common.{refl, ap, ◌∙◌, Ok, rules, arith}
+use Rattle.std.proofs.lemmas.Grind.{common_steps}
 use Rattle.std.specs.Map.{lookup}
 use Rattle.meta_lists.proofs.Pushed.{popped}
 use Rattle.meta_unique.specs.Interning.{pointed_to}
@@ -31,3 +32,15 @@ returns-in-Ok-clause-index g c = index_push _ g.met.T.Eq.laws c.self.inside.entr
 
 pub returns-in-Ok-clause-different : goal.returns-in-Ok-clause-different
 returns-in-Ok-clause-different g c = (invariant_of-self-in-Ok g c).different
+
+pub returns-in-Err-clause-index : goal.returns-in-Err-clause-index
+returns-in-Err-clause-index g c = search rules
+
+pub returns-in-Err-clause-added : goal.returns-in-Err-clause-added
+returns-in-Err-clause-added g c = search rules
+
+pub returns-in-Err-clause-different : goal.returns-in-Err-clause-different
+returns-in-Err-clause-different g c = grind (arith, common_steps)
+
+pub returns-in-Err-clause-err : goal.returns-in-Err-clause-err
+returns-in-Err-clause-err g c = grind (arith, common_steps)
