@@ -1,4 +1,4 @@
-use Rattle.std.proofs.Common.{◌<◌, ◌+◌, ◌^◌, length, sym, subst, arith}
+use Rattle.std.proofs.Common.{◌<◌, ◌+◌, ◌^◌, length, sym, subst, arith, rules}
 use Rattle.meta_settings.specs.GroupDeclaration.{GroupDeclaration, entry_count}
 use Rattle.meta_settings.proofs.Counting.{all_counted}
 use Rattle.meta_settings.proofs.builder.SettingGroupBuilder.add_bool.Goals as goal
@@ -9,3 +9,6 @@ overflow_add-self c =
     let counted = all_counted c.self.inside.settings.items in
     let booleans = c.self.invariant.are_booleans in
     omega arith
+
+pub returns-clause-number : goal.returns-clause-number
+returns-clause-number c = search rules
