@@ -47,25 +47,29 @@ fn about_settings(alloc: Global, count: u16, tables: &Tables) -> Result<String, 
     )
 }
 
+/// Declarations of the subject.
+fn declared(alloc: Global, subject: Subject) -> Result<Declarations, AllocError> {
+    match subject {
+        Subject::Instructions(count) => instruction_declarations(alloc, count),
+        Subject::Settings(count) => setting_declarations(alloc, count),
+        Subject::Inputs(shown, count) => input_declarations(alloc, shown, count),
+    }
+}
+
+/// What the tables of the subject hold.
+fn about(alloc: Global, subject: Subject, tables: &Tables) -> Result<String, AllocError> {
+    match subject {
+        Subject::Instructions(count) => about_instructions(alloc, count, tables),
+        Subject::Settings(count) => about_settings(alloc, count, tables),
+        Subject::Inputs(..) => about_instructions(alloc, 1, tables),
+    }
+}
+
 /// Declares the subject once, makes its tables as often as the command says, and tells what they hold.
 pub(crate) fn measured(alloc: Global, command: &Command) -> Result<String, DefinitionError>
     requires { 0 < command.now.times }
 {
-    match command.subject {
-        Subject::Instructions(count) => {
-            let declarations = instruction_declarations(alloc, count)?;
-            let tables = generated(alloc, &declarations, command.times)?;
-            Ok(about_instructions(alloc, count, &tables)?)
-        }
-        Subject::Settings(count) => {
-            let declarations = setting_declarations(alloc, count)?;
-            let tables = generated(alloc, &declarations, command.times)?;
-            Ok(about_settings(alloc, count, &tables)?)
-        }
-        Subject::Inputs(shown, count) => {
-            let declarations = input_declarations(alloc, shown, count)?;
-            let tables = generated(alloc, &declarations, command.times)?;
-            Ok(about_instructions(alloc, 1, &tables)?)
-        }
-    }
+    let declarations = declared(alloc, command.subject)?;
+    let tables = generated(alloc, &declarations, command.times)?;
+    Ok(about(alloc, command.subject, &tables)?)
 }

@@ -4,6 +4,10 @@ use super::trouble::Trouble;
 use super::variables::Variables;
 use super::words::number;
 use meta_gen::Declarations;
+use meta_inst::AllInstructions;
+use meta_operands::FormatTable;
+use meta_settings::SettingGroupBuilder;
+use meta_typevar::TypeVars;
 use std::alloc::Global;
 
 /// What a case declares, line by line.
@@ -13,6 +17,19 @@ pub(crate) struct Case {
     variables: Variables,
     instructions: Instructions,
     groups: Groups,
+}
+
+/// Declarations of these, where they belong together.
+fn declared(
+    vars: TypeVars,
+    formats: FormatTable,
+    all: AllInstructions,
+    groups: Vec<SettingGroupBuilder>,
+) -> Result<Declarations, Trouble> {
+    if !Declarations::fits(&vars, &formats, &all) {
+        return Err(Trouble::NoCase);
+    }
+    Ok(Declarations::new(vars, formats, all, groups))
 }
 
 impl Case {
@@ -85,12 +102,7 @@ impl Case {
             instructions,
             groups,
         } = self;
-        let vars = variables.into_vars();
         let (formats, all) = instructions.into_parts();
-        if Declarations::fits(&vars, &formats, &all) {
-            Ok(Declarations::new(vars, formats, all, groups.into_all()))
-        } else {
-            Err(Trouble::NoCase)
-        }
+        declared(variables.into_vars(), formats, all, groups.into_all())
     }
 }

@@ -55,16 +55,22 @@ fn push_escape(out: &mut Vec<u8>, text: &str) -> Result<(), Trouble> {
     Ok(())
 }
 
-/// The bytes that a text with escapes stands for.
-pub(crate) fn decoded(alloc: Global, text: &str) -> Result<Vec<u8>, Trouble> {
-    let mut out = Vec::new(alloc);
+/// Adds the bytes that a text with escapes stands for.
+fn push_decoded(out: &mut Vec<u8>, text: &str) -> Result<(), Trouble> {
     for (place, piece) in text.split('\\').enumerate() {
         if place == 0 {
             out.extend_from_slice(piece.as_bytes())?;
         } else {
-            push_escape(&mut out, piece)?;
+            push_escape(out, piece)?;
         }
     }
+    Ok(())
+}
+
+/// The bytes that a text with escapes stands for.
+pub(crate) fn decoded(alloc: Global, text: &str) -> Result<Vec<u8>, Trouble> {
+    let mut out = Vec::new(alloc);
+    push_decoded(&mut out, text)?;
     Ok(out)
 }
 
@@ -78,11 +84,10 @@ fn push_encoded(out: &mut String, byte: u8) -> Result<(), AllocError> {
     }
 }
 
-/// The bytes as a text with escapes.
-pub(crate) fn encoded(alloc: Global, bytes: &[u8]) -> Result<String, AllocError> {
-    let mut out = String::new(alloc);
+/// Writes the bytes as a text with escapes.
+pub(crate) fn push_bytes(out: &mut String, bytes: &[u8]) -> Result<(), AllocError> {
     for byte in bytes {
-        push_encoded(&mut out, *byte)?;
+        push_encoded(out, *byte)?;
     }
-    Ok(out)
+    Ok(())
 }

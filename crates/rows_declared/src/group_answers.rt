@@ -1,8 +1,8 @@
 ghost use Rattle.std.specs.Prelude.{◌≡◌};
 
-use super::opcode_answers::slots;
+use super::opcode_answers::{push_found, slots};
 use super::trouble::Trouble;
-use super::words::{list, number};
+use super::words::numbers;
 use meta_gen::{Descriptor, Detail, Tables};
 use meta_types::Text;
 use meta_unique::Steps;
@@ -10,92 +10,93 @@ use std::alloc::{AllocError, Global};
 use std::marker::Brand;
 use std::sync::ledger::{Blank, Ledger};
 
-/// The texts, parted by commas, `-` for none.
-fn joined(alloc: Global, texts: &[Text]) -> Result<String, AllocError> {
-    let mut out = String::new(alloc);
-    for text in texts {
-        if !out.is_empty() {
+/// Writes the texts, parted by commas, `-` for none.
+fn push_texts(texts: &[Text], out: &mut String) -> Result<(), AllocError> {
+    if texts.is_empty() {
+        return out.push('-');
+    }
+    for (place, text) in texts.iter().enumerate() {
+        if place > 0 {
             out.push(',')?;
         }
         out.push_str(text.as_str())?;
     }
-    if out.is_empty() {
-        out.push('-')?;
-    }
-    Ok(out)
+    Ok(())
 }
 
-/// What the tables hold of a group beside its entries, or `none`.
-pub(crate) fn group(alloc: Global, tables: &Tables, group: usize) -> Result<String, AllocError> {
+/// Writes what the tables hold of a group beside its entries, or `none`.
+pub(crate) fn group(tables: &Tables, group: usize, out: &mut String) -> Result<(), AllocError> {
     let Some(name) = tables.group_name(group) else {
-        return String::from_str(alloc, "none");
+        return out.push_str("none");
     };
-    let name = name.as_str();
     let size = tables.settings_size(group).unwrap_or(0);
+    write!(out, "{}: size {size}", name.as_str())?;
+    push_bytes_of(tables, group, out)?;
+    push_texts(tables.enumerators(group).unwrap_or(&[]), out)?;
+    let slots = tables.setting_slots(group).unwrap_or(&[]).len();
+    write!(out, ", slots {slots}")
+}
+
+/// Writes the default bytes and the masks of a group.
+fn push_bytes_of(tables: &Tables, group: usize, out: &mut String) -> Result<(), AllocError> {
     let defaults = tables.defaults(group).unwrap_or(&[]);
     let masks = tables.preset_masks(group).unwrap_or(&[]);
-    let values = joined(alloc, tables.enumerators(group).unwrap_or(&[]))?;
-    let slots = tables.setting_slots(group).unwrap_or(&[]).len();
-    format!(in alloc;
-        "{name}: size {size}, defaults {defaults:?}, masks {masks:?}, values {values}, slots {slots}"
-    )
+    write!(out, ", defaults {defaults:?}, masks {masks:?}, values ")
 }
 
-/// The slots of a group's names, or `none`.
+/// Writes the slots of a group's names, or `none`.
 pub(crate) fn setting_slots(
-    alloc: Global,
     tables: &Tables,
     group: usize,
-) -> Result<String, AllocError> {
+    out: &mut String,
+) -> Result<(), AllocError> {
     match tables.setting_slots(group) {
-        Some(all) => slots(alloc, all),
-        None => String::from_str(alloc, "none"),
+        Some(all) => slots(all, out),
+        None => out.push_str("none"),
     }
 }
 
-/// Where an entry stands, and what it is.
-fn detail(alloc: Global, entry: &Descriptor) -> Result<String, AllocError> {
-    let (name, offset) = (entry.name.as_str(), entry.offset);
+/// Writes where an entry stands, and what it is.
+fn detail(entry: &Descriptor, out: &mut String) -> Result<(), AllocError> {
+    write!(out, "{} {} ", entry.name.as_str(), entry.offset)?;
     match entry.detail {
-        Detail::Bool { bit } => format!(in alloc; "{name} {offset} bool {bit}"),
-        Detail::Enum { last, enumerators } => {
-            format!(in alloc; "{name} {offset} enum {last} {enumerators}")
-        }
-        Detail::Num => format!(in alloc; "{name} {offset} num"),
-        Detail::Preset => format!(in alloc; "{name} {offset} preset"),
+        Detail::Bool { bit } => write!(out, "bool {bit}"),
+        Detail::Enum { last, enumerators } => write!(out, "enum {last} {enumerators}"),
+        Detail::Num => out.push_str("num"),
+        Detail::Preset => out.push_str("preset"),
     }
 }
 
-/// An entry with its default, or `none`.
+/// Writes an entry with its default, or `none`.
 pub(crate) fn entry(
-    alloc: Global,
     tables: &Tables,
     group: usize,
     index: u16,
-) -> Result<String, AllocError> {
+    out: &mut String,
+) -> Result<(), AllocError> {
     let default = tables.default_value(group, index);
     match (tables.descriptor(group, index), default) {
         (Some(entry), Some(value)) => {
-            let detail = detail(alloc, entry)?;
-            format!(in alloc; "{detail} default {value}")
+            detail(entry, out)?;
+            write!(out, " default {value}")
         }
-        (Some(entry), None) => detail(alloc, entry),
-        (None, Some(value)) => format!(in alloc; "no entry with the default {value}"),
-        (None, None) => String::from_str(alloc, "none"),
+        (Some(entry), None) => detail(entry, out),
+        (None, Some(value)) => write!(out, "no entry with the default {value}"),
+        (None, None) => out.push_str("none"),
     }
 }
 
-/// All entries of a group, a line each.
-pub(crate) fn entries(alloc: Global, tables: &Tables, group: usize) -> Result<String, AllocError> {
-    let mut out = String::from_str(alloc, "entries:")?;
+/// Writes all entries of a group, a line each.
+pub(crate) fn entries(tables: &Tables, group: usize, out: &mut String) -> Result<(), AllocError> {
+    out.push_str("entries:")?;
     for index in 0..=u16::MAX {
         if tables.descriptor(group, index).is_none() {
             break;
         }
-        let line = entry(alloc, tables, group, index)?;
-        write!(out, "\n{line}")?;
+        out.push('\n')?;
+        entry(tables, group, index, out)?;
     }
-    Ok(out)
+    Ok(())
 }
 
 /// What a look-up of the name finds, counted in this ledger.
@@ -114,7 +115,7 @@ fn counted(tables: &Tables, group: usize, name: &[u8]) -> Option<u16> {
 }
 
 /// How many entries of a group are found by their own names, by both look-ups.
-pub(crate) fn found_count(tables: &Tables, group: usize) -> u32 {
+fn found_count(tables: &Tables, group: usize) -> u32 {
     let mut count: u32 = 0;
     for index in 0..=u16::MAX {
         let Some(entry) = tables.descriptor(group, index) else {
@@ -132,33 +133,33 @@ pub(crate) fn found_count(tables: &Tables, group: usize) -> u32 {
     count
 }
 
-/// The entry that has the name, `none`, or `differ` where the counted look-up found another.
+/// Writes how many entries of a group are found by their own names, by both look-ups.
+pub(crate) fn found(tables: &Tables, group: usize, out: &mut String) -> Result<(), AllocError> {
+    write!(out, "{} found", found_count(tables, group))
+}
+
+/// Writes the entry that has the name, `none`, or `differ` where the counted look-up found another.
 pub(crate) fn setting(
-    alloc: Global,
     tables: &Tables,
     group: usize,
     name: &str,
-) -> Result<String, AllocError> {
-    let found = tables.find_setting(group, name.as_bytes());
-    match found {
-        _ if found != counted(tables, group, name.as_bytes()) => String::from_str(alloc, "differ"),
-        Some(index) => format!(in alloc; "{index}"),
-        None => String::from_str(alloc, "none"),
-    }
+    out: &mut String,
+) -> Result<(), AllocError> {
+    let name = name.as_bytes();
+    let counted = counted(tables, group, name);
+    push_found(tables.find_setting(group, name), counted, out)
 }
 
-/// Whether the entry is a preset of the group that applies to these bytes, and the bytes after it.
+/// Writes whether the entry is a preset of the group that applies to these bytes, and the bytes after it.
 pub(crate) fn apply(
     alloc: Global,
     tables: &Tables,
     group: usize,
     preset: u16,
     words: &str,
-) -> Result<String, Trouble> {
-    let mut bytes: Vec<u8> = Vec::new(alloc);
-    for word in list(alloc, words)? {
-        bytes.push(number::<u8>(word)?)?;
-    }
+    out: &mut String,
+) -> Result<(), Trouble> {
+    let mut bytes: Vec<u8> = numbers(alloc, words)?;
     let applied = tables.apply_preset(group, preset, &mut bytes);
-    Ok(format!(in alloc; "{applied} {bytes:?}")?)
+    Ok(write!(out, "{applied} {bytes:?}")?)
 }

@@ -72,6 +72,42 @@ fn add_preset(
     Ok(group.add_preset(Text::new(alloc, name)?, about(alloc)?, args)?)
 }
 
+/// Adds an entry with this name to the group: `bools` a boolean, `nums` a number, and else a preset.
+fn add_named(
+    alloc: Global,
+    group: &mut SettingGroupBuilder,
+    kind: &str,
+    name: &str,
+) -> Result<(), Trouble> {
+    match kind {
+        "bools" => {
+            add_bool(alloc, group, name, false)?;
+            Ok(())
+        }
+        "nums" => add_num(alloc, group, name, 0),
+        _ => {
+            add_preset(alloc, group, name, Vec::new(alloc))?;
+            Ok(())
+        }
+    }
+}
+
+/// Adds an entry to the group that is named by the first letter of what it is, and a number.
+fn add_numbered(
+    alloc: Global,
+    group: &mut SettingGroupBuilder,
+    kind: &str,
+    number: u32,
+) -> Result<(), Trouble> {
+    let letter = match kind {
+        "bools" => 'b',
+        "nums" => 'n',
+        _ => 'p',
+    };
+    let name = format!(in alloc; "{letter}{number}")?;
+    add_named(alloc, group, kind, name.as_str())
+}
+
 /// `v0`, `v1` and so on.
 fn numbered_values(alloc: Global, count: u16) -> Result<Vec<Text>, Trouble> {
     let mut values = Vec::new(alloc);
@@ -136,6 +172,24 @@ impl Groups {
         Ok(named)
     }
 
+    /// The last group.
+    fn last(&mut self) -> Result<&mut SettingGroupBuilder, Trouble> {
+        self.all.last_mut().ok_or(Trouble::NoCase)
+    }
+
+    /// Adds a boolean to the last group.
+    fn add_bool(&mut self, alloc: Global, name: &str, default: bool) -> Result<(), Trouble> {
+        let index = add_bool(alloc, self.last()?, name, default)?;
+        Ok(self.booleans.push((Text::new(alloc, name)?, index))?)
+    }
+
+    /// Adds a preset to the last group.
+    fn add_preset(&mut self, alloc: Global, name: &str, names: &str) -> Result<(), Trouble> {
+        let args = self.all_named(alloc, names)?;
+        let index = add_preset(alloc, self.last()?, name, args)?;
+        Ok(self.presets.push((Text::new(alloc, name)?, index))?)
+    }
+
     /// An entry of the last group: `bool NAME DEFAULT`, `num NAME DEFAULT`, `enum NAME VALUES` or `preset NAME NAMES`.
     pub(crate) fn entry(
         &mut self,
@@ -144,49 +198,24 @@ impl Groups {
         name: &str,
         word: &str,
     ) -> Result<(), Trouble> {
-        let args = match kind {
-            "preset" => self.all_named(alloc, word)?,
-            _ => Vec::new(alloc),
-        };
-        let group = self.all.last_mut().ok_or(Trouble::NoCase)?;
         match kind {
-            "bool" => {
-                let index = add_bool(alloc, group, name, word == "true")?;
-                self.booleans.push((Text::new(alloc, name)?, index))?;
-            }
-            "num" => add_num(alloc, group, name, number::<u8>(word)?)?,
-            "enum" => add_enum(alloc, group, name, texts(alloc, word)?)?,
-            _ => {
-                let index = add_preset(alloc, group, name, args)?;
-                self.presets.push((Text::new(alloc, name)?, index))?;
-            }
+            "bool" => self.add_bool(alloc, name, word == "true"),
+            "num" => add_num(alloc, self.last()?, name, number::<u8>(word)?),
+            "enum" => add_enum(alloc, self.last()?, name, texts(alloc, word)?),
+            _ => self.add_preset(alloc, name, word),
         }
-        Ok(())
     }
 
     /// Many entries of the last group: `bools COUNT`, `nums COUNT`, `presets COUNT`, named `b0`, `n0`, `p0` and so on, or `values
     /// COUNT`, an enum `e` of so many values.
     pub(crate) fn many(&mut self, alloc: Global, kind: &str, count: u32) -> Result<(), Trouble> {
-        let group = self.all.last_mut().ok_or(Trouble::NoCase)?;
+        let group = self.last()?;
         if kind == "values" {
             let count = u16::try_from(count).map_err(|_| Trouble::NoCase)?;
             return add_enum(alloc, group, "e", numbered_values(alloc, count)?);
         }
         for number in 0..count {
-            match kind {
-                "bools" => {
-                    let name = format!(in alloc; "b{number}")?;
-                    add_bool(alloc, group, name.as_str(), false)?;
-                }
-                "nums" => {
-                    let name = format!(in alloc; "n{number}")?;
-                    add_num(alloc, group, name.as_str(), 0)?;
-                }
-                _ => {
-                    let name = format!(in alloc; "p{number}")?;
-                    add_preset(alloc, group, name.as_str(), Vec::new(alloc))?;
-                }
-            }
+            add_numbered(alloc, group, kind, number)?;
         }
         Ok(())
     }

@@ -6,6 +6,7 @@ use meta_operands::{
     FormatId, FormatTable, InstructionFormatBuilder, Operand, OperandKind, OperandKindFields,
 };
 use meta_types::Text;
+use meta_typevar::TypeVar;
 use std::alloc::{AllocError, Global};
 
 /// The formats and the instructions of a case.
@@ -45,8 +46,7 @@ fn kind_of(alloc: Global, variables: &Variables, word: &str) -> Result<OperandKi
 fn operands(alloc: Global, variables: &Variables, words: &str) -> Result<Vec<Operand>, Trouble> {
     let mut all = Vec::new(alloc);
     for word in list(alloc, words)? {
-        let kind = kind_of(alloc, variables, word)?;
-        all.push(Operand::new(Text::new(alloc, "x")?, kind))?;
+        all.push(operand(alloc, kind_of(alloc, variables, word)?)?)?;
     }
     Ok(all)
 }
@@ -67,12 +67,50 @@ fn with_operand(
         b'r' => Ok(format.raw_block()),
         b'*' => Ok(format.varargs()),
         b'0'..=b'9' => designating(format, usize::from(operand - b'0')),
-        _ => {
-            let name = format!(in alloc; "{}", char::from(operand))?;
-            let imm = kind(alloc, name.as_str(), "i64", OperandKindFields::ImmValue)?;
-            Ok(format.imm(&imm)?)
-        }
+        _ => Ok(format.imm(&immediate(alloc, operand)?)?),
     }
+}
+
+/// The kind of an immediate whose field name is this letter.
+fn immediate(alloc: Global, letter: u8) -> Result<OperandKind, AllocError> {
+    let name = format!(in alloc; "{}", char::from(letter))?;
+    kind(alloc, name.as_str(), "i64", OperandKindFields::ImmValue)
+}
+
+/// The format of this name and these operands; none are `-`.
+fn format_of(
+    alloc: Global,
+    name: &str,
+    operands: &str,
+) -> Result<InstructionFormatBuilder, Trouble> {
+    let mut format = InstructionFormatBuilder::new(alloc, Text::new(alloc, name)?);
+    let operands = if operands == "-" { "" } else { operands };
+    for operand in operands.as_bytes() {
+        format = with_operand(alloc, format, *operand)?;
+    }
+    Ok(format)
+}
+
+/// The instruction of this name and format, without a documentation.
+fn instruction(
+    alloc: Global,
+    name: &str,
+    format: FormatId,
+) -> Result<InstructionBuilder, AllocError> {
+    let (name, doc) = (Text::new(alloc, name)?, Text::new(alloc, "")?);
+    Ok(InstructionBuilder::new(alloc, name, doc, format))
+}
+
+/// An operand `x` of the values of a variable.
+fn one_value(alloc: Global, tv: TypeVar) -> Result<Vec<Operand>, AllocError> {
+    let mut operands = Vec::new(alloc);
+    operands.push(operand(alloc, OperandKind::of(alloc, tv)?)?)?;
+    Ok(operands)
+}
+
+/// An operand `x` of this kind.
+fn operand(alloc: Global, kind: OperandKind) -> Result<Operand, AllocError> {
+    Ok(Operand::new(Text::new(alloc, "x")?, kind))
 }
 
 /// The format that designates the value with this number.
@@ -124,17 +162,12 @@ impl Instructions {
         name: &str,
         operands: &str,
     ) -> Result<(), Trouble> {
-        let mut format = InstructionFormatBuilder::new(alloc, Text::new(alloc, name)?);
-        let operands = if operands == "-" { "" } else { operands };
-        for operand in operands.as_bytes() {
-            format = with_operand(alloc, format, *operand)?;
-        }
+        let format = format_of(alloc, name, operands)?;
         if !self.formats.has_room() {
             return Err(Trouble::NoCase);
         }
         let id = format.build(&mut self.formats)?;
-        self.named.push((Text::new(alloc, key)?, id))?;
-        Ok(())
+        Ok(self.named.push((Text::new(alloc, key)?, id))?)
     }
 
     /// Adds an instruction.
@@ -153,14 +186,15 @@ impl Instructions {
         let [name, format, inputs, outputs] = words else {
             return Err(Trouble::NoCase);
         };
-        let id = self.find(format)?;
-        let (name, doc) = (Text::new(alloc, name)?, Text::new(alloc, "")?);
-        let builder = InstructionBuilder::new(alloc, name, doc, id)
-            .operands_in(operands(alloc, variables, inputs)?)
-            .operands_out(operands(alloc, variables, outputs)?)
+        let (inputs, outputs) = (
+            operands(alloc, variables, inputs)?,
+            operands(alloc, variables, outputs)?,
+        );
+        let builder = instruction(alloc, name, self.find(format)?)?
+            .operands_in(inputs)
+            .operands_out(outputs)
             .inst_builder_imm_method(method);
-        self.push(builder)?;
-        Ok(())
+        Ok(self.push(builder)?)
     }
 
     /// `many COUNT FIRST FORMAT`: adds instructions without operands, the first of this name, and then `f1`, `f2` and so on.
@@ -172,16 +206,27 @@ impl Instructions {
         format: &str,
     ) -> Result<(), Trouble> {
         let id = self.find(format)?;
-        for number in 0..count {
-            let name = if number == 0 {
-                Text::new(alloc, first)?
-            } else {
-                Text::new(alloc, format!(in alloc; "f{number}")?.as_str())?
-            };
-            let doc = Text::new(alloc, "")?;
-            self.push(InstructionBuilder::new(alloc, name, doc, id))?;
+        if count > 0 {
+            self.push(instruction(alloc, first, id)?)?;
+        }
+        for number in 1..count {
+            let name = format!(in alloc; "f{number}")?;
+            self.push(instruction(alloc, name.as_str(), id)?)?;
         }
         Ok(())
+    }
+
+    /// Adds an instruction that is named by a number, of one value.
+    fn push_of_set(
+        &mut self,
+        alloc: Global,
+        id: FormatId,
+        number: u16,
+        tv: TypeVar,
+    ) -> Result<(), AllocError> {
+        let name = format!(in alloc; "s{number}")?;
+        let builder = instruction(alloc, name.as_str(), id)?;
+        self.push(builder.operands_in(one_value(alloc, tv)?))
     }
 
     /// `sets COUNT FORMAT`: adds instructions `s0`, `s1` and so on, each of one value, whose set no other has.
@@ -194,12 +239,8 @@ impl Instructions {
     ) -> Result<(), Trouble> {
         let id = self.find(format)?;
         for number in 0..count {
-            let kind = OperandKind::of(alloc, variables.numbered(alloc, number)?)?;
-            let mut inputs = Vec::new(alloc);
-            inputs.push(Operand::new(Text::new(alloc, "x")?, kind))?;
-            let name = Text::new(alloc, format!(in alloc; "s{number}")?.as_str())?;
-            let builder = InstructionBuilder::new(alloc, name, Text::new(alloc, "")?, id);
-            self.push(builder.operands_in(inputs))?;
+            let tv = variables.numbered(alloc, number)?;
+            self.push_of_set(alloc, id, number, tv)?;
         }
         Ok(())
     }

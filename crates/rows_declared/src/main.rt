@@ -28,9 +28,10 @@ fn answer(session: &mut Session, line: &str, alloc: Global) -> io::Result<String
     if line.starts_with('#') {
         return Ok(format!(in alloc; "{line}\n")?);
     }
-    match session.answer(line) {
-        Ok(Some(text)) => Ok(format!(in alloc; "{text}\n")?),
-        Ok(None) => Ok(String::new(alloc)),
+    let mut text = String::new(alloc);
+    match session.answer(line, &mut text) {
+        Ok(true) => Ok(format!(in alloc; "{text}\n")?),
+        Ok(false) => Ok(String::new(alloc)),
         Err(Trouble::NoCase) => Ok(format!(in alloc; "no case: {line}\n")?),
         Err(Trouble::OutOfMemory) => Err(io::Error::from(io::ErrorKind::OutOfMemory)),
     }

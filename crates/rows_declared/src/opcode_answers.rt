@@ -8,68 +8,69 @@ use std::alloc::{AllocError, Global};
 use std::marker::Brand;
 use std::sync::ledger::{Blank, Ledger};
 
-/// `NUMBER NAME FORMAT FLAGS SET CONSTRAINT`, or `none`.
-pub(crate) fn opcode(alloc: Global, tables: &Tables, opcode: u16) -> Result<String, AllocError> {
+/// Writes `NUMBER NAME FORMAT FLAGS SET CONSTRAINT`, or `none`.
+pub(crate) fn opcode(tables: &Tables, opcode: u16, out: &mut String) -> Result<(), AllocError> {
     let parts = (
         tables.opcode_name(opcode),
         tables.opcode_format(opcode),
         tables.constraints(opcode),
     );
     let (Some(name), Some(format), Some(entry)) = parts else {
-        return String::from_str(alloc, "none");
+        return out.push_str("none");
     };
-    let (name, format) = (name.as_str(), format.as_str());
+    write!(out, "{opcode} {} {} ", name.as_str(), format.as_str())?;
     let (set, place) = (entry.typeset_offset, entry.constraint_offset);
-    format!(in alloc;
-        "{opcode} {name} {format} {:02x} {set} {place}",
-        entry.flags
-    )
+    write!(out, "{:02x} {set} {place}", entry.flags)
 }
 
-/// All opcodes, a line each.
-pub(crate) fn opcodes(alloc: Global, tables: &Tables) -> Result<String, AllocError> {
-    let mut out = format!(in alloc; "{} opcodes", tables.opcode_count())?;
+/// Writes all opcodes, a line each.
+pub(crate) fn opcodes(tables: &Tables, out: &mut String) -> Result<(), AllocError> {
+    write!(out, "{} opcodes", tables.opcode_count())?;
     for number in 1..=tables.opcode_count() {
-        let line = opcode(alloc, tables, number)?;
-        write!(out, "\n{line}")?;
+        out.push('\n')?;
+        opcode(tables, number, out)?;
     }
-    Ok(out)
+    Ok(())
 }
 
-/// The masks of the type sets, a line each.
-pub(crate) fn sets(alloc: Global, tables: &Tables) -> Result<String, AllocError> {
-    let mut out = format!(in alloc; "{} sets", tables.type_sets().len())?;
+/// Writes the masks of the type sets, a line each.
+pub(crate) fn sets(tables: &Tables, out: &mut String) -> Result<(), AllocError> {
+    write!(out, "{} sets", tables.type_sets().len())?;
     for masks in tables.type_sets() {
         let (lanes, dynamic_lanes) = (masks.lanes, masks.dynamic_lanes);
         let (ints, floats) = (masks.ints, masks.floats);
         write!(out, "\n{lanes} {dynamic_lanes} {ints} {floats}")?;
     }
-    Ok(out)
+    Ok(())
 }
 
-/// The list of operand constraints.
-pub(crate) fn constraints(alloc: Global, tables: &Tables) -> Result<String, AllocError> {
+/// Writes the list of operand constraints.
+pub(crate) fn constraints(tables: &Tables, out: &mut String) -> Result<(), AllocError> {
     let all = tables.operand_constraints();
-    let mut out = format!(in alloc; "{} constraints:", all.len())?;
+    write!(out, "{} constraints:", all.len())?;
     for constraint in all {
         write!(out, " {constraint:?}")?;
     }
-    Ok(out)
+    Ok(())
 }
 
-/// Slots, parted by commas, with `-` where one is vacant.
-pub(crate) fn slots(alloc: Global, slots: &[Option<u16>]) -> Result<String, AllocError> {
-    let mut out = String::new(alloc);
-    for (place, slot) in slots.iter().enumerate() {
+/// Writes a slot, `-` where it is vacant.
+fn slot(number: Option<u16>, out: &mut String) -> Result<(), AllocError> {
+    match number {
+        Some(number) => write!(out, "{number}"),
+        None => out.push('-'),
+    }
+}
+
+/// Writes slots, parted by commas.
+pub(crate) fn slots(slots: &[Option<u16>], out: &mut String) -> Result<(), AllocError> {
+    for (place, number) in slots.iter().enumerate() {
         if place > 0 {
             out.push(',')?;
         }
-        match slot {
-            Some(number) => write!(out, "{number}")?,
-            None => out.push('-')?,
-        }
+        slot(*number, out)?;
     }
-    Ok(out)
+    Ok(())
 }
 
 /// What a look-up of the name finds, counted in this ledger.
@@ -87,27 +88,39 @@ fn counted(tables: &Tables, name: &[u8]) -> Option<u16> {
     found_in::<Brand>(tables, name, Blank::new(1))
 }
 
-/// The number that was found, `none`, or `differ` where the counted look-up found another.
-fn found(alloc: Global, plain: Option<u16>, counted: Option<u16>) -> Result<String, AllocError> {
+/// Writes the number that was found, `none`, or `differ` where the counted look-up found another.
+pub(crate) fn push_found(
+    plain: Option<u16>,
+    counted: Option<u16>,
+    out: &mut String,
+) -> Result<(), AllocError> {
     match plain {
-        _ if plain != counted => String::from_str(alloc, "differ"),
-        Some(number) => format!(in alloc; "{number}"),
-        None => String::from_str(alloc, "none"),
+        _ if plain != counted => out.push_str("differ"),
+        Some(number) => write!(out, "{number}"),
+        None => out.push_str("none"),
     }
 }
 
-/// What is found by each of these names.
-pub(crate) fn find(alloc: Global, tables: &Tables, names: &str) -> Result<String, Trouble> {
-    let mut out = String::new(alloc);
-    for name in list(alloc, names)? {
-        let name = name.as_bytes();
-        let text = found(alloc, tables.find_opcode(name), counted(tables, name))?;
-        if !out.is_empty() {
+/// Writes what is found by each of these names.
+fn find_all(tables: &Tables, names: &[&str], out: &mut String) -> Result<(), AllocError> {
+    for (place, name) in names.iter().enumerate() {
+        if place > 0 {
             out.push(',')?;
         }
-        out.push_str(text.as_str())?;
+        let name = name.as_bytes();
+        push_found(tables.find_opcode(name), counted(tables, name), out)?;
     }
-    Ok(out)
+    Ok(())
+}
+
+/// Writes what is found by each name of a list.
+pub(crate) fn find(
+    alloc: Global,
+    tables: &Tables,
+    names: &str,
+    out: &mut String,
+) -> Result<(), Trouble> {
+    Ok(find_all(tables, &list(alloc, names)?, out)?)
 }
 
 /// How many opcodes are found by their own names, by both look-ups.
@@ -125,23 +138,26 @@ pub(crate) fn found_count(tables: &Tables) -> u32 {
     count
 }
 
-/// Whether the opcode accepts these numbers, where `-` is no control and an empty list.
+/// The number of a control, where `-` is none.
+fn control_number(word: &str) -> Result<Option<u16>, Trouble> {
+    match word {
+        "-" => Ok(None),
+        digits => Ok(Some(number::<u16>(digits)?)),
+    }
+}
+
+/// Writes whether the opcode accepts these numbers, where `-` is no control and an empty list.
 pub(crate) fn accepts(
     alloc: Global,
     tables: &Tables,
     words: &[&str],
-) -> Result<&'static str, Trouble> {
+    out: &mut String,
+) -> Result<(), Trouble> {
     let [opcode, control, results, values] = words else {
         return Err(Trouble::NoCase);
     };
-    let control = match *control {
-        "-" => None,
-        digits => Some(number::<u16>(digits)?),
-    };
+    let (opcode, control) = (number(opcode)?, control_number(control)?);
     let (results, values) = (numbers(alloc, results)?, numbers(alloc, values)?);
-    if tables.accepts(number(opcode)?, control, &results, &values) {
-        Ok("accept")
-    } else {
-        Ok("refuse")
-    }
+    let accepts = tables.accepts(opcode, control, &results, &values);
+    Ok(out.push_str(if accepts { "accept" } else { "refuse" })?)
 }

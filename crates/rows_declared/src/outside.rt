@@ -1,4 +1,4 @@
-use super::escapes::encoded;
+use super::escapes::push_bytes;
 use super::trouble::Trouble;
 use meta_gen::{Declarations, Tables};
 use meta_query::{Lines, Status, answer_line, run};
@@ -26,6 +26,22 @@ impl Outside {
             room: 8_192,
             sink_step: 5_000,
             failing_write: 0,
+        }
+    }
+
+    /// The same, where the read with this number fails.
+    pub(crate) fn with_failing_read(self, number: u64) -> Outside {
+        Outside {
+            failing_read: number,
+            ..self
+        }
+    }
+
+    /// The same, where the write with this number fails.
+    pub(crate) fn with_failing_write(self, number: u64) -> Outside {
+        Outside {
+            failing_write: number,
+            ..self
         }
     }
 
@@ -63,6 +79,25 @@ fn next_byte(source: &mut MemorySource) -> Option<u8> {
     }
 }
 
+/// Runs these words between a source and a sink.
+fn run_between(
+    alloc: Global,
+    declarations: &Declarations,
+    words: &[Text],
+    source: &mut MemorySource,
+    sink: &mut MemorySink,
+) -> Result<Ran, Trouble> {
+    let status = run(alloc, words, declarations, source, sink);
+    if status == Status::OutOfMemory {
+        return Err(Trouble::OutOfMemory);
+    }
+    Ok(Ran {
+        status,
+        taken: sink.bytes().to_vec(alloc)?,
+        next: next_byte(source),
+    })
+}
+
 /// Runs these words over an input.
 pub(crate) fn run_over(
     alloc: Global,
@@ -73,39 +108,49 @@ pub(crate) fn run_over(
 ) -> Result<Ran, Trouble> {
     let mut source = outside.source(alloc, input)?;
     let mut sink = outside.sink(alloc)?;
-    let status = run(alloc, words, declarations, &mut source, &mut sink);
-    let next = next_byte(&mut source);
-    let taken = sink.bytes().to_vec(alloc)?;
-    Ok(Ran {
-        status,
-        taken,
-        next,
-    })
+    run_between(alloc, declarations, words, &mut source, &mut sink)
 }
 
 /// The answers to the lines of an input, one by one, by the tables.
 fn answers_of(alloc: Global, tables: &Tables, input: &[u8]) -> Result<Vec<u8>, AllocError> {
     let mut out = Vec::new(alloc);
     for line in Lines::new(input) {
-        if let Some(text) = answer_line(alloc, tables, line)? {
-            out.extend_from_slice(text.as_bytes())?;
-            out.push(b'\n')?;
-        }
+        push_answer(&mut out, alloc, tables, line)?;
     }
     Ok(out)
 }
 
+/// Writes the next byte.
+fn push_next(out: &mut String, byte: u8) -> Result<(), AllocError> {
+    out.push_str(" next ")?;
+    push_bytes(out, &[byte])
+}
+
+/// Adds the answer to a line, by the tables.
+fn push_answer(
+    out: &mut Vec<u8>,
+    alloc: Global,
+    tables: &Tables,
+    line: &[u8],
+) -> Result<(), AllocError> {
+    let Some(text) = answer_line(alloc, tables, line)? else {
+        return Ok(());
+    };
+    out.extend_from_slice(text.as_bytes())?;
+    Ok(out.push(b'\n')?)
+}
+
 impl Ran {
-    /// The status, what was written, `-` for nothing, and the next byte where one was left.
-    pub(crate) fn text(&self, alloc: Global) -> Result<String, AllocError> {
-        let code = self.status.code();
-        let taken = match self.taken.as_slice() {
-            [] => String::from_str(alloc, "-")?,
-            bytes => encoded(alloc, bytes)?,
-        };
+    /// Writes the status, what was written, `-` for nothing, and the next byte where one was left.
+    pub(crate) fn push(&self, out: &mut String) -> Result<(), AllocError> {
+        write!(out, "{} ", self.status.code())?;
+        match self.taken.as_slice() {
+            [] => out.push('-')?,
+            bytes => push_bytes(out, bytes)?,
+        }
         match self.next {
-            Some(byte) => format!(in alloc; "{code} {taken} next {}", encoded(alloc, &[byte])?),
-            None => format!(in alloc; "{code} {taken}"),
+            Some(byte) => push_next(out, byte),
+            None => Ok(()),
         }
     }
 

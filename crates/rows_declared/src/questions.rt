@@ -1,50 +1,55 @@
-use super::escapes::encoded;
+use super::escapes::push_bytes;
 use meta_query::{Lines, Question, Reply, Status};
 use std::alloc::{AllocError, Global};
 
-/// The lines of an input, each with an LF behind it.
-pub(crate) fn lines(alloc: Global, input: &[u8]) -> Result<String, AllocError> {
-    let mut out = Vec::new(alloc);
+/// Writes the lines of an input, each with an LF behind it.
+pub(crate) fn lines(input: &[u8], out: &mut String) -> Result<(), AllocError> {
     for line in Lines::new(input) {
-        out.extend_from_slice(line)?;
-        out.push(b'\n')?;
+        push_bytes(out, line)?;
+        push_bytes(out, b"\n")?;
     }
-    encoded(alloc, &out)
+    Ok(())
 }
 
-/// How many lines the input has.
-pub(crate) fn line_count(alloc: Global, input: &[u8]) -> Result<String, AllocError> {
+/// Writes how many lines the input has.
+pub(crate) fn line_count(input: &[u8], out: &mut String) -> Result<(), AllocError> {
     let mut count: u32 = 0;
     for _ in Lines::new(input) {
         count = count.saturating_add(1);
     }
-    format!(in alloc; "{count} lines")
+    write!(out, "{count} lines")
 }
 
-/// What a line asks of an instruction: its name, or the length of a long one, the controlling number, and the numbers of the results
-/// and of the values; or `none`.
-pub(crate) fn question(alloc: Global, line: &[u8]) -> Result<String, AllocError> {
-    let Some(question) = Question::parse(alloc, line)? else {
-        return String::from_str(alloc, "none");
-    };
-    let name = match question.name() {
-        name if name.len() > 100 => format!(in alloc; "{} bytes", name.len())?,
-        name => encoded(alloc, name)?,
-    };
-    let control = question.control_number();
-    let (results, values) = (
-        question.result_numbers(alloc)?,
-        question.value_numbers(alloc)?,
-    );
-    format!(in alloc; "{name} {control:?} {results:?} {values:?}")
+/// Writes a name, or the length of a long one.
+fn push_name(out: &mut String, name: &[u8]) -> Result<(), AllocError> {
+    if name.len() > 100 {
+        write!(out, "{} bytes", name.len())
+    } else {
+        push_bytes(out, name)
+    }
 }
 
-/// The texts of the replies, and the codes of all statuses.
-pub(crate) fn codes(alloc: Global) -> Result<String, AllocError> {
-    let mut out = String::new(alloc);
+/// Writes what a line asks of an instruction: its name, or the length of a long one, the controlling number, and the numbers of the
+/// results and of the values; or `none`.
+pub(crate) fn question(alloc: Global, line: &[u8], out: &mut String) -> Result<(), AllocError> {
+    match Question::parse(alloc, line)? {
+        Some(question) => push_question(alloc, &question, out),
+        None => out.push_str("none"),
+    }
+}
+
+/// Writes the parts of a question.
+fn push_question(alloc: Global, question: &Question, out: &mut String) -> Result<(), AllocError> {
+    push_name(out, question.name())?;
+    write!(out, " {:?}", question.control_number())?;
+    write!(out, " {:?}", question.result_numbers(alloc)?)?;
+    write!(out, " {:?}", question.value_numbers(alloc)?)
+}
+
+/// Writes the texts of the replies, and the codes of all statuses.
+pub(crate) fn codes(out: &mut String) -> Result<(), AllocError> {
     for reply in [Reply::Accept, Reply::Refuse, Reply::Unknown, Reply::Bad] {
-        out.push_str(reply.text())?;
-        out.push(' ')?;
+        write!(out, "{} ", reply.text())?;
     }
     for status in [
         Status::Done,
@@ -57,5 +62,5 @@ pub(crate) fn codes(alloc: Global) -> Result<String, AllocError> {
     ] {
         write!(out, "{}", status.code())?;
     }
-    Ok(out)
+    Ok(())
 }

@@ -1,13 +1,12 @@
 use super::case::Case;
 use super::escapes::decoded;
-use super::outside::{Outside, run_over};
+use super::outside::{Outside, Ran, run_over};
 use super::trouble::Trouble;
 use super::words::number;
 use super::{group_answers, opcode_answers, questions};
 use meta_gen::{Declarations, Tables, generate};
-use meta_query::Status;
 use meta_types::{DefinitionError, Text};
-use std::alloc::Global;
+use std::alloc::{AllocError, Global};
 use std::mem;
 
 /// Declarations, and what `generate` makes of them.
@@ -49,104 +48,97 @@ impl Asked {
         }
     }
 
-    /// `ok`, or the line of the fault.
-    fn outcome(&self, alloc: Global) -> Result<String, Trouble> {
+    /// Writes `ok`, or the line of the fault.
+    fn outcome(&self, alloc: Global, out: &mut String) -> Result<(), AllocError> {
         match &self.tables {
-            Ok(_) => Ok(String::from_str(alloc, "ok")?),
-            Err(fault) => Ok(String::from_str(alloc, fault.line(alloc)?.as_str())?),
+            Ok(_) => out.push_str("ok"),
+            Err(fault) => out.push_str(fault.line(alloc)?.as_str()),
         }
     }
 
-    /// What the words ask of the opcodes, if they do.
-    fn opcode_answer(&self, alloc: Global, words: &[&str]) -> Result<Option<String>, Trouble> {
+    /// Writes what the words ask of the opcodes, or else of a group.
+    fn answer(&self, alloc: Global, words: &[&str], out: &mut String) -> Result<(), Trouble> {
         let tables = self.tables()?;
-        let text = match words {
-            ["opcodes"] => opcode_answers::opcodes(alloc, tables)?,
-            ["opcode", k] => opcode_answers::opcode(alloc, tables, number(k)?)?,
-            ["sets"] => opcode_answers::sets(alloc, tables)?,
-            ["constraints"] => opcode_answers::constraints(alloc, tables)?,
-            ["slots"] => opcode_answers::slots(alloc, tables.opcode_slots())?,
-            ["size"] => format!(in alloc; "{} slots", tables.opcode_slots().len())?,
-            ["find", names] => opcode_answers::find(alloc, tables, names)?,
-            ["found"] => format!(in alloc; "{} found", opcode_answers::found_count(tables))?,
-            ["accepts", rest @ ..] => {
-                String::from_str(alloc, opcode_answers::accepts(alloc, tables, rest)?)?
-            }
-            _ => return Ok(None),
-        };
-        Ok(Some(text))
+        match words {
+            ["opcodes"] => Ok(opcode_answers::opcodes(tables, out)?),
+            ["opcode", k] => Ok(opcode_answers::opcode(tables, number(k)?, out)?),
+            ["sets"] => Ok(opcode_answers::sets(tables, out)?),
+            ["constraints"] => Ok(opcode_answers::constraints(tables, out)?),
+            ["slots"] => Ok(opcode_answers::slots(tables.opcode_slots(), out)?),
+            ["size"] => Ok(write!(out, "{} slots", tables.opcode_slots().len())?),
+            ["find", names] => opcode_answers::find(alloc, tables, names, out),
+            ["found"] => Ok(write!(out, "{} found", opcode_answers::found_count(tables))?),
+            ["accepts", rest @ ..] => opcode_answers::accepts(alloc, tables, rest, out),
+            _ => group_answer(alloc, tables, words, out),
+        }
     }
 
-    /// What the words ask of a group, if they do.
-    fn group_answer(&self, alloc: Global, words: &[&str]) -> Result<Option<String>, Trouble> {
-        let tables = self.tables()?;
-        let text = match words {
-            ["groups"] => format!(in alloc; "{} groups", tables.group_count())?,
-            ["holds", k] => group_answers::group(alloc, tables, number(k)?)?,
-            ["entries", k] => group_answers::entries(alloc, tables, number(k)?)?,
-            ["entry", k, index] => {
-                group_answers::entry(alloc, tables, number(k)?, number(index)?)?
-            }
-            ["setting", k, name] => group_answers::setting(alloc, tables, number(k)?, name)?,
-            ["setting_slots", k] => group_answers::setting_slots(alloc, tables, number(k)?)?,
-            ["settings_found", k] => {
-                format!(in alloc; "{} found", group_answers::found_count(tables, number(k)?))?
-            }
-            ["apply", k, preset, bytes] => {
-                group_answers::apply(alloc, tables, number(k)?, number(preset)?, bytes)?
-            }
-            _ => return Ok(None),
-        };
-        Ok(Some(text))
+    /// Whether a run that is done wrote something else than the tables answer to each line of the input.
+    fn differs(&self, alloc: Global, ran: &Ran, input: &[u8]) -> Result<bool, AllocError> {
+        match &self.tables {
+            Ok(tables) => Ok(!ran.is_by(alloc, tables, input)?),
+            Err(_) => Ok(false),
+        }
     }
 
-    /// How a run of these words over the input ends. Where it is done, its answers are held against those of the tables to each
-    /// line.
+    /// Writes how a run of these words over the input ends. Where it is done, its answers are held against those of the tables.
     fn run(
         &self,
         alloc: Global,
         outside: Outside,
         words: &[Text],
         input: &[u8],
-    ) -> Result<String, Trouble> {
+        out: &mut String,
+    ) -> Result<(), Trouble> {
         let ran = run_over(alloc, outside, &self.declarations, words, input)?;
-        if ran.status == Status::OutOfMemory {
-            return Err(Trouble::OutOfMemory);
+        if self.differs(alloc, &ran, input)? {
+            return Ok(out.push_str("not by the tables")?);
         }
-        if let Ok(tables) = &self.tables {
-            if !ran.is_by(alloc, tables, input)? {
-                return Ok(String::from_str(alloc, "not by the tables")?);
-            }
-        }
-        Ok(ran.text(alloc)?)
+        Ok(ran.push(out)?)
     }
 
-    /// How runs end of which the read with each number in turn fails, from 0, which is no read; the last has no such read.
+    /// Writes how runs end of which the read, or the write, with each number in turn fails, from 0, which is none; the last has no
+    /// such read or write.
     fn each_failing(
         &self,
         alloc: Global,
-        outside: Outside,
+        outsides: impl Fn(u64) -> Outside,
         count: u64,
-        is_read: bool,
         input: &[u8],
-    ) -> Result<String, Trouble> {
-        let mut query = Vec::new(alloc);
-        query.push(Text::new(alloc, "query")?)?;
-        let mut out = String::new(alloc);
+        out: &mut String,
+    ) -> Result<(), Trouble> {
+        let query = run_words(alloc, &["query"])?;
         for failing in 0..count {
-            let mut outside = outside;
-            if is_read {
-                outside.failing_read = failing;
-            } else {
-                outside.failing_write = failing;
-            }
-            let text = self.run(alloc, outside, &query, input)?;
             if failing > 0 {
                 out.push_str("; ")?;
             }
-            out.push_str(text.as_str())?;
+            self.run(alloc, outsides(failing), &query, input, out)?;
         }
-        Ok(out)
+        Ok(())
+    }
+}
+
+/// Writes what the words ask of a group.
+fn group_answer(
+    alloc: Global,
+    tables: &Tables,
+    words: &[&str],
+    out: &mut String,
+) -> Result<(), Trouble> {
+    match words {
+        ["groups"] => Ok(write!(out, "{} groups", tables.group_count())?),
+        ["holds", k] => Ok(group_answers::group(tables, number(k)?, out)?),
+        ["entries", k] => Ok(group_answers::entries(tables, number(k)?, out)?),
+        ["entry", k, index] => {
+            Ok(group_answers::entry(tables, number(k)?, number(index)?, out)?)
+        }
+        ["setting", k, name] => Ok(group_answers::setting(tables, number(k)?, name, out)?),
+        ["setting_slots", k] => Ok(group_answers::setting_slots(tables, number(k)?, out)?),
+        ["settings_found", k] => Ok(group_answers::found(tables, number(k)?, out)?),
+        ["apply", k, preset, bytes] => {
+            group_answers::apply(alloc, tables, number(k)?, number(preset)?, bytes, out)
+        }
+        _ => Err(Trouble::NoCase),
     }
 }
 
@@ -231,59 +223,74 @@ impl Session {
         Ok(())
     }
 
-    /// What is asked by a line whose part before the first `<` has these words, with the input behind it.
-    fn run(&mut self, words: &[&str], input: &str) -> Result<String, Trouble> {
-        let (alloc, outside) = (self.alloc, self.outside);
-        let input = decoded(alloc, input)?;
+    /// Writes what is asked by a line whose part before the first `<` has these words, with the input behind it.
+    fn ask_over(&mut self, words: &[&str], input: &[u8], out: &mut String) -> Result<(), Trouble> {
         match words {
-            ["lines"] => return Ok(questions::lines(alloc, &input)?),
-            ["count"] => return Ok(questions::line_count(alloc, &input)?),
-            ["question"] => return Ok(questions::question(alloc, &input)?),
-            _ => {}
+            ["lines"] => Ok(questions::lines(input, out)?),
+            ["count"] => Ok(questions::line_count(input, out)?),
+            ["question"] => Ok(questions::question(self.alloc, input, out)?),
+            _ => self.run(words, input, out),
         }
+    }
+
+    /// Writes how a run ends, or runs that fail.
+    fn run(&mut self, words: &[&str], input: &[u8], out: &mut String) -> Result<(), Trouble> {
+        let (alloc, outside) = (self.alloc, self.outside);
         let asked = self.asked()?;
         match words {
-            ["run", rest @ ..] => asked.run(alloc, outside, &run_words(alloc, rest)?, &input),
-            ["reads", count] => asked.each_failing(alloc, outside, number(count)?, true, &input),
-            ["writes", count] => asked.each_failing(alloc, outside, number(count)?, false, &input),
+            ["run", rest @ ..] => asked.run(alloc, outside, &run_words(alloc, rest)?, input, out),
+            ["reads", count] => {
+                let reads = |failing| outside.with_failing_read(failing);
+                asked.each_failing(alloc, reads, number(count)?, input, out)
+            }
+            ["writes", count] => {
+                let writes = |failing| outside.with_failing_write(failing);
+                asked.each_failing(alloc, writes, number(count)?, input, out)
+            }
             _ => Err(Trouble::NoCase),
         }
     }
 
-    /// What the words ask of the case.
-    fn ask(&mut self, words: &[&str]) -> Result<String, Trouble> {
+    /// Writes what the words ask of the case.
+    fn ask(&mut self, words: &[&str], out: &mut String) -> Result<(), Trouble> {
         let alloc = self.alloc;
         match words {
-            ["same"] => return Ok(String::from_str(alloc, self.compare()?)?),
-            ["generate"] => return self.asked()?.outcome(alloc),
-            ["codes"] => return Ok(questions::codes(alloc)?),
-            _ => {}
+            ["same"] => Ok(out.push_str(self.compare()?)?),
+            ["generate"] => Ok(self.asked()?.outcome(alloc, out)?),
+            ["codes"] => Ok(questions::codes(out)?),
+            _ => self.asked()?.answer(alloc, words, out),
         }
-        let asked = self.asked()?;
-        if let Some(text) = asked.opcode_answer(alloc, words)? {
-            return Ok(text);
-        }
-        asked.group_answer(alloc, words)?.ok_or(Trouble::NoCase)
     }
 
-    /// The answer of a line, if it asks.
-    pub(crate) fn answer(&mut self, line: &str) -> Result<Option<String>, Trouble> {
-        let alloc = self.alloc;
-        if let Some((front, input)) = line.split_once(" < ") {
-            let words: Vec<&str> = front.split(' ').collect(alloc)?;
-            return Ok(Some(self.run(&words, input)?));
+    /// Declares what the words say, or writes what they ask; `false` where they declare.
+    fn declare_or_ask(&mut self, words: &[&str], out: &mut String) -> Result<bool, Trouble> {
+        if self.set_outside(words)? || self.case.declare(words)? {
+            return Ok(false);
         }
-        let words: Vec<&str> = line.split(' ').collect(alloc)?;
-        match words.as_slice() {
-            [""] => return Ok(Some(String::new(alloc))),
+        self.ask(words, out)?;
+        Ok(true)
+    }
+
+    /// The same of the words that begin and keep a case, and of an empty line.
+    fn take(&mut self, words: &[&str], out: &mut String) -> Result<bool, Trouble> {
+        match words {
+            [""] => return Ok(true),
             ["new"] => self.begin(),
             ["keep"] => self.keep()?,
-            all => {
-                if !self.set_outside(all)? && !self.case.declare(all)? {
-                    return Ok(Some(self.ask(all)?));
-                }
-            }
+            _ => return self.declare_or_ask(words, out),
         }
-        Ok(None)
+        Ok(false)
+    }
+
+    /// Writes the answer of a line, if it asks; `false` where it doesn't.
+    pub(crate) fn answer(&mut self, line: &str, out: &mut String) -> Result<bool, Trouble> {
+        let alloc = self.alloc;
+        let Some((front, input)) = line.split_once(" < ") else {
+            let words: Vec<&str> = line.split(' ').collect(alloc)?;
+            return self.take(&words, out);
+        };
+        let words: Vec<&str> = front.split(' ').collect(alloc)?;
+        self.ask_over(&words, &decoded(alloc, input)?, out)?;
+        Ok(true)
     }
 }

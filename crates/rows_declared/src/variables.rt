@@ -60,6 +60,14 @@ fn type_set(alloc: Global, parts: &[&str]) -> Result<TypeSet, Trouble> {
     }
 }
 
+/// The builder of the set with this number: ints, of so many lanes and of at least so many.
+fn numbered_set(number: u16) -> TypeSetBuilder {
+    let lanes = Interval::Range(1 << (number / 64 % 4)..16 << (number / 16 % 4));
+    let dynamic_lanes = Interval::Range(2 << (number / 4 % 4)..32 << (number % 4));
+    let builder = TypeSetBuilder::new().ints(Interval::All);
+    builder.simd_lanes(lanes).dynamic_simd_lanes(dynamic_lanes)
+}
+
 impl Variables {
     pub(crate) fn new(alloc: Global) -> Self {
         Variables {
@@ -85,20 +93,24 @@ impl Variables {
     }
 
     /// Adds a root of a set.
-    fn add_root(&mut self, alloc: Global, name: &str, set: TypeSet) -> Result<(), Trouble> {
+    fn add_root(&mut self, alloc: Global, name: &str, set: TypeSet) -> Result<TypeVar, Trouble> {
         if !self.vars.has_room() {
             return Err(Trouble::NoCase);
         }
-        let doc = Text::new(alloc, "")?;
-        let tv = TypeVar::new(&mut self.vars, Text::new(alloc, name)?, doc, set)?;
-        self.named.push((Text::new(alloc, name)?, tv))?;
-        Ok(())
+        let (name, doc) = (Text::new(alloc, name)?, Text::new(alloc, "")?);
+        Ok(TypeVar::new(&mut self.vars, name, doc, set)?)
+    }
+
+    /// Names a variable.
+    fn keep(&mut self, alloc: Global, name: &str, tv: TypeVar) -> Result<(), Trouble> {
+        Ok(self.named.push((Text::new(alloc, name)?, tv))?)
     }
 
     /// `var NAME PART INTERVAL ..`: adds a root of this set.
     pub(crate) fn var(&mut self, alloc: Global, name: &str, parts: &[&str]) -> Result<(), Trouble> {
         let set = type_set(alloc, parts)?;
-        self.add_root(alloc, name, set)
+        let tv = self.add_root(alloc, name, set)?;
+        self.keep(alloc, name, tv)
     }
 
     /// `one NAME TYPE`: adds a root of one type.
@@ -108,8 +120,7 @@ impl Variables {
             return Err(Trouble::NoCase);
         }
         let tv = TypeVar::new_singleton(&mut self.vars, only)?;
-        self.named.push((Text::new(alloc, name)?, tv))?;
-        Ok(())
+        self.keep(alloc, name, tv)
     }
 
     /// `derive NAME FUNCTION PARENT`: the variable that is derived from this one.
@@ -122,28 +133,33 @@ impl Variables {
     ) -> Result<(), Trouble> {
         let derived_func = derived_func(function)?;
         let parent = self.find(parent)?;
+        let tv = self.derived(alloc, parent, derived_func)?;
+        self.keep(alloc, name, tv)
+    }
+
+    /// The variable that is derived from one by a function.
+    fn derived(
+        &mut self,
+        alloc: Global,
+        parent: TypeVar,
+        derived_func: DerivedFunc,
+    ) -> Result<TypeVar, Trouble> {
         if !self.vars.has_room() || !self.vars.is_of(parent) {
             return Err(Trouble::NoCase);
         }
         if !parent.can_derive(alloc, &self.vars, derived_func)? {
             return Err(Trouble::NoCase);
         }
-        let tv = parent.derived(&mut self.vars, derived_func)?;
-        self.named.push((Text::new(alloc, name)?, tv))?;
-        Ok(())
+        Ok(parent.derived(&mut self.vars, derived_func)?)
     }
 
     /// Adds a root of set K of 256, as `S K` is named by its number: ints, of so many lanes and of at least so many.
     pub(crate) fn numbered(&mut self, alloc: Global, number: u16) -> Result<TypeVar, Trouble> {
-        let lanes = Interval::Range(1 << (number / 64 % 4)..16 << (number / 16 % 4));
-        let dynamic_lanes = Interval::Range(2 << (number / 4 % 4)..32 << (number % 4));
-        let builder = TypeSetBuilder::new().ints(Interval::All);
-        let builder = builder.simd_lanes(lanes).dynamic_simd_lanes(dynamic_lanes);
-        if !builder.can_build() || !self.vars.has_room() {
+        let builder = numbered_set(number);
+        if !builder.can_build() {
             return Err(Trouble::NoCase);
         }
         let set = builder.build(alloc)?;
-        let (name, doc) = (Text::new(alloc, "S")?, Text::new(alloc, "")?);
-        Ok(TypeVar::new(&mut self.vars, name, doc, set)?)
+        self.add_root(alloc, "S", set)
     }
 }

@@ -43,10 +43,16 @@ pub(crate) fn texts(alloc: Global, word: &str) -> Result<Vec<Text>, Trouble> {
 }
 
 /// The numbers of a list that is parted by commas, none for `-`.
-pub(crate) fn numbers(alloc: Global, word: &str) -> Result<Vec<u16>, Trouble> {
+pub(crate) fn numbers<N: std::str::FromStr + Drop>(
+    alloc: Global,
+    word: &str,
+) -> Result<Vec<N>, Trouble>
+where
+    N::Err: Drop,
+{
     let mut all = Vec::new(alloc);
     for digits in list(alloc, word)? {
-        all.push(number::<u16>(digits)?)?;
+        all.push(number::<N>(digits)?)?;
     }
     Ok(all)
 }

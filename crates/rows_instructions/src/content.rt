@@ -25,7 +25,7 @@ fn push_mark(out: &mut String, is_set: bool, letter: char) -> Result<(), AllocEr
 
 impl<'l> Session<'l> {
     /// The instruction that was built last.
-    fn built(&self) -> Result<&InstructionContent, Trouble> {
+    pub(crate) fn built(&self) -> Result<&InstructionContent, Trouble> {
         self.content.as_ref().ok_or(Trouble::NoCase)
     }
 

@@ -2,8 +2,8 @@ use crate::session::Session;
 use crate::sets::set_of;
 use crate::trouble::Trouble;
 use crate::words::function_of;
-use meta_typevar::{TypeVar, TypeVarParent};
-use std::alloc::Global;
+use meta_typevar::{TypeSet, TypeVar, TypeVarParent};
+use std::alloc::{AllocError, Global};
 use std::hash::{DefaultHasher, Hash, Hasher};
 
 /// What a value hashes to.
@@ -11,6 +11,16 @@ fn hash_of<T: Hash>(value: &T) -> u64 {
     let mut state = DefaultHasher::new();
     value.hash(&mut state);
     state.finish()
+}
+
+/// Writes whether two sets are equal, and their masks; of equal ones whether they hash equally.
+fn push_equal(set: &TypeSet, other: &TypeSet, out: &mut String) -> Result<(), AllocError> {
+    let (is_equal, has_equal_masks) = (*set == *other, set.masks() == other.masks());
+    write!(out, "sets {is_equal} masks {has_equal_masks}")?;
+    if !is_equal {
+        return Ok(());
+    }
+    write!(out, " hashes {}", hash_of(set) == hash_of(other))
 }
 
 /// `equal_sets SET | SET`: whether two sets are equal, and their masks; of equal ones whether they hash equally.
@@ -22,16 +32,7 @@ pub(crate) fn equal_sets(
 ) -> Result<(), Trouble> {
     let other: Vec<&str> = other.split(' ').collect(alloc)?;
     let (set, other) = (set_of(alloc, words)?, set_of(alloc, other.as_slice())?);
-    write!(
-        out,
-        "sets {} masks {}",
-        set == other,
-        set.masks() == other.masks()
-    )?;
-    if set == other {
-        write!(out, " hashes {}", hash_of(&set) == hash_of(&other))?;
-    }
-    Ok(())
+    Ok(push_equal(&set, &other, out)?)
 }
 
 impl<'l> Session<'l> {

@@ -1,42 +1,125 @@
 use crate::session::Session;
 use crate::trouble::Trouble;
 use crate::words::{define, end_list, named, number_of, push_item, yes_or_no};
-use meta_operands::{FormatId, FormatTable, InstructionFormat, InstructionFormatBuilder};
+use meta_operands::{
+    FormatField, FormatId, FormatStructure, FormatTable, InstructionFormat,
+    InstructionFormatBuilder, OperandKind,
+};
 use meta_types::Text;
+use std::alloc::AllocError;
+
+/// A part of a format.
+#[derive(Drop)]
+enum Part {
+    Value,
+    Block,
+    RawBlock,
+    VariableArgs,
+    Immediate(OperandKind),
+    Designated(usize),
+}
+
+/// The format whose value input at this place is designated.
+fn designating(
+    builder: InstructionFormatBuilder,
+    place: usize,
+) -> Result<InstructionFormatBuilder, Trouble> {
+    if builder.can_designate(place) {
+        Ok(builder.typevar_operand(place))
+    } else {
+        Err(Trouble::NoCase)
+    }
+}
+
+/// The format with one more part.
+fn with_part(
+    builder: InstructionFormatBuilder,
+    part: &Part,
+) -> Result<InstructionFormatBuilder, Trouble> {
+    if !builder.has_room() {
+        return Err(Trouble::NoCase);
+    }
+    match part {
+        Part::Value => Ok(builder.value()),
+        Part::Block => Ok(builder.block()),
+        Part::RawBlock => Ok(builder.raw_block()),
+        Part::VariableArgs => Ok(builder.varargs()),
+        Part::Immediate(kind) => Ok(builder.imm(kind)?),
+        Part::Designated(place) => designating(builder, *place),
+    }
+}
+
+/// Writes, with commas between them, whether the value inputs at these places can be designated.
+fn push_can(
+    builder: &InstructionFormatBuilder,
+    places: &str,
+    out: &mut String,
+) -> Result<(), Trouble> {
+    let start = out.len();
+    for place in places.split(',') {
+        let can = builder.can_designate(number_of(place)?);
+        push_item(out, start, yes_or_no(can))?;
+    }
+    Ok(())
+}
+
+/// Writes the number of a format, its text, whether it has a value list, and what it designates.
+fn push_format(
+    id: FormatId,
+    format: &InstructionFormat,
+    out: &mut String,
+) -> Result<(), AllocError> {
+    let (number, list) = (id.number(), format.has_value_list);
+    write!(out, "{number} {format} list {list} designated ")?;
+    match format.typevar_operand {
+        Some(place) => write!(out, "{place}"),
+        None => out.push('-'),
+    }
+}
+
+/// Writes the names and types of immediate fields.
+fn push_field_names(names: &[(Text, Text)], out: &mut String) -> Result<(), AllocError> {
+    let start = out.len();
+    for (field_name, rust_type) in names {
+        push_item(out, start, field_name.as_str())?;
+        write!(out, "={}", rust_type.as_str())?;
+    }
+    end_list(out, start)
+}
+
+/// Writes what the structure of a format shows.
+fn push_structure(structure: &FormatStructure, out: &mut String) -> Result<(), AllocError> {
+    let (values, has_list) = (structure.num_value_operands, structure.has_value_list);
+    let (blocks, raw_blocks) = (
+        structure.num_block_operands,
+        structure.num_raw_block_operands,
+    );
+    write!(out, "vals={values} list={has_list} ")?;
+    write!(out, "blocks={blocks} raw_blocks={raw_blocks} fields ")?;
+    push_field_names(structure.imm_field_names.as_slice(), out)
+}
 
 impl<'l> Session<'l> {
-    /// The format with one more part, which has a word behind it.
-    fn with_named(
-        &self,
-        builder: InstructionFormatBuilder,
-        part: &str,
-    ) -> Result<InstructionFormatBuilder, Trouble> {
-        let (part, word) = part.split_once(':').ok_or(Trouble::NoCase)?;
-        if part == "imm" {
-            return Ok(builder.imm(&self.kind_named(word)?)?);
+    /// The part of a format that has a word behind it.
+    fn part_with_word(&self, part: &str, word: &str) -> Result<Part, Trouble> {
+        match part {
+            "imm" => Ok(Part::Immediate(self.kind_named(word)?)),
+            "designate" => Ok(Part::Designated(number_of(word)?)),
+            _ => Err(Trouble::NoCase),
         }
-        let place = number_of(word)?;
-        if part != "designate" || !builder.can_designate(place) {
-            return Err(Trouble::NoCase);
-        }
-        Ok(builder.typevar_operand(place))
     }
 
-    /// The format with one more part.
-    fn with_part(
-        &self,
-        builder: InstructionFormatBuilder,
-        part: &str,
-    ) -> Result<InstructionFormatBuilder, Trouble> {
-        if !builder.has_room() {
-            return Err(Trouble::NoCase);
-        }
+    /// The part of a format for which the word stands.
+    fn part_of(&self, part: &str) -> Result<Part, Trouble> {
         match part {
-            "value" => Ok(builder.value()),
-            "block" => Ok(builder.block()),
-            "raw_block" => Ok(builder.raw_block()),
-            "varargs" => Ok(builder.varargs()),
-            _ => self.with_named(builder, part),
+            "value" => Ok(Part::Value),
+            "block" => Ok(Part::Block),
+            "raw_block" => Ok(Part::RawBlock),
+            "varargs" => Ok(Part::VariableArgs),
+            _ => {
+                let (part, word) = part.split_once(':').ok_or(Trouble::NoCase)?;
+                self.part_with_word(part, word)
+            }
         }
     }
 
@@ -45,7 +128,7 @@ impl<'l> Session<'l> {
         let name = Text::new(self.alloc, name)?;
         let mut builder = InstructionFormatBuilder::new(self.alloc, name);
         for part in parts {
-            builder = self.with_part(builder, part)?;
+            builder = with_part(builder, &self.part_of(part)?)?;
         }
         Ok(builder)
     }
@@ -55,13 +138,15 @@ impl<'l> Session<'l> {
         let [places, parts @ ..] = words else {
             return Err(Trouble::NoCase);
         };
-        let builder = self.format_of("F", parts)?;
-        let start = out.len();
-        for place in places.split(',') {
-            let can = builder.can_designate(number_of(place)?);
-            push_item(out, start, yes_or_no(can))?;
+        push_can(&self.format_of("F", parts)?, places, out)
+    }
+
+    /// Adds a format to the table.
+    fn add_format(&mut self, builder: InstructionFormatBuilder) -> Result<FormatId, Trouble> {
+        if !self.formats.has_room() {
+            return Err(Trouble::NoCase);
         }
-        Ok(())
+        Ok(builder.build(&mut self.formats)?)
     }
 
     /// `format NAME PARTS`: adds a format to the table: its number, its text, whether it has a value list, and what it designates.
@@ -70,23 +155,9 @@ impl<'l> Session<'l> {
             return Err(Trouble::NoCase);
         };
         let builder = self.format_of(name, parts)?;
-        if !self.formats.has_room() {
-            return Err(Trouble::NoCase);
-        }
-        let id = builder.build(&mut self.formats)?;
+        let id = self.add_format(builder)?;
         define(&mut self.ids, name, id)?;
-        let format = self.format_named(name)?;
-        write!(
-            out,
-            "{} {format} list {} designated ",
-            id.number(),
-            format.has_value_list
-        )?;
-        match format.typevar_operand {
-            Some(place) => write!(out, "{place}")?,
-            None => out.push('-')?,
-        }
-        Ok(())
+        Ok(push_format(id, self.format_named(name)?, out)?)
     }
 
     /// The number of the format for whose name the word stands.
@@ -103,6 +174,12 @@ impl<'l> Session<'l> {
         Ok(self.formats.get(id))
     }
 
+    /// Writes a line with a field's member, its text, and its kind.
+    fn push_field(&self, field: &FormatField, out: &mut String) -> Result<(), AllocError> {
+        write!(out, "\nmember {} text {field} kind ", field.member.as_str())?;
+        self.push_kind(&field.kind, out)
+    }
+
     /// `fields NAME`: how many fields a format has, and all as they are written; and a line for each with its member, the text of
     /// the field, and its kind.
     pub(crate) fn fields(&self, words: &[&str], out: &mut String) -> Result<(), Trouble> {
@@ -112,11 +189,14 @@ impl<'l> Session<'l> {
         let fields = &self.format_named(name)?.imm_fields;
         write!(out, "{} ({fields})", fields.len())?;
         for place in 0..fields.len() {
-            let field = fields.get(place);
-            write!(out, "\nmember {} text {field} kind ", field.member.as_str())?;
-            self.push_kind(&field.kind, out)?;
+            self.push_field(fields.get(place), out)?;
         }
         Ok(())
+    }
+
+    /// The structure of the format for whose name the word stands.
+    fn structure_of(&self, word: &str) -> Result<FormatStructure, Trouble> {
+        Ok(self.format_named(word)?.structure(self.alloc)?)
     }
 
     /// `structure NAME`: what the structure of a format shows.
@@ -124,21 +204,8 @@ impl<'l> Session<'l> {
         let [name] = words else {
             return Err(Trouble::NoCase);
         };
-        let structure = self.format_named(name)?.structure(self.alloc)?;
-        write!(
-            out,
-            "vals={} list={} blocks={} raw_blocks={} fields ",
-            structure.num_value_operands,
-            structure.has_value_list,
-            structure.num_block_operands,
-            structure.num_raw_block_operands
-        )?;
-        let start = out.len();
-        for (field_name, rust_type) in structure.imm_field_names.as_slice() {
-            push_item(out, start, field_name.as_str())?;
-            write!(out, "={}", rust_type.as_str())?;
-        }
-        Ok(end_list(out, start)?)
+        let structure = self.structure_of(name)?;
+        Ok(push_structure(&structure, out)?)
     }
 
     /// `alike ONE OTHER`: whether two formats have one structure.
@@ -146,8 +213,7 @@ impl<'l> Session<'l> {
         let [one, other] = words else {
             return Err(Trouble::NoCase);
         };
-        let one = self.format_named(one)?.structure(self.alloc)?;
-        let other = self.format_named(other)?.structure(self.alloc)?;
+        let (one, other) = (self.structure_of(one)?, self.structure_of(other)?);
         Ok(write!(out, "{}", one == other)?)
     }
 
@@ -160,7 +226,7 @@ impl<'l> Session<'l> {
         let [name] = words else {
             return Err(Trouble::BadLine);
         };
-        let structure = self.format_named(name)?.structure(self.alloc)?;
+        let structure = self.structure_of(name)?;
         let is_new = self.structures.insert(structure)?;
         Ok(out.push_str(if is_new { "new" } else { "known" })?)
     }

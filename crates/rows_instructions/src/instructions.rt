@@ -1,10 +1,10 @@
 use crate::session::Session;
 use crate::trouble::Trouble;
 use crate::words::{named, text_of, yes_or_no};
-use meta_inst::{InstructionBuilder, InstructionGroupBuilder, Operands};
-use meta_operands::Operand;
-use meta_types::Text;
-use std::alloc::AllocError;
+use meta_inst::{InstructionBuilder, InstructionContent, InstructionGroupBuilder, Operands};
+use meta_operands::{FormatId, Operand};
+use meta_types::{DefinitionError, Text};
+use std::alloc::{AllocError, Global};
 
 /// The names of inputs by their places; `o` from there on.
 const INPUTS: [&str; 8] = ["x", "y", "z", "u", "v", "w", "s", "t"];
@@ -71,6 +71,17 @@ fn with_calls(builder: InstructionBuilder, calls: &str) -> Result<InstructionBui
     Ok(builder)
 }
 
+/// The instruction of this name, documentation and format.
+fn instruction(
+    alloc: Global,
+    name: &str,
+    doc: &str,
+    format: FormatId,
+) -> Result<InstructionBuilder, AllocError> {
+    let (name, doc) = (Text::new(alloc, name)?, Text::new(alloc, doc)?);
+    Ok(InstructionBuilder::new(alloc, name, doc, format))
+}
+
 /// Writes how many operands were set, or that they weren't.
 fn push_count(out: &mut String, is_set: bool, operands: &[Operand]) -> Result<(), AllocError> {
     if is_set {
@@ -78,6 +89,20 @@ fn push_count(out: &mut String, is_set: bool, operands: &[Operand]) -> Result<()
     } else {
         out.push_str("unset")
     }
+}
+
+/// Writes the line of a fault.
+fn push_fault(alloc: Global, fault: &DefinitionError, out: &mut String) -> Result<(), AllocError> {
+    out.push_str(fault.line(alloc)?.as_str())
+}
+
+/// Writes what the builder of an instruction keeps.
+fn push_builder(builder: &InstructionBuilder, out: &mut String) -> Result<(), AllocError> {
+    let (name, format) = (builder.name().as_str(), builder.format().number());
+    write!(out, "{name} format {format} inputs ")?;
+    push_count(out, builder.has_operands_in(), builder.inputs())?;
+    out.push_str(" outputs ")?;
+    push_count(out, builder.has_operands_out(), builder.outputs())
 }
 
 impl<'l> Session<'l> {
@@ -123,11 +148,22 @@ impl<'l> Session<'l> {
         let [name, format, inputs, outputs, calls] = words else {
             return Err(Trouble::NoCase);
         };
-        let (alloc, id) = (self.alloc, self.id(format)?);
-        let name = Text::new(alloc, text_of(name))?;
-        let builder = InstructionBuilder::new(alloc, name, Text::new(alloc, doc)?, id);
+        let builder = instruction(self.alloc, text_of(name), doc, self.id(format)?)?;
         let builder = self.with_inputs(builder, inputs)?;
         with_calls(self.with_outputs(builder, outputs)?, calls)
+    }
+
+    /// What is built of an instruction, as the first.
+    fn built_of(
+        &self,
+        words: &[&str],
+        doc: &str,
+    ) -> Result<Result<InstructionContent, DefinitionError>, Trouble> {
+        let builder = self.builder_of(words, doc)?;
+        if !builder.fits(&self.vars, &self.formats) {
+            return Err(Trouble::NoCase);
+        }
+        Ok(builder.build(self.alloc, &self.vars, &self.formats, 1))
     }
 
     /// `build INSTRUCTION | DOC`: builds an instruction, as the first: its text, or the line of its first fault.
@@ -137,24 +173,26 @@ impl<'l> Session<'l> {
         doc: &str,
         out: &mut String,
     ) -> Result<(), Trouble> {
-        let builder = self.builder_of(words, doc)?;
-        if !builder.fits(&self.vars, &self.formats) {
-            return Err(Trouble::NoCase);
-        }
-        match builder.build(self.alloc, &self.vars, &self.formats, 1) {
+        match self.built_of(words, doc)? {
             Ok(content) => {
-                write!(out, "{content}")?;
                 self.content = Some(content);
+                Ok(write!(out, "{}", self.built()?)?)
             }
-            Err(fault) => out.push_str(fault.line(self.alloc)?.as_str())?,
+            Err(fault) => Ok(push_fault(self.alloc, &fault, out)?),
         }
-        Ok(())
     }
 
     /// `fits INSTRUCTION`: whether the format is of the table, and the variables of the registry.
     pub(crate) fn fits(&self, words: &[&str], out: &mut String) -> Result<(), Trouble> {
         let fits = self.builder_of(words, "")?.fits(&self.vars, &self.formats);
         Ok(out.push_str(yes_or_no(fits))?)
+    }
+
+    /// Adds an instruction to the list, and answers its place.
+    fn give(&mut self, builder: InstructionBuilder) -> Result<usize, AllocError> {
+        let place = self.all.len();
+        InstructionGroupBuilder::new(&mut self.all).push(builder)?;
+        Ok(place)
     }
 
     /// `given INSTRUCTION | DOC`: adds an instruction to a list: how many are in the list, and what it keeps of this one.
@@ -165,9 +203,7 @@ impl<'l> Session<'l> {
         out: &mut String,
     ) -> Result<(), Trouble> {
         let builder = self.builder_of(words, doc)?;
-        let place = self.all.len();
-        let mut group = InstructionGroupBuilder::new(&mut self.all);
-        group.push(builder)?;
+        let place = self.give(builder)?;
         if place >= self.all.len() {
             return Err(Trouble::NoCase);
         }
@@ -175,25 +211,22 @@ impl<'l> Session<'l> {
         self.push_given(self.all.get(place), out)
     }
 
+    /// Writes the value operands of an instruction.
+    fn push_operands(&self, operands: &Operands, out: &mut String) -> Result<(), AllocError> {
+        write!(out, " results {} variables ", operands.result_count())?;
+        self.push_names(operands.variables(), out)?;
+        let designated = self.name_or_dash(operands.designated());
+        let first = self.name_or_dash(operands.first_result());
+        write!(out, " designated {designated} first {first}")
+    }
+
     /// Writes what the builder of an instruction keeps, and the value operands that are found of it.
     fn push_given(&self, builder: &InstructionBuilder, out: &mut String) -> Result<(), Trouble> {
         if !self.formats.is_of(builder.format()) {
             return Err(Trouble::NoCase);
         }
-        write!(
-            out,
-            "{} format {} inputs ",
-            builder.name().as_str(),
-            builder.format().number()
-        )?;
-        push_count(out, builder.has_operands_in(), builder.inputs())?;
-        out.push_str(" outputs ")?;
-        push_count(out, builder.has_operands_out(), builder.outputs())?;
+        push_builder(builder, out)?;
         let operands = Operands::of(self.alloc, builder, &self.formats)?;
-        write!(out, " results {} variables ", operands.result_count())?;
-        self.push_names(operands.variables(), out)?;
-        let designated = self.name_or_dash(operands.designated());
-        let first = self.name_or_dash(operands.first_result());
-        Ok(write!(out, " designated {designated} first {first}")?)
+        Ok(self.push_operands(&operands, out)?)
     }
 }

@@ -12,14 +12,21 @@ fn add_value(alloc: Global, values: &mut EnumValues, value: &str) -> Result<Opti
     Ok(values.insert(name, Text::new(alloc, variant)?)?)
 }
 
-/// The values of an enum, with commas between them, or `''` for none.
+/// Adds the values of a list, with commas between them, or `''` for none.
+fn add_values(alloc: Global, values: &mut EnumValues, list: &str) -> Result<(), Trouble> {
+    if list == "''" {
+        return Ok(());
+    }
+    for value in list.split(',') {
+        add_value(alloc, values, value)?;
+    }
+    Ok(())
+}
+
+/// The values of an enum.
 fn values_of(alloc: Global, list: &str) -> Result<EnumValues, Trouble> {
     let mut values = EnumValues::new(alloc);
-    if list != "''" {
-        for value in list.split(',') {
-            add_value(alloc, &mut values, value)?;
-        }
-    }
+    add_values(alloc, &mut values, list)?;
     Ok(values)
 }
 
@@ -34,6 +41,28 @@ fn push_values(values: &EnumValues, out: &mut String) -> Result<(), AllocError> 
     end_list(out, start)
 }
 
+/// Writes how many values there are and the values in their order, and for what a name stood before.
+fn push_inserted(
+    values: &EnumValues,
+    before: &Option<Text>,
+    out: &mut String,
+) -> Result<(), AllocError> {
+    write!(out, "{} ", values.len())?;
+    push_values(values, out)?;
+    match before {
+        Some(variant) => write!(out, " before {}", variant.as_str()),
+        None => out.push_str(" before -"),
+    }
+}
+
+/// Writes what a name stands for, or `-`.
+fn push_found(found: Option<&Text>, out: &mut String) -> Result<(), AllocError> {
+    match found {
+        Some(variant) => out.push_str(variant.as_str()),
+        None => out.push('-'),
+    }
+}
+
 /// Writes the name of a test that holds.
 fn push_test(out: &mut String, start: usize, holds: bool, name: &str) -> Result<(), AllocError> {
     if holds {
@@ -42,8 +71,9 @@ fn push_test(out: &mut String, start: usize, holds: bool, name: &str) -> Result<
     Ok(())
 }
 
-/// Writes the tests that hold of an operand and its kind, or `-` for none.
+/// Writes the tests that hold of an operand and its kind, or `-` for none, behind ` is `.
 fn push_tests(operand: &Operand, out: &mut String) -> Result<(), AllocError> {
+    out.push_str(" is ")?;
     let (kind, start) = (&operand.kind, out.len());
     push_test(out, start, kind.is_block(), "block")?;
     push_test(out, start, kind.is_raw_block(), "raw_block")?;
@@ -64,13 +94,7 @@ impl<'l> Session<'l> {
         };
         let mut values = values_of(self.alloc, list)?;
         let before = add_value(self.alloc, &mut values, last)?;
-        write!(out, "{} ", values.len())?;
-        push_values(&values, out)?;
-        let before = match &before {
-            Some(variant) => variant.as_str(),
-            None => "-",
-        };
-        Ok(write!(out, " before {before}")?)
+        Ok(push_inserted(&values, &before, out)?)
     }
 
     /// `find LIST NAME`: what the name stands for among the values, or `-`.
@@ -80,11 +104,7 @@ impl<'l> Session<'l> {
         };
         let values = values_of(self.alloc, list)?;
         let name = Text::new(self.alloc, name)?;
-        let found = match values.get(&name) {
-            Some(variant) => variant.as_str(),
-            None => "-",
-        };
-        Ok(out.push_str(found)?)
+        Ok(push_found(values.get(&name), out)?)
     }
 
     /// What operands are, by a word, and for an enum or a value by one more.
@@ -99,6 +119,18 @@ impl<'l> Session<'l> {
         }
     }
 
+    /// The kind of these names, this documentation and these fields.
+    fn kind_of(
+        &self,
+        [field_name, rust_type, doc]: [&str; 3],
+        fields: OperandKindFields,
+    ) -> Result<OperandKind, AllocError> {
+        let field_name = Text::new(self.alloc, field_name)?;
+        let rust_type = Text::new(self.alloc, rust_type)?;
+        let doc = Text::new(self.alloc, doc)?;
+        Ok(OperandKind::new(field_name, rust_type, fields, doc))
+    }
+
     /// `kind WORD FIELD_NAME RUST_TYPE FIELDS | DOC`: a kind, and what it shows.
     pub(crate) fn kind(
         &mut self,
@@ -109,11 +141,8 @@ impl<'l> Session<'l> {
         let [word, field_name, rust_type, fields @ ..] = words else {
             return Err(Trouble::NoCase);
         };
-        let fields = self.kind_fields(fields)?;
-        let field_name = Text::new(self.alloc, text_of(field_name))?;
-        let rust_type = Text::new(self.alloc, rust_type)?;
-        let doc = Text::new(self.alloc, doc)?;
-        let kind = OperandKind::new(field_name, rust_type, fields, doc);
+        let texts = [text_of(field_name), *rust_type, doc];
+        let kind = self.kind_of(texts, self.kind_fields(fields)?)?;
         self.push_kind(&kind, out)?;
         define(&mut self.kinds, word, kind)
     }
@@ -151,6 +180,37 @@ impl<'l> Session<'l> {
         Ok(Operand::new(Text::new(self.alloc, name)?, kind))
     }
 
+    /// The operand with a documentation of its own.
+    fn documented(&self, operand: Operand, doc: &str) -> Result<Operand, AllocError> {
+        Ok(operand.with_doc(Text::new(self.alloc, doc)?))
+    }
+
+    /// The operand of this name and kind, with its own documentation where one is given.
+    fn operand_with(&self, name: &str, kind: &str, doc: &str) -> Result<Operand, Trouble> {
+        let operand = self.operand_of(name, kind)?;
+        if doc.is_empty() {
+            Ok(operand)
+        } else {
+            Ok(self.documented(operand, doc)?)
+        }
+    }
+
+    /// What an operand shows.
+    fn shown(&self, operand: &Operand) -> Result<String, AllocError> {
+        let mut shown = String::new(self.alloc);
+        self.push_operand(operand, &mut shown)?;
+        Ok(shown)
+    }
+
+    /// Writes what the copy of an operand shows, where that is something else.
+    fn push_copied(&self, operand: &Operand, out: &mut String) -> Result<(), AllocError> {
+        let copied = self.shown(&operand.copy(self.alloc)?)?;
+        if *out == copied {
+            return Ok(());
+        }
+        write!(out, " copied {copied}")
+    }
+
     /// `operand NAME KIND | DOC`: what an operand shows, with its own documentation where one is given, and its copy where that
     /// shows something else.
     pub(crate) fn operand(
@@ -162,17 +222,9 @@ impl<'l> Session<'l> {
         let [name, kind] = words else {
             return Err(Trouble::NoCase);
         };
-        let mut operand = self.operand_of(name, kind)?;
-        if !doc.is_empty() {
-            operand = operand.with_doc(Text::new(self.alloc, doc)?);
-        }
+        let operand = self.operand_with(name, kind, doc)?;
         self.push_operand(&operand, out)?;
-        let mut copied = String::new(self.alloc);
-        self.push_operand(&operand.copy(self.alloc)?, &mut copied)?;
-        if *out != copied {
-            write!(out, " copied {copied}")?;
-        }
-        Ok(())
+        Ok(self.push_copied(&operand, out)?)
     }
 
     /// The documentation of an operand, and none where its variable is of another registry.
@@ -187,7 +239,6 @@ impl<'l> Session<'l> {
     fn push_operand(&self, operand: &Operand, out: &mut String) -> Result<(), AllocError> {
         write!(out, "{} of ", operand.name.as_str())?;
         self.push_kind(&operand.kind, out)?;
-        out.push_str(" is ")?;
         push_tests(operand, out)?;
         write!(out, " variable {}", self.name_or_dash(operand.type_var()))?;
         push_prose(out, self.doc(operand))

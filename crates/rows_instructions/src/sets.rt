@@ -139,21 +139,31 @@ fn contained(set: &TypeSet) -> usize {
         .count()
 }
 
-/// `set PARTS`: the masks of a set, its size, how many of all types it contains, and its members as they are listed.
-pub(crate) fn set(alloc: Global, words: &[&str], out: &mut String) -> Result<(), Trouble> {
-    let set = built(alloc, words)?;
+/// Writes the types, each behind a space.
+fn push_types(out: &mut String, types: &[ValueType]) -> Result<(), AllocError> {
+    for value_type in types {
+        write!(out, " {value_type}")?;
+    }
+    Ok(())
+}
+
+/// Writes the masks of a set, its size, how many of all types it contains, and its members as they are listed.
+fn push_set(alloc: Global, set: &TypeSet, out: &mut String) -> Result<(), AllocError> {
     out.push_str("masks ")?;
     push_masks(out, set.masks())?;
     write!(
         out,
         " size {} contains {} types",
         set.size(),
-        contained(&set)
+        contained(set)
     )?;
-    for value_type in set.concrete_types(alloc)?.as_slice() {
-        write!(out, " {value_type}")?;
-    }
-    Ok(())
+    push_types(out, set.concrete_types(alloc)?.as_slice())
+}
+
+/// `set PARTS`: a set.
+pub(crate) fn set(alloc: Global, words: &[&str], out: &mut String) -> Result<(), Trouble> {
+    let set = built(alloc, words)?;
+    Ok(push_set(alloc, &set, out)?)
 }
 
 /// `image FUNCTION of set PARTS`: the masks of a coded image.

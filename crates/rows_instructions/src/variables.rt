@@ -114,6 +114,17 @@ impl<'l> Session<'l> {
         }?)
     }
 
+    /// The set of the ints from one width to another, with the lanes from 1 to a count.
+    fn set_of_ints(&self, low: u16, high: u16, lanes: u16) -> Result<TypeSet, Trouble> {
+        let builder = TypeSetBuilder::new()
+            .ints(Interval::Range(low..high))
+            .simd_lanes(Interval::Range(1..lanes));
+        if !builder.can_build() {
+            return Err(Trouble::NoCase);
+        }
+        Ok(builder.build(self.alloc)?)
+    }
+
     /// `ints X LOW HIGH LANES | DOC`: a variable of the ints from one width to another, with the lanes from 1 to a count.
     pub(crate) fn ints(
         &mut self,
@@ -127,13 +138,7 @@ impl<'l> Session<'l> {
         let (Ok(low), Ok(high), Ok(lanes)) = (low.parse(), high.parse(), lanes.parse()) else {
             return Err(Trouble::BadLine);
         };
-        let builder = TypeSetBuilder::new()
-            .ints(Interval::Range(low..high))
-            .simd_lanes(Interval::Range(1..lanes));
-        if !builder.can_build() {
-            return Err(Trouble::NoCase);
-        }
-        let set = builder.build(self.alloc)?;
+        let set = self.set_of_ints(low, high, lanes)?;
         let tv = self.fresh_root(word, doc, set)?;
         self.keep(word, tv, out)
     }
@@ -200,20 +205,25 @@ impl<'l> Session<'l> {
         self.keep_all(word, tv, out)
     }
 
-    /// `copy X of Y`: a fresh root with the set of another.
-    pub(crate) fn copy(&mut self, words: &[&'l str], out: &mut String) -> Result<(), Trouble> {
-        let [word, "of", other] = words else {
-            return Err(Trouble::BadLine);
-        };
-        let other = self.variable(other)?;
+    /// A fresh root with this name and the set of another.
+    fn copied(&mut self, name: &str, other: TypeVar) -> Result<TypeVar, Trouble> {
         if !self.vars.has_room() || !self.vars.is_of(other) {
             return Err(Trouble::NoCase);
         }
         if other.root(&self.vars) != other {
             return Err(Trouble::NoCase);
         }
-        let name = Text::new(self.alloc, word)?;
-        let tv = TypeVar::copy_from(&mut self.vars, other, name)?;
+        let name = Text::new(self.alloc, name)?;
+        Ok(TypeVar::copy_from(&mut self.vars, other, name)?)
+    }
+
+    /// `copy X of Y`: a fresh root with the set of another.
+    pub(crate) fn copy(&mut self, words: &[&'l str], out: &mut String) -> Result<(), Trouble> {
+        let [word, "of", other] = words else {
+            return Err(Trouble::BadLine);
+        };
+        let other = self.variable(other)?;
+        let tv = self.copied(word, other)?;
         self.keep_all(word, tv, out)
     }
 
