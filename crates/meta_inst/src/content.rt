@@ -71,7 +71,7 @@ pub(crate) fn immediate_places(
 ) -> Result<Vec<usize>, AllocError>
     ensures { IfOk result (λ v. v.items ≡ places_where is_immediate_or_entityref_operand operands.now) }
 {
-    let mut places = Vec::with_capacity(alloc, operands.len())?;
+    let mut places = Vec::new(alloc);
     for place in 0..operands.len() {
         push_place(
             &mut places,

@@ -20,6 +20,9 @@ use meta_typevar::{TypeVar, TypeVars};
 use std::alloc::{AllocError, Global};
 use std::marker::Model;
 
+/// How many value operands there is room for at first: few instructions have more.
+const FEW_OPERANDS: usize = 8;
+
 /// The type variables of the value operands among these, added in order.
 fn push_variables(out: &mut Vec<TypeVar>, operands: &[Operand]) -> Result<(), AllocError>
     ensures { OnOk result (out.new.items ≡ out.old.items ++ variables_of operands.now) }
@@ -277,7 +280,7 @@ impl Operands {
         ensures variables { IfOk result (λ o. o.variables ≡ variables_of (outputs_of builder.now) ++ variables_of (inputs_of builder.now)) }
         ensures result_count { IfOk result (λ o. o.result_count ≡ length (variables_of (outputs_of builder.now))) }
     {
-        let mut variables = Vec::new(alloc);
+        let mut variables = Vec::with_capacity(alloc, FEW_OPERANDS)?;
         push_variables(&mut variables, builder.outputs())?;
         let result_count = variables.len();
         push_variables(&mut variables, builder.inputs())?;

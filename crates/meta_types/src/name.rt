@@ -28,7 +28,7 @@ fn capital_at(at_start: bool, c: char) -> char
 pub fn camel_case(alloc: Global, s: &Text) -> Result<Text, AllocError>
     ensures { IfOk result (λ t. t ≡ camel_case_of s.now) }
 {
-    let mut out = String::new(alloc);
+    let mut out = String::with_capacity(alloc, s.as_bytes().len())?;
     let mut at_start = true;
     for c in s.as_str().chars() {
         if c == '_' {
@@ -38,5 +38,5 @@ pub fn camel_case(alloc: Global, s: &Text) -> Result<Text, AllocError>
             at_start = false;
         }
     }
-    Text::new(alloc, out.as_str())
+    Ok(Text::of(out))
 }

@@ -1,4 +1,4 @@
-ghost use Rattle.std.specs.Prelude.{◌≡◌, ◌==◌, ◌↔◌, IfOk, IsTrue};
+ghost use Rattle.std.specs.Prelude.{◌≡◌, ◌==◌, ◌↔◌, IfOk, IsTrue, string_bytes};
 ghost use Rattle.std.proofs.Common.{rules};
 ghost use Rattle.std.specs.Cmp.{partial_order_from_own_ties};
 ghost use Rattle.std.specs.Cmp.Rules.{comparing, hashing};
@@ -33,6 +33,13 @@ impl Text {
         Ok(Text {
             inner: String::from_str(alloc, text)?,
         })
+    }
+
+    /// The text that the string holds.
+    pub(crate) fn of(inner: String) -> Text
+        ensures { result ≡ string_bytes inner }
+    {
+        Text { inner }
     }
 
     /// An equal text of its own.

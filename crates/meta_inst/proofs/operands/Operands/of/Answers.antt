@@ -10,6 +10,6 @@ pub returns-clause-fits : goal.returns-clause-fits
 returns-clause-fits c = λ vars fits.
     subst (AreOf vars)
     (sym (c.in_ok-push_variables-2.ensures
-    ∙ ap (λ (xs : List ℕ). xs ++ variables_of c.inputs.result.now) (c.in_ok-push_variables.ensures ∙ ap (λ (xs : List ℕ). xs ++ variables_of c.outputs.result.now) c.new-variables.ensures.items ∙ ap variables_of c.outputs.ensures)
+    ∙ ap (λ (xs : List ℕ). xs ++ variables_of c.inputs.result.now) (c.in_ok-push_variables.ensures ∙ ap (λ (xs : List ℕ). xs ++ variables_of c.outputs.result.now) c.in_ok-variables.ensures.items ∙ ap variables_of c.outputs.ensures)
     ∙ ap (λ (os : List Operand). variables_of (outputs_of c.args.builder.now) ++ variables_of os) c.inputs.ensures))
     (are_of_both vars (variables_of (outputs_of c.args.builder.now)) (variables_of (inputs_of c.args.builder.now)) fits.outputs fits.inputs)
