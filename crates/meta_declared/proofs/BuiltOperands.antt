@@ -10,8 +10,8 @@ use Rattle.meta_inst.specs.Built.{Built}
 use Rattle.meta_inst.specs.Content.{operand_list, control_kept, ctrl_number}
 use Rattle.meta_inst.specs.Control.{IsControl}
 use Rattle.meta_inst.specs.Instruction.{Instruction}
-use Rattle.meta_inst.specs.InstructionSet.{InstructionSet, root_sets, instruction_of, FitsBuilder}
-use Rattle.meta_inst.specs.Operands.{OperandList, AreOf, instruction_with}
+use Rattle.meta_inst.specs.InstructionSet.{InstructionSet, root_sets, instruction_in_set, FitsBuilder}
+use Rattle.meta_inst.specs.Operands.{OperandList, AreOf, instruction_of_operands}
 use Rattle.meta_inst.specs.declared.polymorphic.PolymorphicInfo.{PolymorphicInfo}
 use Rattle.meta_inst.proofs.Listed.{listed, listed_of}
 use Rattle.meta_declared.specs.BuiltInstructions.{IsInstructionOf}
@@ -30,8 +30,8 @@ module _ (d : InstructionSet) (b : Builder) (c : Built) (is : IsInstructionOf d 
   pub operands_are : c.value_operands ≡ operand_list d.formats b
   operands_are = ap (λ (x : Built). x.value_operands) is.content
 
-  pub meaning : instruction_with d.vars c.value_operands ≡ instruction_of d b
-  meaning = ap (instruction_with d.vars) operands_are ∙ listed d.vars d.formats b
+  pub meaning : instruction_of_operands d.vars c.value_operands ≡ instruction_in_set d b
+  meaning = ap (instruction_of_operands d.vars) operands_are ∙ listed d.vars d.formats b
 
   pub within_is : c.value_operands.result_count ≤ length c.value_operands.variables
   within_is =
@@ -42,10 +42,10 @@ module _ (d : InstructionSet) (b : Builder) (c : Built) (is : IsInstructionOf d 
   pub variables_are : FitsBuilder d.vars d.formats b → AreOf d.vars c.value_operands.variables
   variables_are fits = subst (λ (o : OperandList). AreOf d.vars o.variables) (sym operands_are) (listed_of d.vars d.formats b fits)
 
-  pub control_is : IsControl (root_sets d) (instruction_with d.vars c.value_operands) (control_at d.vars (ctrl_number c.polymorphic_info))
+  pub control_is : IsControl (root_sets d) (instruction_of_operands d.vars c.value_operands) (control_at d.vars (ctrl_number c.polymorphic_info))
   control_is =
       subst (λ (i : Instruction). IsControl (root_sets d) i (control_at d.vars (ctrl_number c.polymorphic_info))) (sym meaning)
-      (subst (λ (v : Option Variable). IsControl (root_sets d) (instruction_of d b) v) (kept_at d.vars c.polymorphic_info) is.control.control)
+      (subst (λ (v : Option Variable). IsControl (root_sets d) (instruction_in_set d b) v) (kept_at d.vars c.polymorphic_info) is.control.control)
 
   pub control_of_registry : IsOfRegistry d.vars (ctrl_number c.polymorphic_info)
   control_of_registry = number_of d.vars c.polymorphic_info is.control.of_registry

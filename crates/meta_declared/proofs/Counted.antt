@@ -3,7 +3,7 @@ use Rattle.std.proofs.Common.{◌≡◌, ◌≢◌, ◌<◌, ◌≤◌, ◌⊎�
 use Rattle.std.proofs.lemmas.Option.{slice_get_within, slice_get-get_or}
 use Rattle.std.proofs.lemmas.Bool.{cases_lt}
 use Rattle.std.proofs.lemmas.Bool.Decides.{nat_tests}
-use Rattle.meta_typevar.specs.FourSets.{FourSets, no_types}
+use Rattle.meta_typevar.specs.TypeSetParts.{TypeSetParts, no_types}
 use Rattle.meta_inst.specs.InstructionSet.{InstructionSet}
 use Rattle.meta_inst.specs.Faults.{AreNeededSets}
 
@@ -60,7 +60,7 @@ injected zero n f h = omega arith
 injected (suc m) zero f h = absurd (omega (arith, h.within 0 (omega arith)))
 injected (suc m) (suc n) f h = let r = injected m n (without m n f) (one_less m n f h) in omega arith
 
-module _ (d : InstructionSet) (xs ys : List FourSets) (hx : AreNeededSets d xs) (hy : AreNeededSets d ys) where
+module _ (d : InstructionSet) (xs ys : List TypeSetParts) (hx : AreNeededSets d xs) (hy : AreNeededSets d ys) where
   -- the set at a place, which the other list has too
   at : (k : ℕ) → k < length xs → slice_get xs k ≡ Some (get_or xs k no_types)
   at k l = slice_get-get_or xs k no_types l
@@ -91,5 +91,5 @@ module _ (d : InstructionSet) (xs ys : List FourSets) (hx : AreNeededSets d xs) 
   no_longer = injected (length xs) (length ys) goes (record { within = λ k l. slice_get_within ys (goes k) (get_or xs k no_types) (reached k l); apart = goes_apart })
 
 -- the sets that are needed are so many
-pub one_count : (d : InstructionSet) (xs ys : List FourSets) → AreNeededSets d xs → AreNeededSets d ys → length xs ≡ length ys
+pub one_count : (d : InstructionSet) (xs ys : List TypeSetParts) → AreNeededSets d xs → AreNeededSets d ys → length xs ≡ length ys
 one_count d xs ys hx hy = let a = no_longer d xs ys hx hy in let b = no_longer d ys xs hy hx in omega arith

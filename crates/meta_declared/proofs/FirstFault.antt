@@ -3,7 +3,7 @@ use Rattle.std.proofs.Common.{◌<◌, ◌≤◌, ⊎_elim, List, length, refl, 
 use Rattle.std.proofs.lemmas.Bool.{cases_lt}
 use Rattle.meta_types.specs.declared.fault.DefinitionError.TheVariants.{TooManyTypeSets}
 use Rattle.meta_types.proofs.FirstFault.{passed, next_place, next_part, none_left}
-use Rattle.meta_typevar.specs.FourSets.{FourSets}
+use Rattle.meta_typevar.specs.TypeSetParts.{TypeSetParts}
 use Rattle.meta_inst.specs.InstructionSet.{InstructionSet}
 use Rattle.meta_inst.specs.Faults.{AreNeededSets, FormatNameRule, OfOpcodes, OfFormat, OfTypeSets, IsFirstFault, IsValid}
 use Rattle.meta_declared.specs.Searched.{IsCleanBefore}
@@ -16,7 +16,7 @@ module _ (d : InstructionSet) where
   passed_formats = next_part (searchable d) 2
 
   -- the needed sets are too many, or they are few
-  module _ (clean : IsCleanBefore d OfTypeSets) (sets : List FourSets) (needed : AreNeededSets d sets) where
+  module _ (clean : IsCleanBefore d OfTypeSets) (sets : List TypeSetParts) (needed : AreNeededSets d sets) where
     pub first_of_type_sets : 255 < length sets → IsFirstFault d (TooManyTypeSets (length sets))
     first_of_type_sets many = record { position = OfTypeSets; shows = (_, refl, (sets, needed, refl, many)); first = clean }
 

@@ -4,17 +4,17 @@ use Rattle.std.specs.Prelude.{is_some}
 use Rattle.std.proofs.lemmas.Bool.{false≢true}
 use Rattle.std.proofs.lemmas.Option.{same_Some, slice_get_within}
 use Rattle.meta_types.specs.Function.{Function}
-use Rattle.meta_types.specs.ValueTypes.{shape_of}
+use Rattle.meta_types.specs.ValueTypes.{type_parts_of}
 use Rattle.meta_types.specs.declared.value_type.ValueType.{ValueType}
 use Rattle.meta_typevar.specs.Chain.{IsFixed, IsFixedNowhere}
-use Rattle.meta_typevar.specs.FourSets.{FourSets, HasOne}
+use Rattle.meta_typevar.specs.TypeSetParts.{TypeSetParts, HasOne}
 use Rattle.meta_typevar.specs.Variable.{Variable, IsOpen, underived}
 use Rattle.meta_typevar.specs.Registry.{sets_of, variable_at, coded_of, coded_at, IsRaw, IsKept, IsRegistry, HoldTypeSets}
 use Rattle.meta_typevar.specs.declared.content.TypeVarContent.{TypeVarContent}
 use Rattle.meta_inst.specs.Builder.{Builder}
 use Rattle.meta_inst.specs.Instruction.{Instruction}
-use Rattle.meta_inst.specs.InstructionSet.{InstructionSet, root_sets, instruction_of}
-use Rattle.meta_inst.specs.Operands.{OperandList, instruction_with, AreOf}
+use Rattle.meta_inst.specs.InstructionSet.{InstructionSet, root_sets, instruction_in_set}
+use Rattle.meta_inst.specs.Operands.{OperandList, instruction_of_operands, AreOf}
 use Rattle.meta_inst.specs.Control.{IsControl}
 use Rattle.meta_inst.specs.Faults.{IsAt, IsControlSet, IsFreeSet}
 use Rattle.meta_typevar.proofs.Variables.{one_variable, underived_told}
@@ -30,18 +30,18 @@ by_option : (vars : List TypeVarContent) (c : Option ℕ) (w : Variable) → con
 by_option vars None w e = absurd (cc)
 by_option vars (Some m) w e = (m, refl, same_Some (variable_at vars m) w e)
 
-module _ (vars : List TypeVarContent) (o : OperandList) (within : o.result_count ≤ length o.variables) (c : Option ℕ) (is_control : IsControl (sets_of vars) (instruction_with vars o) (control_at vars c)) (registry : IsRegistry vars) (are : AreOf vars o.variables) (of : IsOfRegistry vars c) where
+module _ (vars : List TypeVarContent) (o : OperandList) (within : o.result_count ≤ length o.variables) (c : Option ℕ) (is_control : IsControl (sets_of vars) (instruction_of_operands vars o) (control_at vars c)) (registry : IsRegistry vars) (are : AreOf vars o.variables) (of : IsOfRegistry vars c) where
   abbrev i : Instruction
-  i = instruction_with vars o
+  i = instruction_of_operands vars o
 
-  from_control : (s : FourSets) → IsControlSetOf vars c s → NeedsAtPlace (sets_of vars) i 0 s
+  from_control : (s : TypeSetParts) → IsControlSetOf vars c s → NeedsAtPlace (sets_of vars) i 0 s
   from_control s h = record {
     control = control_at vars c;
     is_control = is_control;
     needs = record { variable = variable_at vars h.variable; controls = ap (control_at vars) h.controls; set = h.set };
   }
 
-  from_free : (k : ℕ) (s : FourSets) → IsFreeSetAt vars c o.variables k s → NeedsAtPlace (sets_of vars) i (suc k) s
+  from_free : (k : ℕ) (s : TypeSetParts) → IsFreeSetAt vars c o.variables k s → NeedsAtPlace (sets_of vars) i (suc k) s
   from_free k s h = record {
     control = control_at vars c;
     is_control = is_control;
@@ -61,12 +61,12 @@ module _ (vars : List TypeVarContent) (o : OperandList) (within : o.result_count
     );
   }
 
-  control_back : (s : FourSets) → IsControlSet (sets_of vars) (control_at vars c) s → IsControlSetOf vars c s
+  control_back : (s : TypeSetParts) → IsControlSet (sets_of vars) (control_at vars c) s → IsControlSetOf vars c s
   control_back s h =
       let (m, by, same) = by_option vars c h.variable h.controls in
       record { variable = m; controls = by; set = h.set ∙ ap (λ (w : Variable). sets_of vars w.root) (sym same) }
 
-  free_back : (s : FourSets) (f : IsFreeSet (sets_of vars) i (control_at vars c) s) → IsFreeSetAt vars c o.variables f.place s
+  free_back : (s : TypeSetParts) (f : IsFreeSet (sets_of vars) i (control_at vars c) s) → IsFreeSetAt vars c o.variables f.place s
   free_back s h =
       let (n, at, e) = operand_from vars o within registry are h.place h.variable h.operand in
       record {
@@ -81,16 +81,16 @@ module _ (vars : List TypeVarContent) (o : OperandList) (within : o.result_count
       }
 
   -- a need under the control that was found
-  under : (k : ℕ) (s : FourSets) → NeedsAtPlace (sets_of vars) i k s → NeedsUnder (sets_of vars) i (control_at vars c) k s
+  under : (k : ℕ) (s : TypeSetParts) → NeedsAtPlace (sets_of vars) i k s → NeedsUnder (sets_of vars) i (control_at vars c) k s
   under k s n = subst (λ (v : Option Variable). NeedsUnder (sets_of vars) i v k s) (same_control (sets_of vars) i n.control (control_at vars c) n.is_control is_control) n.needs
 
-  first_back : (s : FourSets) → NeedsAtPlace (sets_of vars) i 0 s → IsControlSetOf vars c s
+  first_back : (s : TypeSetParts) → NeedsAtPlace (sets_of vars) i 0 s → IsControlSetOf vars c s
   first_back s n = control_back s (under 0 s n)
 
-  behind_back : (k : ℕ) (s : FourSets) → NeedsAtPlace (sets_of vars) i (suc k) s → IsFreeSetAt vars c o.variables k s
+  behind_back : (k : ℕ) (s : TypeSetParts) → NeedsAtPlace (sets_of vars) i (suc k) s → IsFreeSetAt vars c o.variables k s
   behind_back k s n = let f = under (suc k) s n in subst (λ p. IsFreeSetAt vars c o.variables p s) f.1 (free_back s f.0)
 
-  no_more : (place : ℕ) (s : FourSets) → suc (length o.variables) ≤ place → NeedsAtPlace (sets_of vars) i place s → ⊥
+  no_more : (place : ℕ) (s : TypeSetParts) → suc (length o.variables) ≤ place → NeedsAtPlace (sets_of vars) i place s → ⊥
   no_more zero s l n = omega (arith, l)
   no_more (suc k) s l n =
       let f = behind_back k s n in
@@ -98,7 +98,7 @@ module _ (vars : List TypeVarContent) (o : OperandList) (within : o.result_count
       omega (arith, l, inside)
 
   -- the set of the control and then those of the operands
-  pub adds_needed : (a b d : List FourSets) → AddsSome (IsControlSetOf vars c) a b → AddsEach (IsFreeSetAt vars c o.variables) (length o.variables) b d → AddsNeeded (sets_of vars) i a d
+  pub adds_needed : (a b d : List TypeSetParts) → AddsSome (IsControlSetOf vars c) a b → AddsEach (IsFreeSetAt vars c o.variables) (length o.variables) b d → AddsNeeded (sets_of vars) i a d
   adds_needed a b d first rest = record {
     end = suc (length o.variables);
     each = each_behind (NeedsAtPlace (sets_of vars) i) (length o.variables) a b d
@@ -109,18 +109,18 @@ module _ (vars : List TypeVarContent) (o : OperandList) (within : o.result_count
 
 -- the needs of the instruction at a place
 module _ (d : InstructionSet) (k : ℕ) (b : Builder) (at : IsAt d k b) where
-  in_order : (p : ℕ) (s : FourSets) → NeedsAtPlace (root_sets d) (instruction_of d b) p s → NeedsInOrder d k p s
+  in_order : (p : ℕ) (s : TypeSetParts) → NeedsAtPlace (root_sets d) (instruction_in_set d b) p s → NeedsInOrder d k p s
   in_order p s n = record { user = b; at = at; needs = n }
 
-  at_place : (p : ℕ) (s : FourSets) → NeedsInOrder d k p s → NeedsAtPlace (root_sets d) (instruction_of d b) p s
+  at_place : (p : ℕ) (s : TypeSetParts) → NeedsInOrder d k p s → NeedsAtPlace (root_sets d) (instruction_in_set d b) p s
   at_place p s n =
       let same : n.user ≡ b = same_Some n.user b (sym n.at ∙ at) in
-      subst (λ (u : Builder). NeedsAtPlace (root_sets d) (instruction_of d u) p s) same n.needs
+      subst (λ (u : Builder). NeedsAtPlace (root_sets d) (instruction_in_set d u) p s) same n.needs
 
-  pub instruction_more : (x y : List FourSets) → HoldTypeSets d.vars → IsInterned d k 0 x → AddsNeeded (root_sets d) (instruction_of d b) x y → IsInterned d (k + 1) 0 y
+  pub instruction_more : (x y : List TypeSetParts) → HoldTypeSets d.vars → IsInterned d k 0 x → AddsNeeded (root_sets d) (instruction_in_set d b) x y → IsInterned d (k + 1) 0 y
   instruction_more x y types h a =
       next_instruction d k a.end y
-      (needs_more d types k a.end x y h (each_like (NeedsAtPlace (root_sets d) (instruction_of d b)) (NeedsInOrder d k) a.end x y in_order at_place a.each))
+      (needs_more d types k a.end x y h (each_like (NeedsAtPlace (root_sets d) (instruction_in_set d b)) (NeedsInOrder d k) a.end x y in_order at_place a.each))
       (λ p s l n. a.no_more p s l (at_place p s n))
 
 -- what is kept of a root as its set is its coded image
@@ -128,24 +128,24 @@ pub root_raw : (vars : List TypeVarContent) (r : ℕ) → variable_at vars r ≡
 root_raw vars r e = sym (ap (coded_of vars) e)
 
 -- the set that is read of a root is that of the variable's root
-pub set_is : (vars : List TypeVarContent) (n r : ℕ) (x : FourSets) → r ≡ (variable_at vars n).root → variable_at vars r ≡ underived r → x ≡ coded_at vars r → x ≡ sets_of vars (variable_at vars n).root
+pub set_is : (vars : List TypeVarContent) (n r : ℕ) (x : TypeSetParts) → r ≡ (variable_at vars n).root → variable_at vars r ≡ underived r → x ≡ coded_at vars r → x ≡ sets_of vars (variable_at vars n).root
 set_is vars n r x at e is = is ∙ sym (root_raw vars r e) ∙ ap (sets_of vars) at
 
 same_variable : (c : Option ℕ) (v w : ℕ) → c ≡ Some v → c ≡ Some w → v ≡ w
 same_variable c v w e f = same_Some v w (sym e ∙ f)
 
 -- the set of the variable that controls
-pub adds_control : (vars : List TypeVarContent) (c : Option ℕ) (v : ℕ) (a b : List FourSets) → c ≡ Some v → Adds (sets_of vars (variable_at vars v).root) a b → AddsSome (IsControlSetOf vars c) a b
+pub adds_control : (vars : List TypeVarContent) (c : Option ℕ) (v : ℕ) (a b : List TypeSetParts) → c ≡ Some v → Adds (sets_of vars (variable_at vars v).root) a b → AddsSome (IsControlSetOf vars c) a b
 adds_control vars c v a b is = adds_one (IsControlSetOf vars c) (sets_of vars (variable_at vars v).root) a b
     (record { variable = v; controls = is; set = refl })
     (λ s h. h.set ∙ ap (λ n. sets_of vars (variable_at vars n).root) (same_variable c h.variable v h.controls is))
 
 -- the variable controls
-pub adds_controlling : (vars : List TypeVarContent) (c : Option ℕ) (n : ℕ) (sets : List FourSets) → c ≡ Some n → AddsSome (IsFreeSetOf vars c n) sets sets
+pub adds_controlling : (vars : List TypeVarContent) (c : Option ℕ) (n : ℕ) (sets : List TypeSetParts) → c ≡ Some n → AddsSome (IsFreeSetOf vars c n) sets sets
 adds_controlling vars c n sets is = adds_none (IsFreeSetOf vars c n) sets (λ s h. h.other is)
 
 -- the variable is derived
-pub adds_derived : (vars : List TypeVarContent) (c : Option ℕ) (n : ℕ) (d : TypeVarContent) (sets : List FourSets) (r : Bool) → IsRegistry vars → IsKept vars n d → r ≡ is_some d.base → r ≡ true → AddsSome (IsFreeSetOf vars c n) sets sets
+pub adds_derived : (vars : List TypeVarContent) (c : Option ℕ) (n : ℕ) (d : TypeVarContent) (sets : List TypeSetParts) (r : Bool) → IsRegistry vars → IsKept vars n d → r ≡ is_some d.base → r ≡ true → AddsSome (IsFreeSetOf vars c n) sets sets
 adds_derived vars c n d sets r registry kept is some = adds_none (IsFreeSetOf vars c n) sets
     (λ s h. let none = (underived_told vars n d registry kept).1 h.underived in false≢true (sym (ap is_some none) ∙ sym is ∙ some))
 
@@ -157,22 +157,22 @@ nothing_there (Some x) e = absurd (cc)
 pub underived_by : (vars : List TypeVarContent) (n : ℕ) (d : TypeVarContent) (r : Bool) → IsRegistry vars → IsKept vars n d → r ≡ is_some d.base → r ≡ false → (variable_at vars n).chain ≡ []
 underived_by vars n d r registry kept is none = (underived_told vars n d registry kept).0 (nothing_there d.base (sym is ∙ none))
 
-module _ (vars : List TypeVarContent) (c : Option ℕ) (n : ℕ) (o : Option ValueType) (r : Bool) (found : IfSome o (λ t. IsFixed (sets_of vars (variable_at vars n).root) (variable_at vars n).chain (shape_of t))) (nowhere : IfNone o (IsOpen (sets_of vars) (variable_at vars n))) (is : r ≡ is_some o) (underived : (variable_at vars n).chain ≡ []) where
-  abbrev own_set : FourSets
+module _ (vars : List TypeVarContent) (c : Option ℕ) (n : ℕ) (o : Option ValueType) (r : Bool) (found : IfSome o (λ t. IsFixed (sets_of vars (variable_at vars n).root) (variable_at vars n).chain (type_parts_of t))) (nowhere : IfNone o (IsOpen (sets_of vars) (variable_at vars n))) (is : r ≡ is_some o) (underived : (variable_at vars n).chain ≡ []) where
+  abbrev own_set : TypeSetParts
   own_set = sets_of vars (variable_at vars n).root
 
   -- whether a type is fixed for an underived variable
   one_of : IsTrue (is_some o) ↔ HasOne own_set
   one_of = one_told own_set o
-      (subst (λ (fs : List Function). IfSome o (λ t. IsFixed own_set fs (shape_of t))) underived found)
+      (subst (λ (fs : List Function). IfSome o (λ t. IsFixed own_set fs (type_parts_of t))) underived found)
       (subst (λ (fs : List Function). IfNone o (IsFixedNowhere own_set fs)) underived nowhere)
 
   -- a type is fixed for the variable
-  pub adds_fixed : (sets : List FourSets) → r ≡ true → AddsSome (IsFreeSetOf vars c n) sets sets
+  pub adds_fixed : (sets : List TypeSetParts) → r ≡ true → AddsSome (IsFreeSetOf vars c n) sets sets
   adds_fixed sets fixed = adds_none (IsFreeSetOf vars c n) sets (λ s h. h.several (subst HasOne (sym h.set) (one_of.0 (sym is ∙ fixed))))
 
   -- none is, and it doesn't control
-  pub adds_open : (a b : List FourSets) (controls : Bool) → r ≡ false → (IsTrue controls ↔ (c ≡ Some n)) → controls ≡ false → Adds own_set a b → AddsSome (IsFreeSetOf vars c n) a b
+  pub adds_open : (a b : List TypeSetParts) (controls : Bool) → r ≡ false → (IsTrue controls ↔ (c ≡ Some n)) → controls ≡ false → Adds own_set a b → AddsSome (IsFreeSetOf vars c n) a b
   adds_open a b controls open_set told other = adds_one (IsFreeSetOf vars c n) own_set a b
       (record {
         other = λ by. false≢true (sym other ∙ told.1 by);
@@ -183,7 +183,7 @@ module _ (vars : List TypeVarContent) (c : Option ℕ) (n : ℕ) (o : Option Val
       (λ s h. h.set)
 
 -- one variable more
-pub one_place_more : (vars : List TypeVarContent) (c : Option ℕ) (numbers : List ℕ) (k n : ℕ) (a b d : List FourSets) → slice_get numbers k ≡ Some n → AddsEach (IsFreeSetAt vars c numbers) k a b → AddsSome (IsFreeSetOf vars c n) b d → AddsEach (IsFreeSetAt vars c numbers) (k + 1) a d
+pub one_place_more : (vars : List TypeVarContent) (c : Option ℕ) (numbers : List ℕ) (k n : ℕ) (a b d : List TypeSetParts) → slice_get numbers k ≡ Some n → AddsEach (IsFreeSetAt vars c numbers) k a b → AddsSome (IsFreeSetOf vars c n) b d → AddsEach (IsFreeSetAt vars c numbers) (k + 1) a d
 one_place_more vars c numbers k n a b d at h g =
     subst (λ m. AddsEach (IsFreeSetAt vars c numbers) m a d) (sym (add-one k)) (
       b,

@@ -1,7 +1,7 @@
 -- What is built of declarations.
 --     AreBuilt b      the parts are what is built of the declarations, which show no fault
 use Rattle.std.specs.Prelude.{◌≡◌, ◌≤◌, ℕ, List, length, map}
-use Rattle.meta_typevar.specs.FourSets.{FourSets}
+use Rattle.meta_typevar.specs.TypeSetParts.{TypeSetParts}
 use Rattle.meta_inst.specs.Built.{Built}
 use Rattle.meta_settings.specs.Layout.{Layout}
 use Rattle.meta_settings.specs.LaidOut.{built_of}
@@ -17,7 +17,7 @@ pub record BuiltDeclarations : Type 0 where
   pub instructions : List Built
   pub formats : List ℕ
   pub groups : List Layout
-  pub type_sets : List FourSets
+  pub type_sets : List TypeSetParts
 
 -- the declarations show no fault, each instruction and each group is built in its order, the formats are those in use by
 -- their names, and the type sets are those that the

@@ -1,6 +1,6 @@
 ghost use Rattle.std.specs.Prelude.{◌≡◌, ◌<◌, ◌≤◌, ℕ, IfOk, OnOk, length, Some};
 ghost use Rattle.meta_typevar.specs.Registry.{sets_of, variable_at, IsRegistry};
-ghost use Rattle.meta_inst.specs.Operands.{AreOf, instruction_with};
+ghost use Rattle.meta_inst.specs.Operands.{AreOf, instruction_of_operands};
 ghost use Rattle.meta_inst.specs.Control.{IsControl};
 ghost use Rattle.meta_inst.specs.InstructionSet.{Fits};
 ghost use Rattle.meta_inst.specs.Content.{ctrl_number};
@@ -90,9 +90,9 @@ fn intern_instruction<'d>(
     requires variables { AreOf vars.now instruction.now.value_operands.variables }
     requires within { instruction.now.value_operands.result_count ≤ length instruction.now.value_operands.variables }
     requires registry { IsRegistry vars.now }
-    requires control { IsControl (sets_of vars.now) (instruction_with vars.now instruction.now.value_operands) (control_at vars.now (ctrl_number instruction.now.polymorphic_info)) }
+    requires control { IsControl (sets_of vars.now) (instruction_of_operands vars.now instruction.now.value_operands) (control_at vars.now (ctrl_number instruction.now.polymorphic_info)) }
     requires of_registry { IsOfRegistry vars.now (ctrl_number instruction.now.polymorphic_info) }
-    ensures { OnOk result (AddsNeeded (sets_of vars.now) (instruction_with vars.now instruction.now.value_operands) type_sets.old type_sets.new) }
+    ensures { OnOk result (AddsNeeded (sets_of vars.now) (instruction_of_operands vars.now instruction.now.value_operands) type_sets.old type_sets.new) }
 {
     let control = instruction.ctrl_typevar();
     intern_control(type_sets, vars, &control)?;

@@ -7,7 +7,7 @@ use Rattle.std.proofs.lemmas.List.{same_from_push}
 use Rattle.meta_lists.proofs.Pushed.{not_empty}
 use Rattle.meta_types.specs.Function.{Function}
 use Rattle.meta_types.specs.DerivedFunc.{function_of}
-use Rattle.meta_types.specs.ValueTypes.{shape_of}
+use Rattle.meta_types.specs.ValueTypes.{type_parts_of}
 use Rattle.meta_types.specs.declared.value_type.ValueType.{ValueType}
 use Rattle.meta_typevar.specs.Chain.{IsFixed}
 use Rattle.meta_typevar.specs.Variable.{Variable, IsDerivedBy, IsOpen}
@@ -17,7 +17,7 @@ use Rattle.meta_typevar.specs.declared.content.TypeVarParent.{TypeVarParent}
 use Rattle.meta_typevar.proofs.Variables.{child_variable, underived_told, one_variable}
 use Rattle.meta_inst.specs.Control.{IsBadlyDerived, HasBadDerivation, IsFirstBadDerivation}
 use Rattle.meta_inst.specs.FoundControl.{control_in, IsBadAt, IsFirstBadAt, IsOf}
-use Rattle.meta_inst.specs.Operands.{OperandList, instruction_with, AreOf}
+use Rattle.meta_inst.specs.Operands.{OperandList, instruction_of_operands, AreOf}
 use Rattle.meta_inst.specs.declared.operands.Controlling.{Controlling}
 use Rattle.meta_inst.specs.declared.operands.Controlling.TheVariants.{NotPolymorphic, By, Missing}
 use Rattle.meta_inst.proofs.Underived.{none_is}
@@ -76,11 +76,11 @@ module _ (vars : List TypeVarContent) (r : IsRegistry vars) (c : Controlling) (n
         other (by ∙ ap By (one_parent vars r n d k p e m f (of m by) (subst (λ (x : Variable). IsDerivedBy x (variable_at vars n) f) (sym same) h)))
 
     -- and what is derived from another is, where no type is fixed for it
-    pub other_bad : (c ≡ By p.type_var → ⊥) → IsOf vars c → (o : Option ValueType) → IfSome o (λ t. IsFixed (sets_of vars (variable_at vars n).root) (variable_at vars n).chain (shape_of t)) → IfNone o (IsOpen (sets_of vars) (variable_at vars n)) → (b : Bool) → is_some o ≡ not b → IsTrue b ↔ Bad
+    pub other_bad : (c ≡ By p.type_var → ⊥) → IsOf vars c → (o : Option ValueType) → IfSome o (λ t. IsFixed (sets_of vars (variable_at vars n).root) (variable_at vars n).chain (type_parts_of t)) → IfNone o (IsOpen (sets_of vars) (variable_at vars n)) → (b : Bool) → is_some o ≡ not b → IsTrue b ↔ Bad
     other_bad other of None found free b is =
         (λ t. record { derived = not_root vars r n d k p e; not_fixed = free; no_step = no_step other of }, λ h. (none_is {X = ValueType} None b is).1 refl)
     other_bad other of (Some t) found free b is =
-        (λ yes. let none : Some t ≡ None = (none_is {X = ValueType} (Some t) b is).0 yes in absurd (cc), λ h. absurd (h.not_fixed (shape_of t) found))
+        (λ yes. let none : Some t ≡ None = (none_is {X = ValueType} (Some t) b is).0 yes in absurd (cc), λ h. absurd (h.not_fixed (type_parts_of t) found))
 
 -- what a test of one variable says of the place where it stands
 pub not_bad_at : (vars : List TypeVarContent) (c : Controlling) (numbers : List ℕ) (place n : ℕ) → slice_get numbers place ≡ Some n → (IsBadlyDerived (sets_of vars) (control_in vars c) (variable_at vars n) → ⊥) → IsBadAt vars c numbers place → ⊥
@@ -88,25 +88,25 @@ not_bad_at vars c numbers place n at none h =
     none (subst (λ m. IsBadlyDerived (sets_of vars) (control_in vars c) (variable_at vars m)) (same_Some h.number n (sym h.at ∙ at)) h.bad)
 
 module _ (vars : List TypeVarContent) (o : OperandList) (within : o.result_count ≤ length o.variables) (registry : IsRegistry vars) (are : AreOf vars o.variables) (c : Controlling) where
-  bad_to : (k : ℕ) → IsBadAt vars c o.variables k → HasBadDerivation (sets_of vars) (instruction_with vars o) (control_in vars c) k
+  bad_to : (k : ℕ) → IsBadAt vars c o.variables k → HasBadDerivation (sets_of vars) (instruction_of_operands vars o) (control_in vars c) k
   bad_to k h = record { variable = variable_at vars h.number; operand = operand_at vars o within registry are k h.number h.at; bad = h.bad }
 
-  bad_from : (k : ℕ) → HasBadDerivation (sets_of vars) (instruction_with vars o) (control_in vars c) k → IsBadAt vars c o.variables k
+  bad_from : (k : ℕ) → HasBadDerivation (sets_of vars) (instruction_of_operands vars o) (control_in vars c) k → IsBadAt vars c o.variables k
   bad_from k h =
       let (n, at, is) = operand_from vars o within registry are k h.variable h.operand in
       record { number = n; at = at; bad = subst (λ (w : Variable). IsBadlyDerived (sets_of vars) (control_in vars c) w) is h.bad }
 
   -- what was found among the variables is found of the instruction
-  pub first_bad : (k : ℕ) → IsFirstBadAt vars c o.variables k → IsFirstBadDerivation (sets_of vars) (instruction_with vars o) (control_in vars c) k
+  pub first_bad : (k : ℕ) → IsFirstBadAt vars c o.variables k → IsFirstBadDerivation (sets_of vars) (instruction_of_operands vars o) (control_in vars c) k
   first_bad k h = record { bad = bad_to k h.bad; first = λ j l b. h.first j l (bad_from j b) }
 
-  pub none_bad : ((k : ℕ) → IsBadAt vars c o.variables k → ⊥) → (k : ℕ) → HasBadDerivation (sets_of vars) (instruction_with vars o) (control_in vars c) k → ⊥
+  pub none_bad : ((k : ℕ) → IsBadAt vars c o.variables k → ⊥) → (k : ℕ) → HasBadDerivation (sets_of vars) (instruction_of_operands vars o) (control_in vars c) k → ⊥
   none_bad none k h = none k (bad_from k h)
 
-  pub first_bad_some : (a : Option ℕ) → IfSome a (IsFirstBadAt vars c o.variables) → IfSome a (IsFirstBadDerivation (sets_of vars) (instruction_with vars o) (control_in vars c))
+  pub first_bad_some : (a : Option ℕ) → IfSome a (IsFirstBadAt vars c o.variables) → IfSome a (IsFirstBadDerivation (sets_of vars) (instruction_of_operands vars o) (control_in vars c))
   first_bad_some None h = h
   first_bad_some (Some k) h = first_bad k h
 
-  pub none_bad_none : (a : Option ℕ) → IfNone a ((k : ℕ) → IsBadAt vars c o.variables k → ⊥) → IfNone a ((k : ℕ) → HasBadDerivation (sets_of vars) (instruction_with vars o) (control_in vars c) k → ⊥)
+  pub none_bad_none : (a : Option ℕ) → IfNone a ((k : ℕ) → IsBadAt vars c o.variables k → ⊥) → IfNone a ((k : ℕ) → HasBadDerivation (sets_of vars) (instruction_of_operands vars o) (control_in vars c) k → ⊥)
   none_bad_none None h = none_bad h
   none_bad_none (Some k) h = h

@@ -6,15 +6,15 @@ use Rattle.meta_typevar.specs.declared.content.TypeVarContent.{TypeVarContent}
 use Rattle.meta_operands.specs.Operand.{variables_of}
 use Rattle.meta_operands.specs.declared.format.InstructionFormat.{InstructionFormat}
 use Rattle.meta_inst.specs.Builder.{Builder, inputs_of, outputs_of}
-use Rattle.meta_inst.specs.Operands.{AreOf, instruction_with}
-use Rattle.meta_inst.specs.InstructionSet.{instruction_in, designated_in, begins_with_value, FitsBuilder}
+use Rattle.meta_inst.specs.Operands.{AreOf, instruction_of_operands}
+use Rattle.meta_inst.specs.InstructionSet.{instruction_of_builder, designated_in, begins_with_value, FitsBuilder}
 use Rattle.std.specs.List.{slice_get}
 use Rattle.meta_lists.proofs.Places.{get_cases}
 use Rattle.meta_inst.specs.Content.{operand_list}
 
 module _ (vars : List TypeVarContent) (formats : List InstructionFormat) (b : Builder) where
   -- they are those of the instruction
-  pub listed : instruction_with vars (operand_list formats b) ≡ instruction_in vars formats b
+  pub listed : instruction_of_operands vars (operand_list formats b) ≡ instruction_of_builder vars formats b
   listed =
       let results = ap (map (variable_at vars)) (take-append_seam (variables_of (outputs_of b)) (variables_of (inputs_of b))) in
       let values = ap (map (variable_at vars)) (drop-append_seam (variables_of (outputs_of b)) (variables_of (inputs_of b))) in

@@ -5,14 +5,14 @@ use Rattle.std.proofs.lemmas.Option.{same_Some, option_and_then_some}
 use Rattle.std.proofs.lemmas.List.{take-append-drop, map-append, length-map, length-take}
 use Rattle.meta_lists.proofs.Places.{get_drop, get_taken}
 use Rattle.meta_lists.proofs.Mapped.{get_map, get_mapped}
-use Rattle.meta_typevar.specs.FourSets.{HasOne}
+use Rattle.meta_typevar.specs.TypeSetParts.{HasOne}
 use Rattle.meta_typevar.specs.Variable.{Variable}
 use Rattle.meta_typevar.specs.Registry.{sets_of, variable_at, IsRegistry}
 use Rattle.meta_typevar.proofs.Variables.{kept_at, underived_told, root_is, one_variable}
 use Rattle.meta_typevar.specs.declared.content.TypeVarContent.{TypeVarContent}
 use Rattle.meta_inst.specs.Instruction.{Instruction, operands, IsOperand, IsDesignated, IsFirstOutput}
 use Rattle.meta_inst.specs.Control.{IsLoneInput, IsRuled, MayControl, IsPolymorphic, HasOneEverywhere, IsControlledBy, DesignatesNone}
-use Rattle.meta_inst.specs.Operands.{OperandList, instruction_with, variables_at, IsLone, LetsControl, CanControl, HasSeveralTypes, AllHaveOneType, designated_number, first_number, AreOf}
+use Rattle.meta_inst.specs.Operands.{OperandList, instruction_of_operands, variables_at, IsLone, LetsControl, CanControl, HasSeveralTypes, AllHaveOneType, designated_number, first_number, AreOf}
 use Rattle.meta_inst.specs.FoundControl.{IsFound, IsFoundIn, MayNot, IsChosen}
 use Rattle.meta_inst.specs.declared.operands.Controlling.{Controlling}
 use Rattle.meta_inst.specs.declared.operands.Controlling.TheVariants.{NotPolymorphic, By, Missing}
@@ -36,7 +36,7 @@ root_self vars v r l e =
 
 module _ (vars : List TypeVarContent) (o : OperandList) (within : o.result_count ≤ length o.variables) (registry : IsRegistry vars) (are : AreOf vars o.variables) where
   abbrev i : Instruction
-  i = instruction_with vars o
+  i = instruction_of_operands vars o
 
   -- the operands are the variables
   all_operands : operands i ≡ variables_at vars o.variables

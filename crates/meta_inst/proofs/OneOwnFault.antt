@@ -12,7 +12,7 @@ use Rattle.meta_typevar.specs.declared.content.TypeVarContent.{TypeVarContent}
 use Rattle.meta_operands.specs.declared.format.InstructionFormat.{InstructionFormat}
 use Rattle.meta_inst.specs.Builder.{Builder}
 use Rattle.meta_inst.specs.Instruction.{Instruction}
-use Rattle.meta_inst.specs.InstructionSet.{instruction_in}
+use Rattle.meta_inst.specs.InstructionSet.{instruction_of_builder}
 use Rattle.meta_typevar.specs.Registry.{sets_of}
 use Rattle.meta_inst.specs.Control.{IsFirstBadDerivation, DerivesBadly}
 use Rattle.meta_inst.specs.InstructionFaults.{AreTooMany, Rule, NameRule, DuplicateRule, OutputRule, MismatchRule, ControlRule, DerivationRule, CountRule, MethodRule, rule_number, rule_key, Breaks, IsFirstOwnFault}
@@ -56,7 +56,7 @@ module _ (vars : List TypeVarContent) (formats : List InstructionFormat) (b : Bu
   one_broken OutputRule e f h g = h.1 ∙ ap (BadOutput n) (same_Some h.0 g.0 (sym h.2 ∙ g.2)) ∙ sym g.1
   one_broken MismatchRule e f h g = h.0 ∙ sym g.0
   one_broken ControlRule e f h g = h.0 ∙ sym g.0
-  one_broken DerivationRule e f h g = h.1 ∙ ap (BadDerivation n) (one_bad (sets_of vars) (instruction_in vars formats b) h.0 g.0 h.2 g.2) ∙ sym g.1
+  one_broken DerivationRule e f h g = h.1 ∙ ap (BadDerivation n) (one_bad (sets_of vars) (instruction_of_builder vars formats b) h.0 g.0 h.2 g.2) ∙ sym g.1
   one_broken CountRule e f h g = h.1 ∙ ap (TooManyOperands n) (one_many _ _ h.0 g.0 h.2 g.2) ∙ sym g.1
   one_broken MethodRule e f h g = h.0 ∙ sym g.0
 

@@ -13,8 +13,8 @@ use Rattle.meta_operands.specs.declared.format.InstructionFormat.{InstructionFor
 use Rattle.meta_inst.specs.Builder.{Builder, inputs_of, outputs_of}
 use Rattle.meta_inst.specs.Control.{HasBadDerivation, IsFirstBadDerivation}
 use Rattle.meta_inst.specs.FoundControl.{control_in, IsFound, AreOperandsOf}
-use Rattle.meta_inst.specs.InstructionSet.{instruction_in}
-use Rattle.meta_inst.specs.Operands.{OperandList, instruction_with}
+use Rattle.meta_inst.specs.InstructionSet.{instruction_of_builder}
+use Rattle.meta_inst.specs.Operands.{OperandList, instruction_of_operands}
 use Rattle.meta_inst.specs.InstructionFaults.{HasBadOutput, LacksItsControl, IsDerivedBadlyAt, AreTooMany, HasTooManyOperands, TakesNoImmediate, HasBadImmMethod, Rule, NameRule, DuplicateRule, OutputRule, MismatchRule, ControlRule, DerivationRule, CountRule, MethodRule, rule_number, rule_key, Breaks, IsWellMade, KeepsRulesBefore}
 use Rattle.meta_inst.specs.declared.operands.Controlling.{Controlling}
 use Rattle.meta_inst.specs.declared.operands.Controlling.TheVariants.{Missing}
@@ -46,21 +46,21 @@ module _ (vars : List TypeVarContent) (formats : List InstructionFormat) (b : Bu
 
 -- the rules for the operands, by what was found of these
 module _ {vars : List TypeVarContent} {formats : List InstructionFormat} {b : Builder} {o : OperandList} (operands : AreOperandsOf vars formats b o) where
-  module _ (c : Controlling) (found : IsFound vars (instruction_in vars formats b) c) (there : c ≡ Missing → ⊥) where
+  module _ (c : Controlling) (found : IsFound vars (instruction_of_builder vars formats b) c) (there : c ≡ Missing → ⊥) where
     has_control : LacksItsControl vars formats b → ⊥
-    has_control = found_controls vars (instruction_in vars formats b) c found there
+    has_control = found_controls vars (instruction_of_builder vars formats b) c found there
 
     pub kept_control : KeepsRulesBefore vars formats b ControlRule → KeepsRulesBefore vars formats b DerivationRule
     kept_control before = kept vars formats b ControlRule before (λ n e h. has_control h.1)
 
     -- the search for a bad derivation found one, or none
-    pub broken_derivation : (place : ℕ) → IsFirstBadDerivation (sets_of vars) (instruction_with vars o) (control_in vars c) place → IsDerivedBadlyAt vars formats b place
-    broken_derivation place h = search_found vars (instruction_in vars formats b) c found has_control place (subst (λ i. IsFirstBadDerivation (sets_of vars) i (control_in vars c) place) operands.meaning h)
+    pub broken_derivation : (place : ℕ) → IsFirstBadDerivation (sets_of vars) (instruction_of_operands vars o) (control_in vars c) place → IsDerivedBadlyAt vars formats b place
+    broken_derivation place h = search_found vars (instruction_of_builder vars formats b) c found has_control place (subst (λ i. IsFirstBadDerivation (sets_of vars) i (control_in vars c) place) operands.meaning h)
 
-    well_derived : ((k : ℕ) → HasBadDerivation (sets_of vars) (instruction_with vars o) (control_in vars c) k → ⊥) → (place : ℕ) → IsDerivedBadlyAt vars formats b place → ⊥
-    well_derived none = search_clean vars (instruction_in vars formats b) c found has_control (λ k h. none k (subst (λ i. HasBadDerivation (sets_of vars) i (control_in vars c) k) (sym operands.meaning) h))
+    well_derived : ((k : ℕ) → HasBadDerivation (sets_of vars) (instruction_of_operands vars o) (control_in vars c) k → ⊥) → (place : ℕ) → IsDerivedBadlyAt vars formats b place → ⊥
+    well_derived none = search_clean vars (instruction_of_builder vars formats b) c found has_control (λ k h. none k (subst (λ i. HasBadDerivation (sets_of vars) i (control_in vars c) k) (sym operands.meaning) h))
 
-    pub kept_derivation : KeepsRulesBefore vars formats b ControlRule → ((k : ℕ) → HasBadDerivation (sets_of vars) (instruction_with vars o) (control_in vars c) k → ⊥) → KeepsRulesBefore vars formats b CountRule
+    pub kept_derivation : KeepsRulesBefore vars formats b ControlRule → ((k : ℕ) → HasBadDerivation (sets_of vars) (instruction_of_operands vars o) (control_in vars c) k → ⊥) → KeepsRulesBefore vars formats b CountRule
     kept_derivation before none = kept vars formats b DerivationRule (kept_control before) (λ n e h. well_derived none h.0 h.2)
 
   module _ (results : ℕ) (variables : List ℕ) (count : results ≡ o.result_count) (is : variables ≡ o.variables) where

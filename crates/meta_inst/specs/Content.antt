@@ -19,7 +19,7 @@ use Rattle.meta_inst.specs.FormatMatch.{is_value_operand}
 use Rattle.meta_inst.specs.Instruction.{IsDesignated}
 use Rattle.meta_inst.specs.Control.{IsControl}
 use Rattle.meta_inst.specs.Operands.{OperandList}
-use Rattle.meta_inst.specs.InstructionSet.{instruction_in, designated_in, begins_with_value}
+use Rattle.meta_inst.specs.InstructionSet.{instruction_of_builder, designated_in, begins_with_value}
 
 -- the place, where the operand that stands there passes the test
 abbrev pub place_where : (Operand → Bool) → ℕ × Operand → Option ℕ
@@ -40,9 +40,9 @@ ctrl_number info = option_map (λ (p : PolymorphicInfo). p.ctrl_typevar) info
 -- what is kept of an instruction's control: it is that of the declaration, or none where the instruction isn't polymorphic;
 -- its variable is of the registry; and the mark says whether it is the designated operand's variable
 pub record IsPolymorphicInfoOf (vars : List TypeVarContent) (formats : List InstructionFormat) (b : Builder) (info : Option PolymorphicInfo) : Type 0 where
-  pub control : IsControl (sets_of vars) (instruction_in vars formats b) (control_kept vars info)
+  pub control : IsControl (sets_of vars) (instruction_of_builder vars formats b) (control_kept vars info)
   pub of_registry : (p : PolymorphicInfo) → info ≡ Some p → p.ctrl_typevar < length vars
-  pub designated : (p : PolymorphicInfo) → info ≡ Some p → (IsTrue p.use_typevar_operand ↔ IsDesignated (instruction_in vars formats b) (variable_at vars p.ctrl_typevar))
+  pub designated : (p : PolymorphicInfo) → info ≡ Some p → (IsTrue p.use_typevar_operand ↔ IsDesignated (instruction_of_builder vars formats b) (variable_at vars p.ctrl_typevar))
 
 -- the value operands of a declared instruction: the variables of its results and then of its values, how many are results, the
 -- place that its format designates, and whether its first output is a value

@@ -6,7 +6,7 @@
 --     HasBadDerivation sets i control k      the operand at place k is derived in a way that no constraint says
 --     DerivesBadly sets i place              the first such operand, under the control of i, is the one at the place
 use Rattle.std.specs.Prelude.{◌≡◌, ◌≢◌, ℕ, ◌<◌, ◌≤◌, ◌⊎◌, [], length, Option, None, Some}
-use Rattle.meta_typevar.specs.FourSets.{HasOne}
+use Rattle.meta_typevar.specs.TypeSetParts.{HasOne}
 use Rattle.meta_types.specs.Function.{Function}
 use Rattle.meta_typevar.specs.Variable.{Variable, Sets, IsDerivedBy, IsOpen}
 use Rattle.meta_inst.specs.Instruction.{Instruction, IsOperand, IsDesignated, IsFirstOutput}

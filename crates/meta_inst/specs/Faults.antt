@@ -9,7 +9,7 @@ use Rattle.meta_types.specs.FirstFault.{Key, key_at, IsFirst, ShowsNone}
 use Rattle.meta_types.specs.declared.fault.Place.TheVariants.{Instruction as AtInstruction, Format as AtFormat}
 use Rattle.meta_types.specs.declared.fault.DefinitionError.{DefinitionError}
 use Rattle.meta_types.specs.declared.fault.DefinitionError.TheVariants.{BadName, DuplicateName, TooManyOpcodes, BadFormat, FormatClash, TooManyTypeSets}
-use Rattle.meta_typevar.specs.FourSets.{FourSets, HasOne}
+use Rattle.meta_typevar.specs.TypeSetParts.{TypeSetParts, HasOne}
 use Rattle.meta_typevar.specs.Variable.{Variable, Sets}
 use Rattle.meta_operands.specs.declared.format.InstructionFormat.{InstructionFormat}
 use Rattle.meta_operands.specs.Structure.{SharesStructure}
@@ -17,7 +17,7 @@ use Rattle.meta_inst.specs.Builder.{Builder}
 use Rattle.meta_inst.specs.Instruction.{Instruction, IsOperand}
 use Rattle.meta_inst.specs.Control.{IsControl}
 use Rattle.meta_inst.specs.InstructionFaults.{Rule, DuplicateRule, rule_number, Breaks}
-use Rattle.meta_inst.specs.InstructionSet.{InstructionSet, root_sets, instruction_of}
+use Rattle.meta_inst.specs.InstructionSet.{InstructionSet, root_sets, instruction_in_set}
 
 -- the instruction at place k, counted from 0, and the number that a fault has for it, counted from 1
 abbrev pub IsAt : InstructionSet → ℕ → Builder → Type 0
@@ -63,13 +63,13 @@ pub record IsFirstClash (d : InstructionSet) (f k g : ℕ) : Type 0 where
   pub first : (i h : ℕ) → i < place → IsFirstUse d h i → AreClashing d f h → ⊥
 
 -- s is the set of the control
-pub record IsControlSet (sets : Sets) (control : Option Variable) (s : FourSets) : Type 0 where
+pub record IsControlSet (sets : Sets) (control : Option Variable) (s : TypeSetParts) : Type 0 where
   pub variable : Variable
   pub controls : control ≡ Some variable
   pub set : s ≡ sets variable.root
 
 -- s is the set of an underived value operand other than the control, and hasn't exactly one type
-pub record IsFreeSet (sets : Sets) (i : Instruction) (control : Option Variable) (s : FourSets) : Type 0 where
+pub record IsFreeSet (sets : Sets) (i : Instruction) (control : Option Variable) (s : TypeSetParts) : Type 0 where
   pub place : ℕ
   pub variable : Variable
   pub operand : IsOperand i place variable
@@ -80,26 +80,26 @@ pub record IsFreeSet (sets : Sets) (i : Instruction) (control : Option Variable)
 
 -- the instruction at place k needs the set in the tables: it is the set of its control, or that of another underived value
 -- operand whose set hasn't exactly one type
-pub record NeedsSetAt (d : InstructionSet) (k : ℕ) (s : FourSets) : Type 0 where
+pub record NeedsSetAt (d : InstructionSet) (k : ℕ) (s : TypeSetParts) : Type 0 where
   pub user : Builder
   pub at : IsAt d k user
   pub control : Option Variable
-  pub is_control : IsControl (root_sets d) (instruction_of d user) control
-  pub needs : IsControlSet (root_sets d) control s ⊎ IsFreeSet (root_sets d) (instruction_of d user) control s
+  pub is_control : IsControl (root_sets d) (instruction_in_set d user) control
+  pub needs : IsControlSet (root_sets d) control s ⊎ IsFreeSet (root_sets d) (instruction_in_set d user) control s
 
 -- an instruction needs the set
-abbrev pub NeedsSet : InstructionSet → FourSets → Type 0
+abbrev pub NeedsSet : InstructionSet → TypeSetParts → Type 0
 NeedsSet d s = (k : ℕ) × NeedsSetAt d k s
 
 -- these are the sets that the instructions need, each once
-pub record AreNeededSets (d : InstructionSet) (sets : List FourSets) : Type 0 where
-  pub needed : (k : ℕ) (s : FourSets) → slice_get sets k ≡ Some s → NeedsSet d s
-  pub all : (s : FourSets) → NeedsSet d s → (k : ℕ) × (slice_get sets k ≡ Some s)
-  pub once : (j k : ℕ) (s : FourSets) → slice_get sets j ≡ Some s → slice_get sets k ≡ Some s → j ≡ k
+pub record AreNeededSets (d : InstructionSet) (sets : List TypeSetParts) : Type 0 where
+  pub needed : (k : ℕ) (s : TypeSetParts) → slice_get sets k ≡ Some s → NeedsSet d s
+  pub all : (s : TypeSetParts) → NeedsSet d s → (k : ℕ) × (slice_get sets k ≡ Some s)
+  pub once : (j k : ℕ) (s : TypeSetParts) → slice_get sets j ≡ Some s → slice_get sets k ≡ Some s → j ≡ k
 
 -- the instructions need this many different sets, and these are more than 255
 abbrev pub HasTooManyTypeSets : InstructionSet → ℕ → Type 0
-HasTooManyTypeSets d count = (sets : List FourSets) × AreNeededSets d sets × (count ≡ length sets) × (255 < count)
+HasTooManyTypeSets d count = (sets : List TypeSetParts) × AreNeededSets d sets × (count ≡ length sets) × (255 < count)
 
 -- the rules for a format
 pub data FormatRule : Type 0 where

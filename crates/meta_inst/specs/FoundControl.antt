@@ -7,8 +7,8 @@ use Rattle.meta_inst.specs.Instruction.{Instruction}
 use Rattle.meta_operands.specs.Operand.{variables_of}
 use Rattle.meta_operands.specs.declared.format.InstructionFormat.{InstructionFormat}
 use Rattle.meta_inst.specs.Builder.{Builder, inputs_of, outputs_of}
-use Rattle.meta_inst.specs.InstructionSet.{instruction_in}
-use Rattle.meta_inst.specs.Operands.{OperandList, AreOf, instruction_with, CanControl, HasSeveralTypes, AllHaveOneType}
+use Rattle.meta_inst.specs.InstructionSet.{instruction_of_builder}
+use Rattle.meta_inst.specs.Operands.{OperandList, AreOf, instruction_of_operands, CanControl, HasSeveralTypes, AllHaveOneType}
 use Rattle.meta_inst.specs.Control.{HasOneEverywhere, IsControlledBy, HasNoControl, IsBadlyDerived}
 use Rattle.meta_inst.specs.declared.operands.Controlling.{Controlling}
 use Rattle.meta_inst.specs.declared.operands.Controlling.TheVariants.{NotPolymorphic, By, Missing}
@@ -64,7 +64,7 @@ IsOf vars control = (v : ℕ) → control ≡ By v → v < length vars
 
 -- o are the value operands of the declared instruction b
 pub record AreOperandsOf (vars : List TypeVarContent) (formats : List InstructionFormat) (b : Builder) (o : OperandList) : Type 0 where
-  pub meaning : instruction_with vars o ≡ instruction_in vars formats b
+  pub meaning : instruction_of_operands vars o ≡ instruction_of_builder vars formats b
   pub variables : o.variables ≡ variables_of (outputs_of b) ++ variables_of (inputs_of b)
   pub result_count : o.result_count ≡ length (variables_of (outputs_of b))
   pub of_registry : AreOf vars o.variables

@@ -17,7 +17,7 @@ use Rattle.meta_operands.specs.declared.format.InstructionFormat.{InstructionFor
 use Rattle.meta_inst.specs.Builder.{Builder, inputs_of, outputs_of}
 use Rattle.meta_inst.specs.FormatMatch.{MatchesFormat}
 use Rattle.meta_inst.specs.Control.{HasNoControl, DerivesBadly}
-use Rattle.meta_inst.specs.InstructionSet.{instruction_in}
+use Rattle.meta_inst.specs.InstructionSet.{instruction_of_builder}
 
 -- the rules for an instruction
 pub data Rule : Type 0 where
@@ -63,11 +63,11 @@ HasFormatMismatch formats b = (format : InstructionFormat) × (slice_get formats
 
 -- the instruction is polymorphic, and nothing controls it
 abbrev pub LacksItsControl : List TypeVarContent → List InstructionFormat → Builder → Type 0
-LacksItsControl vars formats b = HasNoControl (sets_of vars) (instruction_in vars formats b)
+LacksItsControl vars formats b = HasNoControl (sets_of vars) (instruction_of_builder vars formats b)
 
 -- under its control, the first operand that is badly derived is the one at the place, among results and then values
 abbrev pub IsDerivedBadlyAt : List TypeVarContent → List InstructionFormat → Builder → ℕ → Type 0
-IsDerivedBadlyAt vars formats b place = DerivesBadly (sets_of vars) (instruction_in vars formats b) place
+IsDerivedBadlyAt vars formats b place = DerivesBadly (sets_of vars) (instruction_of_builder vars formats b) place
 
 -- of so many value results and inputs there are too many: eight or more results, and how many; or, with fewer results, eight
 -- or more inputs, and how many

@@ -31,8 +31,8 @@ begins_with_value [] = false
 begins_with_value (first ∷ others) = is_some (variable_of first)
 
 -- the value operands of a declared instruction
-abbrev pub instruction_in : List TypeVarContent → List InstructionFormat → Builder → Instruction
-instruction_in vars formats b = record {
+abbrev pub instruction_of_builder : List TypeVarContent → List InstructionFormat → Builder → Instruction
+instruction_of_builder vars formats b = record {
   results = variables_at vars (variables_of (outputs_of b));
   values = variables_at vars (variables_of (inputs_of b));
   designated = designated_in (slice_get formats b.format);
@@ -40,8 +40,8 @@ instruction_in vars formats b = record {
 }
 
 -- the same of an instruction of these declarations
-abbrev pub instruction_of : InstructionSet → Builder → Instruction
-instruction_of d b = instruction_in d.vars d.formats b
+abbrev pub instruction_in_set : InstructionSet → Builder → Instruction
+instruction_in_set d b = instruction_of_builder d.vars d.formats b
 
 -- the instruction is of these registries: its format is of the table, and the variable of each value operand of the
 -- variables

@@ -2,7 +2,7 @@
 use Rattle.std.specs.Prelude.{◌≡◌, ◌<◌, ◌≤◌, ◌⊎◌, ℕ, Bool, List, [], length, ◌==◌, count_by, unwrap_or, map, take, drop, Option, slice_get, None, Some, option_and_then, if◌then◌else◌}
 use Rattle.meta_typevar.specs.Variable.{Variable}
 use Rattle.meta_typevar.specs.Registry.{variable_at, sets_of}
-use Rattle.meta_typevar.specs.FourSets.{HasOne}
+use Rattle.meta_typevar.specs.TypeSetParts.{HasOne}
 use Rattle.meta_typevar.specs.declared.content.TypeVarContent.{TypeVarContent}
 use Rattle.meta_inst.specs.Instruction.{Instruction}
 
@@ -19,8 +19,8 @@ abbrev pub variables_at : List TypeVarContent → List ℕ → List Variable
 variables_at vars numbers = map (variable_at vars) numbers
 
 -- the instruction with these operands
-abbrev pub instruction_with : List TypeVarContent → OperandList → Instruction
-instruction_with vars o = record {
+abbrev pub instruction_of_operands : List TypeVarContent → OperandList → Instruction
+instruction_of_operands vars o = record {
   results = variables_at vars (take o.result_count o.variables);
   values = variables_at vars (drop o.result_count o.variables);
   designated = o.designated;

@@ -6,7 +6,7 @@ ghost use Rattle.meta_operands.specs.Operand.{variables_of};
 ghost use Rattle.meta_operands.specs.declared.format.InstructionFormat.{InstructionFormat};
 ghost use Rattle.meta_inst.specs.Marks.{no_marks, terminator, branch, returning};
 ghost use Rattle.meta_inst.specs.Operands.{AreOf};
-ghost use Rattle.meta_inst.specs.InstructionSet.{FitsBuilder, instruction_in};
+ghost use Rattle.meta_inst.specs.InstructionSet.{FitsBuilder, instruction_of_builder};
 ghost use Rattle.meta_inst.specs.FoundControl.{IsFound, IsOf, AreOperandsOf};
 ghost use Rattle.meta_inst.specs.InstructionFaults.{TakesNoImmediate, ControlRule, KeepsRulesBefore, IsFirstOwnFault, IsWellMade};
 ghost use Rattle.meta_inst.specs.Content.{operand_list, content_of, IsPolymorphicInfoOf};
@@ -259,7 +259,7 @@ impl InstructionBuilder {
         requires fits { FitsBuilder vars.now formats.now self.now }
         requires form { KeepsRulesBefore vars.now formats.now self.now ControlRule }
         requires operands { AreOperandsOf vars.now formats.now self.now operands.now }
-        requires found { IsFound vars.now (instruction_in vars.now formats.now self.now) control.now }
+        requires found { IsFound vars.now (instruction_of_builder vars.now formats.now self.now) control.now }
         requires control { IsOf vars.now control.now }
         ensures none { IfNone result (IsWellMade vars.now formats.now self.now) }
         ensures found { IfSome result (IsFirstOwnFault vars.now formats.now self.now number) }

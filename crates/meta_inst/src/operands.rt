@@ -1,15 +1,15 @@
 ghost use Rattle.std.specs.Prelude.{◌≡◌, ◌↔◌, ◌≤◌, List, ◌++◌, ◌∷◌, [], ◌<◌, ℕ, IsTrue, MatchBool, OnOk, IfOk, IfSome, nat_eq, IfNone, length, slice_get, take, Some};
 ghost use Rattle.meta_typevar.specs.declared.content.TypeVarContent.{TypeVarContent};
-ghost use Rattle.meta_typevar.specs.Registry.{sets_of, variable_at};
+ghost use Rattle.meta_typevar.specs.Registry.{sets_of, variable_at, IsRegistry};
 ghost use Rattle.meta_operands.specs.Operand.{variables_of};
 ghost use Rattle.meta_inst.specs.Builder.{inputs_of, outputs_of};
-ghost use Rattle.meta_inst.specs.InstructionSet.{instruction_in, designated_in, begins_with_value};
+ghost use Rattle.meta_inst.specs.InstructionSet.{instruction_of_builder, designated_in, begins_with_value};
 ghost use Rattle.meta_inst.specs.Instruction.{IsDesignated};
 ghost use Rattle.meta_inst.specs.Content.{control_kept, operand_list};
 ghost use Rattle.meta_inst.specs.Control.{IsBadlyDerived};
 ghost use Rattle.meta_inst.specs.FoundControl.{IsFoundIn, MayNot, control_in, IsBadAt, IsFirstBadAt, IsOf};
 ghost use Rattle.std.specs.HashMap.{get};
-ghost use Rattle.meta_inst.specs.Operands.{AreInputCounts, AreOf, IsAlone, HasOneType, LetsControl, CanControl, HasSeveralTypes, AllHaveOneType, instruction_with, designated_number, first_number};
+ghost use Rattle.meta_inst.specs.Operands.{AreInputCounts, AreOf, IsAlone, HasOneType, LetsControl, CanControl, HasSeveralTypes, AllHaveOneType, instruction_of_operands, designated_number, first_number};
 
 use super::builder::InstructionBuilder;
 use super::checks::MAX_OPERANDS;
@@ -264,7 +264,7 @@ impl Model for Operands {
 impl Operands {
     ghost use Rattle.meta_inst.specs.Control.{HasBadDerivation, IsFirstBadDerivation};
     ghost use Rattle.meta_inst.specs.FoundControl.{IsFound};
-    ghost use Rattle.meta_inst.specs.InstructionSet.{instruction_in, FitsBuilder};
+    ghost use Rattle.meta_inst.specs.InstructionSet.{instruction_of_builder, FitsBuilder};
     ghost use Rattle.meta_inst.specs.Builder.{inputs_of, outputs_of};
 
     /// The value operands of the instruction, whose format is of the table.
@@ -275,7 +275,7 @@ impl Operands {
     ) -> Result<Operands, AllocError>
         requires { builder.now.format < length formats.now }
         ensures operands { IfOk result (λ o. o ≡ operand_list formats.now builder.now) }
-        ensures meaning { IfOk result (λ o. (vars : List TypeVarContent) → instruction_with vars o ≡ instruction_in vars formats.now builder.now) }
+        ensures meaning { IfOk result (λ o. (vars : List TypeVarContent) → instruction_of_operands vars o ≡ instruction_of_builder vars formats.now builder.now) }
         ensures fits { IfOk result (λ o. (vars : List TypeVarContent) → FitsBuilder vars formats.now builder.now → AreOf vars o.variables) }
         ensures variables { IfOk result (λ o. o.variables ≡ variables_of (outputs_of builder.now) ++ variables_of (inputs_of builder.now)) }
         ensures result_count { IfOk result (λ o. o.result_count ≡ length (variables_of (outputs_of builder.now))) }
@@ -351,16 +351,23 @@ impl Operands {
         }
     }
 
+    /// Does nothing: it says what a registry keeps, and that the results are among the variables.
+    fn holds_with(&self, vars: &TypeVars)
+        ensures registry { IsRegistry vars.now }
+        ensures within { self.now.result_count ≤ length self.now.variables }
+    {
+        let _count = vars.len();
+        let _results = self.result_count();
+    }
+
     /// What controls the instruction, whose variables are of the registry: the designated operand's variable, if that may
     /// control, and else the first output's (`verify_polymorphic` of `cdsl/instructions.rs`).
     pub fn control(&self, vars: &TypeVars) -> Controlling
         requires { AreOf vars.now self.now.variables }
-        ensures found { IsFound vars.now (instruction_with vars.now self.now) result }
+        ensures found { IsFound vars.now (instruction_of_operands vars.now self.now) result }
         ensures of_registry { IsOf vars.now result }
     {
-        // Their clauses say what a registry keeps, and that the results are among the variables.
-        let _count = vars.len();
-        let _results = self.result_count();
+        self.holds_with(vars);
         control_of(vars, self, self.designated(), self.first())
     }
 
@@ -369,12 +376,10 @@ impl Operands {
     pub fn bad_derivation(&self, vars: &TypeVars, control: &Controlling) -> Option<usize>
         requires variables { AreOf vars.now self.now.variables }
         requires control { IsOf vars.now control.now }
-        ensures found { IfSome result (IsFirstBadDerivation (sets_of vars.now) (instruction_with vars.now self.now) (control_in vars.now control.now)) }
-        ensures none { IfNone result ((k : ℕ) → HasBadDerivation (sets_of vars.now) (instruction_with vars.now self.now) (control_in vars.now control.now) k → ⊥) }
+        ensures found { IfSome result (IsFirstBadDerivation (sets_of vars.now) (instruction_of_operands vars.now self.now) (control_in vars.now control.now)) }
+        ensures none { IfNone result ((k : ℕ) → HasBadDerivation (sets_of vars.now) (instruction_of_operands vars.now self.now) (control_in vars.now control.now) k → ⊥) }
     {
-        // Their clauses say what a registry keeps, and that the results are among the variables.
-        let _count = vars.len();
-        let _results = self.result_count();
+        self.holds_with(vars);
         first_bad(vars, control, self.variables())
     }
     /// Whether the variable is that of the designated operand.
@@ -394,11 +399,9 @@ impl Operands {
         requires control { IsOf vars.now control.now }
         ensures kept { control_kept vars.now result ≡ control_in vars.now control.now }
         ensures of_registry { IfSome result (λ p. p.ctrl_typevar < length vars.now) }
-        ensures designated { IfSome result (λ p. IsTrue p.use_typevar_operand ↔ IsDesignated (instruction_with vars.now self.now) (variable_at vars.now p.ctrl_typevar)) }
+        ensures designated { IfSome result (λ p. IsTrue p.use_typevar_operand ↔ IsDesignated (instruction_of_operands vars.now self.now) (variable_at vars.now p.ctrl_typevar)) }
     {
-        // Their clauses say what a registry keeps, and that the results are among the variables.
-        let _count = vars.len();
-        let _results = self.result_count();
+        self.holds_with(vars);
         match control {
             Controlling::By(v) => Some(PolymorphicInfo {
                 use_typevar_operand: self.is_designated(*v),

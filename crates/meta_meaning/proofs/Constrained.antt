@@ -2,7 +2,7 @@
 use Rattle.std.proofs.Common.{◌≡◌, ◌≢◌, ℕ, ◌⊎◌, ◌↔◌, List, [], ◌∷◌, ◌++◌, Option, None, Some, refl, sym, ap, ◌∙◌, subst, inl, inr}
 use Rattle.std.proofs.lemmas.Bool.{cases_eq}
 use Rattle.std.proofs.lemmas.Option.{same_Some, none-some}
-use Rattle.meta_types.specs.Shape.{Shape}
+use Rattle.meta_types.specs.TypeParts.{TypeParts}
 use Rattle.meta_types.specs.Function.{Function}
 use Rattle.meta_typevar.specs.Chain.{IsFixed}
 use Rattle.meta_typevar.specs.Variable.{Variable, Sets, IsDerivedBy, IsOpen}
@@ -58,7 +58,7 @@ pub has_constraint : (sets : Sets) (i : Instruction) (control : Option Variable)
 has_constraint sets i control h good k w at = by_case (fixed_or_nowhere (sets w.root) w.chain)
   where
     -- one type is fixed for it, or none
-    by_case : ((t : Shape) × IsFixed (sets w.root) w.chain t) ⊎ IsOpen sets w → HasConstraint sets control w
+    by_case : ((t : TypeParts) × IsFixed (sets w.root) w.chain t) ⊎ IsOpen sets w → HasConstraint sets control w
     by_case (inl (t, fixed)) = (Concrete t, fixed)
     by_case (inr open_) = by_chain sets w open_ i k at control (λ v e. (ruling_of sets i control h).underived the_one v e) (good k) w.chain refl
 
@@ -76,5 +76,5 @@ constraint_not_bad sets i control k w x c at h bad =
     no_constraint sets i control k bad.variable x bad.bad.derived bad.bad.not_fixed bad.bad.no_step (λ v e. (ruling_of sets i control c).underived the_one v e) (subst (λ (y : Variable). IsConstraint sets control y x) (sym same) h)
 
 -- One test an operand is one joint choice.
-pub one_test : (sets : Sets) (i : Instruction) (control : Option Variable) (c : Option Shape) (rs vs : List Shape) → IsControl sets i control → ((k : ℕ) → HasBadDerivation sets i control k → ⊥) → (Admits sets i control c rs vs ↔ Accepts sets i control c rs vs)
+pub one_test : (sets : Sets) (i : Instruction) (control : Option Variable) (c : Option TypeParts) (rs vs : List TypeParts) → IsControl sets i control → ((k : ℕ) → HasBadDerivation sets i control k → ⊥) → (Admits sets i control c rs vs ↔ Accepts sets i control c rs vs)
 one_test sets i control c rs vs h good = ((λ a. accepts_from_admits sets i control c rs vs h a), (λ a. admits_from_accepts sets i control c rs vs h (has_constraint sets i control h good) a))

@@ -4,7 +4,7 @@ use Rattle.std.proofs.Common.{◌≡◌, ◌≢◌, ◌+◌, ℕ, ◌⊎◌, Lis
 use Rattle.std.proofs.lemmas.Bool.{cases_eq}
 use Rattle.std.proofs.lemmas.Option.{same_Some}
 use Rattle.meta_lists.proofs.Places.{get_stays, get_right}
-use Rattle.meta_types.specs.Shape.{Shape}
+use Rattle.meta_types.specs.TypeParts.{TypeParts}
 use Rattle.meta_typevar.specs.Variable.{Variable, Sets}
 use Rattle.meta_inst.specs.Instruction.{Instruction, IsOperand, IsDesignated, IsFirstOutput, operands}
 use Rattle.meta_inst.specs.Control.{IsControl, DesignatesNone, IsRuled}
@@ -44,14 +44,14 @@ rule_from_constraint sets control w Same h = h.controls
 rule_from_constraint sets control w (By f) h = record { variable = h.variable; controls_is = h.controls; derived = h.derived }
 
 -- what passes a constraint passes the rule
-rule_passes : (c : Option Shape) (x : Constraint) (t : Shape) → Passes c x t → RulePasses TheOne (alone c) (rule_of x) t
+rule_passes : (c : Option TypeParts) (x : Constraint) (t : TypeParts) → Passes c x t → RulePasses TheOne (alone c) (rule_of x) t
 rule_passes c (Concrete n) t h = h
 rule_passes c (Free s) t h = h
 rule_passes c Same t h = h
 rule_passes c (By f) t h = h
 
 -- and the other way round
-constraint_passes : (c : Option Shape) (x : Constraint) (t : Shape) → RulePasses TheOne (alone c) (rule_of x) t → Passes c x t
+constraint_passes : (c : Option TypeParts) (x : Constraint) (t : TypeParts) → RulePasses TheOne (alone c) (rule_of x) t → Passes c x t
 constraint_passes c (Concrete n) t h = h
 constraint_passes c (Free s) t h = h
 constraint_passes c Same t h = h
@@ -113,16 +113,16 @@ ruling_of sets i (Some v) h = record {
     used the_one w e = subst (λ (x : Variable). IsUsed i x) (same_Some v w e) (control_used sets i v h.chosen)
 
 -- two lists of the right lengths are as long as the operands
-pub as_long : (i : Instruction) (rs vs : List Shape) → length rs ≡ length i.results → length vs ≡ length i.values → length (operands i) ≡ length (rs ++ vs)
+pub as_long : (i : Instruction) (rs vs : List TypeParts) → length rs ≡ length i.results → length vs ≡ length i.values → length (operands i) ≡ length (rs ++ vs)
 as_long i rs vs r v = length-append i.results i.values ∙ (sym (ap₂ (λ (m n : ℕ). m + n) r v) ∙ sym (length-append rs vs))
 
-module _ (sets : Sets) (i : Instruction) (control : Option Variable) (c : Option Shape) (rs vs : List Shape) (h : IsControl sets i control) where
+module _ (sets : Sets) (i : Instruction) (control : Option Variable) (c : Option TypeParts) (rs vs : List TypeParts) (h : IsControl sets i control) where
   -- the controlling type of the family fits
   all_fit : ControlFits sets control c → AllFit sets TheOne (alone control) (alone c)
   all_fit f the_one = f
 
   -- the controlling type of a choice for the family
-  controlled : (choice : ℕ → Shape) → Controls choice control c → (a : TheOne) → Controls choice (alone control a) (alone c a)
+  controlled : (choice : ℕ → TypeParts) → Controls choice control c → (a : TheOne) → Controls choice (alone control a) (alone c a)
   controlled choice f the_one = f
 
   -- One test an operand gives one joint choice.
@@ -151,7 +151,7 @@ module _ (sets : Sets) (i : Instruction) (control : Option Variable) (c : Option
       one = record { members = a.members; controlled = controlled a.choice a.controlled; agrees = a.agrees }
 
       -- each operand's type passes its constraint
-      passes : (k : ℕ) (w : Variable) (t : Shape) → IsOperand i k w → slice_get (rs ++ vs) k ≡ Some t → (x : Constraint) × IsConstraint sets control w x × Passes c x t
+      passes : (k : ℕ) (w : Variable) (t : TypeParts) → IsOperand i k w → slice_get (rs ++ vs) k ≡ Some t → (x : Constraint) × IsConstraint sets control w x × Passes c x t
       passes k w t at_k t_at =
           let (x, is) = constrained k w at_k in
           (x, is, constraint_passes c x t (passes_from_choice sets i TheOne (alone control) (ruling_of sets i control h) (alone c) (rs ++ vs) a.choice one k w t at_k t_at (rule_of x) (rule_from_constraint sets control w x is)))

@@ -3,8 +3,8 @@
 use Rattle.std.proofs.Common.{◌≡◌, ℕ, suc, ◌⊎◌, Bool, true, false, List, [], ◌∷◌, Contains, refl, sym, subst, inl, inr, ⊎_elim, zero-lt-suc, suc-le-suc, arith}
 use Rattle.std.proofs.lemmas.Bool.{cases_eq, false≢true}
 use Rattle.meta_lists.proofs.Contained.{contains_cases}
-use Rattle.meta_types.specs.Shape.{Kind, IntKind, FloatKind, Shape, IsType, widths, lane_counts}
-use Rattle.meta_types.proofs.AllTypes.{same_shape, same_shape_true, same_shape_self}
+use Rattle.meta_types.specs.TypeParts.{Kind, IntKind, FloatKind, TypeParts, IsType, widths, lane_counts}
+use Rattle.meta_types.proofs.AllTypes.{same_parts, same_parts_true, same_parts_self}
 
 -- the fact holds, or it doesn't
 abbrev pub Decided : Type 0 → Type 0
@@ -70,15 +70,15 @@ decided_contains (x ∷ xs) n = with_rest (cases_eq x n) (decided_contains xs n)
     with_rest (inr other) (inl c) = inl (suc c.0, suc-le-suc c.1, c.2)
     with_rest (inr other) (inr later) = inr (λ c. ⊎_elim other later (contains_cases x n xs c))
 
--- that a shape is a type
-pub decided_type : (t : Shape) → Decided (IsType t)
+-- that parts are those of a type
+pub decided_type : (t : TypeParts) → Decided (IsType t)
 decided_type t = decided_like (λ h. record { width = h.0; lanes = h.1 }) (λ h. (h.width, h.lanes)) (decided_both (decided_contains (widths t.kind) t.width) (decided_contains (lane_counts t.is_dynamic) t.lanes))
 
--- that two shapes are one
-pub decided_same : (a b : Shape) → Decided (a ≡ b)
-decided_same a b = decided_like (same_shape_true a b) (λ e. subst (λ x. same_shape a x ≡ true) e (same_shape_self a)) (decided_test (same_shape a b))
+-- that the parts of two are the same
+pub decided_same : (a b : TypeParts) → Decided (a ≡ b)
+decided_same a b = decided_like (same_parts_true a b) (λ e. subst (λ x. same_parts a x ≡ true) e (same_parts_self a)) (decided_test (same_parts a b))
 
-module _ (P : Shape → Type 0) (at : (t : Shape) → Decided (P t)) where
+module _ (P : TypeParts → Type 0) (at : (t : TypeParts) → Decided (P t)) where
   -- a fact at some type of a kind and a mark
   abbrev At : Kind → Bool → Type 0
   At kind mark = (w : ℕ) × Contains (widths kind) w × ((l : ℕ) × Contains (lane_counts mark) l × P (record { kind = kind; width = w; lanes = l; is_dynamic = mark }))
@@ -102,26 +102,26 @@ module _ (P : Shape → Type 0) (at : (t : Shape) → Decided (P t)) where
   anywhere FloatKind true h = inr (inr h)
 
   -- a type of a kind and a mark is a type
-  found : (kind : Kind) (mark : Bool) → At kind mark → (t : Shape) × IsType t × P t
+  found : (kind : Kind) (mark : Bool) → At kind mark → (t : TypeParts) × IsType t × P t
   found kind mark (w, c, (l, d, p)) = (record { kind = kind; width = w; lanes = l; is_dynamic = mark }, record { width = c; lanes = d }, p)
 
   -- A fact at some type.
-  pub decided_some : Decided ((t : Shape) × IsType t × P t)
+  pub decided_some : Decided ((t : TypeParts) × IsType t × P t)
   decided_some = decided_like
       (λ h. ⊎_elim (λ x. ⊎_elim (found IntKind false) (found IntKind true) x) (λ x. ⊎_elim (found FloatKind false) (found FloatKind true) x) h)
       (λ h. anywhere h.0.kind h.0.is_dynamic (h.0.width, h.1.width, (h.0.lanes, h.1.lanes, h.2)))
       (decided_or (decided_or (at_kind IntKind false) (at_kind IntKind true)) (decided_or (at_kind FloatKind false) (at_kind FloatKind true)))
 
 -- A fact at each type.
-pub decided_all : (P : Shape → Type 0) → ((t : Shape) → Decided (P t)) → Decided ((t : Shape) → IsType t → P t)
+pub decided_all : (P : TypeParts → Type 0) → ((t : TypeParts) → Decided (P t)) → Decided ((t : TypeParts) → IsType t → P t)
 decided_all P at = by_case (decided_some (λ t. P t → ⊥) (λ t. decided_not (at t)))
   where
     -- what isn't false holds
-    stable : (t : Shape) → Decided (P t) → ((P t → ⊥) → ⊥) → P t
+    stable : (t : TypeParts) → Decided (P t) → ((P t → ⊥) → ⊥) → P t
     stable t (inl p) h = p
     stable t (inr other) h = absurd (h other)
 
     -- it fails at some type, or at none
-    by_case : Decided ((t : Shape) × IsType t × (P t → ⊥)) → Decided ((t : Shape) → IsType t → P t)
+    by_case : Decided ((t : TypeParts) × IsType t × (P t → ⊥)) → Decided ((t : TypeParts) → IsType t → P t)
     by_case (inl (t, is, other)) = inr (λ h. other (h t is))
     by_case (inr nowhere) = inl (λ t is. stable t (at t) (λ other. nowhere (t, is, other)))

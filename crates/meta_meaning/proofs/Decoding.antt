@@ -2,14 +2,14 @@
 use Rattle.std.proofs.Common.{◌≡◌, ◌↔◌, ℕ, ◌+◌, List, ◌++◌, length, Option, Some, slice_get, sym, ap₂, ◌∙◌, subst, length-append}
 use Rattle.std.proofs.lemmas.Option.{same_Some}
 use Rattle.meta_lists.proofs.Places.{get_beside, get_stays, get_right}
-use Rattle.meta_types.specs.Shape.{Shape, number_of}
-use Rattle.meta_typevar.specs.FourSets.{IsTypeSet}
+use Rattle.meta_types.specs.TypeParts.{TypeParts, number_of}
+use Rattle.meta_typevar.specs.TypeSetParts.{IsTypeSet}
 use Rattle.meta_typevar.specs.Variable.{Variable, Sets}
 use Rattle.meta_inst.specs.Instruction.{Instruction, IsOperand, operands}
 use Rattle.meta_inst.specs.Control.{IsControl}
 use Rattle.meta_meaning.specs.Acceptance.{AcceptsNumbers, IsNumberOf, AreNumbersOf}
 use Rattle.meta_meaning.specs.Constraint.{Constraint, IsConstraint, Passes, ControlFits, Admits}
-use Rattle.meta_meaning.specs.Tables.{TableContents, Entry, NumberPasses, PassesAt, ControlNumberFits, Allows, IsEntry, at_opcode, result_count, value_count}
+use Rattle.meta_meaning.specs.Tables.{TableContents, OpcodeNumbers, NumberPasses, PassesAt, ControlNumberFits, Allows, AreOpcodeNumbersOf, at_opcode, result_count, value_count}
 use Rattle.meta_meaning.proofs.Family.{IsUsed}
 use Rattle.meta_meaning.proofs.ControlFamily.{the_one, ruling_of, as_long, accepts_from_admits, admits_from_accepts}
 use Rattle.meta_meaning.proofs.Only.{same_constraint}
@@ -17,18 +17,18 @@ use Rattle.meta_meaning.proofs.Listed.{IsTypeNumber, types_of_numbers, AreNumber
 use Rattle.meta_meaning.proofs.Passing.{IsSound, constraint_sound, passing_typed, type_passes, number_passes, control_type, control_number}
 
 -- what the tables allow for an opcode, by its entry
-record Decodes (tables : TableContents) (c : Option ℕ) (rs vs : List ℕ) (entry : Entry) : Type 0 where
+record Decodes (tables : TableContents) (c : Option ℕ) (rs vs : List ℕ) (entry : OpcodeNumbers) : Type 0 where
   results : length rs ≡ result_count entry.flags
   values : length vs ≡ value_count entry.flags
   control_fits : ControlNumberFits tables entry.typeset_offset c
   passes : (k n : ℕ) → slice_get (rs ++ vs) k ≡ Some n → PassesAt tables c (entry.constraint_offset + k) n
 
 -- the tables allow what this entry does, if it is the opcode's
-decodes : (tables : TableContents) (op : ℕ) (entry : Entry) (c : Option ℕ) (rs vs : List ℕ) → at_opcode tables.entries op ≡ Some entry → Allows tables op c rs vs → Decodes tables c rs vs entry
+decodes : (tables : TableContents) (op : ℕ) (entry : OpcodeNumbers) (c : Option ℕ) (rs vs : List ℕ) → at_opcode tables.entries op ≡ Some entry → Allows tables op c rs vs → Decodes tables c rs vs entry
 decodes tables op entry c rs vs at a =
     subst (λ x. Decodes tables c rs vs x) (same_Some a.entry entry (sym a.is_opcode ∙ at)) (record { results = a.results; values = a.values; control_fits = a.control_fits; passes = a.passes })
 
-module _ (sets : Sets) (i : Instruction) (control : Option Variable) (tables : TableContents) (entry : Entry) (typed : (k : ℕ) (w : Variable) → IsOperand i k w → IsTypeSet (sets w.root)) (h : IsControl sets i control) (is : IsEntry sets i control tables entry) where
+module _ (sets : Sets) (i : Instruction) (control : Option Variable) (tables : TableContents) (entry : OpcodeNumbers) (typed : (k : ℕ) (w : Variable) → IsOperand i k w → IsTypeSet (sets w.root)) (h : IsControl sets i control) (is : AreOpcodeNumbersOf sets i control tables entry) where
   -- the root of the control has a set of types
   control_typed : (v : Variable) → control ≡ Some v → IsTypeSet (sets v.root)
   control_typed v e =
@@ -52,14 +52,14 @@ module _ (sets : Sets) (i : Instruction) (control : Option Variable) (tables : T
         length-append rs vs ∙ (ap₂ (λ (m n : ℕ). m + n) (d.results ∙ is.flags.results) (d.values ∙ is.flags.values) ∙ sym (length-append i.results i.values))
 
     -- each number is that of a type
-    each_typed : (e : Option Shape) → IsNumberOf e c → Decodes tables c rs vs entry → (k n : ℕ) → slice_get (rs ++ vs) k ≡ Some n → IsTypeNumber n
+    each_typed : (e : Option TypeParts) → IsNumberOf e c → Decodes tables c rs vs entry → (k n : ℕ) → slice_get (rs ++ vs) k ≡ Some n → IsTypeNumber n
     each_typed e numbered d k n n_at =
         let (w, at) = get_beside (rs ++ vs) (operands i) k n (counted d) n_at in
         let x = is.constraints k w at in
         passing_typed tables e c numbered x.constraint x.number_constraint n (sound_at k w at) x.stands (passes_there k n w at (d.passes k n n_at))
 
     -- types with these numbers pass one test an operand
-    admits_types : (e : Option Shape) (ts us : List Shape) → IsNumberOf e c → ControlFits sets control e → AreNumbersOf ts rs → AreNumbersOf us vs → Decodes tables c rs vs entry → Admits sets i control e ts us
+    admits_types : (e : Option TypeParts) (ts us : List TypeParts) → IsNumberOf e c → ControlFits sets control e → AreNumbersOf ts rs → AreNumbersOf us vs → Decodes tables c rs vs entry → Admits sets i control e ts us
     admits_types e ts us numbered fits are_rs are_vs d = record {
       results = sym (AreNumbersOf-length ts rs are_rs) ∙ (d.results ∙ is.flags.results);
       values = sym (AreNumbersOf-length us vs are_vs) ∙ (d.values ∙ is.flags.values);
@@ -72,7 +72,7 @@ module _ (sets : Sets) (i : Instruction) (control : Option Variable) (tables : T
         both = AreNumbersOf-append ts us rs vs are_rs are_vs
 
         -- each passes its operand's constraint
-        passes : (k : ℕ) (w : Variable) (t : Shape) → IsOperand i k w → slice_get (ts ++ us) k ≡ Some t → (x : Constraint) × IsConstraint sets control w x × Passes e x t
+        passes : (k : ℕ) (w : Variable) (t : TypeParts) → IsOperand i k w → slice_get (ts ++ us) k ≡ Some t → (x : Constraint) × IsConstraint sets control w x × Passes e x t
         passes k w t at t_at =
             let x = is.constraints k w at in
             let p = passes_there k (number_of t) w at (d.passes k (number_of t) (number_at (ts ++ us) (rs ++ vs) k t both t_at)) in
@@ -135,7 +135,7 @@ module _ (sets : Sets) (i : Instruction) (control : Option Variable) (tables : T
             }
 
 -- The tables mean the instruction.
-pub tables_mean : (sets : Sets) (i : Instruction) (control : Option Variable) (tables : TableContents) (op : ℕ) (entry : Entry) (c : Option ℕ) (rs vs : List ℕ) → ((k : ℕ) (w : Variable) → IsOperand i k w → IsTypeSet (sets w.root)) → IsControl sets i control → IsEntry sets i control tables entry → at_opcode tables.entries op ≡ Some entry
+pub tables_mean : (sets : Sets) (i : Instruction) (control : Option Variable) (tables : TableContents) (op : ℕ) (entry : OpcodeNumbers) (c : Option ℕ) (rs vs : List ℕ) → ((k : ℕ) (w : Variable) → IsOperand i k w → IsTypeSet (sets w.root)) → IsControl sets i control → AreOpcodeNumbersOf sets i control tables entry → at_opcode tables.entries op ≡ Some entry
     → (Allows tables op c rs vs ↔ AcceptsNumbers sets i control c rs vs)
 tables_mean sets i control tables op entry c rs vs typed h is at = (to, from)
   where

@@ -3,9 +3,9 @@
 --     Ruling sets i controls         the four facts
 --     Rule Which, IsRule, RulePasses      the constraint of one operand, and what passes it
 use Rattle.std.proofs.Common.{◌≡◌, ◌≢◌, ℕ, ◌⊎◌, List, [], Option, Some, slice_get}
-use Rattle.meta_types.specs.Shape.{Shape}
+use Rattle.meta_types.specs.TypeParts.{TypeParts}
 use Rattle.meta_types.specs.Function.{Function, Steps}
-use Rattle.meta_typevar.specs.FourSets.{FourSets, IsMember, HasOne}
+use Rattle.meta_typevar.specs.TypeSetParts.{TypeSetParts, IsMember, HasOne}
 use Rattle.meta_typevar.specs.Chain.{Agrees, IsFixed}
 use Rattle.meta_typevar.specs.Variable.{Variable, Sets, IsDerivedBy}
 use Rattle.meta_inst.specs.Instruction.{Instruction, IsOperand}
@@ -44,13 +44,13 @@ pub record Ruling (sets : Sets) (i : Instruction) (Which : Type 0) (controls : W
 
 -- the constraint of one operand: one type, any type of a set, the type of control a, or what f leads to from that type
 pub data Rule (Which : Type 0) : Type 0 where
-  OneType : Shape → Rule Which
-  AnyOf : FourSets → Rule Which
+  OneType : TypeParts → Rule Which
+  AnyOf : TypeSetParts → Rule Which
   SameAs : Which → Rule Which
   ByOf : Which → Function → Rule Which
 
 -- w is underived and no control, and s is the set of its root
-pub record IsAny (sets : Sets) (Which : Type 0) (controls : Which → Option Variable) (w : Variable) (s : FourSets) : Type 0 where
+pub record IsAny (sets : Sets) (Which : Type 0) (controls : Which → Option Variable) (w : Variable) (s : TypeSetParts) : Type 0 where
   pub underived : w.chain ≡ []
   pub other : (a : Which) → controls a ≢ Some w
   pub set : s ≡ sets w.root
@@ -69,22 +69,22 @@ IsRule sets Which controls w (SameAs a) = controls a ≡ Some w
 IsRule sets Which controls w (ByOf a f) = IsStep Which controls w a f
 
 -- under these controlling types the type t passes the rule
-abbrev pub RulePasses : (Which : Type 0) → (Which → Option Shape) → Rule Which → Shape → Type 0
+abbrev pub RulePasses : (Which : Type 0) → (Which → Option TypeParts) → Rule Which → TypeParts → Type 0
 RulePasses Which c (OneType n) t = t ≡ n
 RulePasses Which c (AnyOf s) t = IsMember s t
 RulePasses Which c (SameAs a) t = c a ≡ Some t
-RulePasses Which c (ByOf a f) t = (u : Shape) × (c a ≡ Some u) × Steps f u t
+RulePasses Which c (ByOf a f) t = (u : TypeParts) × (c a ≡ Some u) × Steps f u t
 
 -- t passes some rule of the operand w
-abbrev pub PassesRule : Sets → (Which : Type 0) → (Which → Option Variable) → (Which → Option Shape) → Variable → Shape → Type 0
+abbrev pub PassesRule : Sets → (Which : Type 0) → (Which → Option Variable) → (Which → Option TypeParts) → Variable → TypeParts → Type 0
 PassesRule sets Which controls c w t = (x : Rule Which) × IsRule sets Which controls w x × RulePasses Which c x t
 
 -- each controlling type fits its control
-abbrev pub AllFit : Sets → (Which : Type 0) → (Which → Option Variable) → (Which → Option Shape) → Type 0
+abbrev pub AllFit : Sets → (Which : Type 0) → (Which → Option Variable) → (Which → Option TypeParts) → Type 0
 AllFit sets Which controls c = (a : Which) → ControlFits sets (controls a) (c a)
 
 -- one choice of a type for every root at once, for the controlling types c and the types ts of the operands
-pub record IsChoice (sets : Sets) (i : Instruction) (Which : Type 0) (controls : Which → Option Variable) (c : Which → Option Shape) (ts : List Shape) (choice : ℕ → Shape) : Type 0 where
+pub record IsChoice (sets : Sets) (i : Instruction) (Which : Type 0) (controls : Which → Option Variable) (c : Which → Option TypeParts) (ts : List TypeParts) (choice : ℕ → TypeParts) : Type 0 where
   pub members : (k : ℕ) (w : Variable) → IsOperand i k w → IsMember (sets w.root) (choice w.root)
   pub controlled : (a : Which) → Controls choice (controls a) (c a)
-  pub agrees : (k : ℕ) (w : Variable) (t : Shape) → IsOperand i k w → slice_get ts k ≡ Some t → Agrees w.chain (choice w.root) t
+  pub agrees : (k : ℕ) (w : Variable) (t : TypeParts) → IsOperand i k w → slice_get ts k ≡ Some t → Agrees w.chain (choice w.root) t

@@ -7,9 +7,9 @@ use Rattle.std.proofs.Common.{◌≡◌, ℕ, zero, suc, ◌==◌, ◌↔◌, �
 use Rattle.std.proofs.lemmas.Bool.{and_parts, or_cases, or_left, or_right, eqb-true, eq-eqb}
 use Rattle.std.proofs.lemmas.List.{length-map}
 use Rattle.meta_lists.proofs.Contained.{contains_cases}
-use Rattle.meta_types.specs.Shape.{IntKind, FloatKind, widths, lane_counts}
+use Rattle.meta_types.specs.TypeParts.{IntKind, FloatKind, widths, lane_counts}
 use Rattle.meta_types.specs.Function.{same_mark}
-use Rattle.meta_typevar.specs.FourSets.{IsPart}
+use Rattle.meta_typevar.specs.TypeSetParts.{IsPart}
 use Rattle.meta_typevar.specs.Masks.{Holds}
 use Rattle.meta_types.proofs.AllTypes.{at_each, at_each_contained, same_mark_true}
 

@@ -3,15 +3,15 @@ use Rattle.std.proofs.Common.{◌≡◌, List, [], ◌∷◌, ◌++◌, length, 
 use Rattle.std.proofs.lemmas.Option.{same_Some}
 use Rattle.std.proofs.lemmas.List.{same_from_push}
 use Rattle.meta_lists.proofs.Pushed.{not_empty}
-use Rattle.meta_types.specs.Shape.{Shape}
+use Rattle.meta_types.specs.TypeParts.{TypeParts}
 use Rattle.meta_types.specs.Function.{Function}
-use Rattle.meta_typevar.specs.FourSets.{FourSets}
+use Rattle.meta_typevar.specs.TypeSetParts.{TypeSetParts}
 use Rattle.meta_typevar.specs.Chain.{IsFixed}
 use Rattle.meta_typevar.specs.Variable.{Variable, Sets, IsDerivedBy}
 use Rattle.meta_meaning.specs.Constraint.{Constraint, Concrete, Free, Same, By, IsConstraint}
 
 -- two fixed types of one variable are one
-one_fixed : (s : FourSets) (chain : List Function) (t u : Shape) → IsFixed s chain t → IsFixed s chain u → t ≡ u
+one_fixed : (s : TypeSetParts) (chain : List Function) (t u : TypeParts) → IsFixed s chain t → IsFixed s chain u → t ≡ u
 one_fixed s chain t u a b = b.only a.member t a.inhabited (a.reached a.member a.inhabited)
 
 -- a control isn't one step from itself

@@ -2,9 +2,9 @@
 use Rattle.std.proofs.Common.{◌≡◌, ℕ, ◌==◌, Option, None, Some, MatchBool, refl, sym, ap, ◌∙◌, subst, subst₂, arith}
 use Rattle.std.proofs.lemmas.Bool.{MatchBool-at_true, MatchBool-at_false, eq-eqb, ne_eqb}
 use Rattle.std.proofs.lemmas.Option.{same_Some}
-use Rattle.meta_types.specs.Shape.{Shape, IsType, number_of}
+use Rattle.meta_types.specs.TypeParts.{TypeParts, IsType, number_of}
 use Rattle.meta_types.specs.Function.{Steps}
-use Rattle.meta_typevar.specs.FourSets.{FourSets, IsMember, IsTypeSet}
+use Rattle.meta_typevar.specs.TypeSetParts.{TypeSetParts, IsMember, IsTypeSet}
 use Rattle.meta_typevar.specs.Masks.{AreMasksOf}
 use Rattle.meta_typevar.specs.Variable.{Variable, Sets}
 use Rattle.meta_meaning.specs.Acceptance.{IsNumberOf}
@@ -29,22 +29,22 @@ constraint_sound sets control w (Free s) is h = subst IsTypeSet (sym h.set) is
 constraint_sound sets control w Same is h = tt
 constraint_sound sets control w (By f) is h = tt
 
-module _ (tables : TableContents) (j : ℕ) (s : FourSets) (is : IsTypeSet s) (holds : HoldsSet tables j s) where
+module _ (tables : TableContents) (j : ℕ) (s : TypeSetParts) (is : IsTypeSet s) (holds : HoldsSet tables j s) where
   -- a number that type set j contains is that of a member
-  pub member_of_set : (n : ℕ) → SetContains tables j n → (t : Shape) × IsMember s t × (number_of t ≡ n)
+  pub member_of_set : (n : ℕ) → SetContains tables j n → (t : TypeParts) × IsMember s t × (number_of t ≡ n)
   member_of_set n c =
       let same : holds.masks ≡ c.masks = same_Some holds.masks c.masks (sym holds.is_set ∙ c.is_set) in
       (numbers_of_members s c.masks n is (subst (λ m. AreMasksOf s m) same holds.are_masks)).0 c.contains
 
   -- a type whose number type set j contains is a member
-  pub member_in_set : (t : Shape) → IsType t → SetContains tables j (number_of t) → IsMember s t
+  pub member_in_set : (t : TypeParts) → IsType t → SetContains tables j (number_of t) → IsMember s t
   member_in_set t is_t c = let (u, m, e) = member_of_set (number_of t) c in subst (λ y. IsMember s y) (one_number u t m.is_type is_t e) m
 
   -- type set j contains the number of each member
-  pub set_of_member : (t : Shape) → IsMember s t → SetContains tables j (number_of t)
+  pub set_of_member : (t : TypeParts) → IsMember s t → SetContains tables j (number_of t)
   set_of_member t m = record { masks = holds.masks; is_set = holds.is_set; contains = (numbers_of_members s holds.masks (number_of t) is holds.are_masks).1 (t, m, refl) }
 
-module _ (tables : TableContents) (e : Option Shape) (c : Option ℕ) (numbered : IsNumberOf e c) where
+module _ (tables : TableContents) (e : Option TypeParts) (c : Option ℕ) (numbered : IsNumberOf e c) where
   -- a number that passes what stands for a constraint is that of a type
   pub passing_typed : (x : Constraint) (y : NumberConstraint) (n : ℕ) → IsSound x → StandsFor tables x y → NumberPasses tables c y n → IsTypeNumber n
   passing_typed (Concrete t) y n sound stands p = (t, sound, sym (subst (λ z. NumberPasses tables c z n) stands p))
@@ -59,7 +59,7 @@ module _ (tables : TableContents) (e : Option Shape) (c : Option ℕ) (numbered 
       (steps.to, steps.steps.to, steps.number_to)
 
   -- where the number of a type passes what stands for a constraint, the type passes it
-  pub type_passes : (x : Constraint) (y : NumberConstraint) (t : Shape) → IsSound x → IsType t → StandsFor tables x y → NumberPasses tables c y (number_of t) → Passes e x t
+  pub type_passes : (x : Constraint) (y : NumberConstraint) (t : TypeParts) → IsSound x → IsType t → StandsFor tables x y → NumberPasses tables c y (number_of t) → Passes e x t
   type_passes (Concrete m) y t sound is stands p = one_number t m is sound (subst (λ z. NumberPasses tables c z (number_of t)) stands p)
   type_passes (Free s) y t sound is (j, stands, holds) p = member_in_set tables j s sound holds t is (subst (λ z. NumberPasses tables c z (number_of t)) stands p)
   type_passes Same y t sound is stands p =
@@ -70,10 +70,10 @@ module _ (tables : TableContents) (e : Option Shape) (c : Option ℕ) (numbered 
       let (u, e_is, is_u, number) = type_of_number e c a numbered c_is in
       let from : steps.from ≡ u = one_number steps.from u steps.steps.from is_u (steps.number_from ∙ sym number) in
       let to : steps.to ≡ t = one_number steps.to t steps.steps.to is steps.number_to in
-      (u, e_is, subst₂ (λ (v w : Shape). Steps f v w) from to steps.steps)
+      (u, e_is, subst₂ (λ (v w : TypeParts). Steps f v w) from to steps.steps)
 
   -- where a type passes a constraint, its number passes what stands for that
-  pub number_passes : (x : Constraint) (y : NumberConstraint) (t : Shape) → IsSound x → StandsFor tables x y → Passes e x t → NumberPasses tables c y (number_of t)
+  pub number_passes : (x : Constraint) (y : NumberConstraint) (t : TypeParts) → IsSound x → StandsFor tables x y → Passes e x t → NumberPasses tables c y (number_of t)
   number_passes (Concrete m) y t sound stands p = subst (λ z. NumberPasses tables c z (number_of t)) (sym stands) (ap number_of p)
   number_passes (Free s) y t sound (j, stands, holds) p = subst (λ z. NumberPasses tables c z (number_of t)) (sym stands) (set_of_member tables j s sound holds t p)
   number_passes Same y t sound stands p = subst (λ z. NumberPasses tables c z (number_of t)) (sym stands) (number_of_type e c t numbered p)
@@ -83,7 +83,7 @@ module _ (tables : TableContents) (e : Option Shape) (c : Option ℕ) (numbered 
 
 -- a controlling number that fits the table's offset is that of a type that fits the control
 pub control_type : (sets : Sets) (control : Option Variable) (tables : TableContents) (offset : ℕ) (c : Option ℕ) → ((v : Variable) → control ≡ Some v → IsTypeSet (sets v.root)) → IsTypeSetOffset sets control tables offset → ControlNumberFits tables offset c
-    → (e : Option Shape) × IsNumberOf e c × ControlFits sets control e
+    → (e : Option TypeParts) × IsNumberOf e c × ControlFits sets control e
 control_type sets None tables offset c typed at fits = (None, MatchBool-at_true _ _ (eq-eqb offset no_type_set at) fits, refl)
 control_type sets (Some v) tables offset c typed (below, holds) fits =
     let differs : offset ≡ no_type_set → ⊥ = λ same. omega arith in
@@ -92,7 +92,7 @@ control_type sets (Some v) tables offset c typed (below, holds) fits =
     (Some t, (m.is_type, c_is ∙ ap Some (sym number)), (t, refl, m))
 
 -- the number of a type that fits the control fits the table's offset
-pub control_number : (sets : Sets) (control : Option Variable) (tables : TableContents) (offset : ℕ) (e : Option Shape) (c : Option ℕ) → ((v : Variable) → control ≡ Some v → IsTypeSet (sets v.root)) → IsTypeSetOffset sets control tables offset → IsNumberOf e c → ControlFits sets control e
+pub control_number : (sets : Sets) (control : Option Variable) (tables : TableContents) (offset : ℕ) (e : Option TypeParts) (c : Option ℕ) → ((v : Variable) → control ≡ Some v → IsTypeSet (sets v.root)) → IsTypeSetOffset sets control tables offset → IsNumberOf e c → ControlFits sets control e
     → ControlNumberFits tables offset c
 control_number sets None tables offset e c typed at numbered fits =
     subst (λ b. MatchBool b (c ≡ None) ((n : ℕ) × (c ≡ Some n) × SetContains tables offset n)) (sym (eq-eqb offset no_type_set at)) (number_of_none e c numbered fits)

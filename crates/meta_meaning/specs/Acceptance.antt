@@ -1,42 +1,42 @@
 -- What an instruction accepts, by its declaration alone.
 use Rattle.std.specs.Prelude.{◌≡◌, ℕ, List, ◌++◌, length, slice_get, map, Option, None, Some}
-use Rattle.meta_types.specs.Shape.{Shape, IsType, number_of}
-use Rattle.meta_typevar.specs.FourSets.{IsMember}
+use Rattle.meta_types.specs.TypeParts.{TypeParts, IsType, number_of}
+use Rattle.meta_typevar.specs.TypeSetParts.{IsMember}
 use Rattle.meta_typevar.specs.Chain.{Agrees}
 use Rattle.meta_typevar.specs.Variable.{Variable, Sets}
 use Rattle.meta_inst.specs.Instruction.{Instruction, IsOperand}
 
 -- the controlling type is none where there is no control, and else what was chosen for the control's root
-abbrev pub Controls : (ℕ → Shape) → Option Variable → Option Shape → Type 0
+abbrev pub Controls : (ℕ → TypeParts) → Option Variable → Option TypeParts → Type 0
 Controls choice None c = c ≡ None
 Controls choice (Some v) c = c ≡ Some (choice v.root)
 
 -- The instruction with this control accepts the controlling type c, the results rs and the values vs: there is one choice
 -- of a type for every root at once, each a member of its root's set, that gives the controlling type, and from which the
 -- chain of each operand leads to that operand's type.
-pub record Accepts (sets : Sets) (i : Instruction) (control : Option Variable) (c : Option Shape) (rs vs : List Shape) : Type 0 where
+pub record Accepts (sets : Sets) (i : Instruction) (control : Option Variable) (c : Option TypeParts) (rs vs : List TypeParts) : Type 0 where
   pub results : length rs ≡ length i.results
   pub values : length vs ≡ length i.values
-  pub choice : ℕ → Shape
+  pub choice : ℕ → TypeParts
   pub members : (k : ℕ) (w : Variable) → IsOperand i k w → IsMember (sets w.root) (choice w.root)
   pub controlled : Controls choice control c
-  pub agrees : (k : ℕ) (w : Variable) (t : Shape) → IsOperand i k w → slice_get (rs ++ vs) k ≡ Some t → Agrees w.chain (choice w.root) t
+  pub agrees : (k : ℕ) (w : Variable) (t : TypeParts) → IsOperand i k w → slice_get (rs ++ vs) k ≡ Some t → Agrees w.chain (choice w.root) t
 
 -- each is a type, and these are their numbers
-pub record AreNumbersOf (ts : List Shape) (ns : List ℕ) : Type 0 where
-  pub types : (k : ℕ) (t : Shape) → slice_get ts k ≡ Some t → IsType t
+pub record AreNumbersOf (ts : List TypeParts) (ns : List ℕ) : Type 0 where
+  pub types : (k : ℕ) (t : TypeParts) → slice_get ts k ≡ Some t → IsType t
   pub numbers : ns ≡ map number_of ts
 
 -- no number stands for no type, and a number for the type that has it
-abbrev pub IsNumberOf : Option Shape → Option ℕ → Type 0
+abbrev pub IsNumberOf : Option TypeParts → Option ℕ → Type 0
 IsNumberOf None n = n ≡ None
 IsNumberOf (Some t) n = IsType t × (n ≡ Some (number_of t))
 
 -- the instruction accepts the types that have these numbers
 pub record AcceptsNumbers (sets : Sets) (i : Instruction) (control : Option Variable) (c : Option ℕ) (rs vs : List ℕ) : Type 0 where
-  pub control_type : Option Shape
-  pub result_types : List Shape
-  pub value_types : List Shape
+  pub control_type : Option TypeParts
+  pub result_types : List TypeParts
+  pub value_types : List TypeParts
   pub control_number : IsNumberOf control_type c
   pub result_numbers : AreNumbersOf result_types rs
   pub value_numbers : AreNumbersOf value_types vs

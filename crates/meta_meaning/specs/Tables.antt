@@ -1,10 +1,10 @@
 -- Tables, as contracts see them, and how they are read.
 --     Allows tables op c rs vs              the decoding: the tables accept these numbers for the opcode
---     IsEntry sets i control tables entry   the tables hold the instruction as this entry
+--     AreOpcodeNumbersOf sets i control tables entry   the tables hold the instruction as this entry
 use Rattle.std.specs.Prelude.{◌≡◌, ℕ, ◌+◌, ◌/◌, ◌%◌, ◌<◌, ◌==◌, ◌↔◌, ◌≢◌, List, ◌++◌, length, slice_get, Option, None, Some, MatchBool, zero, suc}
-use Rattle.meta_types.specs.Shape.{number_of}
+use Rattle.meta_types.specs.TypeParts.{number_of}
 use Rattle.meta_types.specs.Function.{Function, StepsNumbers}
-use Rattle.meta_typevar.specs.FourSets.{FourSets}
+use Rattle.meta_typevar.specs.TypeSetParts.{TypeSetParts}
 use Rattle.meta_typevar.specs.Masks.{ContainsNumber, AreMasksOf}
 use Rattle.meta_typevar.specs.declared.masks.Masks.{Masks}
 use Rattle.meta_typevar.specs.Variable.{Variable, Sets}
@@ -19,7 +19,7 @@ pub data NumberConstraint : Type 0 where
   ByNumber : Function → NumberConstraint
 
 -- the three numbers of an opcode
-pub record Entry : Type 0 where
+pub record OpcodeNumbers : Type 0 where
   pub flags : ℕ
   pub typeset_offset : ℕ
   pub constraint_offset : ℕ
@@ -32,7 +32,7 @@ pub record TableContents : Type 0 where
   pub opcode_slots : List (Option ℕ)
   pub type_sets : List Masks
   pub operand_constraints : List NumberConstraint
-  pub entries : List Entry
+  pub entries : List OpcodeNumbers
 
 -- the type set offset of an opcode without a control
 abbrev pub no_type_set : ℕ
@@ -77,7 +77,7 @@ pub record PassesAt (tables : TableContents) (c : Option ℕ) (place n : ℕ) : 
 -- the values: op is an opcode, the counts are those of its flags, the controlling number fits, and the k-th number
 -- passes the k-th constraint from the entry's offset on.
 pub record Allows (tables : TableContents) (op : ℕ) (c : Option ℕ) (rs vs : List ℕ) : Type 0 where
-  pub entry : Entry
+  pub entry : OpcodeNumbers
   pub is_opcode : at_opcode tables.entries op ≡ Some entry
   pub results : length rs ≡ result_count entry.flags
   pub values : length vs ≡ value_count entry.flags
@@ -101,7 +101,7 @@ pub record AreFlagsOf (i : Instruction) (control : Option Variable) (flags : ℕ
   pub differs : (flags / 16 % 2 ≡ 1) ↔ (DesignatedControls i control × FirstResultDiffers i control)
 
 -- type set j holds the masks of s
-pub record HoldsSet (tables : TableContents) (j : ℕ) (s : FourSets) : Type 0 where
+pub record HoldsSet (tables : TableContents) (j : ℕ) (s : TypeSetParts) : Type 0 where
   pub masks : Masks
   pub is_set : slice_get tables.type_sets j ≡ Some masks
   pub are_masks : AreMasksOf s masks
@@ -127,7 +127,7 @@ pub record Constrains (sets : Sets) (control : Option Variable) (tables : TableC
   pub placed : slice_get tables.operand_constraints place ≡ Some number_constraint
 
 -- the entry holds the instruction with this control: flags, type set and constraints are those of its declaration
-pub record IsEntry (sets : Sets) (i : Instruction) (control : Option Variable) (tables : TableContents) (entry : Entry) : Type 0 where
+pub record AreOpcodeNumbersOf (sets : Sets) (i : Instruction) (control : Option Variable) (tables : TableContents) (entry : OpcodeNumbers) : Type 0 where
   pub flags : AreFlagsOf i control entry.flags
   pub type_set : IsTypeSetOffset sets control tables entry.typeset_offset
   pub constraints : (k : ℕ) (w : Variable) → IsOperand i k w → Constrains sets control tables (entry.constraint_offset + k) w

@@ -6,9 +6,9 @@
 #![tactic(auto)]
 
 ghost use Rattle.std.specs.Prelude.{◌≡◌, ℕ, ◌↔◌, List, [], ◌∷◌, ◌++◌, Option, Some};
-ghost use Rattle.meta_types.specs.Shape.{Shape, IsType, number_of, name_of};
+ghost use Rattle.meta_types.specs.TypeParts.{TypeParts, IsType, number_of, name_of};
 ghost use Rattle.meta_types.specs.Function.{Function, Steps};
-ghost use Rattle.meta_typevar.specs.FourSets.{FourSets, IsMember, IsTypeSet};
+ghost use Rattle.meta_typevar.specs.TypeSetParts.{TypeSetParts, IsMember, IsTypeSet};
 ghost use Rattle.meta_typevar.specs.Masks.{ContainsNumber, AreMasksOf};
 ghost use Rattle.meta_typevar.specs.declared.masks.Masks.{Masks};
 ghost use Rattle.meta_typevar.specs.Chain.{Agrees};
@@ -17,18 +17,18 @@ ghost use Rattle.meta_inst.specs.Instruction.{Instruction, IsOperand};
 ghost use Rattle.meta_inst.specs.Control.{IsControl, HasNoControl, HasBadDerivation};
 ghost use Rattle.meta_meaning.specs.Acceptance.{Accepts, AcceptsNumbers};
 ghost use Rattle.meta_meaning.specs.Constraint.{Constraint, IsConstraint, Admits};
-ghost use Rattle.meta_meaning.specs.Tables.{TableContents, Entry, at_opcode, Allows, IsEntry};
+ghost use Rattle.meta_meaning.specs.Tables.{TableContents, OpcodeNumbers, at_opcode, Allows, AreOpcodeNumbersOf};
 
 /// One test an operand is one joint choice. Under the control of an instruction of which no operand is badly derived, the
 /// tests of the operands, each alone, pass exactly the types for which there is one choice of a type for every root.
 pub fn one_test_an_operand()
-    ensures { (sets : Sets) (i : Instruction) (control : Option Variable) (c : Option Shape) (rs vs : List Shape) → IsControl sets i control → ((k : ℕ) → HasBadDerivation sets i control k → ⊥) → (Admits sets i control c rs vs ↔ Accepts sets i control c rs vs) }
+    ensures { (sets : Sets) (i : Instruction) (control : Option Variable) (c : Option TypeParts) (rs vs : List TypeParts) → IsControl sets i control → ((k : ℕ) → HasBadDerivation sets i control k → ⊥) → (Admits sets i control c rs vs ↔ Accepts sets i control c rs vs) }
 {}
 
 /// The tables mean the instruction: where they hold it as the entry of an opcode, the decoding allows exactly those
 /// numbers, of all numbers, that are the numbers of types which the instruction accepts.
 pub fn tables_mean_the_instruction()
-    ensures { (sets : Sets) (i : Instruction) (control : Option Variable) (tables : TableContents) (op : ℕ) (entry : Entry) (c : Option ℕ) (rs vs : List ℕ) → ((k : ℕ) (w : Variable) → IsOperand i k w → IsTypeSet (sets w.root)) → IsControl sets i control → IsEntry sets i control tables entry → at_opcode tables.entries op ≡ Some entry → (Allows tables op c rs vs ↔ AcceptsNumbers sets i control c rs vs) }
+    ensures { (sets : Sets) (i : Instruction) (control : Option Variable) (tables : TableContents) (op : ℕ) (entry : OpcodeNumbers) (c : Option ℕ) (rs vs : List ℕ) → ((k : ℕ) (w : Variable) → IsOperand i k w → IsTypeSet (sets w.root)) → IsControl sets i control → AreOpcodeNumbersOf sets i control tables entry → at_opcode tables.entries op ≡ Some entry → (Allows tables op c rs vs ↔ AcceptsNumbers sets i control c rs vs) }
 {}
 
 /// An instruction has at most one control, and none where the want of a control is a fault.
@@ -46,12 +46,12 @@ pub fn one_constraint()
 
 /// The masks of a set contain exactly the numbers of its members. Two types have two numbers and two names.
 pub fn masks_contain_the_members()
-    ensures members { (s : FourSets) (m : Masks) (n : ℕ) → IsTypeSet s → AreMasksOf s m → (ContainsNumber m n ↔ ((t : Shape) × IsMember s t × (number_of t ≡ n))) }
-    ensures numbers { (a b : Shape) → IsType a → IsType b → number_of a ≡ number_of b → a ≡ b }
-    ensures names { (a b : Shape) → IsType a → IsType b → name_of a ≡ name_of b → a ≡ b }
+    ensures members { (s : TypeSetParts) (m : Masks) (n : ℕ) → IsTypeSet s → AreMasksOf s m → (ContainsNumber m n ↔ ((t : TypeParts) × IsMember s t × (number_of t ≡ n))) }
+    ensures numbers { (a b : TypeParts) → IsType a → IsType b → number_of a ≡ number_of b → a ≡ b }
+    ensures names { (a b : TypeParts) → IsType a → IsType b → name_of a ≡ name_of b → a ≡ b }
 {}
 
 /// A chain leads to a type exactly where all of it but its last function leads to a type from which that one does.
 pub fn chain_end()
-    ensures { (fs : List Function) (f : Function) (r t : Shape) → (Agrees (fs ++ f ∷ []) r t ↔ ((u : Shape) × Agrees fs r u × Steps f u t)) }
+    ensures { (fs : List Function) (f : Function) (r t : TypeParts) → (Agrees (fs ++ f ∷ []) r t ↔ ((u : TypeParts) × Agrees fs r u × Steps f u t)) }
 {}

@@ -2,15 +2,15 @@
 use Rattle.std.proofs.Common.{◌≡◌, ℕ, zero, suc, Option, None, Some, IfSome, sym, ◌∙◌, subst, add-one}
 use Rattle.std.proofs.lemmas.Option.{same_Some}
 use Rattle.meta_lists.proofs.Places.{get_beside}
-use Rattle.meta_inst.specs.InstructionSet.{InstructionSet, root_sets, instruction_of}
-use Rattle.meta_meaning.specs.Tables.{TableContents, Entry, IsEntry, at_opcode}
+use Rattle.meta_inst.specs.InstructionSet.{InstructionSet, root_sets, instruction_in_set}
+use Rattle.meta_meaning.specs.Tables.{TableContents, OpcodeNumbers, AreOpcodeNumbersOf, at_opcode}
 use Rattle.meta_opcode_tables.specs.TablesOf.{AreTablesOf, HoldsInstruction}
 use Rattle.meta_opcode_tables.specs.Found.{IsDeclaredAs}
 use Rattle.meta_opcode_tables.specs.Constraint.{entry_of}
 use Rattle.meta_opcode_tables.specs.declared.constraint.OpcodeConstraints.{OpcodeConstraints}
 
 -- what stands at an opcode of the tables is the entry of the instruction with this number
-pub declared_as : (d : InstructionSet) (tables : TableContents) (op : ℕ) (entry : Entry) → AreTablesOf d tables → at_opcode tables.entries op ≡ Some entry → IsDeclaredAs d tables op entry
+pub declared_as : (d : InstructionSet) (tables : TableContents) (op : ℕ) (entry : OpcodeNumbers) → AreTablesOf d tables → at_opcode tables.entries op ≡ Some entry → IsDeclaredAs d tables op entry
 declared_as d tables zero entry h at = absurd (cc)
 declared_as d tables (suc k) entry h at =
     let (b, b_at) = get_beside tables.entries d.instructions k entry h.count at in
@@ -22,7 +22,7 @@ declared_as d tables (suc k) entry h at =
       number = sym (add-one k);
       control = held.control;
       is_control = held.is_control;
-      is_entry = subst (λ x. IsEntry (root_sets d) (instruction_of d b) held.control tables x) (same_Some held.entry entry (sym held.at ∙ at)) held.is_entry;
+      is_entry = subst (λ x. AreOpcodeNumbersOf (root_sets d) (instruction_in_set d b) held.control tables x) (same_Some held.entry entry (sym held.at ∙ at)) held.is_entry;
     }
 
 -- a look-up that answers the entry of an opcode answers that of the instruction with this number

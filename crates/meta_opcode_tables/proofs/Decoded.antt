@@ -1,7 +1,7 @@
 -- What tables of declarations allow is what the declarations accept.
 use Rattle.std.proofs.Common.{◌≡◌, ◌↔◌, ℕ, suc, List, Option, Some, sym, ◌∙◌, subst, add-one}
 use Rattle.meta_typevar.specs.Registry.{HoldTypeSets}
-use Rattle.meta_inst.specs.InstructionSet.{InstructionSet, root_sets, instruction_of}
+use Rattle.meta_inst.specs.InstructionSet.{InstructionSet, root_sets, instruction_in_set}
 use Rattle.meta_meaning.specs.Acceptance.{AcceptsNumbers}
 use Rattle.meta_meaning.specs.Tables.{TableContents, Allows, at_opcode}
 use Rattle.meta_meaning.proofs.Decoding.{tables_mean}
@@ -24,15 +24,15 @@ tables_of_mean d tables op c rs vs typed h = (to, from)
           number = x.number;
           control = x.control;
           is_control = x.is_control;
-          accepts = (tables_mean (root_sets d) (instruction_of d x.builder) x.control tables op a.entry c rs vs (λ k w _. typed w.root) x.is_control x.is_entry a.is_opcode).0 a;
+          accepts = (tables_mean (root_sets d) (instruction_in_set d x.builder) x.control tables op a.entry c rs vs (λ k w _. typed w.root) x.is_control x.is_entry a.is_opcode).0 a;
         }
 
     -- what is accepted is allowed
     from : AcceptsOpcode d op c rs vs → Allows tables op c rs vs
     from a =
         let held : HoldsInstruction d tables a.place a.builder = h.holds a.place a.builder a.at in
-        let same : a.control ≡ held.control = same_control (root_sets d) (instruction_of d a.builder) a.control held.control a.is_control held.is_control in
-        let accepted : AcceptsNumbers (root_sets d) (instruction_of d a.builder) held.control c rs vs = subst (λ x. AcceptsNumbers (root_sets d) (instruction_of d a.builder) x c rs vs) same a.accepts in
+        let same : a.control ≡ held.control = same_control (root_sets d) (instruction_in_set d a.builder) a.control held.control a.is_control held.is_control in
+        let accepted : AcceptsNumbers (root_sets d) (instruction_in_set d a.builder) held.control c rs vs = subst (λ x. AcceptsNumbers (root_sets d) (instruction_in_set d a.builder) x c rs vs) same a.accepts in
         let numbered : suc a.place ≡ op = sym (a.number ∙ add-one a.place) in
         let at : at_opcode tables.entries op ≡ Some held.entry = subst (λ n. at_opcode tables.entries n ≡ Some held.entry) numbered held.at in
-        (tables_mean (root_sets d) (instruction_of d a.builder) held.control tables op held.entry c rs vs (λ k w _. typed w.root) held.is_control held.is_entry at).1 accepted
+        (tables_mean (root_sets d) (instruction_in_set d a.builder) held.control tables op held.entry c rs vs (λ k w _. typed w.root) held.is_control held.is_entry at).1 accepted

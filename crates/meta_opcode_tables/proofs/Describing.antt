@@ -5,15 +5,15 @@ use Rattle.std.proofs.lemmas.Bool.{false≢true}
 use Rattle.std.proofs.lemmas.Option.{same_Some}
 use Rattle.meta_lists.proofs.Pushed.{stays, last}
 use Rattle.meta_lists.proofs.Options.{mapped}
-use Rattle.meta_types.specs.Shape.{number_of}
+use Rattle.meta_types.specs.TypeParts.{number_of}
 use Rattle.meta_types.specs.Function.{Function}
 use Rattle.meta_types.specs.DerivedFunc.{function_of}
-use Rattle.meta_types.specs.ValueTypes.{shape_of}
+use Rattle.meta_types.specs.ValueTypes.{type_parts_of}
 use Rattle.meta_types.specs.declared.value_type.ValueType.{ValueType}
 use Rattle.meta_typevar.specs.Chain.{IsFixed}
 use Rattle.meta_typevar.specs.Variable.{Variable, IsDerivedBy, IsOpen}
 use Rattle.meta_typevar.specs.Registry.{sets_of, variable_at, IsKept, IsRegistry}
-use Rattle.meta_typevar.specs.FourSets.{FourSets}
+use Rattle.meta_typevar.specs.TypeSetParts.{TypeSetParts}
 use Rattle.meta_typevar.specs.declared.content.TypeVarContent.{TypeVarContent}
 use Rattle.meta_typevar.specs.declared.content.TypeVarParent.{TypeVarParent}
 use Rattle.meta_typevar.proofs.Variables.{one_variable, underived_told}
@@ -40,9 +40,9 @@ control_from vars r control of n l e =
     let (x, is, same) = mapped (variable_at vars) control (variable_at vars n) e in
     is ∙ ap Some (one_variable vars r x n (of x is) l same)
 
-module _ (vars : List TypeVarContent) (control : Option ℕ) (type_sets : List FourSets) (n : ℕ) where
-  pub concrete : (t : ValueType) (number : ℕ) → IsFixed (sets_of vars (variable_at vars n).root) (variable_at vars n).chain (shape_of t) → number ≡ number_of (shape_of t) → Describes vars control type_sets n (Concrete number)
-  concrete t number fixed e = record { constraint = ConcreteType (shape_of t); is_constraint = fixed; stands = λ tables has. ap ConcreteNumber e }
+module _ (vars : List TypeVarContent) (control : Option ℕ) (type_sets : List TypeSetParts) (n : ℕ) where
+  pub concrete : (t : ValueType) (number : ℕ) → IsFixed (sets_of vars (variable_at vars n).root) (variable_at vars n).chain (type_parts_of t) → number ≡ number_of (type_parts_of t) → Describes vars control type_sets n (Concrete number)
+  concrete t number fixed e = record { constraint = ConcreteType (type_parts_of t); is_constraint = fixed; stands = λ tables has. ap ConcreteNumber e }
 
   pub same : IsOpen (sets_of vars) (variable_at vars n) → control ≡ Some n → Describes vars control type_sets n Same
   same not_fixed e = record { constraint = SameType; is_constraint = record { not_fixed = not_fixed; controls = control_is vars control n e }; stands = λ tables has. refl }
@@ -87,10 +87,10 @@ module _ (vars : List TypeVarContent) (control : Option ℕ) (type_sets : List F
     underived_by d kept e = (underived_told vars n d registry kept).0 e
 
 -- what described a variable describes it in a longer list
-pub described_later : (vars : List TypeVarContent) (control : Option ℕ) (type_sets : List FourSets) (old new : List Constraint) (place n : ℕ) → StaysIn old new → IsDescribedAt vars control type_sets old place n → IsDescribedAt vars control type_sets new place n
+pub described_later : (vars : List TypeVarContent) (control : Option ℕ) (type_sets : List TypeSetParts) (old new : List Constraint) (place n : ℕ) → StaysIn old new → IsDescribedAt vars control type_sets old place n → IsDescribedAt vars control type_sets new place n
 described_later vars control type_sets old new place n stay h = record { constraint = h.constraint; at = stay place h.constraint h.at; describes = h.describes }
 
-module _ (vars : List TypeVarContent) (control : Option ℕ) (type_sets : List FourSets) (old new : List Constraint) (x : Constraint) (added : new ≡ old ++ x ∷ []) where
+module _ (vars : List TypeVarContent) (control : Option ℕ) (type_sets : List TypeSetParts) (old new : List Constraint) (x : Constraint) (added : new ≡ old ++ x ∷ []) where
   -- one more constraint, of the variable at the next place
   pub one_more : (numbers : List ℕ) (place n : ℕ) → length old ≡ place → slice_get numbers place ≡ Some n → Describes vars control type_sets n x
       → ((k m : ℕ) → k < place → slice_get numbers k ≡ Some m → IsDescribedAt vars control type_sets old k m)

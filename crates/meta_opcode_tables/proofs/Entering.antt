@@ -1,13 +1,13 @@
 -- What is built of valid declarations can have its entries.
 use Rattle.std.proofs.Common.{◌≡◌, ◌<◌, ◌≤◌, ◌+◌, inl, inr, ℕ, List, length, length-append, refl, sym, ap, ◌∙◌, subst, arith}
-use Rattle.meta_typevar.specs.FourSets.{FourSets}
+use Rattle.meta_typevar.specs.TypeSetParts.{TypeSetParts}
 use Rattle.meta_operands.specs.Operand.{variables_of}
 use Rattle.meta_inst.specs.Builder.{Builder, inputs_of, outputs_of}
 use Rattle.meta_inst.specs.Built.{Built}
 use Rattle.meta_inst.specs.Control.{DerivesBadly}
 use Rattle.meta_inst.specs.Instruction.{Instruction}
 use Rattle.meta_inst.specs.InstructionFaults.{DerivationRule, CountRule, HasTooManyOperands}
-use Rattle.meta_inst.specs.InstructionSet.{InstructionSet, root_sets, instruction_of, Fits}
+use Rattle.meta_inst.specs.InstructionSet.{InstructionSet, root_sets, instruction_in_set, Fits}
 use Rattle.meta_inst.specs.Faults.{IsValid, OfInstruction}
 use Rattle.meta_inst.specs.Operands.{OperandList}
 use Rattle.meta_declared.specs.BuiltInstructions.{IsBuiltAt}
@@ -28,11 +28,11 @@ few_values b small =
     let few : 7 < length (variables_of (inputs_of b)) → ⊥ = λ l. small (length (variables_of (inputs_of b))) (inr (results, l, refl)) in
     omega arith
 
-module _ (d : InstructionSet) (valid : IsValid d) (fits : Fits d.vars d.formats d.instructions) (sets : List FourSets) (needed : AreSetsByNeed d sets) (k : ℕ) (c : Built) (h : IsBuiltAt d k c) where
+module _ (d : InstructionSet) (valid : IsValid d) (fits : Fits d.vars d.formats d.instructions) (sets : List TypeSetParts) (needed : AreSetsByNeed d sets) (k : ℕ) (c : Built) (h : IsBuiltAt d k c) where
   small : (count : ℕ) → HasTooManyOperands h.builder count → ⊥
   small count many = valid (OfInstruction k CountRule) _ (inl (record { builder = h.builder; at = h.at; breaks = (count, refl, many) }))
 
-  derived : (place : ℕ) → DerivesBadly (root_sets d) (instruction_of d h.builder) place → ⊥
+  derived : (place : ℕ) → DerivesBadly (root_sets d) (instruction_in_set d h.builder) place → ⊥
   derived place bad = valid (OfInstruction k DerivationRule) _ (inl (record { builder = h.builder; at = h.at; breaks = (place, refl, bad) }))
 
   pub can_enter : CanEnter d.vars sets c

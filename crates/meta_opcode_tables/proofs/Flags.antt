@@ -8,7 +8,7 @@ use Rattle.meta_lists.proofs.Places.{get_taken}
 use Rattle.meta_typevar.specs.Registry.{variable_at, IsRegistry}
 use Rattle.meta_typevar.specs.declared.content.TypeVarContent.{TypeVarContent}
 use Rattle.meta_inst.specs.Instruction.{Instruction}
-use Rattle.meta_inst.specs.Operands.{OperandList, instruction_with, designated_number, AreOf}
+use Rattle.meta_inst.specs.Operands.{OperandList, instruction_of_operands, designated_number, AreOf}
 use Rattle.meta_inst.proofs.Meaning.{results_length, designated_is, designated_from, designated_of}
 use Rattle.meta_meaning.specs.Tables.{AreFlagsOf, DesignatedControls, FirstResultDiffers, result_count, value_count}
 use Rattle.meta_declared.specs.Needed.{control_at, IsOfRegistry}
@@ -21,7 +21,7 @@ not_true false h = refl
 
 module _ (vars : List TypeVarContent) (o : OperandList) (within : o.result_count ≤ length o.variables) (registry : IsRegistry vars) (are : AreOf vars o.variables) (control : Option ℕ) (of : IsOfRegistry vars control) where
   abbrev i : Instruction
-  i = instruction_with vars o
+  i = instruction_of_operands vars o
 
   -- the number of the control is that of the designated operand's variable, and of the first result's
   abbrev IsDesignatedNumber : Type 0

@@ -4,17 +4,17 @@ use Rattle.std.specs.Prelude.{option_map}
 use Rattle.std.proofs.lemmas.Option.{slice_get-map, slice_get_within, same_Some}
 use Rattle.meta_typevar.specs.Variable.{Variable}
 use Rattle.meta_typevar.specs.Registry.{sets_of, variable_at, IsRegistry}
-use Rattle.meta_typevar.specs.FourSets.{FourSets}
+use Rattle.meta_typevar.specs.TypeSetParts.{TypeSetParts}
 use Rattle.meta_typevar.specs.declared.content.TypeVarContent.{TypeVarContent}
 use Rattle.meta_operands.specs.declared.format.InstructionFormat.{InstructionFormat}
 use Rattle.meta_inst.specs.Builder.{Builder}
 use Rattle.meta_inst.specs.Instruction.{Instruction, IsOperand}
 use Rattle.meta_inst.specs.Control.{IsControl}
-use Rattle.meta_inst.specs.InstructionSet.{InstructionSet, root_sets, instruction_in, instruction_of}
+use Rattle.meta_inst.specs.InstructionSet.{InstructionSet, root_sets, instruction_of_builder, instruction_in_set}
 use Rattle.meta_inst.specs.Faults.{IsAt, AreNeededSets}
-use Rattle.meta_inst.specs.Operands.{OperandList, instruction_with, AreOf}
+use Rattle.meta_inst.specs.Operands.{OperandList, instruction_of_operands, AreOf}
 use Rattle.meta_inst.proofs.Meaning.{operand_at, operand_from, results_length}
-use Rattle.meta_meaning.specs.Tables.{TableContents, Entry, AreFlagsOf, IsTypeSetOffset}
+use Rattle.meta_meaning.specs.Tables.{TableContents, OpcodeNumbers, AreFlagsOf, IsTypeSetOffset}
 use Rattle.meta_opcode_tables.specs.Constraint.{number_constraint_of, entry_of}
 use Rattle.meta_opcode_tables.specs.TablesOf.{HoldsInstruction}
 use Rattle.meta_opcode_tables.specs.declared.constraint.Constraint.{Constraint}
@@ -32,11 +32,11 @@ use Rattle.meta_lists.proofs.Pushed.{get_before, get_pushed_below, stays, last, 
 use Rattle.meta_lists.proofs.Mapped.{get_mapped}
 
 -- the needed sets hold what each instruction needs
-pub needed_held : (d : InstructionSet) (type_sets : List FourSets) → AreNeededSets d type_sets → (k : ℕ) (b : Builder) → IsAt d k b → HoldNeeded type_sets (root_sets d) (instruction_of d b)
+pub needed_held : (d : InstructionSet) (type_sets : List TypeSetParts) → AreNeededSets d type_sets → (k : ℕ) (b : Builder) → IsAt d k b → HoldNeeded type_sets (root_sets d) (instruction_in_set d b)
 needed_held d type_sets needed k b at control s is which = needed.all s (k, record { user = b; at = at; control = control; is_control = is; needs = which })
 
-module _ (vars : List TypeVarContent) (o : OperandList) (within : o.result_count ≤ length o.variables) (control : Option ℕ) (type_sets : List FourSets)
-    (held : HoldNeeded type_sets (sets_of vars) (instruction_with vars o)) (is_control : IsControl (sets_of vars) (instruction_with vars o) (control_at vars control)) (registry : IsRegistry vars) (are : AreOf vars o.variables) (of : IsOfRegistry vars control) where
+module _ (vars : List TypeVarContent) (o : OperandList) (within : o.result_count ≤ length o.variables) (control : Option ℕ) (type_sets : List TypeSetParts)
+    (held : HoldNeeded type_sets (sets_of vars) (instruction_of_operands vars o)) (is_control : IsControl (sets_of vars) (instruction_of_operands vars o) (control_at vars control)) (registry : IsRegistry vars) (are : AreOf vars o.variables) (of : IsOfRegistry vars control) where
   -- the set of the control is held
   pub control_held : (v : ℕ) → control ≡ Some v → IsHeld type_sets (sets_of vars (variable_at vars v).root)
   control_held v e = held (control_at vars control) (sets_of vars (variable_at vars v).root) is_control (inl record { variable = variable_at vars v; controls = control_is vars control v e; set = refl })
@@ -53,9 +53,9 @@ module _ (vars : List TypeVarContent) (o : OperandList) (within : o.result_count
     several = f.several;
   })
 
-module _ (vars : List TypeVarContent) (o : OperandList) (within : o.result_count ≤ length o.variables) (registry : IsRegistry vars) (are : AreOf vars o.variables) (control : Option ℕ) (type_sets : List FourSets) (list : List Constraint) (described : AreDescribed vars control type_sets list o.variables) where
+module _ (vars : List TypeVarContent) (o : OperandList) (within : o.result_count ≤ length o.variables) (registry : IsRegistry vars) (are : AreOf vars o.variables) (control : Option ℕ) (type_sets : List TypeSetParts) (list : List Constraint) (described : AreDescribed vars control type_sets list o.variables) where
   -- the constraint of an operand
-  constraint_at : (tables : TableContents) → HasTypeSets tables type_sets → (k : ℕ) (w : Variable) → IsOperand (instruction_with vars o) k w → IsConstraintAt (sets_of vars) (control_at vars control) tables list k w
+  constraint_at : (tables : TableContents) → HasTypeSets tables type_sets → (k : ℕ) (w : Variable) → IsOperand (instruction_of_operands vars o) k w → IsConstraintAt (sets_of vars) (control_at vars control) tables list k w
   constraint_at tables has k w op =
       let (n, at, is) = operand_from vars o within registry are k w op in
       let h : IsDescribedAt vars control type_sets list k n = described.each k n at in
@@ -68,22 +68,22 @@ module _ (vars : List TypeVarContent) (o : OperandList) (within : o.result_count
       })
 
   -- there is one for each operand
-  list_length : length list ≡ length (instruction_with vars o).results + length (instruction_with vars o).values
+  list_length : length list ≡ length (instruction_of_operands vars o).results + length (instruction_of_operands vars o).values
   list_length =
-      let results : length (instruction_with vars o).results ≡ o.result_count = results_length vars o within registry are in
-      let values : length (instruction_with vars o).values ≡ length o.variables - o.result_count = length-map (drop o.result_count o.variables) (variable_at vars) ∙ length-drop o.result_count o.variables in
+      let results : length (instruction_of_operands vars o).results ≡ o.result_count = results_length vars o within registry are in
+      let values : length (instruction_of_operands vars o).values ≡ length o.variables - o.result_count = length-map (drop o.result_count o.variables) (variable_at vars) ∙ length-drop o.result_count o.variables in
       omega (arith, described.count, results, values, within)
 
-  pub is_list : (tables : TableContents) → HasTypeSets tables type_sets → IsConstraintList (sets_of vars) (control_at vars control) tables (instruction_with vars o) list
+  pub is_list : (tables : TableContents) → HasTypeSets tables type_sets → IsConstraintList (sets_of vars) (control_at vars control) tables (instruction_of_operands vars o) list
   is_list tables has = record { count = list_length; each = constraint_at tables has }
 
   -- the entry of an instruction whose list stands in the constraints
   pub entry_holds : (e : OpcodeConstraints) (constraints : List Constraint)
-      → IsControl (sets_of vars) (instruction_with vars o) (control_at vars control)
-      → AreFlagsOf (instruction_with vars o) (control_at vars control) e.flags
+      → IsControl (sets_of vars) (instruction_of_operands vars o) (control_at vars control)
+      → AreFlagsOf (instruction_of_operands vars o) (control_at vars control) e.flags
       → ((tables : TableContents) → HasTypeSets tables type_sets → IsTypeSetOffset (sets_of vars) (control_at vars control) tables e.typeset_offset)
       → ((k : ℕ) (x : Constraint) → slice_get list k ≡ Some x → slice_get constraints (e.constraint_offset + k) ≡ Some x)
-      → EntryHolds vars (instruction_with vars o) type_sets constraints e
+      → EntryHolds vars (instruction_of_operands vars o) type_sets constraints e
   entry_holds e constraints is_control flags type_set stands = record {
     control = control_at vars control;
     is_control = is_control;
@@ -103,18 +103,18 @@ module _ (vars : List TypeVarContent) (o : OperandList) (within : o.result_count
   }
 
 -- an entry holds its instruction when the list of constraints has grown
-pub holds_later : (vars : List TypeVarContent) (i : Instruction) (type_sets : List FourSets) (old new : List Constraint) (e : OpcodeConstraints) → StaysIn old new → EntryHolds vars i type_sets old e → EntryHolds vars i type_sets new e
+pub holds_later : (vars : List TypeVarContent) (i : Instruction) (type_sets : List TypeSetParts) (old new : List Constraint) (e : OpcodeConstraints) → StaysIn old new → EntryHolds vars i type_sets old e → EntryHolds vars i type_sets new e
 holds_later vars i type_sets old new e stay h = record {
   control = h.control;
   is_control = h.is_control;
   is_entry = λ tables has hold. h.is_entry tables has (λ k x at. hold k x (stay k x at));
 }
 
-module _ (vars : List TypeVarContent) (formats : List InstructionFormat) (type_sets : List FourSets) where
+module _ (vars : List TypeVarContent) (formats : List InstructionFormat) (type_sets : List TypeSetParts) where
   -- one more entry, that of the instruction at the next place
   pub one_more_held : (instructions : List Builder) (old new : List Constraint) (entries later : List OpcodeConstraints) (e : OpcodeConstraints) (b : Builder) (place : ℕ)
       → later ≡ entries ++ e ∷ [] → length entries ≡ place → slice_get instructions place ≡ Some b → StaysIn old new
-      → EntryHolds vars (instruction_in vars formats b) type_sets new e
+      → EntryHolds vars (instruction_of_builder vars formats b) type_sets new e
       → ((k : ℕ) (x : Builder) → k < place → slice_get instructions k ≡ Some x → IsHeldAt vars formats type_sets old entries k x)
       → (k : ℕ) (x : Builder) → k < place + 1 → slice_get instructions k ≡ Some x → IsHeldAt vars formats type_sets new later k x
   one_more_held instructions old new entries later e b place added count at stay holds before k x below at_k =
@@ -122,12 +122,12 @@ module _ (vars : List TypeVarContent) (formats : List InstructionFormat) (type_s
       (λ k l x at_x. let h = before k x l at_x in record {
         entry = h.entry;
         at = stays entries later e added k h.entry h.at;
-        holds = holds_later vars (instruction_in vars formats x) type_sets old new h.entry stay h.holds;
+        holds = holds_later vars (instruction_of_builder vars formats x) type_sets old new h.entry stay h.holds;
       })
       (λ x at_x. record {
         entry = e;
         at = last entries later e added place (sym count);
-        holds = subst (λ y. EntryHolds vars (instruction_in vars formats y) type_sets new e) (same_Some b x (sym at ∙ at_x)) holds;
+        holds = subst (λ y. EntryHolds vars (instruction_of_builder vars formats y) type_sets new e) (same_Some b x (sym at ∙ at_x)) holds;
       })
       k below x at_k
 
@@ -154,7 +154,7 @@ module _ (vars : List TypeVarContent) (formats : List InstructionFormat) (type_s
   -- one more list is added, that of the instruction at the next place
   pub one_more_added : (instructions : List Builder) (old new : List Constraint) (entries later : List OpcodeConstraints) (e : OpcodeConstraints) (b : Builder) (lists : List (List Constraint))
       → later ≡ entries ++ e ∷ [] → slice_get instructions (length entries) ≡ Some b
-      → (a : IsAdded vars (instruction_in vars formats b) type_sets old new e)
+      → (a : IsAdded vars (instruction_of_builder vars formats b) type_sets old new e)
       → AreAdded vars formats instructions type_sets old entries lists
       → AreAdded vars formats instructions type_sets new later (lists ++ a.list ∷ [])
   one_more_added instructions old new entries later e b lists pushed at a h = record {
@@ -202,7 +202,7 @@ module _ (vars : List TypeVarContent) (formats : List InstructionFormat) (type_s
           ∙ ap (λ ls. added_at same_constraint (overlapped ls) list) (sym all)
 
 -- the one list of the tables is made of the lists of the instructions
-pub are_overlapped : (d : InstructionSet) (type_sets : List FourSets) (tables : TableContents) (constraints : List Constraint) (entries : List OpcodeConstraints) (lists : List (List Constraint)) → HasTypeSets tables type_sets → tables.operand_constraints ≡ map number_constraint_of constraints → tables.entries ≡ map entry_of entries → length entries ≡ length d.instructions
+pub are_overlapped : (d : InstructionSet) (type_sets : List TypeSetParts) (tables : TableContents) (constraints : List Constraint) (entries : List OpcodeConstraints) (lists : List (List Constraint)) → HasTypeSets tables type_sets → tables.operand_constraints ≡ map number_constraint_of constraints → tables.entries ≡ map entry_of entries → length entries ≡ length d.instructions
     → AreAdded d.vars d.formats d.instructions type_sets constraints entries lists → AreOverlapped d tables
 are_overlapped d type_sets tables constraints entries lists has has_constraints has_entries count h = record {
   lists = lists;
@@ -217,5 +217,5 @@ are_overlapped d type_sets tables constraints entries lists has has_constraints 
   whole = has_constraints ∙ ap (map number_constraint_of) h.whole;
   offsets = λ k list entry at at_e.
       let (e, at_own, is) = get_mapped entry_of entries k entry (sym (ap (λ xs. slice_get xs k) has_entries) ∙ at_e) in
-      ap (λ (x : Entry). x.constraint_offset) (sym is) ∙ h.offsets k list e at at_own;
+      ap (λ (x : OpcodeNumbers). x.constraint_offset) (sym is) ∙ h.offsets k list e at at_own;
 }

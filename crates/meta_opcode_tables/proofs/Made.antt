@@ -3,7 +3,7 @@ use Rattle.std.proofs.Common.{◌≡◌, ◌+◌, ◌<◌, ℕ, List, [], ◌∷
 use Rattle.std.proofs.lemmas.Option.{slice_get_within, get_or_from_slice_get, same_Some}
 use Rattle.std.proofs.lemmas.List.{take_more, map-append, length-map}
 use Rattle.meta_lists.proofs.Pushed.{stays, last}
-use Rattle.meta_typevar.specs.FourSets.{FourSets}
+use Rattle.meta_typevar.specs.TypeSetParts.{TypeSetParts}
 use Rattle.meta_typevar.specs.declared.masks.Masks.{Masks}
 use Rattle.meta_declared.specs.Needed.{StandForSets, AreSetsByNeed}
 use Rattle.meta_operands.specs.declared.format.InstructionFormat.{InstructionFormat}
@@ -45,7 +45,7 @@ one_format_more formats instructions old new x place b format added count at is 
     k below c at_k
 
 -- the parts make the tables of the declarations
-pub tables_made : (d : InstructionSet) (names : OpcodeNames) (masks : List Masks) (type_sets : List FourSets) (constraints : List Constraint) (entries : List OpcodeConstraints) (lists : List (List Constraint)) (tables : TableContents) → tables ≡ contents_of names masks constraints entries → AreSetsByNeed d type_sets → StandForSets masks type_sets → names.names ≡ names_of d → AreFormatNames d.formats d.instructions names.formats → AreNameSlots 1 names.names names.slots → length entries ≡ length d.instructions → ((k : ℕ) (b : Builder) → IsAt d k b → IsHeldAt d.vars d.formats type_sets constraints entries k b) → AreAdded d.vars d.formats d.instructions type_sets constraints entries lists → AreTablesOf d tables
+pub tables_made : (d : InstructionSet) (names : OpcodeNames) (masks : List Masks) (type_sets : List TypeSetParts) (constraints : List Constraint) (entries : List OpcodeConstraints) (lists : List (List Constraint)) (tables : TableContents) → tables ≡ contents_of names masks constraints entries → AreSetsByNeed d type_sets → StandForSets masks type_sets → names.names ≡ names_of d → AreFormatNames d.formats d.instructions names.formats → AreNameSlots 1 names.names names.slots → length entries ≡ length d.instructions → ((k : ℕ) (b : Builder) → IsAt d k b → IsHeldAt d.vars d.formats type_sets constraints entries k b) → AreAdded d.vars d.formats d.instructions type_sets constraints entries lists → AreTablesOf d tables
 tables_made d names masks type_sets constraints entries lists tables made needed stand named formatted slots counted holds added = subst (AreTablesOf d) (sym made) (record {
   names = named;
   formats = formatted;

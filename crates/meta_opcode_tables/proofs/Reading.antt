@@ -5,12 +5,12 @@ use Rattle.std.proofs.lemmas.Bool.{false≢true}
 use Rattle.meta_lists.proofs.Places.{get_stays, get_right, get_cases}
 use Rattle.meta_typevar.specs.Registry.{HoldTypeSets}
 use Rattle.meta_inst.specs.InstructionSet.{InstructionSet}
-use Rattle.meta_meaning.specs.Tables.{TableContents, Entry, PassesAt, ControlNumberFits, Allows, at_opcode, result_count, value_count}
+use Rattle.meta_meaning.specs.Tables.{TableContents, OpcodeNumbers, PassesAt, ControlNumberFits, Allows, at_opcode, result_count, value_count}
 use Rattle.meta_opcode_tables.specs.TablesOf.{AreTablesOf, AcceptsOpcode}
 use Rattle.meta_opcode_tables.specs.Contents.{AllPass}
 use Rattle.meta_opcode_tables.proofs.Decoded.{tables_of_mean}
 
-module _ (tables : TableContents) (op : ℕ) (c : Option ℕ) (rs vs : List ℕ) (entry : Entry) (at : at_opcode tables.entries op ≡ Some entry) where
+module _ (tables : TableContents) (op : ℕ) (c : Option ℕ) (rs vs : List ℕ) (entry : OpcodeNumbers) (at : at_opcode tables.entries op ≡ Some entry) where
   -- an opcode has one entry
   same_entry : (a : Allows tables op c rs vs) → a.entry ≡ entry
   same_entry a = same_Some a.entry entry (sym a.is_opcode ∙ at)

@@ -5,7 +5,7 @@ use Rattle.meta_lists.proofs.Mapped.{same_mapped}
 use Rattle.meta_types.specs.Function.{Function, LaneOf as LaneOfFunction, AsTruthy as AsTruthyFunction, HalfWidth as HalfWidthFunction, DoubleWidth as DoubleWidthFunction, SplitLanes as SplitLanesFunction, MergeLanes as MergeLanesFunction, DynamicToVector as DynamicToVectorFunction, Narrower as NarrowerRelation, Wider as WiderRelation}
 use Rattle.meta_typevar.specs.declared.masks.Masks.{Masks}
 use Rattle.meta_typevar.specs.contracts.masks.MasksPartialEq.TheImpl.{eq-value as masks_eq}
-use Rattle.meta_meaning.specs.Tables.{NumberConstraint, ConcreteNumber, FreeOf, SameNumber, ByNumber, Entry}
+use Rattle.meta_meaning.specs.Tables.{NumberConstraint, ConcreteNumber, FreeOf, SameNumber, ByNumber, OpcodeNumbers}
 use Rattle.meta_opcode_tables.specs.Constraint.{number_constraint_of, entry_of}
 use Rattle.meta_opcode_tables.specs.contracts.constraint.OpcodeConstraintsPartialEq.TheImpl.{eq-value as entry_eq}
 use Rattle.meta_opcode_tables.specs.declared.constraint.Constraint.{Constraint}
@@ -73,7 +73,7 @@ constraint_back Wider = refl
 pub same_numbers : (xs ys : List Constraint) → map number_constraint_of xs ≡ map number_constraint_of ys → xs ≡ ys
 same_numbers = same_mapped number_constraint_of constraint_from constraint_back
 
-abbrev entry_from : Entry → OpcodeConstraints
+abbrev entry_from : OpcodeNumbers → OpcodeConstraints
 entry_from e = record { flags = e.flags; typeset_offset = e.typeset_offset; constraint_offset = e.constraint_offset }
 
 pub same_entry_lists : (xs ys : List OpcodeConstraints) → map entry_of xs ≡ map entry_of ys → xs ≡ ys

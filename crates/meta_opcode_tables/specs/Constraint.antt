@@ -1,6 +1,6 @@
 -- The operand constraints and the entries of tables, as the code keeps them.
 use Rattle.meta_types.specs.Function.{LaneOf as LaneOfFunction, AsTruthy as AsTruthyFunction, HalfWidth as HalfWidthFunction, DoubleWidth as DoubleWidthFunction, SplitLanes as SplitLanesFunction, MergeLanes as MergeLanesFunction, DynamicToVector as DynamicToVectorFunction, Narrower as NarrowerRelation, Wider as WiderRelation}
-use Rattle.meta_meaning.specs.Tables.{NumberConstraint, ConcreteNumber, FreeOf, SameNumber, ByNumber, Entry}
+use Rattle.meta_meaning.specs.Tables.{NumberConstraint, ConcreteNumber, FreeOf, SameNumber, ByNumber, OpcodeNumbers}
 use Rattle.meta_opcode_tables.specs.declared.constraint.Constraint.{Constraint}
 use Rattle.meta_opcode_tables.specs.declared.constraint.Constraint.TheVariants.{Concrete, Free, Same, LaneOf, AsTruthy, HalfWidth, DoubleWidth, SplitLanes, MergeLanes, DynamicToVector, Narrower, Wider}
 use Rattle.meta_opcode_tables.specs.declared.constraint.OpcodeConstraints.{OpcodeConstraints}
@@ -21,5 +21,5 @@ number_constraint_of Narrower = ByNumber NarrowerRelation
 number_constraint_of Wider = ByNumber WiderRelation
 
 -- the three numbers of an opcode
-abbrev pub entry_of : OpcodeConstraints → Entry
+abbrev pub entry_of : OpcodeConstraints → OpcodeNumbers
 entry_of e = record { flags = e.flags; typeset_offset = e.typeset_offset; constraint_offset = e.constraint_offset }

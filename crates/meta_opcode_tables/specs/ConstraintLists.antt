@@ -7,10 +7,10 @@ use Rattle.meta_typevar.specs.Variable.{Variable, Sets}
 use Rattle.meta_inst.specs.Builder.{Builder}
 use Rattle.meta_inst.specs.Instruction.{Instruction, IsOperand}
 use Rattle.meta_inst.specs.Control.{IsControl}
-use Rattle.meta_inst.specs.InstructionSet.{InstructionSet, root_sets, instruction_of}
+use Rattle.meta_inst.specs.InstructionSet.{InstructionSet, root_sets, instruction_in_set}
 use Rattle.meta_inst.specs.Faults.{IsAt}
 use Rattle.meta_meaning.specs.Constraint.{IsConstraint, Constraint as TypeConstraint}
-use Rattle.meta_meaning.specs.Tables.{TableContents, Entry, StandsFor}
+use Rattle.meta_meaning.specs.Tables.{TableContents, OpcodeNumbers, StandsFor}
 use Rattle.meta_unique.specs.Overlap.{added, added_at}
 use Rattle.meta_opcode_tables.specs.Constraint.{number_constraint_of}
 use Rattle.meta_opcode_tables.specs.contracts.constraint.ConstraintPartialEq.TheImpl.{eq-value}
@@ -45,10 +45,10 @@ overlapped lists = fold (added same_constraint) three_same lists
 -- the list at this place is that of the instruction b, under its control
 pub record IsListAt (d : InstructionSet) (tables : TableContents) (lists : List (List Constraint)) (k : ℕ) (b : Builder) : Type 0 where
   pub control : Option Variable
-  pub is_control : IsControl (root_sets d) (instruction_of d b) control
+  pub is_control : IsControl (root_sets d) (instruction_in_set d b) control
   pub list : List Constraint
   pub at : slice_get lists k ≡ Some list
-  pub is_list : IsConstraintList (root_sets d) control tables (instruction_of d b) list
+  pub is_list : IsConstraintList (root_sets d) control tables (instruction_in_set d b) list
 
 -- each instruction has its list; the tables' list is that after all of them are added; and the offset of each entry says where
 -- its list then stood: at 0 where it is empty
@@ -57,4 +57,4 @@ pub record AreOverlapped (d : InstructionSet) (tables : TableContents) : Type 0 
   pub count : length lists ≡ length d.instructions
   pub are : (k : ℕ) (b : Builder) → IsAt d k b → IsListAt d tables lists k b
   pub whole : tables.operand_constraints ≡ map number_constraint_of (overlapped lists)
-  pub offsets : (k : ℕ) (list : List Constraint) (entry : Entry) → slice_get lists k ≡ Some list → slice_get tables.entries k ≡ Some entry → entry.constraint_offset ≡ added_at same_constraint (overlapped (take k lists)) list
+  pub offsets : (k : ℕ) (list : List Constraint) (entry : OpcodeNumbers) → slice_get lists k ≡ Some list → slice_get tables.entries k ≡ Some entry → entry.constraint_offset ≡ added_at same_constraint (overlapped (take k lists)) list

@@ -4,21 +4,21 @@
 --     HoldNeeded type_sets sets i                    the type sets hold what the instruction needs
 --     CanEnter vars type_sets c                      the built instruction can have an entry
 use Rattle.std.specs.Prelude.{◌≡◌, ◌≢◌, ◌⊎◌, ◌<◌, ◌≤◌, ◌+◌, ℕ, List, [], length, take, slice_get, Option, Some}
-use Rattle.meta_typevar.specs.FourSets.{FourSets, HasOne}
+use Rattle.meta_typevar.specs.TypeSetParts.{TypeSetParts, HasOne}
 use Rattle.meta_typevar.specs.Variable.{Variable, Sets}
 use Rattle.meta_typevar.specs.Registry.{sets_of, variable_at}
 use Rattle.meta_typevar.specs.declared.content.TypeVarContent.{TypeVarContent}
 use Rattle.meta_operands.specs.declared.format.InstructionFormat.{InstructionFormat}
 use Rattle.meta_inst.specs.Builder.{Builder}
 use Rattle.meta_inst.specs.Instruction.{Instruction}
-use Rattle.meta_inst.specs.InstructionSet.{InstructionSet, instruction_in}
+use Rattle.meta_inst.specs.InstructionSet.{InstructionSet, instruction_of_builder}
 use Rattle.meta_inst.specs.Built.{Built}
 use Rattle.meta_inst.specs.Content.{ctrl_number}
-use Rattle.meta_inst.specs.Operands.{AreOf, instruction_with}
+use Rattle.meta_inst.specs.Operands.{AreOf, instruction_of_operands}
 use Rattle.meta_inst.specs.Control.{IsControl, DerivesBadly}
 use Rattle.meta_inst.specs.Faults.{IsControlSet, IsFreeSet}
 use Rattle.meta_meaning.specs.Constraint.{IsConstraint, Constraint as TypeConstraint}
-use Rattle.meta_meaning.specs.Tables.{TableContents, StandsFor, IsEntry}
+use Rattle.meta_meaning.specs.Tables.{TableContents, StandsFor, AreOpcodeNumbersOf}
 use Rattle.meta_opcode_tables.specs.Constraint.{number_constraint_of, entry_of}
 use Rattle.meta_declared.specs.Needed.{StandForSets, control_at, IsOfRegistry}
 use Rattle.meta_unique.specs.Overlap.{added, added_at}
@@ -31,28 +31,28 @@ abbrev pub StaysIn : List Constraint → List Constraint → Type 0
 StaysIn old new = (k : ℕ) (x : Constraint) → slice_get old k ≡ Some x → slice_get new k ≡ Some x
 
 -- some type set is s
-abbrev pub IsHeld : List FourSets → FourSets → Type 0
+abbrev pub IsHeld : List TypeSetParts → TypeSetParts → Type 0
 IsHeld type_sets s = (place : ℕ) × (slice_get type_sets place ≡ Some s)
 
 -- the type sets hold each set that the instruction needs
-abbrev pub HoldNeeded : List FourSets → Sets → Instruction → Type 0
-HoldNeeded type_sets sets i = (control : Option Variable) (s : FourSets) → IsControl sets i control → IsControlSet sets control s ⊎ IsFreeSet sets i control s → IsHeld type_sets s
+abbrev pub HoldNeeded : List TypeSetParts → Sets → Instruction → Type 0
+HoldNeeded type_sets sets i = (control : Option Variable) (s : TypeSetParts) → IsControl sets i control → IsControlSet sets control s ⊎ IsFreeSet sets i control s → IsHeld type_sets s
 
 -- the tables have the masks of these type sets
-abbrev pub HasTypeSets : TableContents → List FourSets → Type 0
+abbrev pub HasTypeSets : TableContents → List TypeSetParts → Type 0
 HasTypeSets tables type_sets = StandForSets tables.type_sets type_sets
 
 -- The built instruction can have an entry: its variables and its control are of the registry, something controls it where it is
 -- polymorphic, no operand is badly derived, it has at most seven results and seven values, and the type sets hold what it needs.
-pub record CanEnter (vars : List TypeVarContent) (type_sets : List FourSets) (c : Built) : Type 0 where
+pub record CanEnter (vars : List TypeVarContent) (type_sets : List TypeSetParts) (c : Built) : Type 0 where
   pub variables : AreOf vars c.value_operands.variables
-  pub is_control : IsControl (sets_of vars) (instruction_with vars c.value_operands) (control_at vars (ctrl_number c.polymorphic_info))
+  pub is_control : IsControl (sets_of vars) (instruction_of_operands vars c.value_operands) (control_at vars (ctrl_number c.polymorphic_info))
   pub of_registry : IsOfRegistry vars (ctrl_number c.polymorphic_info)
-  pub derived : (place : ℕ) → DerivesBadly (sets_of vars) (instruction_with vars c.value_operands) place → ⊥
+  pub derived : (place : ℕ) → DerivesBadly (sets_of vars) (instruction_of_operands vars c.value_operands) place → ⊥
   pub results : c.value_operands.result_count ≤ 7
   pub values : length c.value_operands.variables ≤ c.value_operands.result_count + 7
   pub within : c.value_operands.result_count ≤ length c.value_operands.variables
-  pub held : HoldNeeded type_sets (sets_of vars) (instruction_with vars c.value_operands)
+  pub held : HoldNeeded type_sets (sets_of vars) (instruction_of_operands vars c.value_operands)
 
 -- there is a constraint for an operand whose variable is n
 abbrev pub HasConstraint : List TypeVarContent → Option ℕ → ℕ → Type 0
@@ -65,7 +65,7 @@ pub record IsFreeNumber (vars : List TypeVarContent) (control : Option ℕ) (n :
   pub several : HasOne (sets_of vars (variable_at vars n).root) → ⊥
 
 -- the type sets hold the set of each underived variable that isn't the control and hasn't one type
-abbrev pub HoldFree : List TypeVarContent → Option ℕ → List FourSets → List ℕ → Type 0
+abbrev pub HoldFree : List TypeVarContent → Option ℕ → List TypeSetParts → List ℕ → Type 0
 HoldFree vars control type_sets numbers = (k n : ℕ) → slice_get numbers k ≡ Some n → IsFreeNumber vars control n → IsHeld type_sets (sets_of vars (variable_at vars n).root)
 
 -- there is a constraint for each of the variables
@@ -73,19 +73,19 @@ abbrev pub AreConstrained : List TypeVarContent → Option ℕ → List ℕ → 
 AreConstrained vars control numbers = (k n : ℕ) → slice_get numbers k ≡ Some n → HasConstraint vars control n
 
 -- in tables with these type sets, x is the constraint of an operand whose variable is n
-pub record Describes (vars : List TypeVarContent) (control : Option ℕ) (type_sets : List FourSets) (n : ℕ) (x : Constraint) : Type 0 where
+pub record Describes (vars : List TypeVarContent) (control : Option ℕ) (type_sets : List TypeSetParts) (n : ℕ) (x : Constraint) : Type 0 where
   pub constraint : TypeConstraint
   pub is_constraint : IsConstraint (sets_of vars) (control_at vars control) (variable_at vars n) constraint
   pub stands : (tables : TableContents) → HasTypeSets tables type_sets → StandsFor tables constraint (number_constraint_of x)
 
 -- such a constraint stands at this place of the list
-pub record IsDescribedAt (vars : List TypeVarContent) (control : Option ℕ) (type_sets : List FourSets) (constraints : List Constraint) (place n : ℕ) : Type 0 where
+pub record IsDescribedAt (vars : List TypeVarContent) (control : Option ℕ) (type_sets : List TypeSetParts) (constraints : List Constraint) (place n : ℕ) : Type 0 where
   pub constraint : Constraint
   pub at : slice_get constraints place ≡ Some constraint
   pub describes : Describes vars control type_sets n constraint
 
 -- the list is the constraints of the variables, in order
-pub record AreDescribed (vars : List TypeVarContent) (control : Option ℕ) (type_sets : List FourSets) (list : List Constraint) (numbers : List ℕ) : Type 0 where
+pub record AreDescribed (vars : List TypeVarContent) (control : Option ℕ) (type_sets : List TypeSetParts) (list : List Constraint) (numbers : List ℕ) : Type 0 where
   pub count : length list ≡ length numbers
   pub each : (k n : ℕ) → slice_get numbers k ≡ Some n → IsDescribedAt vars control type_sets list k n
 
@@ -94,13 +94,13 @@ abbrev pub HoldConstraints : TableContents → List Constraint → Type 0
 HoldConstraints tables constraints = (k : ℕ) (x : Constraint) → slice_get constraints k ≡ Some x → slice_get tables.operand_constraints k ≡ Some (number_constraint_of x)
 
 -- in tables with these type sets and operand constraints, the entry holds the instruction, under its control
-pub record EntryHolds (vars : List TypeVarContent) (i : Instruction) (type_sets : List FourSets) (constraints : List Constraint) (e : OpcodeConstraints) : Type 0 where
+pub record EntryHolds (vars : List TypeVarContent) (i : Instruction) (type_sets : List TypeSetParts) (constraints : List Constraint) (e : OpcodeConstraints) : Type 0 where
   pub control : Option Variable
   pub is_control : IsControl (sets_of vars) i control
-  pub is_entry : (tables : TableContents) → HasTypeSets tables type_sets → HoldConstraints tables constraints → IsEntry (sets_of vars) i control tables (entry_of e)
+  pub is_entry : (tables : TableContents) → HasTypeSets tables type_sets → HoldConstraints tables constraints → AreOpcodeNumbersOf (sets_of vars) i control tables (entry_of e)
 
 -- the list of the instruction's constraints was added to the one list, and the entry says where it then stands
-pub record IsAdded (vars : List TypeVarContent) (i : Instruction) (type_sets : List FourSets) (old new : List Constraint) (e : OpcodeConstraints) : Type 0 where
+pub record IsAdded (vars : List TypeVarContent) (i : Instruction) (type_sets : List TypeSetParts) (old new : List Constraint) (e : OpcodeConstraints) : Type 0 where
   pub control : Option Variable
   pub is_control : IsControl (sets_of vars) i control
   pub list : List Constraint
@@ -109,21 +109,21 @@ pub record IsAdded (vars : List TypeVarContent) (i : Instruction) (type_sets : L
   pub offset : e.constraint_offset ≡ added_at same_constraint old list
 
 -- the entry at this place holds the instruction b
-pub record IsHeldAt (vars : List TypeVarContent) (formats : List InstructionFormat) (type_sets : List FourSets) (constraints : List Constraint) (entries : List OpcodeConstraints) (k : ℕ) (b : Builder) : Type 0 where
+pub record IsHeldAt (vars : List TypeVarContent) (formats : List InstructionFormat) (type_sets : List TypeSetParts) (constraints : List Constraint) (entries : List OpcodeConstraints) (k : ℕ) (b : Builder) : Type 0 where
   pub entry : OpcodeConstraints
   pub at : slice_get entries k ≡ Some entry
-  pub holds : EntryHolds vars (instruction_in vars formats b) type_sets constraints entry
+  pub holds : EntryHolds vars (instruction_of_builder vars formats b) type_sets constraints entry
 
 -- the list at this place is that of the instruction b, under its control
-pub record IsListOf (vars : List TypeVarContent) (formats : List InstructionFormat) (type_sets : List FourSets) (lists : List (List Constraint)) (k : ℕ) (b : Builder) : Type 0 where
+pub record IsListOf (vars : List TypeVarContent) (formats : List InstructionFormat) (type_sets : List TypeSetParts) (lists : List (List Constraint)) (k : ℕ) (b : Builder) : Type 0 where
   pub control : Option Variable
-  pub is_control : IsControl (sets_of vars) (instruction_in vars formats b) control
+  pub is_control : IsControl (sets_of vars) (instruction_of_builder vars formats b) control
   pub list : List Constraint
   pub at : slice_get lists k ≡ Some list
-  pub is_list : (tables : TableContents) → HasTypeSets tables type_sets → IsConstraintList (sets_of vars) control tables (instruction_in vars formats b) list
+  pub is_list : (tables : TableContents) → HasTypeSets tables type_sets → IsConstraintList (sets_of vars) control tables (instruction_of_builder vars formats b) list
 
 -- these lists are those of the first instructions, added one after another, and the entries say where each then stood
-pub record AreAdded (vars : List TypeVarContent) (formats : List InstructionFormat) (instructions : List Builder) (type_sets : List FourSets) (constraints : List Constraint) (entries : List OpcodeConstraints) (lists : List (List Constraint)) : Type 0 where
+pub record AreAdded (vars : List TypeVarContent) (formats : List InstructionFormat) (instructions : List Builder) (type_sets : List TypeSetParts) (constraints : List Constraint) (entries : List OpcodeConstraints) (lists : List (List Constraint)) : Type 0 where
   pub count : length lists ≡ length entries
   pub whole : constraints ≡ overlapped lists
   pub are : (k : ℕ) (b : Builder) → k < length entries → slice_get instructions k ≡ Some b → IsListOf vars formats type_sets lists k b

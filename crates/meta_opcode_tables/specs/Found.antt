@@ -6,20 +6,20 @@ use Rattle.meta_lists.specs.First.{IsFirst}
 use Rattle.meta_typevar.specs.Variable.{Variable}
 use Rattle.meta_inst.specs.Builder.{Builder}
 use Rattle.meta_inst.specs.Control.{IsControl}
-use Rattle.meta_inst.specs.InstructionSet.{InstructionSet, root_sets, instruction_of}
+use Rattle.meta_inst.specs.InstructionSet.{InstructionSet, root_sets, instruction_in_set}
 use Rattle.meta_inst.specs.Faults.{IsAt}
-use Rattle.meta_meaning.specs.Tables.{TableContents, Entry, IsEntry}
+use Rattle.meta_meaning.specs.Tables.{TableContents, OpcodeNumbers, AreOpcodeNumbersOf}
 
 -- op is the number of a declared instruction, and the entry holds it under its control: its flags, its type set and its
 -- constraints are those of the declaration
-pub record IsDeclaredAs (d : InstructionSet) (tables : TableContents) (op : ℕ) (entry : Entry) : Type 0 where
+pub record IsDeclaredAs (d : InstructionSet) (tables : TableContents) (op : ℕ) (entry : OpcodeNumbers) : Type 0 where
   pub place : ℕ
   pub builder : Builder
   pub at : IsAt d place builder
   pub number : op ≡ place + 1
   pub control : Option Variable
-  pub is_control : IsControl (root_sets d) (instruction_of d builder) control
-  pub is_entry : IsEntry (root_sets d) (instruction_of d builder) control tables entry
+  pub is_control : IsControl (root_sets d) (instruction_in_set d builder) control
+  pub is_entry : AreOpcodeNumbersOf (root_sets d) (instruction_in_set d builder) control tables entry
 
 -- op is the number of a declared instruction that has the name
 pub record IsDeclaredNamed (d : InstructionSet) (name : List ℕ) (op : ℕ) : Type 0 where

@@ -6,10 +6,10 @@ use Rattle.meta_typevar.specs.Variable.{Variable}
 use Rattle.meta_operands.specs.declared.format.InstructionFormat.{InstructionFormat}
 use Rattle.meta_inst.specs.Builder.{Builder}
 use Rattle.meta_inst.specs.Control.{IsControl}
-use Rattle.meta_inst.specs.InstructionSet.{InstructionSet, root_sets, instruction_of}
+use Rattle.meta_inst.specs.InstructionSet.{InstructionSet, root_sets, instruction_in_set}
 use Rattle.meta_inst.specs.Faults.{IsAt, names_of}
 use Rattle.meta_meaning.specs.Acceptance.{AcceptsNumbers}
-use Rattle.meta_meaning.specs.Tables.{TableContents, Entry, IsEntry}
+use Rattle.meta_meaning.specs.Tables.{TableContents, OpcodeNumbers, AreOpcodeNumbersOf}
 use Rattle.meta_unique.specs.NameSlots.{AreNameSlots}
 use Rattle.meta_declared.specs.Needed.{AreNeededMasks}
 use Rattle.meta_opcode_tables.specs.ConstraintLists.{AreOverlapped}
@@ -17,10 +17,10 @@ use Rattle.meta_opcode_tables.specs.ConstraintLists.{AreOverlapped}
 -- at this place the tables hold the instruction: its entry is that of its declaration, under its control
 pub record HoldsInstruction (d : InstructionSet) (tables : TableContents) (k : ℕ) (b : Builder) : Type 0 where
   pub control : Option Variable
-  pub is_control : IsControl (root_sets d) (instruction_of d b) control
-  pub entry : Entry
+  pub is_control : IsControl (root_sets d) (instruction_in_set d b) control
+  pub entry : OpcodeNumbers
   pub at : slice_get tables.entries k ≡ Some entry
-  pub is_entry : IsEntry (root_sets d) (instruction_of d b) control tables entry
+  pub is_entry : AreOpcodeNumbersOf (root_sets d) (instruction_in_set d b) control tables entry
 
 -- at this place of the list stands the name of the instruction's format
 pub record IsFormatName (formats : List InstructionFormat) (b : Builder) (names : List (List ℕ)) (k : ℕ) : Type 0 where
@@ -52,5 +52,5 @@ pub record AcceptsOpcode (d : InstructionSet) (op : ℕ) (c : Option ℕ) (rs vs
   pub at : IsAt d place builder
   pub number : op ≡ place + 1
   pub control : Option Variable
-  pub is_control : IsControl (root_sets d) (instruction_of d builder) control
-  pub accepts : AcceptsNumbers (root_sets d) (instruction_of d builder) control c rs vs
+  pub is_control : IsControl (root_sets d) (instruction_in_set d builder) control
+  pub accepts : AcceptsNumbers (root_sets d) (instruction_in_set d builder) control c rs vs

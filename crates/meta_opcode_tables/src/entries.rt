@@ -4,7 +4,7 @@ ghost use Rattle.meta_typevar.specs.declared.content.TypeVarContent.{TypeVarCont
 ghost use Rattle.meta_inst.specs.Builder.{Builder};
 ghost use Rattle.meta_inst.specs.Faults.{IsAt, IsValid};
 ghost use Rattle.meta_inst.specs.InstructionSet.{Fits};
-ghost use Rattle.meta_inst.specs.Operands.{AreOf, instruction_with, designated_number};
+ghost use Rattle.meta_inst.specs.Operands.{AreOf, instruction_of_operands, designated_number};
 ghost use Rattle.meta_meaning.specs.Tables.{TableContents, AreFlagsOf, IsTypeSetOffset, result_count, value_count};
 ghost use Rattle.meta_unique.specs.Overlap.{added, added_at};
 ghost use Rattle.meta_opcode_tables.specs.ConstraintLists.{same_constraint, three_same};
@@ -12,7 +12,7 @@ ghost use Rattle.meta_opcode_tables.specs.Entries.{CanEnter, StaysIn, IsHeld, Ha
 ghost use Rattle.meta_declared.specs.Needed.{IsOfRegistry, control_at};
 
 use super::constraint::{Constraint, NO_TYPE_SET, OpcodeConstraints};
-use super::describe::{constraints_of, is_control, set_place};
+use super::operand_constraints::{constraints_of, is_control, set_place};
 use meta_declared::Built;
 use meta_inst::{InstructionContent, Operands};
 use meta_typevar::{TypeSet, TypeVar, TypeVars};
@@ -57,7 +57,7 @@ fn packed(results: u8, values: u8, designated: bool, first_result: bool) -> u8
 fn flags_of(operands: &Operands, control: &Option<TypeVar>) -> u8
     requires results { operands.now.result_count ≤ 7 }
     requires values { length operands.now.variables ≤ operands.now.result_count + 7 }
-    ensures flags { (vars : List TypeVarContent) → IsRegistry vars → AreOf vars operands.now.variables → IsOfRegistry vars control.now → AreFlagsOf (instruction_with vars operands.now) (control_at vars control.now) result }
+    ensures flags { (vars : List TypeVarContent) → IsRegistry vars → AreOf vars operands.now.variables → IsOfRegistry vars control.now → AreFlagsOf (instruction_of_operands vars operands.now) (control_at vars control.now) result }
     ensures within { operands.now.result_count ≤ length operands.now.variables }
 {
     let results = operands.result_count();
@@ -115,8 +115,8 @@ fn entry_of(
     requires fits { CanEnter vars.now type_sets.now instruction.now }
     requires few { length type_sets.now ≤ 255 }
     requires room { length constraints.old + 14 < 2 ^ 16 }
-    ensures holds { IfOk result (λ e. EntryHolds vars.now (instruction_with vars.now instruction.now.value_operands) type_sets.now constraints.new e) }
-    ensures added { IfOk result (λ e. IsAdded vars.now (instruction_with vars.now instruction.now.value_operands) type_sets.now constraints.old constraints.new e) }
+    ensures holds { IfOk result (λ e. EntryHolds vars.now (instruction_of_operands vars.now instruction.now.value_operands) type_sets.now constraints.new e) }
+    ensures added { IfOk result (λ e. IsAdded vars.now (instruction_of_operands vars.now instruction.now.value_operands) type_sets.now constraints.old constraints.new e) }
     ensures stays { OnOk result (StaysIn constraints.old constraints.new) }
     ensures count { OnOk result (length constraints.new ≤ length constraints.old + 14) }
 {

@@ -4,12 +4,12 @@
 #![tactic(auto)]
 
 mod constraint;
-mod describe;
 mod entries;
 mod laws;
 mod masks;
 mod names;
 mod opcode_tables;
+mod operand_constraints;
 mod same;
 
 pub use constraint::{Constraint, OpcodeConstraints};

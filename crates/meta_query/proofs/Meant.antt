@@ -4,11 +4,11 @@ use Rattle.std.specs.Option.{option_map}
 use Rattle.std.proofs.lemmas.Option.{slice_get-map, slice_get_within, get_or_from_slice_get, same_Some}
 use Rattle.meta_lists.proofs.Places.{get_beside}
 use Rattle.meta_lists.proofs.Mapped.{get_mapped}
-use Rattle.meta_types.specs.Shape.{Shape, IsType, number_of}
+use Rattle.meta_types.specs.TypeParts.{TypeParts, IsType, number_of}
 use Rattle.meta_typevar.specs.Variable.{Variable, Sets}
 use Rattle.meta_inst.specs.Builder.{Builder}
 use Rattle.meta_inst.specs.Instruction.{Instruction}
-use Rattle.meta_inst.specs.InstructionSet.{InstructionSet, root_sets, instruction_of}
+use Rattle.meta_inst.specs.InstructionSet.{InstructionSet, root_sets, instruction_in_set}
 use Rattle.meta_inst.specs.Faults.{IsAt, names_of}
 use Rattle.meta_meaning.specs.Acceptance.{Accepts, AcceptsNumbers, IsNumberOf}
 use Rattle.meta_meaning.specs.Tables.{TableContents, at_opcode, Allows}
@@ -25,11 +25,11 @@ use Rattle.meta_query.specs.declared.reply.Reply.TheVariants.{Accept, Refuse, Un
 use Rattle.meta_query.proofs.SettingLines.{same_line}
 
 -- each is a type
-abbrev AreTypes : List Shape → Type 0
-AreTypes ts = (k : ℕ) (t : Shape) → slice_get ts k ≡ Some t → IsType t
+abbrev AreTypes : List TypeParts → Type 0
+AreTypes ts = (k : ℕ) (t : TypeParts) → slice_get ts k ≡ Some t → IsType t
 
 -- lists of types with the same numbers are the same
-same_types : (ts us : List Shape) → AreTypes ts → AreTypes us → map number_of ts ≡ map number_of us → ts ≡ us
+same_types : (ts us : List TypeParts) → AreTypes ts → AreTypes us → map number_of ts ≡ map number_of us → ts ≡ us
 same_types [] [] a b e = refl
 same_types [] (u ∷ us) a b e = absurd (cc)
 same_types (t ∷ ts) [] a b e = absurd (cc)
@@ -41,7 +41,7 @@ same_types (t ∷ ts) (u ∷ us) a b e =
     λ i. first i ∷ rest i
 
 -- so is a type or none
-same_type : (t u : Option Shape) → IfSome t IsType → IsNumberOf u (option_map number_of t) → t ≡ u
+same_type : (t u : Option TypeParts) → IfSome t IsType → IsNumberOf u (option_map number_of t) → t ≡ u
 same_type None None a e = refl
 same_type None (Some u) a e = let h = e.1 in absurd (cc)
 same_type (Some t) None a e = absurd (cc)
@@ -50,12 +50,12 @@ same_type (Some t) (Some u) a e =
     let same : number_of t ≡ number_of u = cc in
     ap (λ x. Some x) (one_number t u a e.0 same)
 
-number_is : (t : Option Shape) → IfSome t IsType → IsNumberOf t (option_map number_of t)
+number_is : (t : Option TypeParts) → IfSome t IsType → IsNumberOf t (option_map number_of t)
 number_is None a = refl
 number_is (Some t) a = (a, refl)
 
 -- the numbers of types that can be named are accepted exactly where the types are
-module _ (sets : Sets) (i : Instruction) (control : Option Variable) (c : Option Shape) (rs vs : List Shape) (ct : IfSome c IsType) (rt : AreTypes rs) (vt : AreTypes vs) where
+module _ (sets : Sets) (i : Instruction) (control : Option Variable) (c : Option TypeParts) (rs vs : List TypeParts) (ct : IfSome c IsType) (rt : AreTypes rs) (vt : AreTypes vs) where
   types_from_numbers : AcceptsNumbers sets i control (option_map number_of c) (map number_of rs) (map number_of vs) → Accepts sets i control c rs vs
   types_from_numbers h =
       let ec = same_type c h.control_type ct h.control_number in
@@ -75,7 +75,7 @@ module _ (sets : Sets) (i : Instruction) (control : Option Variable) (c : Option
   }
 
 -- each that stands in a list of types is a type
-named_types : (ts : List Shape) → All IsType ts → AreTypes ts
+named_types : (ts : List TypeParts) → All IsType ts → AreTypes ts
 named_types ts all k t at = subst IsType (get_or_from_slice_get ts k t t at) (all k t (slice_get_within ts k t at))
 
 module _ (d : InstructionSet) (tables : TableContents) (made : AreTablesOf d tables) (means : (op : ℕ) (c : Option ℕ) (rs vs : List ℕ) → (Allows tables op c rs vs ↔ AcceptsOpcode d op c rs vs)) where
@@ -102,7 +102,7 @@ module _ (d : InstructionSet) (tables : TableContents) (made : AreTablesOf d tab
         subst (λ b. AcceptsAsked d b q) same (record {
           control = h.control;
           is_control = h.is_control;
-          accepts = types_from_numbers (root_sets d) (instruction_of d h.builder) h.control q.control q.results q.values asks.control (named_types q.results asks.results) (named_types q.values asks.values) h.accepts;
+          accepts = types_from_numbers (root_sets d) (instruction_in_set d h.builder) h.control q.control q.results q.values asks.control (named_types q.results asks.results) (named_types q.values asks.values) h.accepts;
         })
 
     allows_asked : AcceptsAsked d b q → AllowsAsked tables op q
@@ -114,7 +114,7 @@ module _ (d : InstructionSet) (tables : TableContents) (made : AreTablesOf d tab
           number = number;
           control = h.control;
           is_control = h.is_control;
-          accepts = numbers_from_types (root_sets d) (instruction_of d b) h.control q.control q.results q.values asks.control (named_types q.results asks.results) (named_types q.values asks.values) h.accepts;
+          accepts = numbers_from_types (root_sets d) (instruction_in_set d b) h.control q.control q.results q.values asks.control (named_types q.results asks.results) (named_types q.values asks.values) h.accepts;
         })
 
   -- what the tables allow is what the instruction accepts

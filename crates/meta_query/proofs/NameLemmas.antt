@@ -4,7 +4,7 @@ use Rattle.std.specs.Fmt.{decimal}
 use Rattle.std.proofs.lemmas.Bool.{cases_Bool, cond-true, cond-false}
 use Rattle.std.proofs.lemmas.Fmt.{decimal_by_steps}
 use Rattle.std.proofs.lemmas.List.Elements.{All-nil, All-cons, All-push, All-append, All-same, All-weaker, All-contains, All-from_recursion}
-use Rattle.meta_types.specs.Shape.{Kind, IntKind, FloatKind, Shape, IsType, widths, lane_counts, letter, lane_name, lanes_name, name_of}
+use Rattle.meta_types.specs.TypeParts.{Kind, IntKind, FloatKind, TypeParts, IsType, widths, lane_counts, letter, lane_name, lanes_name, name_of}
 
 -- an ASCII digit
 record IsDigit (b : ℕ) : Type 0 where
@@ -77,12 +77,12 @@ lanes_lack lanes byte true l x n other =
     ]
 
 -- a name has no comma
-pub has_no_comma : (t : Shape) → IsType t → All (λ b. b ≢ 44) (name_of t)
+pub has_no_comma : (t : TypeParts) → IsType t → All (λ b. b ≢ 44) (name_of t)
 has_no_comma t h =
     All-append (λ b. b ≢ 44) (lane_name t.kind t.width) (lanes_name t.lanes t.is_dynamic)
     (lane_lacks t.kind t.width 44 (small_width t.kind t.width h.width) (omega arith) (omega arith) not_comma)
     (lanes_lack t.lanes 44 t.is_dynamic (small_count t.is_dynamic t.lanes h.lanes) (omega arith) (omega arith) not_comma)
 
 -- a name isn't `-`, nor does it begin so
-pub no_dash : (t : Shape) (rest : List ℕ) → codes "-" ≡ name_of t ++ rest → ⊥
+pub no_dash : (t : TypeParts) (rest : List ℕ) → codes "-" ≡ name_of t ++ rest → ⊥
 no_dash t rest e = let first : 45 ≡ letter t.kind = cc in letter_is t.kind 45 (omega arith) (omega arith) (sym first)

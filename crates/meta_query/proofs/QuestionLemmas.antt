@@ -5,7 +5,7 @@ use Rattle.std.proofs.lemmas.List.Elements.{All-nil, All-cons, All-head, All-tai
 use Rattle.std.proofs.lemmas.Bool.{false≢true}
 use Rattle.std.specs.Option.{option_map}
 use Rattle.std.proofs.lemmas.List.Splits.{join_with_byte-slice_split}
-use Rattle.meta_types.specs.Shape.{Shape, IsType, name_of, number_of}
+use Rattle.meta_types.specs.TypeParts.{TypeParts, IsType, name_of, number_of}
 use Rattle.meta_query.specs.Words.{IsWord, AreWords, pieces_of}
 use Rattle.meta_query.specs.TypeNumber.{type_with, IsTypeNumber}
 use Rattle.meta_query.specs.Question.{Question, IsQuestion, control_text, types_text, words_of}
@@ -22,11 +22,11 @@ pieces_of-words line word words h =
 -- ---- lists of types
 
 -- the texts that commas part in a list are the names
-names_parted : (t : Shape) (ts : List Shape) → All IsType (t ∷ ts) → pieces_of 44 (types_text (t ∷ ts)) ≡ map name_of (t ∷ ts)
+names_parted : (t : TypeParts) (ts : List TypeParts) → All IsType (t ∷ ts) → pieces_of 44 (types_text (t ∷ ts)) ≡ map name_of (t ∷ ts)
 names_parted t ts h =
     pieces_of-join 44 (name_of t) (map name_of ts) (All-map (λ w. All (λ b. b ≢ 44) w) name_of (t ∷ ts) (All-weaker IsType (λ u. All (λ b. b ≢ 44) (name_of u)) has_no_comma (t ∷ ts) h))
 
-same_names : (ts us : List Shape) → All IsType ts → All IsType us → map name_of ts ≡ map name_of us → ts ≡ us
+same_names : (ts us : List TypeParts) → All IsType ts → All IsType us → map name_of ts ≡ map name_of us → ts ≡ us
 same_names [] [] h k e = refl
 same_names [] (u ∷ us) h k e = absurd (cc)
 same_names (t ∷ ts) [] h k e = absurd (cc)
@@ -36,17 +36,17 @@ same_names (t ∷ ts) (u ∷ us) h k e =
     ap₂ ◌∷◌ (one_name t u (All-head IsType t ts h) (All-head IsType u us k) first) (same_names ts us (All-tail IsType t ts h) (All-tail IsType u us k) others)
 
 -- a list of types begins with the first one's name
-begins : (t : Shape) (ts : List Shape) → codes "-" ≡ types_text (t ∷ ts) → ⊥
+begins : (t : TypeParts) (ts : List TypeParts) → codes "-" ≡ types_text (t ∷ ts) → ⊥
 begins t [] e = no_dash t [] (e ∙ sym (append-nil (name_of t)))
 begins t (u ∷ us) e = no_dash t (44 ∷ join_with_byte 44 (map name_of (u ∷ us))) e
 
-same_types : (ts us : List Shape) → All IsType ts → All IsType us → types_text ts ≡ types_text us → ts ≡ us
+same_types : (ts us : List TypeParts) → All IsType ts → All IsType us → types_text ts ≡ types_text us → ts ≡ us
 same_types [] [] h k e = refl
 same_types [] (u ∷ us) h k e = absurd (begins u us e)
 same_types (t ∷ ts) [] h k e = absurd (begins t ts (sym e))
 same_types (t ∷ ts) (u ∷ us) h k e = same_names (t ∷ ts) (u ∷ us) h k (sym (names_parted t ts h) ∙ ap (pieces_of 44) e ∙ names_parted u us k)
 
-same_control : (c d : Option Shape) → IfSome c IsType → IfSome d IsType → control_text c ≡ control_text d → c ≡ d
+same_control : (c d : Option TypeParts) → IfSome c IsType → IfSome d IsType → control_text c ≡ control_text d → c ≡ d
 same_control None None h k e = refl
 same_control None (Some u) h k e = absurd (no_dash u [] (e ∙ sym (append-nil (name_of u))))
 same_control (Some t) None h k e = absurd (no_dash t [] (sym e ∙ sym (append-nil (name_of t))))
@@ -78,20 +78,20 @@ numbers_back [] h = refl
 numbers_back (n ∷ ns) h = ap₂ ◌∷◌ (All-head IsTypeNumber n ns h).numbered (numbers_back ns (All-tail IsTypeNumber n ns h))
 
 -- names that stand in a list are those of types
-refused_names : (xs ts : List Shape) (name : List ℕ) (rest : List (List ℕ)) → All IsType ts → map name_of xs ++ name ∷ rest ≡ map name_of ts → ((u : Shape) → IsType u → name_of u ≢ name) → ⊥
+refused_names : (xs ts : List TypeParts) (name : List ℕ) (rest : List (List ℕ)) → All IsType ts → map name_of xs ++ name ∷ rest ≡ map name_of ts → ((u : TypeParts) → IsType u → name_of u ≢ name) → ⊥
 refused_names [] [] name rest h e none = absurd (cc)
 refused_names [] (t ∷ ts) name rest h e none = none t (All-head IsType t ts h) (cc)
 refused_names (x ∷ xs) [] name rest h e none = absurd (cc)
 refused_names (x ∷ xs) (t ∷ ts) name rest h e none = refused_names xs ts name rest (All-tail IsType t ts h) (cc) none
 
 -- a word with a piece that names no type lists no types
-pub refused : (xs ts : List Shape) (name word : List ℕ) (left rest : List (List ℕ)) → word ≢ codes "-" → map name_of xs ++ left ≡ pieces_of 44 word → left ≡ name ∷ rest → ((u : Shape) → IsType u → name_of u ≢ name) → All IsType ts → types_text ts ≢ word
+pub refused : (xs ts : List TypeParts) (name word : List ℕ) (left rest : List (List ℕ)) → word ≢ codes "-" → map name_of xs ++ left ≡ pieces_of 44 word → left ≡ name ∷ rest → ((u : TypeParts) → IsType u → name_of u ≢ name) → All IsType ts → types_text ts ≢ word
 refused xs [] name word left rest dash h l none named e = dash (sym e)
 refused xs (t ∷ ts) name word left rest dash h l none named e =
     refused_names xs (t ∷ ts) name rest named (ap (λ ns. map name_of xs ++ ns) (sym l) ∙ h ∙ ap (pieces_of 44) (sym e) ∙ names_parted t ts named) none
 
 -- a word whose pieces are the names lists these types
-pub listed : (ts : List Shape) (word : List ℕ) (left : List (List ℕ)) → map name_of ts ++ left ≡ pieces_of 44 word → left ≡ [] → types_text ts ≡ word
+pub listed : (ts : List TypeParts) (word : List ℕ) (left : List (List ℕ)) → map name_of ts ++ left ≡ pieces_of 44 word → left ≡ [] → types_text ts ≡ word
 listed [] word left h l =
     let more = slice_split_cons (λ b. b == 44) word in
     let none : [] ≡ more.first ∷ more.others = sym l ∙ h ∙ more.is in
@@ -125,20 +125,20 @@ module _ (line name control results values : List ℕ) (pieces : pieces_of 32 li
   same_words : words_of q ≡ codes "accept" ∷ name ∷ control ∷ results ∷ values ∷ []
   same_words = sym (pieces_of-words line _ _ h.words) ∙ pieces
 
-  pub no_control : ((c : Option Shape) → IfSome c IsType → control_text c ≢ control) → ⊥
+  pub no_control : ((c : Option TypeParts) → IfSome c IsType → control_text c ≢ control) → ⊥
   no_control none = let e = same_words in none q.control h.control (cc)
 
-  pub no_results : ((ts : List Shape) → All IsType ts → types_text ts ≢ results) → ⊥
+  pub no_results : ((ts : List TypeParts) → All IsType ts → types_text ts ≢ results) → ⊥
   no_results none = let e = same_words in none q.results h.results (cc)
 
-  pub no_values : ((ts : List Shape) → All IsType ts → types_text ts ≢ values) → ⊥
+  pub no_values : ((ts : List TypeParts) → All IsType ts → types_text ts ≢ values) → ⊥
   no_values none = let e = same_words in none q.values h.values (cc)
 
-control_has_bytes : (c : Option Shape) → 0 < length (control_text c)
+control_has_bytes : (c : Option TypeParts) → 0 < length (control_text c)
 control_has_bytes None = omega arith
 control_has_bytes (Some t) = omega arith
 
-types_have_bytes : (ts : List Shape) → 0 < length (types_text ts)
+types_have_bytes : (ts : List TypeParts) → 0 < length (types_text ts)
 types_have_bytes [] = omega arith
 types_have_bytes (t ∷ []) = omega arith
 types_have_bytes (t ∷ u ∷ ts) = omega arith

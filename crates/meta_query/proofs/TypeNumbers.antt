@@ -8,20 +8,20 @@ use Rattle.std.specs.Cmp.Lexicographic.{bytes_decides, pointwise}
 use Rattle.std.proofs.lemmas.Bool.{eqb-true, cond-false}
 use Rattle.std.proofs.lemmas.List.Splits.{join_with_byte-slice_split}
 use Rattle.std.proofs.lemmas.Option.{option_and_then_some}
-use Rattle.meta_types.specs.Shape.{Kind, IntKind, FloatKind, Shape, IsType, widths, lane_counts, log2, lane_code, lane_name, number_of, name_of}
+use Rattle.meta_types.specs.TypeParts.{Kind, IntKind, FloatKind, TypeParts, IsType, widths, lane_counts, log2, lane_code, lane_name, number_of, name_of}
 use Rattle.meta_types.proofs.Among.{Among, among}
-use Rattle.meta_types.proofs.AllTypes.{at_all, at_all_types, same_shape, same_shape_true}
+use Rattle.meta_types.proofs.AllTypes.{at_all, at_all_types, same_parts, same_parts_true}
 use Rattle.meta_query.specs.Words.{pieces_of}
 use Rattle.meta_query.specs.TypeNumber.{type_with, IsNameOf, found_in, lane_codes, lane_exponents, vector_number, number_of_pieces}
 
 -- ---- each type has a number, and its name gives it
 
-all_types_back : at_all (λ t. same_shape (type_with (number_of t)) t) ≡ true
+all_types_back : at_all (λ t. same_parts (type_with (number_of t)) t) ≡ true
 all_types_back = refl
 
 -- the type with the number of a type is that type
-pub type_back : (t : Shape) → IsType t → type_with (number_of t) ≡ t
-type_back t is = same_shape_true (type_with (number_of t)) t (at_all_types (λ t. same_shape (type_with (number_of t)) t) all_types_back t is)
+pub type_back : (t : TypeParts) → IsType t → type_with (number_of t) ≡ t
+type_back t is = same_parts_true (type_with (number_of t)) t (at_all_types (λ t. same_parts (type_with (number_of t)) t) all_types_back t is)
 
 -- it is this number
 abbrev is_some : Option ℕ → ℕ → Bool
@@ -37,7 +37,7 @@ some_is None n e = absurd (cc)
 some_is (Some m) n e = ap (λ k. Some k) (eqb-true m n e)
 
 -- the name of a type gives its number
-pub name_numbered : (t : Shape) → IsType t → number_of_pieces (pieces_of 120 (name_of t)) ≡ Some (number_of t)
+pub name_numbered : (t : TypeParts) → IsType t → number_of_pieces (pieces_of 120 (name_of t)) ≡ Some (number_of t)
 name_numbered t is = some_is (number_of_pieces (pieces_of 120 (name_of t))) (number_of t) (at_all_types (λ t. is_some (number_of_pieces (pieces_of 120 (name_of t))) (number_of t)) all_named t is)
 
 -- ---- and a text that gives a number is the name of its type
@@ -133,7 +133,7 @@ is_count text row e = found_row IsCount lane_exponents (
   ),
 ) text row e
 
-of_type : (t : Shape) → IsType t → (text : List ℕ) (n : ℕ) → name_of t ≡ text → number_of t ≡ n → IsNameOf text n
+of_type : (t : TypeParts) → IsType t → (text : List ℕ) (n : ℕ) → name_of t ≡ text → number_of t ≡ n → IsNameOf text n
 of_type t is text n named numbered =
     let back : type_with n ≡ t = ap type_with (sym numbered) ∙ type_back t is in
     record {
@@ -212,10 +212,10 @@ module _ (text : List ℕ) (number : Option ℕ) (is : number ≡ number_of_piec
       by_case None is = tt
       by_case (Some n) is = subst (λ t. IsNameOf t n) (join_with_byte-slice_split 120 text) (of_pieces (pieces_of 120 text) n (sym is))
 
-  pub none : IfNone number ((t : Shape) → IsType t → name_of t ≢ text)
+  pub none : IfNone number ((t : TypeParts) → IsType t → name_of t ≢ text)
   none = by_case number is
     where
-      by_case : (number : Option ℕ) → number ≡ number_of_pieces (pieces_of 120 text) → IfNone number ((t : Shape) → IsType t → name_of t ≢ text)
+      by_case : (number : Option ℕ) → number ≡ number_of_pieces (pieces_of 120 text) → IfNone number ((t : TypeParts) → IsType t → name_of t ≢ text)
       by_case None is = λ t typed e.
           let some : number_of_pieces (pieces_of 120 text) ≡ Some (number_of t) = ap (λ x. number_of_pieces (pieces_of 120 x)) (sym e) ∙ name_numbered t typed in
           cc

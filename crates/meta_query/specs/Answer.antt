@@ -6,13 +6,13 @@
 use Rattle.std.specs.Prelude.{◌≡◌, ◌≢◌, ℕ, List, [], ◌∷◌, ◌++◌, ◌⊎◌, map, slice_get, Option, None, Some, codes}
 use Rattle.std.specs.Option.{option_map}
 use Rattle.meta_lists.specs.First.{IsFirst}
-use Rattle.meta_types.specs.Shape.{number_of}
+use Rattle.meta_types.specs.TypeParts.{number_of}
 use Rattle.meta_types.specs.Fault.{line_of}
 use Rattle.meta_types.specs.declared.fault.DefinitionError.{DefinitionError}
 use Rattle.meta_typevar.specs.Variable.{Variable}
 use Rattle.meta_inst.specs.Builder.{Builder}
 use Rattle.meta_inst.specs.Control.{IsControl}
-use Rattle.meta_inst.specs.InstructionSet.{InstructionSet, root_sets, instruction_of}
+use Rattle.meta_inst.specs.InstructionSet.{InstructionSet, root_sets, instruction_in_set}
 use Rattle.meta_inst.specs.Faults.{IsAt}
 use Rattle.meta_meaning.specs.Acceptance.{Accepts}
 use Rattle.meta_meaning.specs.Tables.{TableContents, at_opcode, Allows}
@@ -84,8 +84,8 @@ IsTableReply tables line reply = IsReplyBy (TablesReply tables) line reply
 -- the instruction accepts the types that are asked: one choice of types for all its roots fits them
 pub record AcceptsAsked (d : InstructionSet) (b : Builder) (q : Question) : Type 0 where
   pub control : Option Variable
-  pub is_control : IsControl (root_sets d) (instruction_of d b) control
-  pub accepts : Accepts (root_sets d) (instruction_of d b) control q.control q.results q.values
+  pub is_control : IsControl (root_sets d) (instruction_in_set d b) control
+  pub accepts : Accepts (root_sets d) (instruction_in_set d b) control q.control q.results q.values
 
 -- the instruction is declared, and has the name that the question asks for
 pub record IsAskedFor (d : InstructionSet) (q : Question) (b : Builder) : Type 0 where

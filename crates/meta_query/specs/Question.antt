@@ -1,23 +1,23 @@
 -- The line that asks whether an instruction accepts types.
 use Rattle.std.specs.Prelude.{ℕ, List, [], ◌∷◌, map, All, Option, Some, None, IfSome, codes}
 use Rattle.std.specs.List.{join_with_byte}
-use Rattle.meta_types.specs.Shape.{Shape, IsType, name_of}
+use Rattle.meta_types.specs.TypeParts.{TypeParts, IsType, name_of}
 use Rattle.meta_query.specs.Words.{AreWords}
 
 -- whether the instruction of this name accepts these types: of its control, of its results and of its value operands
 pub record Question : Type 0 where
   pub name : List ℕ
-  pub control : Option Shape
-  pub results : List Shape
-  pub values : List Shape
+  pub control : Option TypeParts
+  pub results : List TypeParts
+  pub values : List TypeParts
 
 -- the word for a control: `-` for none, or the name of its type
-abbrev pub control_text : Option Shape → List ℕ
+abbrev pub control_text : Option TypeParts → List ℕ
 control_text None = codes "-"
 control_text (Some t) = name_of t
 
 -- the word for a list of types: `-` for none, or their names, parted by commas
-abbrev pub types_text : List Shape → List ℕ
+abbrev pub types_text : List TypeParts → List ℕ
 types_text [] = codes "-"
 types_text (t ∷ ts) = join_with_byte 44 (map name_of (t ∷ ts))
 

@@ -1,6 +1,6 @@
 ghost use Rattle.std.specs.Prelude.{◌≡◌, ◌≢◌, ℕ, ◌<◌, true, false, List, [], ◌∷◌, length, map, All, Option, IfOk, IfSome, IfNone, codes};
 ghost use Rattle.std.specs.Option.{option_map};
-ghost use Rattle.meta_types.specs.Shape.{Shape, IsType, number_of};
+ghost use Rattle.meta_types.specs.TypeParts.{TypeParts, IsType, number_of};
 ghost use Rattle.meta_query.specs.TypeNumber.{type_with, IsTypeNumber};
 ghost use Rattle.meta_query.specs.Words.{pieces_of};
 ghost use Rattle.meta_query.specs.Question.{Question, IsQuestion, control_text, types_text};
@@ -54,7 +54,7 @@ fn accept_words(line: &[u8]) -> Option<AcceptWords<'_>>
 fn parse_control(word: &[u8]) -> Option<Option<u16>>
     ensures found { IfSome result (λ c. control_text (option_map type_with c) ≡ word.now) }
     ensures known { IfSome result (λ c. IfSome c IsTypeNumber) }
-    ensures none { IfNone result ((c : Option Shape) → IfSome c IsType → control_text c ≢ word.now) }
+    ensures none { IfNone result ((c : Option TypeParts) → IfSome c IsType → control_text c ≢ word.now) }
 {
     if word == b"-".as_slice() {
         return Some(None);
@@ -68,7 +68,7 @@ fn parse_control(word: &[u8]) -> Option<Option<u16>>
 fn read_types(numbers: &mut Vec<u16>, word: &[u8]) -> Result<bool, AllocError>
     ensures known { All IsTypeNumber numbers.new.items }
     ensures found { IfOk result (λ read. read ≡ true → types_text (map type_with numbers.new.items) ≡ word.now) }
-    ensures none { IfOk result (λ read. read ≡ false → (ts : List Shape) → All IsType ts → types_text ts ≢ word.now) }
+    ensures none { IfOk result (λ read. read ≡ false → (ts : List TypeParts) → All IsType ts → types_text ts ≢ word.now) }
 {
     numbers.clear();
     if word == b"-".as_slice() {

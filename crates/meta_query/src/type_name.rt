@@ -1,5 +1,5 @@
 ghost use Rattle.std.specs.Prelude.{◌≡◌, ◌≢◌, ◌≤◌, IfSome, IfNone};
-ghost use Rattle.meta_types.specs.Shape.{Shape, IsType, name_of};
+ghost use Rattle.meta_types.specs.TypeParts.{TypeParts, IsType, name_of};
 ghost use Rattle.meta_query.specs.TypeNumber.{IsNameOf, found_in, lane_codes, lane_exponents, number_of_pieces};
 
 use super::pieces::Pieces;
@@ -67,7 +67,7 @@ fn number_of_pieces(mut pieces: Pieces<'_>) -> Option<u16>
 /// The number of the type that has the name, as `i32`, `i32x4` or `i32x4xN`, and `None` exactly where no type has it.
 pub(crate) fn type_number(name: &[u8]) -> Option<u16>
     ensures found { IfSome result (λ n. IsNameOf name.now n) }
-    ensures none { IfNone result ((t : Shape) → IsType t → name_of t ≢ name.now) }
+    ensures none { IfNone result ((t : TypeParts) → IsType t → name_of t ≢ name.now) }
 {
     number_of_pieces(Pieces::new(name, b'x'))
 }

@@ -3,7 +3,7 @@ use Rattle.std.proofs.Common.{◌≡◌, ◌∙◌, ◌<◌, ◌≤◌, ◌+◌,
 use Rattle.std.proofs.lemmas.List.{append_assoc, append-nil, length-append}
 use Rattle.meta_lists.proofs.Places.{get_left}
 use Rattle.meta_lists.proofs.Pairs.{pairs_imply}
-use Rattle.meta_typevar.specs.FourSets.{FourSets}
+use Rattle.meta_typevar.specs.TypeSetParts.{TypeSetParts}
 use Rattle.meta_typevar.specs.Variable.{Variable}
 use Rattle.meta_typevar.specs.Registry.{variable_of, set_at}
 use Rattle.meta_typevar.specs.declared.content.TypeVarContent.{TypeVarContent}
@@ -41,7 +41,7 @@ grown_count {n} {old} {new} g =
     let all : length new ≡ length old + length g.more = ap length g.is ∙ length-append old g.more in
     omega arith
 
-pub root_stays : {vars : List TypeVarContent} {v : ℕ} {s : FourSets} (more : List TypeVarContent) → IsRootWith vars v s → IsRootWith (vars ++ more) v s
+pub root_stays : {vars : List TypeVarContent} {v : ℕ} {s : TypeSetParts} (more : List TypeVarContent) → IsRootWith vars v s → IsRootWith (vars ++ more) v s
 root_stays {vars} {v} {s} more r =
     let same : slice_get (vars ++ more) v ≡ slice_get vars v = get_left vars more v r.of in
     let of : v < length vars = r.of in

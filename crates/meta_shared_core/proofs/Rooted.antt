@@ -7,8 +7,8 @@ use Rattle.std.proofs.lemmas.Bool.{eqb-true, leb-true, and_parts}
 use Rattle.std.proofs.lemmas.Map.Views.{Contains-from_any}
 use Rattle.meta_lists.proofs.Pushed.{get_pushed}
 use Rattle.meta_lists.proofs.Mapped.{get_mapped}
-use Rattle.meta_types.specs.Shape.{IntKind, FloatKind, widths, lane_counts}
-use Rattle.meta_typevar.specs.FourSets.{FourSets}
+use Rattle.meta_types.specs.TypeParts.{IntKind, FloatKind, widths, lane_counts}
+use Rattle.meta_typevar.specs.TypeSetParts.{TypeSetParts}
 use Rattle.meta_typevar.specs.Intervals.{IsWithin, CanBuild}
 use Rattle.meta_typevar.specs.Registry.{root_content, set_of, set_at, variable_of}
 use Rattle.meta_typevar.specs.declared.content.TypeVarContent.{TypeVarContent}
@@ -111,7 +111,7 @@ contents_placed : (rows : List RootRow) (k : ℕ) (c : TypeVarContent) → slice
 contents_placed rows k c at = let place : 0 + k ≡ k = omega arith in subst (λ j. IsRootAt j c) place (contents_roots 0 rows k c at)
 
 -- where each content is that of a root, each set has its root
-root_placed : (vars : List TypeVarContent) (sets : List FourSets) (k : ℕ) (s : FourSets) → map set_of vars ≡ sets → ((j : ℕ) (c : TypeVarContent) → slice_get vars j ≡ Some c → IsRootAt j c) → slice_get sets k ≡ Some s → IsRootWith vars k s
+root_placed : (vars : List TypeVarContent) (sets : List TypeSetParts) (k : ℕ) (s : TypeSetParts) → map set_of vars ≡ sets → ((j : ℕ) (c : TypeVarContent) → slice_get vars j ≡ Some c → IsRootAt j c) → slice_get sets k ≡ Some s → IsRootWith vars k s
 root_placed vars sets k s are roots at =
     let (content, kept, set_is) = get_mapped set_of vars k s (ap (λ xs. slice_get xs k) are ∙ at) in
     let placed : IsRootAt k content = roots k content kept in
@@ -150,7 +150,7 @@ whole_numbers {vars} {found} held id is =
     numbered_more 0 49 found id numbers (is ∙ vars_counted held)
 
 -- the sets of all roots, in order
-all_sets : List FourSets
+all_sets : List TypeSetParts
 all_sets = map set_of_root roots_in_order ++ set_of_root MemTo ∷ []
 
 listed : (root : Root) → slice_get all_sets (place_of root) ≡ Some (set_of_root root)
@@ -218,7 +218,7 @@ number_named ids root v numbers at =
     omega (arith, is)
 
 -- the first roots and one more, which has the set of the last, are all
-pub roots_whole : {vars : List TypeVarContent} {found : List ℕ} (held : AreFirstRoots vars found) (new : List TypeVarContent) (name : List ℕ) (s : FourSets) → s ≡ set_of_root MemTo → new ≡ vars ++ root_content name [] s (length vars) ∷ [] → (root : Root) → IsRootWith new (place_of root) (set_of_root root)
+pub roots_whole : {vars : List TypeVarContent} {found : List ℕ} (held : AreFirstRoots vars found) (new : List TypeVarContent) (name : List ℕ) (s : TypeSetParts) → s ≡ set_of_root MemTo → new ≡ vars ++ root_content name [] s (length vars) ∷ [] → (root : Root) → IsRootWith new (place_of root) (set_of_root root)
 unfolding all_sets
 roots_whole {vars} held new name s same added root =
     let last : TypeVarContent = root_content name [] s (length vars) in

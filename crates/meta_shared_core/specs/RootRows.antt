@@ -3,10 +3,10 @@
 --     AreRootRows rows         the rows have the sets of the roots in order, and each can be built
 use Rattle.std.specs.Prelude.{◌≡◌, ℕ, ◌&&◌, ◌+◌, nat_le, nat_eq, Bool, true, false, List, [], ◌∷◌, length, map}
 use Rattle.std.specs.List.{list_any, list_all}
-use Rattle.meta_types.specs.Lane.{lane_shape}
-use Rattle.meta_types.specs.Shape.{IntKind, FloatKind, name_of, widths, lane_counts}
+use Rattle.meta_types.specs.Lane.{lane_parts}
+use Rattle.meta_types.specs.TypeParts.{IntKind, FloatKind, name_of, widths, lane_counts}
 use Rattle.meta_types.specs.TypeText.{doc_of}
-use Rattle.meta_typevar.specs.FourSets.{FourSets}
+use Rattle.meta_typevar.specs.TypeSetParts.{TypeSetParts}
 use Rattle.meta_typevar.specs.Derivation.{singleton_sets}
 use Rattle.meta_typevar.specs.Intervals.{Intervals, sets_between}
 use Rattle.meta_typevar.specs.Registry.{root_content}
@@ -44,14 +44,14 @@ abbrev pub parts_of : SetRow → Intervals
 parts_of row = record { ints = interval_of row.ints; floats = interval_of row.floats; simd_lanes = interval_of row.lanes; dynamic_simd_lanes = interval_of row.dynamic_lanes; includes_scalars = true }
 
 -- the set of a row
-abbrev pub sets_of_row : RootRow → FourSets
+abbrev pub sets_of_row : RootRow → TypeSetParts
 sets_of_row (Set row) = sets_between (parts_of row)
-sets_of_row (Single lane) = singleton_sets (lane_shape lane)
+sets_of_row (Single lane) = singleton_sets (lane_parts lane)
 
 -- what is kept of the root that a row describes
 abbrev pub content_of : RootRow → ℕ → TypeVarContent
 content_of (Set row) n = root_content row.name.now row.doc.now (sets_between (parts_of row)) n
-content_of (Single lane) n = root_content (name_of (lane_shape lane)) (doc_of (lane_shape lane)) (singleton_sets (lane_shape lane)) n
+content_of (Single lane) n = root_content (name_of (lane_parts lane)) (doc_of (lane_parts lane)) (singleton_sets (lane_parts lane)) n
 
 -- the contents of rows, numbered from n
 abbrev pub contents_of : ℕ → List RootRow → List TypeVarContent

@@ -4,7 +4,7 @@
 --     set_of_root w            its set
 --     AreRoots vars r          each is a variable without a parent, with its set
 use Rattle.std.specs.Prelude.{◌≡◌, ◌<◌, ℕ, List, [], ◌∷◌, length}
-use Rattle.meta_typevar.specs.FourSets.{FourSets}
+use Rattle.meta_typevar.specs.TypeSetParts.{TypeSetParts}
 use Rattle.meta_typevar.specs.Variable.{underived}
 use Rattle.meta_typevar.specs.Registry.{variable_at, sets_of}
 use Rattle.meta_typevar.specs.declared.content.TypeVarContent.{TypeVarContent}
@@ -118,7 +118,7 @@ root_of r FloatTo = r.tv_floatto
 root_of r V3 = r.tv_v3
 root_of r MemTo = r.tv_memto
 
-abbrev pub set : List ℕ → List ℕ → List ℕ → List ℕ → FourSets
+abbrev pub set : List ℕ → List ℕ → List ℕ → List ℕ → TypeSetParts
 set lanes dynamic_lanes ints floats = record { lanes = lanes; dynamic_lanes = dynamic_lanes; ints = ints; floats = floats }
 
 abbrev pub one : List ℕ
@@ -137,7 +137,7 @@ abbrev pub all_ints : List ℕ
 all_ints = 8 ∷ all_floats
 
 -- the set of a root: lanes, dynamic lanes, ints, floats
-abbrev pub set_of_root : Root → FourSets
+abbrev pub set_of_root : Root → TypeSetParts
 set_of_root ST1 = set one [] all_ints []
 set_of_root ST2 = set one [] all_ints []
 set_of_root I32 = set one [] (32 ∷ []) []
@@ -190,7 +190,7 @@ set_of_root V3 = set one vectors all_ints all_floats
 set_of_root MemTo = set all_lanes vectors all_ints all_floats
 
 -- v is a variable without a parent, and has the set s
-pub record IsRootWith (vars : List TypeVarContent) (v : ℕ) (s : FourSets) : Type 0 where
+pub record IsRootWith (vars : List TypeVarContent) (v : ℕ) (s : TypeSetParts) : Type 0 where
   pub of : v < length vars
   pub root : variable_at vars v ≡ underived v
   pub set_is : sets_of vars v ≡ s

@@ -4,7 +4,7 @@
 use Rattle.std.proofs.Common.{◌≡◌, ℕ, ◌==◌, Bool, true, false, ◌&&◌, List, [], ◌∷◌, Contains, refl, subst, arith, inl, inr, ◌⊎◌}
 use Rattle.std.proofs.lemmas.Bool.{and_parts, and_from, eqb-true, eq-eqb}
 use Rattle.meta_lists.proofs.Contained.{contains_cases}
-use Rattle.meta_types.specs.Shape.{Kind, IntKind, FloatKind, Shape, IsType, widths, lane_counts}
+use Rattle.meta_types.specs.TypeParts.{Kind, IntKind, FloatKind, TypeParts, IsType, widths, lane_counts}
 use Rattle.meta_types.specs.Function.{same_kind, same_mark}
 
 -- p passes at each number of the list
@@ -13,11 +13,11 @@ at_each p [] = true
 at_each p (x ∷ xs) = p x && at_each p xs
 
 -- p passes at each type of this kind and mark
-abbrev pub at_kind_and_mark : (Shape → Bool) → Kind → Bool → Bool
+abbrev pub at_kind_and_mark : (TypeParts → Bool) → Kind → Bool → Bool
 at_kind_and_mark p kind mark = at_each (λ w. at_each (λ l. p (record { kind = kind; width = w; lanes = l; is_dynamic = mark })) (lane_counts mark)) (widths kind)
 
 -- p passes at each type
-abbrev pub at_all : (Shape → Bool) → Bool
+abbrev pub at_all : (TypeParts → Bool) → Bool
 at_all p = (at_kind_and_mark p IntKind false && at_kind_and_mark p IntKind true) && (at_kind_and_mark p FloatKind false && at_kind_and_mark p FloatKind true)
 
 -- what passes at each number of a list passes at what the list contains
@@ -31,25 +31,25 @@ at_each_contained p (x ∷ xs) n all c = by_case (and_parts (p x) (at_each p xs)
     by_case (first, rest) (inr c) below = below rest c
 
 -- what passes at each type of a kind and mark passes at those of its widths and lane counts
-at_kind_and_mark_parts : (p : Shape → Bool) (kind : Kind) (mark : Bool) (w l : ℕ) → at_kind_and_mark p kind mark ≡ true → Contains (widths kind) w → Contains (lane_counts mark) l → p (record { kind = kind; width = w; lanes = l; is_dynamic = mark }) ≡ true
+at_kind_and_mark_parts : (p : TypeParts → Bool) (kind : Kind) (mark : Bool) (w l : ℕ) → at_kind_and_mark p kind mark ≡ true → Contains (widths kind) w → Contains (lane_counts mark) l → p (record { kind = kind; width = w; lanes = l; is_dynamic = mark }) ≡ true
 at_kind_and_mark_parts p kind mark w l all c d =
     at_each_contained (λ m. p (record { kind = kind; width = w; lanes = m; is_dynamic = mark })) (lane_counts mark) l
     (at_each_contained (λ n. at_each (λ m. p (record { kind = kind; width = n; lanes = m; is_dynamic = mark })) (lane_counts mark)) (widths kind) w all c) d
 
 -- the tests of all kinds and marks give that of each
-at_all_parts : (p : Shape → Bool) → at_all p ≡ true → (kind : Kind) (mark : Bool) → at_kind_and_mark p kind mark ≡ true
+at_all_parts : (p : TypeParts → Bool) → at_all p ≡ true → (kind : Kind) (mark : Bool) → at_kind_and_mark p kind mark ≡ true
 at_all_parts p all IntKind false = (and_parts _ _ (and_parts _ _ all).0).0
 at_all_parts p all IntKind true = (and_parts _ _ (and_parts _ _ all).0).1
 at_all_parts p all FloatKind false = (and_parts _ _ (and_parts _ _ all).1).0
 at_all_parts p all FloatKind true = (and_parts _ _ (and_parts _ _ all).1).1
 
 -- what passes at each of them passes at each type
-pub at_all_types : (p : Shape → Bool) → at_all p ≡ true → (t : Shape) → IsType t → p t ≡ true
+pub at_all_types : (p : TypeParts → Bool) → at_all p ≡ true → (t : TypeParts) → IsType t → p t ≡ true
 at_all_types p all t h = at_kind_and_mark_parts p t.kind t.is_dynamic t.width t.lanes (at_all_parts p all t.kind t.is_dynamic) h.width h.lanes
 
 -- the two types are one
-abbrev pub same_shape : Shape → Shape → Bool
-same_shape a b = (same_kind a.kind b.kind && a.width == b.width) && (a.lanes == b.lanes && same_mark a.is_dynamic b.is_dynamic)
+abbrev pub same_parts : TypeParts → TypeParts → Bool
+same_parts a b = (same_kind a.kind b.kind && a.width == b.width) && (a.lanes == b.lanes && same_mark a.is_dynamic b.is_dynamic)
 
 -- kinds that pass their test are one
 pub same_kind_true : (a b : Kind) → same_kind a b ≡ true → a ≡ b
@@ -66,8 +66,8 @@ same_mark_true false true e = absurd (cc)
 same_mark_true false false e = refl
 
 -- types that pass their test are one
-pub same_shape_true : (a b : Shape) → same_shape a b ≡ true → a ≡ b
-same_shape_true a b e =
+pub same_parts_true : (a b : TypeParts) → same_parts a b ≡ true → a ≡ b
+same_parts_true a b e =
     let front = and_parts _ _ e in
     let (kind, width) = and_parts (same_kind a.kind b.kind) (a.width == b.width) front.0 in
     let (lanes, mark) = and_parts (a.lanes == b.lanes) (same_mark a.is_dynamic b.is_dynamic) front.1 in
@@ -88,6 +88,6 @@ same_mark_self true = refl
 same_mark_self false = refl
 
 -- so does a type
-pub same_shape_self : (t : Shape) → same_shape t t ≡ true
-same_shape_self t =
+pub same_parts_self : (t : TypeParts) → same_parts t t ≡ true
+same_parts_self t =
     and_from _ _ (and_from _ _ (same_kind_self t.kind) (eq-eqb t.width t.width refl)) (and_from _ _ (eq-eqb t.lanes t.lanes refl) (same_mark_self t.is_dynamic))

@@ -1,14 +1,14 @@
--- The type of the one shape to which a function may lead is its answer.
+-- The type with the parts to which alone a function may lead is its answer.
 use Rattle.std.proofs.Common.{rules, Option, Some, None, IfSome, IfNone, Contains, subst, subst₂, ◌&&◌, nat_lt, ◌≡◌, true, sym, ℕ, ◌*◌, ◌/◌}
-use Rattle.meta_types.specs.Shape.{Kind, IntKind, FloatKind, Shape, IsType, widths}
+use Rattle.meta_types.specs.TypeParts.{Kind, IntKind, FloatKind, TypeParts, IsType, widths}
 use Rattle.meta_types.specs.Function.{Function, LaneOf, AsTruthy, HalfWidth, DoubleWidth, SplitLanes, MergeLanes, DynamicToVector, Narrower, Wider, IsFunction, Answers}
-use Rattle.meta_types.specs.ValueTypes.{shape_of}
+use Rattle.meta_types.specs.ValueTypes.{type_parts_of}
 use Rattle.meta_types.specs.declared.value_type.ValueType.{ValueType}
 use Rattle.meta_types.proofs.OneAnswer.{candidate, only, even}
 use Rattle.meta_types.proofs.Typed.{typed}
 
 -- the function takes u: any type, but for `dynamic_to_vector`, which takes a dynamic vector of less than 256 lanes
-abbrev pub Takes : Function → Shape → Type 0
+abbrev pub Takes : Function → TypeParts → Type 0
 Takes LaneOf u = IsFunction LaneOf
 Takes AsTruthy u = IsFunction AsTruthy
 Takes HalfWidth u = IsFunction HalfWidth
@@ -24,8 +24,8 @@ even_width : (kind : Kind) (n : ℕ) → Contains (widths kind) n → Contains (
 even_width IntKind n h k = search rules
 even_width FloatKind n h k = search rules
 
--- it leads to its one shape where that is a type's
-leads : (f : Function) (u : Shape) → Takes f u → IsType u → IsType (candidate f u) → Answers f u (candidate f u)
+-- it leads to those parts where they are a type's
+leads : (f : Function) (u : TypeParts) → Takes f u → IsType u → IsType (candidate f u) → Answers f u (candidate f u)
 leads LaneOf u takes from to = search rules
 leads AsTruthy u takes from to = search rules
 leads HalfWidth u takes from to = halved (even_width u.kind u.width from.width to.width)
@@ -45,15 +45,15 @@ leads DynamicToVector u takes from to = search rules
 leads Narrower u takes from to = absurd takes
 leads Wider u takes from to = absurd takes
 
--- the type of that shape is the answer
-pub found : (g f : Function) (v u : Shape) (r : Option ValueType) → g ≡ f → u ≡ v → IsType v → Takes f u → IfSome r (λ t. shape_of t ≡ candidate f u) → IfSome r (λ t. Answers g v (shape_of t))
+-- the type with those parts is the answer
+pub found : (g f : Function) (v u : TypeParts) (r : Option ValueType) → g ≡ f → u ≡ v → IsType v → Takes f u → IfSome r (λ t. type_parts_of t ≡ candidate f u) → IfSome r (λ t. Answers g v (type_parts_of t))
 found g f v u (Some t) is same from takes of =
-    subst₂ (λ h x. Answers h x (shape_of t)) (sym is) same
+    subst₂ (λ h x. Answers h x (type_parts_of t)) (sym is) same
     (subst (Answers f u) (sym of) (leads f u takes (subst IsType (sym same) from) (subst IsType of (typed t))))
 found g f v u None is same from takes of = of
 
 -- where it is no type's there is none
-pub none : (g f : Function) (v u : Shape) (r : Option ValueType) → g ≡ f → u ≡ v → IfNone r (¬ IsType (candidate f u)) → IfNone r ((t : Shape) → ¬ Answers g v t)
+pub none : (g f : Function) (v u : TypeParts) (r : Option ValueType) → g ≡ f → u ≡ v → IfNone r (¬ IsType (candidate f u)) → IfNone r ((t : TypeParts) → ¬ Answers g v t)
 none g f v u (Some t) is same of = of
 none g f v u None is same of = λ t answers.
     let here : Answers f u t = subst₂ (λ h x. Answers h x t) is (sym same) answers in

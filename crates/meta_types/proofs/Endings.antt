@@ -5,8 +5,8 @@ use Rattle.std.specs.Fmt.{decimal, digits}
 use lib.Pointwise.{pointwise}
 use Rattle.std.proofs.lemmas.Bool.{false≢true, eqb-true}
 use Rattle.std.proofs.lemmas.List.{append-nil, append_cancel_left, append_cancel_right}
-use Rattle.meta_types.specs.Shape.{Shape, IsType, lane_counts, lane_name, lanes_name, name_of}
-use Rattle.meta_types.specs.Lane.{lane_shape}
+use Rattle.meta_types.specs.TypeParts.{TypeParts, IsType, lane_counts, lane_name, lanes_name, name_of}
+use Rattle.meta_types.specs.Lane.{lane_parts}
 use Rattle.meta_types.specs.Vector.{lane_count, lanes_of, least_lanes_of}
 use Rattle.meta_types.specs.declared.lane.LaneType.{LaneType}
 use Rattle.meta_types.specs.declared.lane_count.LaneCount.{LaneCount}
@@ -32,19 +32,19 @@ ending n false h = fixed_ending n h
 ending n true h = inr (inr (h, ap (λ b. cond b [] (120 ∷ (decimal n ++ 120 ∷ 78 ∷ []))) (several n h)))
 
 -- a type of the name has what is left behind the lane's name
-pub ending_is : (lane : LaneType) (t : Shape) (text rest : List ℕ) → t.kind ≡ (lane_shape lane).kind → t.width ≡ (lane_shape lane).width → text ≡ lane_name (lane_shape lane).kind (lane_shape lane).width ++ rest → name_of t ≡ text → rest ≡ lanes_name t.lanes t.is_dynamic
+pub ending_is : (lane : LaneType) (t : TypeParts) (text rest : List ℕ) → t.kind ≡ (lane_parts lane).kind → t.width ≡ (lane_parts lane).width → text ≡ lane_name (lane_parts lane).kind (lane_parts lane).width ++ rest → name_of t ≡ text → rest ≡ lanes_name t.lanes t.is_dynamic
 ending_is lane t text rest k w split e =
-    append_cancel_left (lane_name (lane_shape lane).kind (lane_shape lane).width) _ _
+    append_cancel_left (lane_name (lane_parts lane).kind (lane_parts lane).width) _ _
     (sym split ∙ sym e ∙ (λ i. lane_name (k i) (w i) ++ lanes_name t.lanes t.is_dynamic))
 
 -- no type of the lane has a name that doesn't begin with the lane's
-pub no_lane : (lane : LaneType) (t : Shape) (text front : List ℕ) → front ≡ name_of (lane_shape lane) → pointwise eqb (take (length front) text) front ≡ false → t.kind ≡ (lane_shape lane).kind → t.width ≡ (lane_shape lane).width → name_of t ≡ text → ⊥
+pub no_lane : (lane : LaneType) (t : TypeParts) (text front : List ℕ) → front ≡ name_of (lane_parts lane) → pointwise eqb (take (length front) text) front ≡ false → t.kind ≡ (lane_parts lane).kind → t.width ≡ (lane_parts lane).width → name_of t ≡ text → ⊥
 no_lane lane t text front named f k w e =
     no_front text front (lanes_name t.lanes t.is_dynamic) f
     (sym e ∙ (λ i. lane_name (k i) (w i) ++ lanes_name t.lanes t.is_dynamic) ∙ ap (λ xs. xs ++ lanes_name t.lanes t.is_dynamic) (sym (named ∙ lane_named lane)))
 
 -- the text is the lane's name and the rest
-pub past_lane : (lane : LaneType) (text front rest : List ℕ) → front ≡ name_of (lane_shape lane) → pointwise eqb (take (length front) text) front ≡ true → rest ≡ drop (length front) text → text ≡ lane_name (lane_shape lane).kind (lane_shape lane).width ++ rest
+pub past_lane : (lane : LaneType) (text front rest : List ℕ) → front ≡ name_of (lane_parts lane) → pointwise eqb (take (length front) text) front ≡ true → rest ≡ drop (length front) text → text ≡ lane_name (lane_parts lane).kind (lane_parts lane).width ++ rest
 past_lane lane text front rest named t e = front_and_rest text front rest t e ∙ ap (λ xs. xs ++ rest) (named ∙ lane_named lane)
 
 -- a decimal number has no `N`
@@ -79,7 +79,7 @@ tails : (x y : ℕ) (xs ys : List ℕ) → x ∷ xs ≡ y ∷ ys → xs ≡ ys
 tails x y xs ys e = ap (drop 1) e
 
 -- a text that goes on, behind the lane's name, with `x`, a count that is none, and `xN`, is no type's name
-pub no_least : (t : Shape) (rest lanes least : List ℕ) → IsType t → rest ≡ lanes_name t.lanes t.is_dynamic → rest ≡ 120 ∷ lanes → lanes ≡ least ++ 120 ∷ 78 ∷ [] → ((n : ℕ) → Contains (lane_counts true) n → decimal n ≡ least → ⊥) → ⊥
+pub no_least : (t : TypeParts) (rest lanes least : List ℕ) → IsType t → rest ≡ lanes_name t.lanes t.is_dynamic → rest ≡ 120 ∷ lanes → lanes ≡ least ++ 120 ∷ 78 ∷ [] → ((n : ℕ) → Contains (lane_counts true) n → decimal n ≡ least → ⊥) → ⊥
 no_least t rest lanes least h is x parted none = by_case (ending t.lanes t.is_dynamic h.lanes)
   where
     by_case : IsEnding t.lanes (lanes_name t.lanes t.is_dynamic) → ⊥
@@ -88,7 +88,7 @@ no_least t rest lanes least h is x parted none = by_case (ending t.lanes t.is_dy
     by_case (inr (inr (c, e))) = none t.lanes c (append_cancel_right _ _ (120 ∷ 78 ∷ []) (tails 120 120 _ _ (sym e ∙ sym is ∙ x) ∙ parted))
 
 -- nor is one that goes on with `x` and a count that is none, and doesn't end with `xN`
-pub no_count : (t : Shape) (rest lanes mark : List ℕ) → IsType t → rest ≡ lanes_name t.lanes t.is_dynamic → rest ≡ 120 ∷ lanes → mark ≡ 120 ∷ 78 ∷ [] → pointwise eqb (drop (length lanes - length mark) lanes) mark ≡ false → ((n : ℕ) → Contains (lane_counts true) n → decimal n ≡ lanes → ⊥) → ⊥
+pub no_count : (t : TypeParts) (rest lanes mark : List ℕ) → IsType t → rest ≡ lanes_name t.lanes t.is_dynamic → rest ≡ 120 ∷ lanes → mark ≡ 120 ∷ 78 ∷ [] → pointwise eqb (drop (length lanes - length mark) lanes) mark ≡ false → ((n : ℕ) → Contains (lane_counts true) n → decimal n ≡ lanes → ⊥) → ⊥
 no_count t rest lanes mark h is x m f none = by_case (ending t.lanes t.is_dynamic h.lanes)
   where
     by_case : IsEnding t.lanes (lanes_name t.lanes t.is_dynamic) → ⊥
@@ -97,24 +97,24 @@ no_count t rest lanes mark h is x m f none = by_case (ending t.lanes t.is_dynami
     by_case (inr (inr (c, e))) = no_end lanes mark (decimal t.lanes) f (sym (tails 120 120 _ _ (sym e ∙ sym is ∙ x)) ∙ ap (λ ys. decimal t.lanes ++ ys) (sym m))
 
 -- the names that were read
-pub lane_read : (lane : LaneType) (text rest : List ℕ) → text ≡ lane_name (lane_shape lane).kind (lane_shape lane).width ++ rest → rest ≡ [] → name_of (lane_shape lane) ≡ text
-lane_read lane text rest split e = lane_named lane ∙ sym (append-nil _) ∙ ap (λ xs. lane_name (lane_shape lane).kind (lane_shape lane).width ++ xs) (sym e) ∙ sym split
+pub lane_read : (lane : LaneType) (text rest : List ℕ) → text ≡ lane_name (lane_parts lane).kind (lane_parts lane).width ++ rest → rest ≡ [] → name_of (lane_parts lane) ≡ text
+lane_read lane text rest split e = lane_named lane ∙ sym (append-nil _) ∙ ap (λ xs. lane_name (lane_parts lane).kind (lane_parts lane).width ++ xs) (sym e) ∙ sym split
 
-pub count_read : (lane : LaneType) (count : LaneCount) (text rest lanes : List ℕ) → text ≡ lane_name (lane_shape lane).kind (lane_shape lane).width ++ rest → rest ≡ 120 ∷ lanes → decimal (lane_count count) ≡ lanes → name_of (lanes_of (lane_shape lane) (lane_count count)) ≡ text
+pub count_read : (lane : LaneType) (count : LaneCount) (text rest lanes : List ℕ) → text ≡ lane_name (lane_parts lane).kind (lane_parts lane).width ++ rest → rest ≡ 120 ∷ lanes → decimal (lane_count count) ≡ lanes → name_of (lanes_of (lane_parts lane) (lane_count count)) ≡ text
 count_read lane count text rest lanes split x e =
-    ap (λ xs. lane_name (lane_shape lane).kind (lane_shape lane).width ++ xs)
+    ap (λ xs. lane_name (lane_parts lane).kind (lane_parts lane).width ++ xs)
     (ap (λ b. cond b [] (120 ∷ (decimal (lane_count count) ++ []))) (not_one count) ∙ ap (◌∷◌ 120) (append-nil _ ∙ e) ∙ sym x)
     ∙ sym split
 
-pub least_read : (lane : LaneType) (count : LaneCount) (text rest lanes least : List ℕ) → text ≡ lane_name (lane_shape lane).kind (lane_shape lane).width ++ rest → rest ≡ 120 ∷ lanes → lanes ≡ least ++ 120 ∷ 78 ∷ [] → decimal (lane_count count) ≡ least → name_of (least_lanes_of (lane_shape lane) (lane_count count)) ≡ text
+pub least_read : (lane : LaneType) (count : LaneCount) (text rest lanes least : List ℕ) → text ≡ lane_name (lane_parts lane).kind (lane_parts lane).width ++ rest → rest ≡ 120 ∷ lanes → lanes ≡ least ++ 120 ∷ 78 ∷ [] → decimal (lane_count count) ≡ least → name_of (least_lanes_of (lane_parts lane) (lane_count count)) ≡ text
 least_read lane count text rest lanes least split x parted e =
-    ap (λ xs. lane_name (lane_shape lane).kind (lane_shape lane).width ++ xs)
+    ap (λ xs. lane_name (lane_parts lane).kind (lane_parts lane).width ++ xs)
     (ap (λ b. cond b [] (120 ∷ (decimal (lane_count count) ++ 120 ∷ 78 ∷ []))) (not_one count) ∙ ap (◌∷◌ 120) (ap (λ xs. xs ++ 120 ∷ 78 ∷ []) e ∙ sym parted) ∙ sym x)
     ∙ sym split
 
 -- no type of the lane has the name
 abbrev pub IsNoName : LaneType → List ℕ → Type 0
-IsNoName lane text = (t : Shape) → IsType t → t.kind ≡ (lane_shape lane).kind → t.width ≡ (lane_shape lane).width → name_of t ≡ text → ⊥
+IsNoName lane text = (t : TypeParts) → IsType t → t.kind ≡ (lane_parts lane).kind → t.width ≡ (lane_parts lane).width → name_of t ≡ text → ⊥
 
 -- which is said where there is no answer
 pub if_none : {A : Type 0} → (o : Option A) (lane : LaneType) (text : List ℕ) → IsNoName lane text → IfNone o (IsNoName lane text)

@@ -1,9 +1,9 @@
--- The shape of each value type is that of a type.
+-- The parts of each value type are those of a type.
 use Rattle.std.proofs.Common.{Bool, false, true, Contains, lit<, refl}
-use Rattle.meta_types.specs.Shape.{IsType, widths, lane_counts}
-use Rattle.meta_types.specs.Lane.{lane_shape}
+use Rattle.meta_types.specs.TypeParts.{IsType, widths, lane_counts}
+use Rattle.meta_types.specs.Lane.{lane_parts}
 use Rattle.meta_types.specs.Vector.{lane_count}
-use Rattle.meta_types.specs.ValueTypes.{shape_of}
+use Rattle.meta_types.specs.ValueTypes.{type_parts_of}
 use Rattle.meta_types.specs.declared.lane.LaneType.{LaneType}
 use Rattle.meta_types.specs.declared.lane.LaneType.TheVariants.{Int as IntLane, Float as FloatLane}
 use Rattle.meta_types.specs.declared.lane.Int.TheVariants.{I8, I16, I32, I64, I128}
@@ -14,7 +14,7 @@ use Rattle.meta_types.specs.declared.value_type.ValueType.{ValueType}
 use Rattle.meta_types.specs.declared.value_type.ValueType.TheVariants.{Lane, Vector, DynamicVector}
 
 -- a lane has one of the widths of its kind
-lane_width : (l : LaneType) → Contains (widths (lane_shape l).kind) (lane_shape l).width
+lane_width : (l : LaneType) → Contains (widths (lane_parts l).kind) (lane_parts l).width
 lane_width (IntLane I8) = (0, lit< tt, refl)
 lane_width (IntLane I16) = (1, lit< tt, refl)
 lane_width (IntLane I32) = (2, lit< tt, refl)
@@ -44,10 +44,10 @@ may_count true X64 = (5, lit< tt, refl)
 may_count true X128 = (6, lit< tt, refl)
 may_count true X256 = (7, lit< tt, refl)
 
-pub typed : (t : ValueType) → IsType (shape_of t)
+pub typed : (t : ValueType) → IsType (type_parts_of t)
 typed (Lane l) = lane_typed l
   where
-    lane_typed : (l : LaneType) → IsType (lane_shape l)
+    lane_typed : (l : LaneType) → IsType (lane_parts l)
     lane_typed (IntLane i) = record { width = lane_width (IntLane i); lanes = (0, lit< tt, refl) }
     lane_typed (FloatLane f) = record { width = lane_width (FloatLane f); lanes = (0, lit< tt, refl) }
 typed (Vector v) = record { width = lane_width v.base; lanes = may_count false v.lanes }

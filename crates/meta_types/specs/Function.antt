@@ -1,6 +1,6 @@
 -- Derived functions: what leads from the type of a variable to the type of one that is derived from it.
 use Rattle.std.specs.Prelude.{◌≡◌, ◌≢◌, ℕ, ◌*◌, ◌==◌, ◌&&◌, ◌||◌, not, nat_lt, Bool, true, false, IsTrue}
-use Rattle.meta_types.specs.Shape.{Kind, IntKind, FloatKind, Shape, IsType, number_of}
+use Rattle.meta_types.specs.TypeParts.{Kind, IntKind, FloatKind, TypeParts, IsType, number_of}
 
 -- seven functions, which answer one type at most, and two relations, Narrower and Wider
 pub data Function : Type 0 where
@@ -29,11 +29,11 @@ same_mark false true = false
 same_mark false false = true
 
 -- whether a type has one lane, as no dynamic vector has
-abbrev pub is_scalar : Shape → Bool
+abbrev pub is_scalar : TypeParts → Bool
 is_scalar t = t.lanes == 1
 
 -- whether the function leads from the type u to the type t
-abbrev pub relates : Function → Shape → Shape → Bool
+abbrev pub relates : Function → TypeParts → TypeParts → Bool
 -- the lane of u
 relates LaneOf u t = same_kind t.kind u.kind && (t.width == u.width && is_scalar t)
 -- `i8` for a scalar; for a vector the int vector of its width, lanes and mark
@@ -51,7 +51,7 @@ relates Narrower u t = same_kind t.kind u.kind && (is_scalar u && (is_scalar t &
 relates Wider u t = same_kind t.kind u.kind && (is_scalar u && (is_scalar t && nat_lt u.width t.width))
 
 -- f leads from the type u to the type t. A function gives nothing where its answer would be no type
-pub record Steps (f : Function) (u t : Shape) : Type 0 where
+pub record Steps (f : Function) (u t : TypeParts) : Type 0 where
   pub from : IsType u
   pub to : IsType t
   pub relates : IsTrue (relates f u t)
@@ -61,14 +61,14 @@ abbrev pub IsFunction : Function → Type 0
 IsFunction f = (f ≢ Narrower) × (f ≢ Wider)
 
 -- t is the answer of f at the type u: f is a function, and leads from u to t
-pub record Answers (f : Function) (u t : Shape) : Type 0 where
+pub record Answers (f : Function) (u t : TypeParts) : Type 0 where
   pub is_function : IsFunction f
   pub steps : Steps f u t
 
 -- f leads from a type of number c to a type of number m
 pub record StepsNumbers (f : Function) (c m : ℕ) : Type 0 where
-  pub from : Shape
-  pub to : Shape
+  pub from : TypeParts
+  pub to : TypeParts
   pub steps : Steps f from to
   pub number_from : number_of from ≡ c
   pub number_to : number_of to ≡ m

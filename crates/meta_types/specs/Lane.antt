@@ -1,6 +1,6 @@
 -- The types of the program as contracts see them.
 use Rattle.std.specs.Prelude.{ℕ}
-use Rattle.meta_types.specs.Shape.{IntKind, FloatKind, Shape, scalar}
+use Rattle.meta_types.specs.TypeParts.{IntKind, FloatKind, TypeParts, scalar}
 use Rattle.meta_types.specs.declared.lane.Int.{Int}
 use Rattle.meta_types.specs.declared.lane.Int.TheVariants.{I8, I16, I32, I64, I128}
 use Rattle.meta_types.specs.declared.lane.Float.{Float}
@@ -22,7 +22,7 @@ float_width F32 = 32
 float_width F64 = 64
 float_width F128 = 128
 
--- the shape of a lane type
-abbrev pub lane_shape : LaneType → Shape
-lane_shape (IntLane i) = scalar IntKind (int_width i)
-lane_shape (FloatLane f) = scalar FloatKind (float_width f)
+-- the parts of a lane type
+abbrev pub lane_parts : LaneType → TypeParts
+lane_parts (IntLane i) = scalar IntKind (int_width i)
+lane_parts (FloatLane f) = scalar FloatKind (float_width f)

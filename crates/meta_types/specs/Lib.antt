@@ -1,4 +1,4 @@
-pub mod Shape
+pub mod TypeParts
 pub mod Function
 pub mod Lane
 pub mod LaneTypes

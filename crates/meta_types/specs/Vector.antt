@@ -1,9 +1,9 @@
 -- The vectors of the program as contracts see them.
 --     lane_count n           a count of lanes as a number
---     vector_shape v, dynamic_shape v      a vector, and one of which only the least count of lanes is known
+--     vector_parts v, dynamic_parts v      a vector, and one of which only the least count of lanes is known
 use Rattle.std.specs.Prelude.{ℕ, true, false}
-use Rattle.meta_types.specs.Shape.{Shape}
-use Rattle.meta_types.specs.Lane.{lane_shape}
+use Rattle.meta_types.specs.TypeParts.{TypeParts}
+use Rattle.meta_types.specs.Lane.{lane_parts}
 use Rattle.meta_types.specs.declared.lane_count.LaneCount.{LaneCount}
 use Rattle.meta_types.specs.declared.lane_count.LaneCount.TheVariants.{X2, X4, X8, X16, X32, X64, X128, X256}
 use Rattle.meta_types.specs.declared.vector.VectorType.{VectorType}
@@ -20,18 +20,18 @@ lane_count X64 = 64
 lane_count X128 = 128
 lane_count X256 = 256
 
--- the shape of so many lanes of the shape of one
-abbrev pub lanes_of : Shape → ℕ → Shape
+-- the parts of so many lanes with the parts of one
+abbrev pub lanes_of : TypeParts → ℕ → TypeParts
 lanes_of lane lanes = record { kind = lane.kind; width = lane.width; lanes = lanes; is_dynamic = false }
 
 -- the same, with the count as the least one
-abbrev pub least_lanes_of : Shape → ℕ → Shape
+abbrev pub least_lanes_of : TypeParts → ℕ → TypeParts
 least_lanes_of lane lanes = record { kind = lane.kind; width = lane.width; lanes = lanes; is_dynamic = true }
 
--- the shape of a fixed vector
-abbrev pub vector_shape : VectorType → Shape
-vector_shape v = lanes_of (lane_shape v.base) (lane_count v.lanes)
+-- the parts of a fixed vector
+abbrev pub vector_parts : VectorType → TypeParts
+vector_parts v = lanes_of (lane_parts v.base) (lane_count v.lanes)
 
--- the shape of a dynamic vector
-abbrev pub dynamic_shape : DynamicVectorType → Shape
-dynamic_shape v = least_lanes_of (lane_shape v.base) (lane_count v.unscaled_lanes)
+-- the parts of a dynamic vector
+abbrev pub dynamic_parts : DynamicVectorType → TypeParts
+dynamic_parts v = least_lanes_of (lane_parts v.base) (lane_count v.unscaled_lanes)

@@ -1,10 +1,10 @@
 ghost use Rattle.std.specs.Prelude.{◌≡◌, ◌↔◌, ℕ, IfSome, IfNone, IsTrue, Contains, ◌&&◌, nat_lt};
-ghost use Rattle.meta_types.specs.Shape.{Shape, IsType, widths, scalar};
-ghost use Rattle.meta_types.specs.Lane.{lane_shape};
+ghost use Rattle.meta_types.specs.TypeParts.{TypeParts, IsType, widths, scalar};
+ghost use Rattle.meta_types.specs.Lane.{lane_parts};
 ghost use Rattle.meta_types.specs.Function.{Function, Narrower, is_scalar, relates, Steps, Answers, StepsNumbers, AnswersNumber};
-ghost use Rattle.meta_types.specs.ValueTypes.{shape_of};
+ghost use Rattle.meta_types.specs.ValueTypes.{type_parts_of};
 ghost use Rattle.meta_types.specs.DerivedFunc.{function_of, function_name};
-ghost use Rattle.meta_types.specs.Parts.{parts_shape};
+ghost use Rattle.meta_types.specs.Parts.{parts_meaning};
 
 use super::lane::{LaneType, is_float_width, is_int_width};
 use super::lane_count::is_lane_count;
@@ -73,8 +73,8 @@ impl DerivedFunc {
     /// The type to which the function leads from `c`, and `None` exactly where that would be no type, or for a relation
     /// (this project's own).
     pub fn apply(self, c: ValueType) -> Option<ValueType>
-        ensures found { IfSome result (λ t. Answers (function_of self) (shape_of c) (shape_of t)) }
-        ensures none { IfNone result ((t : Shape) → ¬ Answers (function_of self) (shape_of c) t) }
+        ensures found { IfSome result (λ t. Answers (function_of self) (type_parts_of c) (type_parts_of t)) }
+        ensures none { IfNone result ((t : TypeParts) → ¬ Answers (function_of self) (type_parts_of c) t) }
     {
         let from = Parts::of(c);
         match self {
@@ -123,7 +123,7 @@ impl DerivedFunc {
 
     /// Whether the function leads from `c` to `t`, or `t` stands in the relation to `c` (this project's own).
     pub fn relates(self, c: ValueType, t: ValueType) -> bool
-        ensures { IsTrue result ↔ Steps (function_of self) (shape_of c) (shape_of t) }
+        ensures { IsTrue result ↔ Steps (function_of self) (type_parts_of c) (type_parts_of t) }
     {
         match self {
             DerivedFunc::Narrower => Parts::of(t).is_narrower(Parts::of(c)),
@@ -157,7 +157,7 @@ impl DerivedFunc {
 impl Parts {
     /// The parts of a type.
     fn of(t: ValueType) -> Parts
-        ensures { parts_shape result ≡ shape_of t }
+        ensures { parts_meaning result ≡ type_parts_of t }
     {
         match t {
             ValueType::Lane(lane) => Parts::of_lanes(lane, 1, false),
@@ -170,7 +170,7 @@ impl Parts {
 
     /// The parts of so many lanes.
     fn of_lanes(lane: LaneType, lanes: u64, is_dynamic: bool) -> Parts
-        ensures { parts_shape result ≡ record { kind = (lane_shape lane).kind; width = (lane_shape lane).width; lanes = lanes; is_dynamic = is_dynamic } }
+        ensures { parts_meaning result ≡ record { kind = (lane_parts lane).kind; width = (lane_parts lane).width; lanes = lanes; is_dynamic = is_dynamic } }
     {
         let kind = match lane {
             LaneType::Int(_) => LaneKind::Int,
@@ -186,8 +186,8 @@ impl Parts {
 
     /// The lane type, if there is one of the kind and width.
     fn lane(self) -> Option<LaneType>
-        ensures found { IfSome result (λ lane. lane_shape lane ≡ scalar (parts_shape self).kind self.width) }
-        ensures none { IfNone result (¬ Contains (widths (parts_shape self).kind) self.width) }
+        ensures found { IfSome result (λ lane. lane_parts lane ≡ scalar (parts_meaning self).kind self.width) }
+        ensures none { IfNone result (¬ Contains (widths (parts_meaning self).kind) self.width) }
     {
         let width = u16::try_from(self.width).ok()?;
         match self.kind {
@@ -199,8 +199,8 @@ impl Parts {
 
     /// The type that has the parts, if there is one.
     fn value_type(self) -> Option<ValueType>
-        ensures found { IfSome result (λ t. shape_of t ≡ parts_shape self) }
-        ensures none { IfNone result (¬ IsType (parts_shape self)) }
+        ensures found { IfSome result (λ t. type_parts_of t ≡ parts_meaning self) }
+        ensures none { IfNone result (¬ IsType (parts_meaning self)) }
     {
         let lane = self.lane()?;
         if self.lanes == 1 && !self.is_dynamic {
@@ -218,7 +218,7 @@ impl Parts {
 
     /// Whether there is one lane.
     fn is_scalar(self) -> bool
-        ensures { result ≡ is_scalar (parts_shape self) }
+        ensures { result ≡ is_scalar (parts_meaning self) }
     {
         self.lanes == 1
     }
@@ -232,7 +232,7 @@ impl Parts {
 
     /// Whether both are scalars of one kind, and this one has fewer bits than the other.
     fn is_narrower(self, other: Parts) -> bool
-        ensures { result ≡ relates Narrower (parts_shape other) (parts_shape self) }
+        ensures { result ≡ relates Narrower (parts_meaning other) (parts_meaning self) }
     {
         self.kind == other.kind
             && (other.is_scalar() && (self.is_scalar() && self.width < other.width))
@@ -241,5 +241,5 @@ impl Parts {
 
 /// A function leads from one type to at most one type (this project's own).
 pub fn answers_are_one()
-    ensures { (f : Function) (u s t : Shape) → Answers f u s → Answers f u t → s ≡ t }
+    ensures { (f : Function) (u s t : TypeParts) → Answers f u s → Answers f u t → s ≡ t }
 {}

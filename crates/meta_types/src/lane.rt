@@ -1,8 +1,8 @@
 ghost use Rattle.std.specs.Prelude.{◌≡◌, ◌≢◌, ◌↔◌, ◌⊎◌, ℕ, IsTrue, IfOk, IfSome, IfNone, Contains, true};
-ghost use Rattle.meta_types.specs.Shape.{Kind, IntKind, FloatKind, widths, lane_counts, scalar, lane_code, number_of, name_of};
-ghost use Rattle.meta_types.specs.Lane.{lane_shape};
+ghost use Rattle.meta_types.specs.TypeParts.{Kind, IntKind, FloatKind, widths, lane_counts, scalar, lane_code, number_of, name_of};
+ghost use Rattle.meta_types.specs.Lane.{lane_parts};
 ghost use Rattle.meta_types.specs.Vector.{lanes_of, least_lanes_of};
-ghost use Rattle.meta_types.specs.ValueTypes.{shape_of};
+ghost use Rattle.meta_types.specs.ValueTypes.{type_parts_of};
 ghost use Rattle.meta_types.specs.TypeText.{doc_of};
 
 use super::lane_iter::LaneTypeIterator;
@@ -70,7 +70,7 @@ pub fn is_float_width(num_bits: u16) -> bool
 impl LaneType {
     /// The width in bits, 8 to 128.
     pub fn lane_bits(self) -> u64
-        ensures { result ≡ (lane_shape self).width }
+        ensures { result ≡ (lane_parts self).width }
     {
         match self {
             LaneType::Int(Int::I8) => 8,
@@ -84,14 +84,14 @@ impl LaneType {
     /// The number of the type, 0x74 to 0x7c: `i8` is 0x74, and the others follow in the order of `i16`, `i32`, `i64`,
     /// `i128`, `f16`, `f32`, `f64` and `f128`.
     pub fn number(self) -> u16
-        ensures { result ≡ number_of (lane_shape self) }
+        ensures { result ≡ number_of (lane_parts self) }
     {
         LANE_BASE + self.code()
     }
 
     /// The code of a lane, 4 to 12.
     fn code(self) -> u16
-        ensures { result ≡ lane_code (lane_shape self).kind (lane_shape self).width }
+        ensures { result ≡ lane_code (lane_parts self).kind (lane_parts self).width }
     {
         match self {
             LaneType::Int(Int::I8) => 4,
@@ -108,7 +108,7 @@ impl LaneType {
 
     /// The lane of this code, and `None` exactly where no lane has it.
     pub(crate) fn from_code(code: u16) -> Option<LaneType>
-        ensures found { IfSome result (λ l. lane_code (lane_shape l).kind (lane_shape l).width ≡ code) }
+        ensures found { IfSome result (λ l. lane_code (lane_parts l).kind (lane_parts l).width ≡ code) }
         ensures none { IfNone result ((kind : Kind) (width : ℕ) → Contains (widths kind) width → lane_code kind width ≢ code) }
     {
         for lane in LaneTypeIterator::new() {
@@ -122,7 +122,7 @@ impl LaneType {
     /// The integer lane of this width, which `is_int_width` tells.
     pub fn int_from_bits(num_bits: u16) -> LaneType
         requires { Contains (widths IntKind) num_bits }
-        ensures { lane_shape result ≡ scalar IntKind num_bits }
+        ensures { lane_parts result ≡ scalar IntKind num_bits }
     {
         LaneType::Int(match num_bits {
             8 => Int::I8,
@@ -136,7 +136,7 @@ impl LaneType {
     /// The floating-point lane of this width, which `is_float_width` tells.
     pub fn float_from_bits(num_bits: u16) -> LaneType
         requires { Contains (widths FloatKind) num_bits }
-        ensures { lane_shape result ≡ scalar FloatKind num_bits }
+        ensures { lane_parts result ≡ scalar FloatKind num_bits }
     {
         LaneType::Float(match num_bits {
             16 => Float::F16,
@@ -150,7 +150,7 @@ impl LaneType {
     /// vector may have so many.
     pub fn by(self, lanes: u16) -> ValueType
         requires { (lanes ≡ 1) ⊎ Contains (lane_counts true) lanes }
-        ensures { shape_of result ≡ lanes_of (lane_shape self) lanes }
+        ensures { type_parts_of result ≡ lanes_of (lane_parts self) lanes }
     {
         if lanes == 1 {
             ValueType::Lane(self)
@@ -162,14 +162,14 @@ impl LaneType {
     /// The dynamic vector of at least so many lanes of this type; `is_lane_count` tells whether there may be so many.
     pub fn to_dynamic(self, lanes: u16) -> ValueType
         requires { Contains (lane_counts true) lanes }
-        ensures { shape_of result ≡ least_lanes_of (lane_shape self) lanes }
+        ensures { type_parts_of result ≡ least_lanes_of (lane_parts self) lanes }
     {
         ValueType::DynamicVector(DynamicVectorType::new(self, lanes.into()))
     }
 
     /// What the type is, in one line: `An integer type with 32 bits.`
     pub fn doc(self, alloc: Global) -> Result<Text, AllocError>
-        ensures { IfOk result (λ t. t ≡ doc_of (lane_shape self)) }
+        ensures { IfOk result (λ t. t ≡ doc_of (lane_parts self)) }
     {
         let bits = self.lane_bits();
         let doc = match self {
@@ -182,7 +182,7 @@ impl LaneType {
     /// The name, as `i32`.
     #[tactic(auto, using(crate::proofs::Decimal::decimals))]
     pub(crate) fn name(self) -> &'static str
-        ensures { result.now ≡ name_of (lane_shape self) }
+        ensures { result.now ≡ name_of (lane_parts self) }
     {
         match self {
             LaneType::Int(Int::I8) => "i8",
@@ -222,10 +222,10 @@ impl From<Float> for LaneType {
 
 impl fmt::Display for LaneType {
     ghost use Rattle.std.specs.Prelude.{Some};
-    ghost use Rattle.meta_types.specs.Shape.{name_of};
-    ghost use Rattle.meta_types.specs.Lane.{lane_shape};
+    ghost use Rattle.meta_types.specs.TypeParts.{name_of};
+    ghost use Rattle.meta_types.specs.Lane.{lane_parts};
 
-    ghost output = { λ l. Some (name_of (lane_shape l)) };
+    ghost output = { λ l. Some (name_of (lane_parts l)) };
 
     fn fmt<W: fmt::Write>(&self, f: &mut fmt::Formatter<W>) -> fmt::Result {
         f.write_str(self.name())
@@ -234,10 +234,10 @@ impl fmt::Display for LaneType {
 
 impl fmt::Debug for LaneType {
     ghost use Rattle.std.specs.Prelude.{Some};
-    ghost use Rattle.meta_types.specs.Lane.{lane_shape};
+    ghost use Rattle.meta_types.specs.Lane.{lane_parts};
     ghost use Rattle.meta_types.specs.TypeText.{debug_of};
 
-    ghost debug_output = { λ l. Some (debug_of (lane_shape l)) };
+    ghost debug_output = { λ l. Some (debug_of (lane_parts l)) };
 
     fn fmt<W: fmt::Write>(&self, f: &mut fmt::Formatter<W>) -> fmt::Result {
         let bits = self.lane_bits();

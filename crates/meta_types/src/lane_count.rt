@@ -1,6 +1,6 @@
 ghost use Rattle.std.specs.Prelude.{◌≡◌, ◌≢◌, ◌↔◌, ℕ, IsTrue, IfSome, IfNone, Contains, true};
 ghost use Rattle.std.specs.Fmt.{decimal};
-ghost use Rattle.meta_types.specs.Shape.{lane_counts, log2};
+ghost use Rattle.meta_types.specs.TypeParts.{lane_counts, log2};
 ghost use Rattle.meta_types.specs.Vector.{lane_count};
 
 /// How many lanes a vector has: a power of two from 2 to 256.

@@ -1,6 +1,6 @@
 //! Value types, texts and the faults of declarations: what every other crate speaks of.
 //!
-//! A contract sees a value type as a `Shape` of `specs/`: a kind, a width, a count of lanes and a dynamic mark.
+//! A contract sees a value type as a `TypeParts` of `specs/`: a kind, a width, a count of lanes and a dynamic mark.
 #![tactic(auto)]
 
 mod derived_func;

@@ -1,8 +1,8 @@
 ghost use Rattle.std.specs.Prelude.{◌≡◌, ◌≢◌, IfOk, IfSome, IfNone};
-ghost use Rattle.meta_types.specs.Shape.{Shape, IsType, known_lanes, bits_of, bytes_of, number_of, name_of};
-ghost use Rattle.meta_types.specs.Lane.{lane_shape};
+ghost use Rattle.meta_types.specs.TypeParts.{TypeParts, IsType, known_lanes, bits_of, bytes_of, number_of, name_of};
+ghost use Rattle.meta_types.specs.Lane.{lane_parts};
 ghost use Rattle.meta_types.specs.LaneTypes.{lane_types, lane_types_left};
-ghost use Rattle.meta_types.specs.ValueTypes.{shape_of};
+ghost use Rattle.meta_types.specs.ValueTypes.{type_parts_of};
 ghost use Rattle.meta_types.specs.TypeText.{doc_of, rust_name_of};
 
 use super::lane::{LANE_BASE, LaneType};
@@ -34,7 +34,7 @@ impl ValueType {
 
     /// The width of a lane in bits, 8 to 128.
     pub fn lane_bits(&self) -> u64
-        ensures { result ≡ (shape_of self.now).width }
+        ensures { result ≡ (type_parts_of self.now).width }
     {
         match self {
             ValueType::Lane(lane) => lane.lane_bits(),
@@ -45,7 +45,7 @@ impl ValueType {
 
     /// How many lanes are known to be there, 1 to 256: one of a scalar and of a dynamic vector.
     pub fn lane_count(&self) -> u64
-        ensures { result ≡ known_lanes (shape_of self.now) }
+        ensures { result ≡ known_lanes (type_parts_of self.now) }
     {
         match self {
             ValueType::Vector(vector) => vector.lane_count(),
@@ -55,21 +55,21 @@ impl ValueType {
 
     /// The bits of the lanes that are known to be there, 8 to 32768; of a dynamic vector those of one lane.
     pub fn width(&self) -> u64
-        ensures { result ≡ bits_of (shape_of self.now) }
+        ensures { result ≡ bits_of (type_parts_of self.now) }
     {
         self.lane_count() * self.lane_bits()
     }
 
     /// The bytes in memory of the lanes that are known to be there, 1 to 4096; of a dynamic vector those of one lane.
     pub fn membytes(&self) -> u64
-        ensures { result ≡ bytes_of (shape_of self.now) }
+        ensures { result ≡ bytes_of (type_parts_of self.now) }
     {
         self.width() / 8
     }
 
     /// The number of the type, by which tables name it, 0x74 to 0x17c.
     pub fn number(&self) -> u16
-        ensures { result ≡ number_of (shape_of self.now) }
+        ensures { result ≡ number_of (type_parts_of self.now) }
     {
         match self {
             ValueType::Lane(lane) => lane.number(),
@@ -80,7 +80,7 @@ impl ValueType {
 
     /// What the type is, in one line.
     pub fn doc(&self, alloc: Global) -> Result<Text, AllocError>
-        ensures { IfOk result (λ t. t ≡ doc_of (shape_of self.now)) }
+        ensures { IfOk result (λ t. t ≡ doc_of (type_parts_of self.now)) }
     {
         match self {
             ValueType::Lane(lane) => lane.doc(alloc),
@@ -91,7 +91,7 @@ impl ValueType {
 
     /// The name of the type in Rust source: `ir::types::` and the name in capitals, as `ir::types::I32X4`.
     pub fn rust_name(&self, alloc: Global) -> Result<Text, AllocError>
-        ensures { IfOk result (λ t. t ≡ rust_name_of (shape_of self.now)) }
+        ensures { IfOk result (λ t. t ≡ rust_name_of (type_parts_of self.now)) }
     {
         let name = self.to_string(alloc)?;
         let capitals = name.to_ascii_uppercase(alloc)?;
@@ -101,8 +101,8 @@ impl ValueType {
 
     /// The type that has the number, and `None` exactly where no type has it (this project's own).
     pub fn from_number(n: u16) -> Option<ValueType>
-        ensures found { IfSome result (λ t. number_of (shape_of t) ≡ n) }
-        ensures none { IfNone result ((t : Shape) → IsType t → number_of t ≢ n) }
+        ensures found { IfSome result (λ t. number_of (type_parts_of t) ≡ n) }
+        ensures none { IfNone result ((t : TypeParts) → IsType t → number_of t ≢ n) }
     {
         let above = n.checked_sub(LANE_BASE)?;
         let lane = LaneType::from_code(above % 16)?;
@@ -120,8 +120,8 @@ impl ValueType {
 
     /// The type that has the name, and `None` exactly where the bytes are no type's name (this project's own).
     pub fn parse(text: &[u8]) -> Option<ValueType>
-        ensures found { IfSome result (λ t. name_of (shape_of t) ≡ text.now) }
-        ensures none { IfNone result ((t : Shape) → IsType t → name_of t ≢ text.now) }
+        ensures found { IfSome result (λ t. name_of (type_parts_of t) ≡ text.now) }
+        ensures none { IfNone result ((t : TypeParts) → IsType t → name_of t ≢ text.now) }
     {
         for lane in ValueType::all_lane_types() {
             if let Some(found) = ValueType::parse_of(lane, text) {
@@ -133,8 +133,8 @@ impl ValueType {
 
     /// The type of lanes of this type that has the name, and `None` exactly where there is none.
     fn parse_of(lane: LaneType, text: &[u8]) -> Option<ValueType>
-        ensures found { IfSome result (λ t. name_of (shape_of t) ≡ text.now) }
-        ensures none { IfNone result ((t : Shape) → IsType t → t.kind ≡ (lane_shape lane).kind → t.width ≡ (lane_shape lane).width → name_of t ≢ text.now) }
+        ensures found { IfSome result (λ t. name_of (type_parts_of t) ≡ text.now) }
+        ensures none { IfNone result ((t : TypeParts) → IsType t → t.kind ≡ (lane_parts lane).kind → t.width ≡ (lane_parts lane).width → name_of t ≢ text.now) }
     {
         let ending = text.strip_prefix(lane.name().as_bytes())?;
         if ending.is_empty() {
@@ -189,10 +189,10 @@ impl From<DynamicVectorType> for ValueType {
 
 impl fmt::Display for ValueType {
     ghost use Rattle.std.specs.Prelude.{Some};
-    ghost use Rattle.meta_types.specs.Shape.{name_of};
-    ghost use Rattle.meta_types.specs.ValueTypes.{shape_of};
+    ghost use Rattle.meta_types.specs.TypeParts.{name_of};
+    ghost use Rattle.meta_types.specs.ValueTypes.{type_parts_of};
 
-    ghost output = { λ t. Some (name_of (shape_of t)) };
+    ghost output = { λ t. Some (name_of (type_parts_of t)) };
 
     fn fmt<W: fmt::Write>(&self, f: &mut fmt::Formatter<W>) -> fmt::Result {
         match self {

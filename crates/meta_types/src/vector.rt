@@ -1,7 +1,7 @@
 ghost use Rattle.std.specs.Prelude.{◌≡◌, IfOk, Contains, true};
-ghost use Rattle.meta_types.specs.Shape.{lane_counts, number_of};
-ghost use Rattle.meta_types.specs.Lane.{lane_shape};
-ghost use Rattle.meta_types.specs.Vector.{lane_count, lanes_of, least_lanes_of, vector_shape, dynamic_shape};
+ghost use Rattle.meta_types.specs.TypeParts.{lane_counts, number_of};
+ghost use Rattle.meta_types.specs.Lane.{lane_parts};
+ghost use Rattle.meta_types.specs.Vector.{lane_count, lanes_of, least_lanes_of, vector_parts, dynamic_parts};
 ghost use Rattle.meta_types.specs.TypeText.{doc_of};
 
 use super::lane::LaneType;
@@ -28,49 +28,49 @@ impl VectorType {
     /// The vector of so many lanes of this type; `is_lane_count` tells whether there may be so many.
     pub fn new(base: LaneType, lanes: u64) -> VectorType
         requires { Contains (lane_counts true) lanes }
-        ensures { vector_shape result ≡ lanes_of (lane_shape base) lanes }
+        ensures { vector_parts result ≡ lanes_of (lane_parts base) lanes }
     {
         VectorType::of(base, LaneCount::new(lanes))
     }
 
     /// The vector of so many lanes of this type.
     pub(crate) fn of(base: LaneType, lanes: LaneCount) -> VectorType
-        ensures { vector_shape result ≡ lanes_of (lane_shape base) (lane_count lanes) }
+        ensures { vector_parts result ≡ lanes_of (lane_parts base) (lane_count lanes) }
     {
         VectorType { base, lanes }
     }
 
     /// The width of a lane in bits, 8 to 128.
     pub fn lane_bits(&self) -> u64
-        ensures { result ≡ (vector_shape self.now).width }
+        ensures { result ≡ (vector_parts self.now).width }
     {
         self.base.lane_bits()
     }
 
     /// How many lanes there are: a power of two from 2 to 256.
     pub fn lane_count(&self) -> u64
-        ensures { result ≡ (vector_shape self.now).lanes }
+        ensures { result ≡ (vector_parts self.now).lanes }
     {
         self.lanes.get()
     }
 
     /// The type of a lane.
     pub fn lane_type(&self) -> LaneType
-        ensures { lanes_of (lane_shape result) (vector_shape self.now).lanes ≡ vector_shape self.now }
+        ensures { lanes_of (lane_parts result) (vector_parts self.now).lanes ≡ vector_parts self.now }
     {
         self.base
     }
 
     /// The number of the type: that of its lane, and 16 more for each doubling of the lanes, 0x84 to 0xfc.
     pub fn number(&self) -> u16
-        ensures { result ≡ number_of (vector_shape self.now) }
+        ensures { result ≡ number_of (vector_parts self.now) }
     {
         self.base.number() + 16 * self.lanes.log2()
     }
 
     /// What the type is, in one line: ``A SIMD vector with 4 lanes containing a `i32` each.``
     pub fn doc(&self, alloc: Global) -> Result<Text, AllocError>
-        ensures { IfOk result (λ t. t ≡ doc_of (vector_shape self.now)) }
+        ensures { IfOk result (λ t. t ≡ doc_of (vector_parts self.now)) }
     {
         let base = self.base;
         let lanes = self.lane_count();
@@ -85,14 +85,14 @@ impl DynamicVectorType {
     /// The vector of at least so many lanes of this type; `is_lane_count` tells whether there may be so many.
     pub fn new(base: LaneType, unscaled_lanes: u64) -> DynamicVectorType
         requires { Contains (lane_counts true) unscaled_lanes }
-        ensures { dynamic_shape result ≡ least_lanes_of (lane_shape base) unscaled_lanes }
+        ensures { dynamic_parts result ≡ least_lanes_of (lane_parts base) unscaled_lanes }
     {
         DynamicVectorType::of(base, LaneCount::new(unscaled_lanes))
     }
 
     /// The vector of at least so many lanes of this type.
     pub(crate) fn of(base: LaneType, unscaled_lanes: LaneCount) -> DynamicVectorType
-        ensures { dynamic_shape result ≡ least_lanes_of (lane_shape base) (lane_count unscaled_lanes) }
+        ensures { dynamic_parts result ≡ least_lanes_of (lane_parts base) (lane_count unscaled_lanes) }
     {
         DynamicVectorType {
             base,
@@ -102,28 +102,28 @@ impl DynamicVectorType {
 
     /// The width of a lane in bits, 8 to 128.
     pub fn lane_bits(&self) -> u64
-        ensures { result ≡ (dynamic_shape self.now).width }
+        ensures { result ≡ (dynamic_parts self.now).width }
     {
         self.base.lane_bits()
     }
 
     /// The least count of lanes: a power of two from 2 to 256.
     pub fn minimum_lane_count(&self) -> u64
-        ensures { result ≡ (dynamic_shape self.now).lanes }
+        ensures { result ≡ (dynamic_parts self.now).lanes }
     {
         self.unscaled_lanes.get()
     }
 
     /// The type of a lane.
     pub fn lane_type(&self) -> LaneType
-        ensures { least_lanes_of (lane_shape result) (dynamic_shape self.now).lanes ≡ dynamic_shape self.now }
+        ensures { least_lanes_of (lane_parts result) (dynamic_parts self.now).lanes ≡ dynamic_parts self.now }
     {
         self.base
     }
 
     /// The number of the type: that of the fixed vector of the least count of lanes, and 0x80 more, 0x104 to 0x17c.
     pub fn number(&self) -> u16
-        ensures { result ≡ number_of (dynamic_shape self.now) }
+        ensures { result ≡ number_of (dynamic_parts self.now) }
     {
         0x80 + self.base.number() + 16 * self.unscaled_lanes.log2()
     }
@@ -131,7 +131,7 @@ impl DynamicVectorType {
     /// What the type is, in one line:
     /// ``A dynamically-scaled SIMD vector with a minimum of 4 lanes containing `i32` bits each.``
     pub fn doc(&self, alloc: Global) -> Result<Text, AllocError>
-        ensures { IfOk result (λ t. t ≡ doc_of (dynamic_shape self.now)) }
+        ensures { IfOk result (λ t. t ≡ doc_of (dynamic_parts self.now)) }
     {
         let base = self.base;
         let lanes = self.minimum_lane_count();
@@ -144,10 +144,10 @@ impl DynamicVectorType {
 
 impl fmt::Display for VectorType {
     ghost use Rattle.std.specs.Prelude.{Some};
-    ghost use Rattle.meta_types.specs.Shape.{name_of};
-    ghost use Rattle.meta_types.specs.Vector.{vector_shape};
+    ghost use Rattle.meta_types.specs.TypeParts.{name_of};
+    ghost use Rattle.meta_types.specs.Vector.{vector_parts};
 
-    ghost output = { λ v. Some (name_of (vector_shape v)) };
+    ghost output = { λ v. Some (name_of (vector_parts v)) };
 
     fn fmt<W: fmt::Write>(&self, f: &mut fmt::Formatter<W>) -> fmt::Result {
         let base = self.base;
@@ -158,10 +158,10 @@ impl fmt::Display for VectorType {
 
 impl fmt::Display for DynamicVectorType {
     ghost use Rattle.std.specs.Prelude.{Some};
-    ghost use Rattle.meta_types.specs.Shape.{name_of};
-    ghost use Rattle.meta_types.specs.Vector.{dynamic_shape};
+    ghost use Rattle.meta_types.specs.TypeParts.{name_of};
+    ghost use Rattle.meta_types.specs.Vector.{dynamic_parts};
 
-    ghost output = { λ v. Some (name_of (dynamic_shape v)) };
+    ghost output = { λ v. Some (name_of (dynamic_parts v)) };
 
     fn fmt<W: fmt::Write>(&self, f: &mut fmt::Formatter<W>) -> fmt::Result {
         let base = self.base;
@@ -173,9 +173,9 @@ impl fmt::Display for DynamicVectorType {
 impl fmt::Debug for VectorType {
     ghost use Rattle.std.specs.Prelude.{Some};
     ghost use Rattle.meta_types.specs.TypeText.{debug_of};
-    ghost use Rattle.meta_types.specs.Vector.{vector_shape};
+    ghost use Rattle.meta_types.specs.Vector.{vector_parts};
 
-    ghost debug_output = { λ v. Some (debug_of (vector_shape v)) };
+    ghost debug_output = { λ v. Some (debug_of (vector_parts v)) };
 
     fn fmt<W: fmt::Write>(&self, f: &mut fmt::Formatter<W>) -> fmt::Result {
         let base = self.base;
@@ -187,9 +187,9 @@ impl fmt::Debug for VectorType {
 impl fmt::Debug for DynamicVectorType {
     ghost use Rattle.std.specs.Prelude.{Some};
     ghost use Rattle.meta_types.specs.TypeText.{debug_of};
-    ghost use Rattle.meta_types.specs.Vector.{dynamic_shape};
+    ghost use Rattle.meta_types.specs.Vector.{dynamic_parts};
 
-    ghost debug_output = { λ v. Some (debug_of (dynamic_shape v)) };
+    ghost debug_output = { λ v. Some (debug_of (dynamic_parts v)) };
 
     fn fmt<W: fmt::Write>(&self, f: &mut fmt::Formatter<W>) -> fmt::Result {
         let base = self.base;

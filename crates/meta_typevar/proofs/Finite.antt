@@ -2,7 +2,7 @@
 use Rattle.std.proofs.Common.{◌≡◌, ℕ, ◌+◌, ◌==◌, ◌<◌, ◌≤◌, ◌↔◌, inl, inr, ⊎_elim, Bool, true, false, not, ◌&&◌, ◌||◌, cond, List, [], ◌∷◌, eqb, ap, sym, subst, refl, ◌∙◌, zero, suc, arith}
 use Rattle.std.specs.List.{filter}
 use Rattle.std.proofs.lemmas.Bool.{false≢true, cases_lt, eqb-true, and_parts}
-use Rattle.meta_types.specs.Shape.{Kind, IntKind, FloatKind}
+use Rattle.meta_types.specs.TypeParts.{Kind, IntKind, FloatKind}
 use Rattle.meta_types.specs.Function.{same_kind, same_mark}
 use Rattle.meta_types.proofs.Among.{Among}
 

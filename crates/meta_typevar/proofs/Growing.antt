@@ -4,7 +4,7 @@ use Rattle.std.proofs.lemmas.Option.{slice_get_within}
 use Rattle.meta_lists.proofs.Pushed.{get_pushed_below, get_kept, get_end}
 use Rattle.meta_types.specs.Function.{Function}
 use Rattle.meta_types.specs.declared.derived_func.DerivedFunc.{DerivedFunc}
-use Rattle.meta_typevar.specs.FourSets.{FourSets, IsTypeSet, no_types}
+use Rattle.meta_typevar.specs.TypeSetParts.{TypeSetParts, IsTypeSet, no_types}
 use Rattle.meta_typevar.specs.Registry.{set_of, set_at, sets_of, variable_of, coded_of, coded_at, coded_along, root_content, derived_content, IsDerivation, IsKept, IsRoot, IsPlaced, IsVariable, HoldTypeSets, AreDifferent, IsRegistry}
 use Rattle.meta_typevar.specs.Children.{IsChild}
 use Rattle.meta_typevar.specs.declared.content.TypeVarContent.{TypeVarContent}
@@ -94,7 +94,7 @@ registry_more vars c r s room v new = record {
         subst (λ (m : ℕ). IsVariable (vars ++ c ∷ []) m d) (sym e) at_d
 
 -- the registry gains a root
-pub registry_root : (vars : List TypeVarContent) (name doc : List ℕ) (s : FourSets) → IsRegistry vars → IsTypeSet s → length vars < 2 ^ 32 - 1 → IsRegistry (vars ++ root_content name doc s (length vars) ∷ [])
+pub registry_root : (vars : List TypeVarContent) (name doc : List ℕ) (s : TypeSetParts) → IsRegistry vars → IsTypeSet s → length vars < 2 ^ 32 - 1 → IsRegistry (vars ++ root_content name doc s (length vars) ∷ [])
 registry_root vars name doc s r is room =
     let c : TypeVarContent = root_content name doc s (length vars) in
     registry_more vars c r is room
@@ -124,7 +124,7 @@ registry_derived vars n f c r k is room new =
     (λ p m x at l g. new m x l (g ∙ sym at))
 
 -- the same, where the registry is seen in two ways
-pub root_added : (vars shown vars' : List TypeVarContent) (name doc : List ℕ) (s : FourSets) (root : ℕ) (chain : List Function) → vars ≡ shown → IsRegistry vars → IsTypeSet s → length shown < 2 ^ 32 - 1 → root ≡ length vars → chain ≡ [] → vars' ≡ vars ++ record { name = name; doc = doc; base = None; type_set = s; root = root; chain = chain } ∷ [] → IsRegistry vars'
+pub root_added : (vars shown vars' : List TypeVarContent) (name doc : List ℕ) (s : TypeSetParts) (root : ℕ) (chain : List Function) → vars ≡ shown → IsRegistry vars → IsTypeSet s → length shown < 2 ^ 32 - 1 → root ≡ length vars → chain ≡ [] → vars' ≡ vars ++ record { name = name; doc = doc; base = None; type_set = s; root = root; chain = chain } ∷ [] → IsRegistry vars'
 root_added vars shown vars' name doc s root chain same r is room e none more =
     let few : length vars < 2 ^ 32 - 1 = subst (λ (v : List TypeVarContent). length v < 2 ^ 32 - 1) (sym same) room in
     let content : vars' ≡ vars ++ root_content name doc s (length vars) ∷ [] = more ∙ λ i. vars ++ record { name = name; doc = doc; base = None; type_set = s; root = e i; chain = none i } ∷ [] in

@@ -6,7 +6,7 @@ use Rattle.std.proofs.lemmas.List.{length-map}
 use Rattle.std.proofs.lemmas.Bool.{eqb-true, eq-eqb, and_parts}
 use Rattle.std.specs.Cmp.Lexicographic.{bytes_decides}
 use lib.Pointwise.{pointwise}
-use Rattle.meta_types.specs.Shape.{IntKind, FloatKind, widths, lane_counts}
+use Rattle.meta_types.specs.TypeParts.{IntKind, FloatKind, widths, lane_counts}
 use Rattle.meta_types.specs.Function.{LaneOf, AsTruthy, HalfWidth, DoubleWidth, SplitLanes, MergeLanes, DynamicToVector, same_mark}
 use Rattle.meta_typevar.specs.MaskSets.{holds, sets_in, AreMasks}
 use Rattle.meta_typevar.specs.Image.{halves, doubles, is_among, is_scalar, has_some, truthy_ints, can_halve, can_double, has_scalars_alone}

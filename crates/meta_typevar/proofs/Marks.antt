@@ -6,7 +6,7 @@ use Rattle.std.proofs.lemmas.Bool.{eqb-true, and_parts}
 use Rattle.std.specs.Cmp.Lexicographic.{bytes_decides}
 use lib.Pointwise.{pointwise}
 use lib.Count.{ones}
-use Rattle.meta_types.specs.Shape.{IntKind, FloatKind, widths, lane_counts}
+use Rattle.meta_types.specs.TypeParts.{IntKind, FloatKind, widths, lane_counts}
 use Rattle.meta_typevar.specs.MaskSets.{holds}
 
 -- the test passes at each list of n marks

@@ -4,8 +4,8 @@ use Rattle.std.specs.List.{filter}
 use Rattle.std.proofs.lemmas.Bool.{and_parts, and_from, eqb-true, eq-eqb}
 use Rattle.std.proofs.lemmas.List.Filters.{length-filter_both}
 use lib.Count.{ones}
-use Rattle.meta_types.specs.Shape.{IntKind, FloatKind, widths, lane_counts}
-use Rattle.meta_typevar.specs.FourSets.{FourSets, IsPart, IsTypeSet}
+use Rattle.meta_types.specs.TypeParts.{IntKind, FloatKind, widths, lane_counts}
+use Rattle.meta_typevar.specs.TypeSetParts.{TypeSetParts, IsPart, IsTypeSet}
 use Rattle.meta_typevar.specs.Masks.{AreMasksOf}
 use Rattle.meta_typevar.specs.MaskSets.{holds, sets_in, AreMasks}
 use Rattle.meta_typevar.specs.declared.interval.Interval.{Interval}
@@ -21,7 +21,7 @@ pub is_type_set : (m : Masks) → IsTypeSet (sets_in m)
 is_type_set m = record { lanes = part m.lanes (lane_counts false); dynamic_lanes = part m.dynamic_lanes (lane_counts true); ints = part m.ints (widths IntKind); floats = part m.floats (widths FloatKind) }
 
 -- how many types are members
-abbrev pub members : FourSets → ℕ
+abbrev pub members : TypeSetParts → ℕ
 members s = (length s.lanes + length s.dynamic_lanes) * (length s.ints + length s.floats)
 
 -- a mask that is the sum of what it holds has as many bits as it holds numbers
@@ -105,7 +105,7 @@ same_sums all e xs ys p q h =
     let there : filter (holds (sum ys)) all ≡ ys = ap (λ (zs : List ℕ). filter (holds (sum zs)) all) q.is ∙ holds_sum all e q.test ∙ sym q.is in
     sym here ∙ ap (λ (n : ℕ). filter (holds n) all) h ∙ there
 
-pub same_sets : (s t : FourSets) → IsTypeSet s → IsTypeSet t → sum s.lanes ≡ sum t.lanes → sum s.dynamic_lanes ≡ sum t.dynamic_lanes → sum s.ints ≡ sum t.ints → sum s.floats ≡ sum t.floats → s ≡ t
+pub same_sets : (s t : TypeSetParts) → IsTypeSet s → IsTypeSet t → sum s.lanes ≡ sum t.lanes → sum s.dynamic_lanes ≡ sum t.dynamic_lanes → sum s.ints ≡ sum t.ints → sum s.floats ≡ sum t.floats → s ≡ t
 same_sets s t p q a b c d =
     let l = same_sums (lane_counts false) lanes_keep s.lanes t.lanes p.lanes q.lanes a in
     let m = same_sums (lane_counts true) dynamic_lanes_keep s.dynamic_lanes t.dynamic_lanes p.dynamic_lanes q.dynamic_lanes b in
@@ -114,12 +114,12 @@ same_sets s t p q a b c d =
     λ i. record { lanes = l i; dynamic_lanes = m i; ints = n i; floats = o i }
 
 -- and so are their masks
-pub masks_told : (s t : FourSets) (m n : Masks) → AreMasksOf s m → AreMasksOf t n → IsTypeSet s → IsTypeSet t → (((m.lanes == n.lanes) && ((m.dynamic_lanes == n.dynamic_lanes) && ((m.ints == n.ints) && (m.floats == n.floats)))) ≡ true) ↔ (s ≡ t)
+pub masks_told : (s t : TypeSetParts) (m n : Masks) → AreMasksOf s m → AreMasksOf t n → IsTypeSet s → IsTypeSet t → (((m.lanes == n.lanes) && ((m.dynamic_lanes == n.dynamic_lanes) && ((m.ints == n.ints) && (m.floats == n.floats)))) ≡ true) ↔ (s ≡ t)
 masks_told s t m n a b p q = (
   λ e.
       let x = and_parts _ _ e in
       let y = and_parts _ _ x.1 in
       let z = and_parts _ _ y.1 in
       same_sets s t p q (sym a.lanes ∙ eqb-true _ _ x.0 ∙ b.lanes) (sym a.dynamic_lanes ∙ eqb-true _ _ y.0 ∙ b.dynamic_lanes) (sym a.ints ∙ eqb-true _ _ z.0 ∙ b.ints) (sym a.floats ∙ eqb-true _ _ z.1 ∙ b.floats),
-  λ e. and_from _ _ (eq-eqb _ _ (a.lanes ∙ ap (λ (x : FourSets). sum x.lanes) e ∙ sym b.lanes)) (and_from _ _ (eq-eqb _ _ (a.dynamic_lanes ∙ ap (λ (x : FourSets). sum x.dynamic_lanes) e ∙ sym b.dynamic_lanes)) (and_from _ _ (eq-eqb _ _ (a.ints ∙ ap (λ (x : FourSets). sum x.ints) e ∙ sym b.ints)) (eq-eqb _ _ (a.floats ∙ ap (λ (x : FourSets). sum x.floats) e ∙ sym b.floats)))),
+  λ e. and_from _ _ (eq-eqb _ _ (a.lanes ∙ ap (λ (x : TypeSetParts). sum x.lanes) e ∙ sym b.lanes)) (and_from _ _ (eq-eqb _ _ (a.dynamic_lanes ∙ ap (λ (x : TypeSetParts). sum x.dynamic_lanes) e ∙ sym b.dynamic_lanes)) (and_from _ _ (eq-eqb _ _ (a.ints ∙ ap (λ (x : TypeSetParts). sum x.ints) e ∙ sym b.ints)) (eq-eqb _ _ (a.floats ∙ ap (λ (x : TypeSetParts). sum x.floats) e ∙ sym b.floats)))),
 )

@@ -3,13 +3,13 @@ use Rattle.std.proofs.Common.{◌≡◌, ℕ, ◌+◌, ◌-◌, ◌*◌, ◌/◌
 use Rattle.std.specs.Prelude.{if◌then◌else◌, nat_lt, IsTrue}
 use Rattle.std.specs.List.{filter}
 use Rattle.std.proofs.lemmas.Bool.{eqb-true, eq-eqb, ltb-true, and_parts}
-use Rattle.meta_types.specs.Shape.{Kind, IntKind, FloatKind, Shape, IsType, widths, lane_counts, lane_code, log2, number_of}
+use Rattle.meta_types.specs.TypeParts.{Kind, IntKind, FloatKind, TypeParts, IsType, widths, lane_counts, lane_code, log2, number_of}
 use Rattle.meta_types.specs.Function.{same_kind, same_mark}
-use Rattle.meta_types.specs.ValueTypes.{shape_of}
+use Rattle.meta_types.specs.ValueTypes.{type_parts_of}
 use Rattle.meta_types.specs.declared.value_type.ValueType.{ValueType}
 use Rattle.meta_types.proofs.Typed.{typed}
 use Rattle.meta_types.proofs.Among.{among, contains}
-use Rattle.meta_typevar.specs.FourSets.{FourSets, widths_in, lanes_in, IsMember}
+use Rattle.meta_typevar.specs.TypeSetParts.{TypeSetParts, widths_in, lanes_in, IsMember}
 use Rattle.meta_typevar.specs.Masks.{Holds, width_mask, lane_mask, ContainsType, ContainsNumber}
 use Rattle.meta_typevar.specs.MaskSets.{holds, sets_in}
 use Rattle.meta_typevar.specs.Decoding.{HoldsLane, HoldsLanes}
@@ -157,7 +157,7 @@ number_lanes m n x =
     record { is_dynamic = t.is_dynamic; lanes = t.lanes; is_count = x.contained.is_type.lanes; counted = c.2; held = x.contained.lanes }
 
 -- types of one number are the same
-same_type : (u t : Shape) → IsType u → IsType t → number_of u ≡ number_of t → u ≡ t
+same_type : (u t : TypeParts) → IsType u → IsType t → number_of u ≡ number_of t → u ≡ t
 same_type u t h i e =
     let a = taken (number_of t) (lane_code u.kind u.width) (log2 u.lanes) u.is_dynamic (code_low u.kind u.width h.width) e in
     let b = taken (number_of t) (lane_code t.kind t.width) (log2 t.lanes) t.is_dynamic (code_low t.kind t.width i.width) refl in
@@ -180,7 +180,7 @@ count_held : (m : Masks) (b : Bool) (n : ℕ) → Contains (lane_counts b) n →
 count_held m false n h = held (lane_counts false) m.lanes n h
 count_held m true n h = held (lane_counts true) m.dynamic_lanes n h
 
-pub member_contained : (m : Masks) (t : Shape) → IsType t → (ContainsNumber m (number_of t) ↔ IsMember (sets_in m) t)
+pub member_contained : (m : Masks) (t : TypeParts) → IsType t → (ContainsNumber m (number_of t) ↔ IsMember (sets_in m) t)
 member_contained m t h = (
   λ x.
       let at_t : ContainsType m t = subst (ContainsType m) (same_type x.type_of t x.contained.is_type h x.numbered) x.contained in
@@ -193,7 +193,7 @@ member_contained m t h = (
 )
 
 -- what the masks answer to the number of a type of the program
-pub contained : (m : Masks) (s : FourSets) (t : ValueType) (n : ℕ) (answer : Bool) → n ≡ number_of (shape_of t) → sets_in m ≡ s → (IsTrue answer ↔ ContainsNumber m n) → (IsTrue answer ↔ IsMember s (shape_of t))
+pub contained : (m : Masks) (s : TypeSetParts) (t : ValueType) (n : ℕ) (answer : Bool) → n ≡ number_of (type_parts_of t) → sets_in m ≡ s → (IsTrue answer ↔ ContainsNumber m n) → (IsTrue answer ↔ IsMember s (type_parts_of t))
 contained m s t n answer e is told =
-    let at_t : IsTrue answer ↔ ContainsNumber m (number_of (shape_of t)) = subst (λ (n : ℕ). IsTrue answer ↔ ContainsNumber m n) e told in
-    subst (λ (s : FourSets). IsTrue answer ↔ IsMember s (shape_of t)) is (both_ways at_t (member_contained m (shape_of t) (typed t)))
+    let at_t : IsTrue answer ↔ ContainsNumber m (number_of (type_parts_of t)) = subst (λ (n : ℕ). IsTrue answer ↔ ContainsNumber m n) e told in
+    subst (λ (s : TypeSetParts). IsTrue answer ↔ IsMember s (type_parts_of t)) is (both_ways at_t (member_contained m (type_parts_of t) (typed t)))

@@ -6,7 +6,7 @@ use Rattle.std.specs.Fmt.{decimal}
 use Rattle.std.proofs.lemmas.Bool.{false≢true}
 use Rattle.std.proofs.lemmas.List.{append-nil, flat_map_more}
 use Rattle.meta_typevar.specs.Image.{has_some}
-use Rattle.meta_typevar.specs.FourSets.{FourSets}
+use Rattle.meta_typevar.specs.TypeSetParts.{TypeSetParts}
 use Rattle.meta_typevar.specs.Concrete.{braced, part_texts, part_text, set_text}
 
 -- one more number
@@ -44,7 +44,7 @@ has_more [] name (x ∷ xs) = refl
 has_more (p ∷ ps) name xs = refl
 
 -- the four parts, each with a comma where one before it is shown
-four_parts : (s : FourSets) → joined (((part_texts (codes "lanes") s.lanes ++ part_texts (codes "dynamic_lanes") s.dynamic_lanes) ++ part_texts (codes "ints") s.ints) ++ part_texts (codes "floats") s.floats) ≡ ((part_text (codes "lanes") s.lanes false ++ part_text (codes "dynamic_lanes") s.dynamic_lanes (has_some s.lanes)) ++ part_text (codes "ints") s.ints (has_some s.lanes || has_some s.dynamic_lanes)) ++ part_text (codes "floats") s.floats ((has_some s.lanes || has_some s.dynamic_lanes) || has_some s.ints)
+four_parts : (s : TypeSetParts) → joined (((part_texts (codes "lanes") s.lanes ++ part_texts (codes "dynamic_lanes") s.dynamic_lanes) ++ part_texts (codes "ints") s.ints) ++ part_texts (codes "floats") s.floats) ≡ ((part_text (codes "lanes") s.lanes false ++ part_text (codes "dynamic_lanes") s.dynamic_lanes (has_some s.lanes)) ++ part_text (codes "ints") s.ints (has_some s.lanes || has_some s.dynamic_lanes)) ++ part_text (codes "floats") s.floats ((has_some s.lanes || has_some s.dynamic_lanes) || has_some s.ints)
 four_parts s =
     let a = part_texts (codes "lanes") s.lanes in
     let b = a ++ part_texts (codes "dynamic_lanes") s.dynamic_lanes in
@@ -61,7 +61,7 @@ from_left : (t a b c d e : List ℕ) → t ++ (a ++ (b ++ (c ++ (d ++ e)))) ≡ 
 from_left t a b c d e = ap (λ (l : List ℕ). t ++ l) (simp append_assoc refl)
 
 -- what is written of four parts of these numbers is the text of the set
-pub set_shown : (s : FourSets) (l m n l' m' n' o : List ℕ) (a b c : Bool) → l ≡ s.lanes → m ≡ s.dynamic_lanes → n ≡ s.ints → a ≡ has_some l → b ≡ has_some m → c ≡ has_some n → l' ≡ s.lanes → m' ≡ s.dynamic_lanes → n' ≡ s.ints → o ≡ s.floats
+pub set_shown : (s : TypeSetParts) (l m n l' m' n' o : List ℕ) (a b c : Bool) → l ≡ s.lanes → m ≡ s.dynamic_lanes → n ≡ s.ints → a ≡ has_some l → b ≡ has_some m → c ≡ has_some n → l' ≡ s.lanes → m' ≡ s.dynamic_lanes → n' ≡ s.ints → o ≡ s.floats
     → codes "TypeSet(" ++ (part_text (codes "lanes") l' false ++ (part_text (codes "dynamic_lanes") m' a ++ (part_text (codes "ints") n' (a || b) ++ (part_text (codes "floats") o ((a || b) || c) ++ codes ")")))) ≡ set_text s
 set_shown s l m n l' m' n' o a b c has_l has_m has_n is_a is_b is_c el em en eo =
     let to_a : a ≡ has_some s.lanes = is_a ∙ ap has_some has_l in

@@ -1,9 +1,9 @@
 -- A set has one member exactly where its size is 1.
 use Rattle.std.proofs.Common.{◌≡◌, ℕ, ◌+◌, ◌*◌, ◌⊎◌, inl, inr, ⊎_elim, ◌↔◌, Bool, true, false, not, List, [], ◌∷◌, length, eqb, ap, ◌∙◌, sym, subst, refl, zero, suc, arith, Contains}
 use Rattle.std.proofs.lemmas.Bool.{false≢true, eq-eqb}
-use Rattle.meta_types.specs.Shape.{Kind, IntKind, FloatKind, Shape, widths, lane_counts}
+use Rattle.meta_types.specs.TypeParts.{Kind, IntKind, FloatKind, TypeParts, widths, lane_counts}
 use Rattle.meta_types.proofs.Among.{Among, among, contains}
-use Rattle.meta_typevar.specs.FourSets.{FourSets, widths_in, lanes_in, IsMember, HasOne, IsPart, IsTypeSet}
+use Rattle.meta_typevar.specs.TypeSetParts.{TypeSetParts, widths_in, lanes_in, IsMember, HasOne, IsPart, IsTypeSet}
 use Rattle.meta_typevar.proofs.Finite.{among_filter}
 use Rattle.meta_typevar.proofs.Marks.{keeps, ints_keep, floats_keep, lanes_keep, dynamic_lanes_keep, differ, filter_differ}
 use Rattle.meta_typevar.proofs.MaskLemmas.{members}
@@ -79,11 +79,11 @@ product_one zero y e = absurd (omega arith)
 product_one (suc x) zero e = absurd (omega arith)
 product_one (suc x) (suc y) e = (omega arith, omega arith)
 
-pub widths_part : (s : FourSets) → IsTypeSet s → (k : Kind) → IsPart (widths_in s k) (widths k)
+pub widths_part : (s : TypeSetParts) → IsTypeSet s → (k : Kind) → IsPart (widths_in s k) (widths k)
 widths_part s h IntKind = h.ints
 widths_part s h FloatKind = h.floats
 
-pub lanes_part : (s : FourSets) → IsTypeSet s → (b : Bool) → IsPart (lanes_in s b) (lane_counts b)
+pub lanes_part : (s : TypeSetParts) → IsTypeSet s → (b : Bool) → IsPart (lanes_in s b) (lane_counts b)
 lanes_part s h false = h.lanes
 lanes_part s h true = h.dynamic_lanes
 
@@ -93,7 +93,7 @@ part_contains xs all h x a = contains all x (among_filter h.test all x (subst (�
 part_differs : (xs all : List ℕ) → keeps all ≡ true → IsPart xs all → differ xs ≡ true
 part_differs xs all e h = ap differ h.is ∙ filter_differ all e h.test
 
-has_one : (s : FourSets) → IsTypeSet s → Single Kind (widths_in s) → Single Bool (lanes_in s) → HasOne s
+has_one : (s : TypeSetParts) → IsTypeSet s → Single Kind (widths_in s) → Single Bool (lanes_in s) → HasOne s
 has_one s h w l = record {
   one = record { kind = w.key; width = w.number; lanes = l.number; is_dynamic = l.key };
   member = record {
@@ -110,31 +110,31 @@ has_one s h w l = record {
       λ i. record { kind = a.0 i; width = a.1 i; lanes = b.1 i; is_dynamic = b.0 i };
 }
 
-one_width : (s : FourSets) → IsTypeSet s → HasOne s → Single Kind (widths_in s)
+one_width : (s : TypeSetParts) → IsTypeSet s → HasOne s → Single Kind (widths_in s)
 one_width s h o = record {
   key = o.one.kind;
   number = o.one.width;
   held = among _ _ o.member.width;
   only = λ k n a.
-      let t : Shape = record { kind = k; width = n; lanes = o.one.lanes; is_dynamic = o.one.is_dynamic } in
+      let t : TypeParts = record { kind = k; width = n; lanes = o.one.lanes; is_dynamic = o.one.is_dynamic } in
       let m : IsMember s t = record { is_type = record { width = part_contains _ _ (widths_part s h k) n a; lanes = o.member.is_type.lanes }; width = contains _ _ a; lanes = o.member.lanes } in
       let e = o.only t m in
       (λ i. (e i).kind, λ i. (e i).width);
 }
 
-one_lanes : (s : FourSets) → IsTypeSet s → HasOne s → Single Bool (lanes_in s)
+one_lanes : (s : TypeSetParts) → IsTypeSet s → HasOne s → Single Bool (lanes_in s)
 one_lanes s h o = record {
   key = o.one.is_dynamic;
   number = o.one.lanes;
   held = among _ _ o.member.lanes;
   only = λ b n a.
-      let t : Shape = record { kind = o.one.kind; width = o.one.width; lanes = n; is_dynamic = b } in
+      let t : TypeParts = record { kind = o.one.kind; width = o.one.width; lanes = n; is_dynamic = b } in
       let m : IsMember s t = record { is_type = record { width = o.member.is_type.width; lanes = part_contains _ _ (lanes_part s h b) n a }; width = o.member.width; lanes = contains _ _ a } in
       let e = o.only t m in
       (λ i. (e i).is_dynamic, λ i. (e i).lanes);
 }
 
-pub size_one : (s : FourSets) → IsTypeSet s → ((members s ≡ 1) ↔ HasOne s)
+pub size_one : (s : TypeSetParts) → IsTypeSet s → ((members s ≡ 1) ↔ HasOne s)
 size_one s h = (
   λ e.
       let p = product_one _ _ e in

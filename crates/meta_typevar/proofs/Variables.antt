@@ -9,7 +9,7 @@ use Rattle.meta_types.specs.Function.{Function, LaneOf, AsTruthy, HalfWidth, Dou
 use Rattle.meta_types.specs.DerivedFunc.{function_of}
 use Rattle.meta_types.specs.declared.derived_func.DerivedFunc.{DerivedFunc}
 use Rattle.meta_types.specs.declared.derived_func.DerivedFunc.TheVariants.{LaneOf as LaneOfFunc, AsTruthy as AsTruthyFunc, HalfWidth as HalfWidthFunc, DoubleWidth as DoubleWidthFunc, SplitLanes as SplitLanesFunc, MergeLanes as MergeLanesFunc, DynamicToVector as DynamicToVectorFunc, Narrower as NarrowerFunc, Wider as WiderFunc}
-use Rattle.meta_typevar.specs.FourSets.{FourSets}
+use Rattle.meta_typevar.specs.TypeSetParts.{TypeSetParts}
 use Rattle.meta_typevar.specs.Image.{image_of}
 use Rattle.meta_typevar.specs.Variable.{Variable, underived, longer}
 use Rattle.meta_typevar.specs.Registry.{set_of, set_at, sets_of, variable_of, variable_at, coded_along, coded_of, coded_at, coded_set, last_image, IsKept, IsRoot, IsDerivedFrom, IsPlaced, IsDerivation, derived_content, IsRegistry}
@@ -58,7 +58,7 @@ kept_at (x ∷ xs) zero l = (x, refl)
 kept_at (x ∷ xs) (suc n) l = kept_at xs n (omega arith)
 
 -- the image along a chain with one function more
-pub coded_last : (fs : List Function) (f : Function) (s : FourSets) → coded_along (fs ++ f ∷ []) s ≡ image_of f (coded_along fs s)
+pub coded_last : (fs : List Function) (f : Function) (s : TypeSetParts) → coded_along (fs ++ f ∷ []) s ≡ image_of f (coded_along fs s)
 coded_last [] f s = refl
 coded_last (g ∷ fs) f s = coded_last fs f (image_of g s)
 

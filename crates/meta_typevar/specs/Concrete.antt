@@ -4,19 +4,19 @@
 use Rattle.std.specs.Prelude.{ℕ, Bool, true, false, List, [], ◌∷◌, ◌++◌, map, codes, if◌then◌else◌}
 use Rattle.std.specs.List.{flat_map, join_by}
 use Rattle.std.specs.Fmt.{decimal}
-use Rattle.meta_types.specs.Shape.{Kind, IntKind, FloatKind, Shape}
-use Rattle.meta_typevar.specs.FourSets.{FourSets}
+use Rattle.meta_types.specs.TypeParts.{Kind, IntKind, FloatKind, TypeParts}
+use Rattle.meta_typevar.specs.TypeSetParts.{TypeSetParts}
 
 -- the types of a kind with these widths, and so many lanes
-abbrev pub types_of : Kind → Bool → ℕ → List ℕ → List Shape
+abbrev pub types_of : Kind → Bool → ℕ → List ℕ → List TypeParts
 types_of kind is_dynamic lanes widths = map (λ w. record { kind = kind; width = w; lanes = lanes; is_dynamic = is_dynamic }) widths
 
 -- the members with so many lanes: the ints in rising width, then the floats
-abbrev pub types_at : FourSets → Bool → ℕ → List Shape
+abbrev pub types_at : TypeSetParts → Bool → ℕ → List TypeParts
 types_at s is_dynamic lanes = types_of IntKind is_dynamic lanes s.ints ++ types_of FloatKind is_dynamic lanes s.floats
 
 -- the members: for each lane count rising, those with so many lanes; then the same for the dynamic lane counts
-abbrev pub types_in : FourSets → List Shape
+abbrev pub types_in : TypeSetParts → List TypeParts
 types_in s = flat_map (types_at s false) s.lanes ++ flat_map (types_at s true) s.dynamic_lanes
 
 -- `{8, 16}`
@@ -34,5 +34,5 @@ part_text name [] follows = []
 part_text name (x ∷ xs) follows = (if follows then codes ", " else []) ++ (name ++ (codes "=" ++ braced (x ∷ xs)))
 
 -- the parts that have a number, as `TypeSet(lanes={1}, ints={8, 16})`
-abbrev pub set_text : FourSets → List ℕ
+abbrev pub set_text : TypeSetParts → List ℕ
 set_text s = codes "TypeSet(" ++ (join_by (λ p. p) (codes ", ") (((part_texts (codes "lanes") s.lanes ++ part_texts (codes "dynamic_lanes") s.dynamic_lanes) ++ part_texts (codes "ints") s.ints) ++ part_texts (codes "floats") s.floats) ++ codes ")")

@@ -1,6 +1,6 @@
 -- Numbers of types by their lane code and their row, for masks.
 use Rattle.std.specs.Prelude.{◌≡◌, ℕ, ◌+◌, Bool, Contains, if◌then◌else◌}
-use Rattle.meta_types.specs.Shape.{Kind, widths, lane_counts, lane_code, log2}
+use Rattle.meta_types.specs.TypeParts.{Kind, widths, lane_counts, lane_code, log2}
 use Rattle.meta_typevar.specs.Masks.{Holds, width_mask, lane_mask}
 use Rattle.meta_typevar.specs.declared.masks.Masks.{Masks}
 

@@ -3,10 +3,10 @@
 --     Derives old n f result new      the registry gains what is derived by f from the variable n, unless it was there
 --     GrowsByOne old new              the registry gains at most one variable
 use Rattle.std.specs.Prelude.{◌≡◌, ◌≢◌, ℕ, ◌<◌, ◌≤◌, ◌==◌, List, [], ◌∷◌, ◌++◌, length, Result, Ok, IfOk, OnOk, OnErr, if◌then◌else◌}
-use Rattle.meta_types.specs.Shape.{Kind, IntKind, FloatKind, Shape}
+use Rattle.meta_types.specs.TypeParts.{Kind, IntKind, FloatKind, TypeParts}
 use Rattle.meta_types.specs.DerivedFunc.{function_of}
 use Rattle.meta_types.specs.declared.derived_func.DerivedFunc.{DerivedFunc}
-use Rattle.meta_typevar.specs.FourSets.{FourSets}
+use Rattle.meta_typevar.specs.TypeSetParts.{TypeSetParts}
 use Rattle.meta_typevar.specs.Variable.{longer}
 use Rattle.meta_typevar.specs.Registry.{variable_at, derived_content, IsKept}
 use Rattle.meta_typevar.specs.declared.content.TypeVarContent.{TypeVarContent}
@@ -26,7 +26,7 @@ vector_lanes lanes = if lanes == 1 then [] else (lanes ∷ [])
 
 -- the set of a variable that stands for the type t: its width, and its lane count as lanes, and as dynamic lanes too where
 -- there is more than one lane. So a vector, fixed or dynamic, gives a set of two types
-abbrev pub singleton_sets : Shape → FourSets
+abbrev pub singleton_sets : TypeParts → TypeSetParts
 singleton_sets t = record { lanes = t.lanes ∷ []; dynamic_lanes = vector_lanes t.lanes; ints = int_width_of t.kind t.width; floats = float_width_of t.kind t.width }
 
 -- a call answers the variable that is derived by f from the one with the number n. Where it was there, the registry stays;

@@ -4,9 +4,9 @@
 --     can_derive f s         whether a variable with the coded set s may be derived from by f
 use Rattle.std.specs.Prelude.{ℕ, ◌*◌, ◌/◌, ◌==◌, ◌&&◌, ◌||◌, not, nat_lt, Bool, true, false, List, [], ◌∷◌, map, if◌then◌else◌}
 use Rattle.std.specs.List.{filter, list_all}
-use Rattle.meta_types.specs.Shape.{IntKind, widths}
+use Rattle.meta_types.specs.TypeParts.{IntKind, widths}
 use Rattle.meta_types.specs.Function.{Function, LaneOf, AsTruthy, HalfWidth, DoubleWidth, SplitLanes, MergeLanes, DynamicToVector, Narrower, Wider}
-use Rattle.meta_typevar.specs.FourSets.{FourSets}
+use Rattle.meta_typevar.specs.TypeSetParts.{TypeSetParts}
 
 -- half of each number above the least one, which can't be halved
 abbrev pub halves : ℕ → List ℕ → List ℕ
@@ -28,11 +28,11 @@ is_scalar (x ∷ []) = x == 1
 is_scalar (x ∷ y ∷ ys) = false
 
 -- the int widths of as_truthy: 8 where there are scalars alone, and else the int and the float widths
-abbrev pub truthy_ints : FourSets → List ℕ
+abbrev pub truthy_ints : TypeSetParts → List ℕ
 truthy_ints s = if is_scalar s.lanes then 8 ∷ [] else filter (λ w. is_among s.ints w || is_among s.floats w) (widths IntKind)
 
 -- the image of a set under a derived function
-abbrev pub image_of : Function → FourSets → FourSets
+abbrev pub image_of : Function → TypeSetParts → TypeSetParts
 -- one lane; the dynamic lanes stay
 image_of LaneOf s = record s { lanes = 1 ∷ [] }
 -- no floats are left
@@ -50,11 +50,11 @@ image_of Narrower s = s
 image_of Wider s = s
 
 -- each width is above the least one of its kind
-abbrev pub can_halve : FourSets → Bool
+abbrev pub can_halve : TypeSetParts → Bool
 can_halve s = list_all (nat_lt 8) s.ints && list_all (nat_lt 16) s.floats
 
 -- each width is below 128
-abbrev pub can_double : FourSets → Bool
+abbrev pub can_double : TypeSetParts → Bool
 can_double s = list_all (λ w. nat_lt w 128) s.ints && list_all (λ w. nat_lt w 128) s.floats
 
 -- whether the set has a number
@@ -63,11 +63,11 @@ has_some [] = false
 has_some (x ∷ xs) = true
 
 -- there are scalars alone, of some width
-abbrev pub has_scalars_alone : FourSets → Bool
+abbrev pub has_scalars_alone : TypeSetParts → Bool
 has_scalars_alone s = is_scalar s.lanes && (not (has_some s.dynamic_lanes) && (has_some s.ints || has_some s.floats))
 
 -- whether a variable with the coded set s may be derived from by the function
-abbrev pub can_derive : Function → FourSets → Bool
+abbrev pub can_derive : Function → TypeSetParts → Bool
 can_derive LaneOf s = true
 can_derive AsTruthy s = true
 can_derive HalfWidth s = can_halve s

@@ -4,8 +4,8 @@
 --     sets_between parts     the sets that are built
 use Rattle.std.specs.Prelude.{ℕ, ◌≤◌, ◌&&◌, nat_le, Bool, true, false, not, List, [], ◌∷◌, Contains}
 use Rattle.std.specs.List.{filter}
-use Rattle.meta_types.specs.Shape.{IntKind, FloatKind, widths, lane_counts}
-use Rattle.meta_typevar.specs.FourSets.{FourSets}
+use Rattle.meta_types.specs.TypeParts.{IntKind, FloatKind, widths, lane_counts}
+use Rattle.meta_typevar.specs.TypeSetParts.{TypeSetParts}
 use Rattle.meta_typevar.specs.declared.interval.Interval.{Interval}
 use Rattle.meta_typevar.specs.declared.interval.Interval.TheVariants.{None as Nothing, All as Everything, Range as Between}
 use Rattle.meta_typevar.specs.declared.interval.Part.{Part}
@@ -61,5 +61,5 @@ lanes_between includes_scalars Everything = simd_counts includes_scalars
 lanes_between includes_scalars (Between r) = filter (has (Between r)) (simd_counts includes_scalars)
 
 -- what the interval of each part has of the numbers that the part may have
-abbrev pub sets_between : Intervals → FourSets
+abbrev pub sets_between : Intervals → TypeSetParts
 sets_between parts = record { lanes = lanes_between parts.includes_scalars parts.simd_lanes; dynamic_lanes = filter (has parts.dynamic_simd_lanes) (lane_counts true); ints = filter (has parts.ints) (widths IntKind); floats = filter (has parts.floats) (widths FloatKind) }

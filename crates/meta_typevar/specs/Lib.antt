@@ -1,4 +1,4 @@
-pub mod FourSets
+pub mod TypeSetParts
 pub mod Masks
 pub mod Chain
 pub mod Reaching

@@ -1,9 +1,9 @@
 -- Chains without a relation, which lead from a type to one type at most.
 use Rattle.std.specs.Prelude.{◌≡◌, List, [], ◌∷◌}
-use Rattle.meta_types.specs.Shape.{Shape}
+use Rattle.meta_types.specs.TypeParts.{TypeParts}
 use Rattle.meta_types.specs.Function.{Function, Answers}
 
 -- the functions of the chain, none of which is a relation, lead from the type r to the type t
-abbrev pub Reaches : List Function → Shape → Shape → Type 0
+abbrev pub Reaches : List Function → TypeParts → TypeParts → Type 0
 Reaches [] r t = t ≡ r
-Reaches (f ∷ fs) r t = (u : Shape) × Answers f r u × Reaches fs u t
+Reaches (f ∷ fs) r t = (u : TypeParts) × Answers f r u × Reaches fs u t

@@ -7,23 +7,23 @@ use Rattle.std.specs.Prelude.{◌≡◌, ℕ, ◌<◌, ◌^◌, List, [], ◌∷
 use Rattle.meta_types.specs.Function.{Function}
 use Rattle.meta_types.specs.DerivedFunc.{function_of, function_name}
 use Rattle.meta_types.specs.declared.derived_func.DerivedFunc.{DerivedFunc}
-use Rattle.meta_typevar.specs.FourSets.{FourSets, IsTypeSet, no_types}
+use Rattle.meta_typevar.specs.TypeSetParts.{TypeSetParts, IsTypeSet, no_types}
 use Rattle.meta_typevar.specs.Image.{image_of}
 use Rattle.meta_typevar.specs.Variable.{Variable, Sets, underived}
 use Rattle.meta_typevar.specs.declared.content.TypeVarContent.{TypeVarContent}
 use Rattle.meta_typevar.specs.declared.content.TypeVarParent.{TypeVarParent}
 
 -- the coded image of a set along a chain, from the root outwards
-abbrev pub coded_along : List Function → FourSets → FourSets
+abbrev pub coded_along : List Function → TypeSetParts → TypeSetParts
 coded_along [] s = s
 coded_along (f ∷ fs) s = coded_along fs (image_of f s)
 
 -- what is kept of a root with this name, documentation and type set, whose number is n
-abbrev pub root_content : List ℕ → List ℕ → FourSets → ℕ → TypeVarContent
+abbrev pub root_content : List ℕ → List ℕ → TypeSetParts → ℕ → TypeVarContent
 root_content name doc type_set n = record { name = name; doc = doc; base = None; type_set = type_set; root = n; chain = [] }
 
 -- the type set that is kept of a variable
-abbrev pub set_of : TypeVarContent → FourSets
+abbrev pub set_of : TypeVarContent → TypeSetParts
 set_of content = content.type_set
 
 -- the root and the chain of what stands at the number n: an unknown number is a root
@@ -32,7 +32,7 @@ variable_of n None = underived n
 variable_of n (Some content) = record { root = content.root; chain = content.chain }
 
 -- the set of what stands at a place of the list, and without a member past its end
-abbrev pub set_at : Option TypeVarContent → FourSets
+abbrev pub set_at : Option TypeVarContent → TypeSetParts
 set_at None = no_types
 set_at (Some content) = set_of content
 
@@ -45,19 +45,19 @@ abbrev pub variable_at : List TypeVarContent → ℕ → Variable
 variable_at vars n = variable_of n (slice_get vars n)
 
 -- the coded image of a variable: that of its root's set along its chain
-abbrev pub coded_of : List TypeVarContent → Variable → FourSets
+abbrev pub coded_of : List TypeVarContent → Variable → TypeSetParts
 coded_of vars v = coded_along v.chain (sets_of vars v.root)
 
-abbrev pub coded_at : List TypeVarContent → ℕ → FourSets
+abbrev pub coded_at : List TypeVarContent → ℕ → TypeSetParts
 coded_at vars n = coded_of vars (variable_at vars n)
 
 -- the image under the last function, where there is one
-abbrev pub last_image : FourSets → Option TypeVarParent → FourSets
+abbrev pub last_image : TypeSetParts → Option TypeVarParent → TypeSetParts
 last_image s None = s
 last_image s (Some parent) = image_of (function_of parent.derived_func) s
 
 -- the coded image of a variable by what is kept of it: the set of a root, and else the image of the parent's
-abbrev pub coded_set : TypeVarContent → FourSets
+abbrev pub coded_set : TypeVarContent → TypeSetParts
 coded_set content = last_image content.type_set content.base
 
 -- the name of a derived variable: `lane_of(X)`

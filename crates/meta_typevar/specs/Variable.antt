@@ -1,7 +1,7 @@
 -- Type variables.
 use Rattle.std.specs.Prelude.{◌≡◌, ℕ, List, [], ◌∷◌, ◌++◌}
 use Rattle.meta_types.specs.Function.{Function}
-use Rattle.meta_typevar.specs.FourSets.{FourSets}
+use Rattle.meta_typevar.specs.TypeSetParts.{TypeSetParts}
 use Rattle.meta_typevar.specs.Chain.{IsFixedNowhere}
 
 -- a variable is a root, by its number, and the chain of functions that leads from there to it
@@ -24,7 +24,7 @@ pub record IsDerivedBy (v w : Variable) (f : Function) : Type 0 where
 
 -- the set of each root, by its number
 abbrev pub Sets : Type 0
-Sets = ℕ → FourSets
+Sets = ℕ → TypeSetParts
 
 -- no type is fixed for w, by its root's set and its chain
 abbrev pub IsOpen : Sets → Variable → Type 0

@@ -1,7 +1,7 @@
 ghost use Rattle.std.specs.Prelude.{◌≡◌, ◌↔◌, ◌≤◌, IsTrue, IfSome, IfNone};
-ghost use Rattle.meta_types.specs.Shape.{Shape, number_of};
-ghost use Rattle.meta_types.specs.ValueTypes.{shape_of};
-ghost use Rattle.meta_typevar.specs.FourSets.{IsMember};
+ghost use Rattle.meta_types.specs.TypeParts.{TypeParts, number_of};
+ghost use Rattle.meta_types.specs.ValueTypes.{type_parts_of};
+ghost use Rattle.meta_typevar.specs.TypeSetParts.{IsMember};
 ghost use Rattle.meta_typevar.specs.Chain.{IsFixed, IsFixedNowhere};
 ghost use Rattle.meta_typevar.specs.Chained.{functions_of};
 ghost use Rattle.meta_typevar.specs.Reaching.{Reaches};
@@ -16,7 +16,7 @@ const END_OF_NUMBERS: u16 = 0x17d;
 
 /// The type that the chain fixes, whatever member of the set its root has; `None` exactly where there is no such type.
 pub(crate) fn fixed_along(set: &TypeSet, chain: &[DerivedFunc]) -> Option<ValueType>
-    ensures found { IfSome result (λ t. IsFixed set.now (functions_of chain.now) (shape_of t)) }
+    ensures found { IfSome result (λ t. IsFixed set.now (functions_of chain.now) (type_parts_of t)) }
     ensures none { IfNone result (IsFixedNowhere set.now (functions_of chain.now)) }
 {
     let t = reached(chain, first_member(set)?)?;
@@ -28,8 +28,8 @@ pub(crate) fn fixed_along(set: &TypeSet, chain: &[DerivedFunc]) -> Option<ValueT
 
 /// The member with the least number.
 fn first_member(set: &TypeSet) -> Option<ValueType>
-    ensures found { IfSome result (λ r. IsMember set.now (shape_of r)) }
-    ensures none { IfNone result ((r : Shape) → IsMember set.now r → ⊥) }
+    ensures found { IfSome result (λ r. IsMember set.now (type_parts_of r)) }
+    ensures none { IfNone result ((r : TypeParts) → IsMember set.now r → ⊥) }
 {
     for number in FIRST_NUMBER..END_OF_NUMBERS {
         if let Some(r) = member_with(set, number) {
@@ -41,8 +41,8 @@ fn first_member(set: &TypeSet) -> Option<ValueType>
 
 /// The member with the number.
 fn member_with(set: &TypeSet, number: u16) -> Option<ValueType>
-    ensures found { IfSome result (λ r. IsMember set.now (shape_of r) × (number_of (shape_of r) ≡ number)) }
-    ensures none { IfNone result ((r : Shape) → IsMember set.now r → number_of r ≡ number → ⊥) }
+    ensures found { IfSome result (λ r. IsMember set.now (type_parts_of r) × (number_of (type_parts_of r) ≡ number)) }
+    ensures none { IfNone result ((r : TypeParts) → IsMember set.now r → number_of r ≡ number → ⊥) }
 {
     let r = ValueType::from_number(number)?;
     if !set.contains(r) {
@@ -53,7 +53,7 @@ fn member_with(set: &TypeSet, number: u16) -> Option<ValueType>
 
 /// Whether the functions lead from each member to the type.
 fn all_reach(set: &TypeSet, chain: &[DerivedFunc], t: ValueType) -> bool
-    ensures { IsTrue result ↔ ((r : Shape) → IsMember set.now r → Reaches (functions_of chain.now) r (shape_of t)) }
+    ensures { IsTrue result ↔ ((r : TypeParts) → IsMember set.now r → Reaches (functions_of chain.now) r (type_parts_of t)) }
 {
     for number in FIRST_NUMBER..END_OF_NUMBERS {
         if !member_reaches(set, chain, number, t) {
@@ -65,7 +65,7 @@ fn all_reach(set: &TypeSet, chain: &[DerivedFunc], t: ValueType) -> bool
 
 /// Whether the functions lead from the member with the number, if there is one, to the type.
 fn member_reaches(set: &TypeSet, chain: &[DerivedFunc], number: u16, t: ValueType) -> bool
-    ensures { IsTrue result ↔ ((r : Shape) → IsMember set.now r → number_of r ≡ number → Reaches (functions_of chain.now) r (shape_of t)) }
+    ensures { IsTrue result ↔ ((r : TypeParts) → IsMember set.now r → number_of r ≡ number → Reaches (functions_of chain.now) r (type_parts_of t)) }
 {
     match member_with(set, number) {
         Some(r) => reaches(chain, r, t),
@@ -75,7 +75,7 @@ fn member_reaches(set: &TypeSet, chain: &[DerivedFunc], number: u16, t: ValueTyp
 
 /// Whether the functions lead from one type to another.
 fn reaches(chain: &[DerivedFunc], r: ValueType, t: ValueType) -> bool
-    ensures { IsTrue result ↔ Reaches (functions_of chain.now) (shape_of r) (shape_of t) }
+    ensures { IsTrue result ↔ Reaches (functions_of chain.now) (type_parts_of r) (type_parts_of t) }
 {
     match reached(chain, r) {
         Some(x) => x.number() == t.number(),
@@ -85,8 +85,8 @@ fn reaches(chain: &[DerivedFunc], r: ValueType, t: ValueType) -> bool
 
 /// The type to which the functions lead, from the root outwards, if none of them is a relation and each gives a type.
 fn reached(chain: &[DerivedFunc], r: ValueType) -> Option<ValueType>
-    ensures found { IfSome result (λ t. Reaches (functions_of chain.now) (shape_of r) (shape_of t)) }
-    ensures none { IfNone result ((t : Shape) → Reaches (functions_of chain.now) (shape_of r) t → ⊥) }
+    ensures found { IfSome result (λ t. Reaches (functions_of chain.now) (type_parts_of r) (type_parts_of t)) }
+    ensures none { IfNone result ((t : TypeParts) → Reaches (functions_of chain.now) (type_parts_of r) t → ⊥) }
 {
     let mut t = r;
     for &derived_func in chain {

@@ -1,12 +1,12 @@
 ghost use Rattle.std.specs.Prelude.{◌≡◌, ◌<◌, ◌↔◌, ℕ, List, length, IsTrue};
-ghost use Rattle.meta_typevar.specs.FourSets.{FourSets, IsTypeSet};
+ghost use Rattle.meta_typevar.specs.TypeSetParts.{TypeSetParts, IsTypeSet};
 ghost use Rattle.meta_typevar.specs.Compared.{are_equal};
 ghost use Rattle.meta_typevar.specs.Registry.{variable_at, IsRegistry};
 ghost use Rattle.meta_typevar.specs.declared.content.TypeVarContent.{TypeVarContent};
 
 /// Two sets compare equal exactly where their lane counts, dynamic lane counts, int widths and float widths are the same.
 pub fn equal_sets()
-    ensures { (s t : FourSets) → IsTypeSet s → IsTypeSet t → (IsTrue (are_equal s t) ↔ s ≡ t) }
+    ensures { (s t : TypeSetParts) → IsTypeSet s → IsTypeSet t → (IsTrue (are_equal s t) ↔ s ≡ t) }
 {}
 
 /// Two variables of one registry are equal exactly where their roots and their chains are.

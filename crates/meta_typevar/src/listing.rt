@@ -1,8 +1,8 @@
 ghost use Rattle.std.specs.Prelude.{◌≡◌, ◌++◌, map, Contains, true, false, IfOk, OnOk};
-ghost use Rattle.meta_types.specs.Shape.{IntKind, FloatKind, scalar, lane_counts};
-ghost use Rattle.meta_types.specs.Lane.{lane_shape};
+ghost use Rattle.meta_types.specs.TypeParts.{IntKind, FloatKind, scalar, lane_counts};
+ghost use Rattle.meta_types.specs.Lane.{lane_parts};
 ghost use Rattle.meta_types.specs.Vector.{lanes_of, least_lanes_of};
-ghost use Rattle.meta_types.specs.ValueTypes.{shape_of};
+ghost use Rattle.meta_types.specs.ValueTypes.{type_parts_of};
 ghost use Rattle.meta_typevar.specs.Concrete.{types_in};
 ghost use Rattle.meta_typevar.specs.MaskSets.{sets_in};
 
@@ -16,7 +16,7 @@ impl Masks {
     /// The types that the masks contain: for each lane count rising, ints in rising width and then floats; after that the
     /// same for the dynamic lane counts.
     pub(crate) fn concrete_types(self, alloc: Global) -> Result<Vec<ValueType>, AllocError>
-        ensures { IfOk result (λ v. map shape_of v.items ≡ types_in (sets_in self)) }
+        ensures { IfOk result (λ v. map type_parts_of v.items ≡ types_in (sets_in self)) }
     {
         let lane_types = self.lane_types(alloc)?;
         let fixed = self.lane_numbers().to_vec(alloc)?;
@@ -33,7 +33,7 @@ impl Masks {
 
     /// The lane types whose widths the masks hold: ints in rising width, then floats.
     fn lane_types(self, alloc: Global) -> Result<Vec<LaneType>, AllocError>
-        ensures { IfOk result (λ v. map lane_shape v.items ≡ map (scalar IntKind) (sets_in self).ints ++ map (scalar FloatKind) (sets_in self).floats) }
+        ensures { IfOk result (λ v. map lane_parts v.items ≡ map (scalar IntKind) (sets_in self).ints ++ map (scalar FloatKind) (sets_in self).floats) }
     {
         let ints = self.int_numbers().to_vec(alloc)?;
         let floats = self.float_numbers().to_vec(alloc)?;
@@ -83,7 +83,7 @@ fn push_fixed(
     lanes: u16,
 ) -> Result<(), AllocError>
     requires { Contains (lane_counts false) lanes }
-    ensures { OnOk result (map shape_of types.new.items ≡ map shape_of types.old.items ++ map (λ l. lanes_of (lane_shape l) lanes) lane_types.now) }
+    ensures { OnOk result (map type_parts_of types.new.items ≡ map type_parts_of types.old.items ++ map (λ l. lanes_of (lane_parts l) lanes) lane_types.now) }
 {
     for lane_type in lane_types {
         types.push(lane_type.by(lanes))?;
@@ -98,7 +98,7 @@ fn push_dynamic(
     lanes: u16,
 ) -> Result<(), AllocError>
     requires { Contains (lane_counts true) lanes }
-    ensures { OnOk result (map shape_of types.new.items ≡ map shape_of types.old.items ++ map (λ l. least_lanes_of (lane_shape l) lanes) lane_types.now) }
+    ensures { OnOk result (map type_parts_of types.new.items ≡ map type_parts_of types.old.items ++ map (λ l. least_lanes_of (lane_parts l) lanes) lane_types.now) }
 {
     for lane_type in lane_types {
         types.push(lane_type.to_dynamic(lanes))?;

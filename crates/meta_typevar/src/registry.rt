@@ -1,6 +1,6 @@
 ghost use Rattle.std.specs.Prelude.{◌≡◌, ◌≢◌, ◌-◌, ◌+◌, ◌^◌, ◌<◌, ◌↔◌, [], ◌∷◌, ◌++◌, length, IsTrue, slice_get, Some, ℕ, Ok, OnOk, OnErr, IfOk, IfSome, IfNone};
 ghost use Rattle.std.specs.List.{filter};
-ghost use Rattle.meta_typevar.specs.FourSets.{IsTypeSet};
+ghost use Rattle.meta_typevar.specs.TypeSetParts.{IsTypeSet};
 ghost use Rattle.meta_typevar.specs.Registry.{is_root, root_content, coded_at, IsDerivation, IsRegistry};
 ghost use Rattle.meta_typevar.specs.Children.{IsChild};
 

@@ -1,11 +1,11 @@
 ghost use Rattle.std.specs.Prelude.{◌≡◌, ◌≤◌, sum, ◌+◌, ◌*◌, ◌↔◌, ℕ, length, [], map, slice_get, Some, Contains, IsTrue, IsOkAnd, IfSome, IfNone, IfOk};
 ghost use Rattle.meta_types.specs.DerivedFunc.{function_of};
-ghost use Rattle.meta_types.specs.Lane.{lane_shape};
-ghost use Rattle.meta_types.specs.Shape.{Shape};
-ghost use Rattle.meta_types.specs.ValueTypes.{shape_of};
+ghost use Rattle.meta_types.specs.Lane.{lane_parts};
+ghost use Rattle.meta_types.specs.TypeParts.{TypeParts};
+ghost use Rattle.meta_types.specs.ValueTypes.{type_parts_of};
 ghost use Rattle.meta_typevar.specs.Concrete.{types_in};
 ghost use Rattle.meta_typevar.specs.Derivation.{singleton_sets, vector_lanes, int_width_of, float_width_of};
-ghost use Rattle.meta_typevar.specs.FourSets.{IsMember, IsOnlyMember, HasOne, IsTypeSet};
+ghost use Rattle.meta_typevar.specs.TypeSetParts.{IsMember, IsOnlyMember, HasOne, IsTypeSet};
 ghost use Rattle.meta_typevar.specs.Image.{image_of, can_derive};
 ghost use Rattle.meta_typevar.specs.Masks.{AreMasksOf};
 ghost use Rattle.meta_typevar.specs.MaskSets.{sets_in, AreMasks};
@@ -28,9 +28,9 @@ pub struct TypeSet {
 impl Model for TypeSet {
     ghost use Rattle.std.specs.Prelude.{sum};
     ghost use Rattle.std.proofs.Common.{sym};
-    ghost use Rattle.meta_typevar.specs.FourSets.{FourSets};
+    ghost use Rattle.meta_typevar.specs.TypeSetParts.{TypeSetParts};
 
-    ghost Value = { FourSets };
+    ghost Value = { TypeSetParts };
 
     ghost use Rattle.meta_typevar.specs.MaskSets.{sets_in, AreMasks};
 
@@ -64,7 +64,7 @@ impl TypeSet {
 
     /// Whether the type is a member (this project's own).
     pub fn contains(&self, t: ValueType) -> bool
-        ensures { IsTrue result ↔ IsMember self.now (shape_of t) }
+        ensures { IsTrue result ↔ IsMember self.now (type_parts_of t) }
     {
         self.masks.contains(t.number())
     }
@@ -72,9 +72,9 @@ impl TypeSet {
     /// The members: for each lane count rising, the ints in rising width and then the floats; after that the same for the
     /// dynamic lane counts.
     pub fn concrete_types(&self, alloc: Global) -> Result<Vec<ValueType>, AllocError>
-        ensures listed { IfOk result (λ v. map shape_of v.items ≡ types_in self.now) }
-        ensures members { (t : Shape) → (Contains (types_in self.now) t ↔ IsMember self.now t) }
-        ensures once { (j k : ℕ) (t : Shape) → slice_get (types_in self.now) j ≡ Some t → slice_get (types_in self.now) k ≡ Some t → j ≡ k }
+        ensures listed { IfOk result (λ v. map type_parts_of v.items ≡ types_in self.now) }
+        ensures members { (t : TypeParts) → (Contains (types_in self.now) t ↔ IsMember self.now t) }
+        ensures once { (j k : ℕ) (t : TypeParts) → slice_get (types_in self.now) j ≡ Some t → slice_get (types_in self.now) k ≡ Some t → j ≡ k }
     {
         self.masks.concrete_types(alloc)
     }
@@ -111,7 +111,7 @@ impl TypeSet {
     /// The set of a variable that stands for the type: the type alone, or, where it has more than one lane, the fixed and the
     /// dynamic vector of these lanes.
     pub(crate) fn singleton(value_type: ValueType) -> TypeSet
-        ensures { result ≡ singleton_sets (shape_of value_type) }
+        ensures { result ≡ singleton_sets (type_parts_of value_type) }
     {
         let lane = lane_of(value_type);
         let lanes = least_lanes(value_type);
@@ -125,7 +125,7 @@ impl TypeSet {
 
     /// The only member, where there is exactly one.
     pub(crate) fn only_type(&self) -> Option<ValueType>
-        ensures found { IfSome result (λ t. IsOnlyMember self.now (shape_of t)) }
+        ensures found { IfSome result (λ t. IsOnlyMember self.now (type_parts_of t)) }
         ensures none { IfNone result (¬ HasOne self.now) }
     {
         fixed_along(self, [].as_slice())
@@ -134,8 +134,8 @@ impl TypeSet {
 
 /// The type of a lane.
 fn lane_of(value_type: ValueType) -> LaneType
-    ensures kind { (lane_shape result).kind ≡ (shape_of value_type).kind }
-    ensures width { (lane_shape result).width ≡ (shape_of value_type).width }
+    ensures kind { (lane_parts result).kind ≡ (type_parts_of value_type).kind }
+    ensures width { (lane_parts result).width ≡ (type_parts_of value_type).width }
 {
     match value_type {
         ValueType::Lane(lane) => lane,
@@ -146,7 +146,7 @@ fn lane_of(value_type: ValueType) -> LaneType
 
 /// How many lanes there are, or at least are.
 fn least_lanes(value_type: ValueType) -> u64
-    ensures lanes { result ≡ (shape_of value_type).lanes }
+    ensures lanes { result ≡ (type_parts_of value_type).lanes }
     ensures few { result ≤ 256 }
 {
     match value_type {
@@ -165,7 +165,7 @@ fn dynamic_mask(lanes: u16) -> u16
 
 /// The width of an integer lane as a mask.
 fn int_mask(lane: LaneType) -> u8
-    ensures { result ≡ sum (int_width_of (lane_shape lane).kind (lane_shape lane).width) }
+    ensures { result ≡ sum (int_width_of (lane_parts lane).kind (lane_parts lane).width) }
 {
     match lane {
         LaneType::Int(_) => lane.lane_bits() as u8,
@@ -175,7 +175,7 @@ fn int_mask(lane: LaneType) -> u8
 
 /// The width of a floating-point lane as a mask.
 fn float_mask(lane: LaneType) -> u8
-    ensures { result ≡ sum (float_width_of (lane_shape lane).kind (lane_shape lane).width) }
+    ensures { result ≡ sum (float_width_of (lane_parts lane).kind (lane_parts lane).width) }
 {
     match lane {
         LaneType::Int(_) => 0,

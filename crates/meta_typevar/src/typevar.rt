@@ -1,10 +1,10 @@
 ghost use Rattle.std.specs.Prelude.{◌≡◌, ◌+◌, ◌-◌, ◌^◌, ◌<◌, ◌↔◌, [], ◌∷◌, ◌++◌, length, IsTrue, IfOk, IsOkAnd, OnOk, OnErr, IfSome, IfNone};
-ghost use Rattle.meta_types.specs.Shape.{name_of};
+ghost use Rattle.meta_types.specs.TypeParts.{name_of};
 ghost use Rattle.meta_types.specs.TypeText.{doc_of};
 ghost use Rattle.meta_types.specs.Function.{LaneOf, AsTruthy, HalfWidth, DoubleWidth, SplitLanes, MergeLanes, DynamicToVector, Narrower, Wider};
 ghost use Rattle.meta_types.specs.DerivedFunc.{function_of};
-ghost use Rattle.meta_types.specs.ValueTypes.{shape_of};
-ghost use Rattle.meta_typevar.specs.FourSets.{IsOnlyMember, HasOne};
+ghost use Rattle.meta_types.specs.ValueTypes.{type_parts_of};
+ghost use Rattle.meta_typevar.specs.TypeSetParts.{IsOnlyMember, HasOne};
 ghost use Rattle.meta_typevar.specs.Chain.{IsFixed};
 ghost use Rattle.meta_typevar.specs.Chained.{functions_of};
 ghost use Rattle.meta_typevar.specs.Image.{can_derive};
@@ -68,7 +68,7 @@ impl TypeVar {
     pub fn new_singleton(vars: &mut TypeVars, value_type: ValueType) -> Result<TypeVar, AllocError>
         requires { length vars.old < 2 ^ 32 - 1 }
         ensures number { IfOk result (λ v. v ≡ length vars.old) }
-        ensures added { let t = shape_of value_type in OnOk result (vars.new ≡ vars.old ++ root_content (name_of t) (doc_of t) (singleton_sets t) (length vars.old) ∷ []) }
+        ensures added { let t = type_parts_of value_type in OnOk result (vars.new ≡ vars.old ++ root_content (name_of t) (doc_of t) (singleton_sets t) (length vars.old) ∷ []) }
         ensures err { OnErr result (vars.new ≡ vars.old) }
     {
         let alloc = vars.allocator();
@@ -261,7 +261,7 @@ impl TypeVar {
         vars: &TypeVars,
     ) -> Result<Option<ValueType>, AllocError>
         requires { self < length vars.now }
-        ensures found { IsOkAnd result (λ o. IfSome o (λ t. IsOnlyMember (coded_at vars.now self) (shape_of t))) }
+        ensures found { IsOkAnd result (λ o. IfSome o (λ t. IsOnlyMember (coded_at vars.now self) (type_parts_of t))) }
         ensures none { IfOk result (λ o. IfNone o (¬ HasOne (coded_at vars.now self))) }
     {
         Ok(self.get_typeset(alloc, vars)?.only_type())
@@ -309,7 +309,7 @@ impl TypeVar {
     /// such type, and for a chain with a relation (this project's own).
     pub fn fixed_type(self, vars: &TypeVars) -> Option<ValueType>
         requires { self < length vars.now }
-        ensures found { let v = variable_at vars.now self in IfSome result (λ t. IsFixed (sets_of vars.now v.root) v.chain (shape_of t)) }
+        ensures found { let v = variable_at vars.now self in IfSome result (λ t. IsFixed (sets_of vars.now v.root) v.chain (type_parts_of t)) }
         ensures none { let v = variable_at vars.now self in IfNone result (IsOpen (sets_of vars.now) v) }
     {
         let set = &vars.content(self.root(vars)).type_set;

@@ -3,7 +3,7 @@ use Rattle.std.proofs.lemmas.Option.{slice_get_read, slice_get_within}
 use Rattle.meta_lists.proofs.Pushed.{one_longer}
 use Rattle.meta_inst.specs.Built.{Built}
 use Rattle.meta_inst.specs.Instruction.{Instruction}
-use Rattle.meta_inst.specs.InstructionSet.{instruction_of}
+use Rattle.meta_inst.specs.InstructionSet.{instruction_in_set}
 use Rattle.meta_declared.specs.BuiltInstructions.{IsBuiltAt}
 use Rattle.meta_declared.proofs.BuiltOperands.{meaning}
 use Rattle.meta_opcode_tables.specs.Entries.{EntryHolds, IsAdded}
@@ -60,8 +60,8 @@ loop-k-preserved c =
     let count = c.loop-k.invariant.count in
     let room = c.loop-k.invariant.room in
     let more = c.in_ok-entry_of.ensures.count in
-    let holds : EntryHolds d.vars (instruction_of d h.builder) sets c.entry_of.new.constraints c.in_ok-entry_of.field-0 = subst (λ (i : Instruction). EntryHolds d.vars i sets c.entry_of.new.constraints c.in_ok-entry_of.field-0) (meaning d h.builder x h.is) (rw (c.requires.variables, c.type_sets-type_sets.ensures.type_sets) at c.in_ok-entry_of.ensures.holds) in
-    let added : IsAdded d.vars (instruction_of d h.builder) sets c.loop-k.constraints c.entry_of.new.constraints c.in_ok-entry_of.field-0 = subst (λ (i : Instruction). IsAdded d.vars i sets c.loop-k.constraints c.entry_of.new.constraints c.in_ok-entry_of.field-0) (meaning d h.builder x h.is) (rw (c.requires.variables, c.type_sets-type_sets.ensures.type_sets) at c.in_ok-entry_of.ensures.added) in
+    let holds : EntryHolds d.vars (instruction_in_set d h.builder) sets c.entry_of.new.constraints c.in_ok-entry_of.field-0 = subst (λ (i : Instruction). EntryHolds d.vars i sets c.entry_of.new.constraints c.in_ok-entry_of.field-0) (meaning d h.builder x h.is) (rw (c.requires.variables, c.type_sets-type_sets.ensures.type_sets) at c.in_ok-entry_of.ensures.holds) in
+    let added : IsAdded d.vars (instruction_in_set d h.builder) sets c.loop-k.constraints c.entry_of.new.constraints c.in_ok-entry_of.field-0 = subst (λ (i : Instruction). IsAdded d.vars i sets c.loop-k.constraints c.entry_of.new.constraints c.in_ok-entry_of.field-0) (meaning d h.builder x h.is) (rw (c.requires.variables, c.type_sets-type_sets.ensures.type_sets) at c.in_ok-entry_of.ensures.added) in
     let (lists, so_far) = c.loop-k.invariant.added in
     record {
       room = omega arith;

@@ -1,10 +1,10 @@
 use Rattle.std.proofs.Common.{◌≡◌, ◌++◌, List}
 use Rattle.std.specs.Slice.Iter.{iter_rest}
-use Rattle.meta_typevar.specs.FourSets.{FourSets}
+use Rattle.meta_typevar.specs.TypeSetParts.{TypeSetParts}
 use Rattle.meta_unique.specs.Interning.{pointed_to}
 use Rattle.meta_declared.specs.Needed.{StandForSets}
 use Rattle.meta_opcode_tables.proofs.masks.masks_of.Given as goal
 
 -- the masks of the sets in front of those that are left
 abbrev pub invariant-loop-set : goal.invariant-loop-set
-invariant-loop-set l = (front : List FourSets) × (StandForSets l.masks.items front) × (l.type_sets ≡ front ++ pointed_to (iter_rest l.set-iterator))
+invariant-loop-set l = (front : List TypeSetParts) × (StandForSets l.masks.items front) × (l.type_sets ≡ front ++ pointed_to (iter_rest l.set-iterator))

@@ -1,5 +1,5 @@
 use Rattle.std.proofs.Common.{◌≡◌, map, ◌++◌, All}
-use Rattle.meta_types.specs.Shape.{name_of}
+use Rattle.meta_types.specs.TypeParts.{name_of}
 use Rattle.meta_query.specs.Words.{pieces_of}
 use Rattle.meta_query.specs.TypeNumber.{type_with, IsTypeNumber}
 use Rattle.meta_query.proofs.question.read_types.Given as goal

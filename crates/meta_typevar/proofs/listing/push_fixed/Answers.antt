@@ -1,8 +1,8 @@
 use Rattle.std.proofs.Common.{◌∙◌, ◌++◌, ap, sym, map, List}
 use Rattle.std.proofs.lemmas.List.{take_all, append-nil}
-use Rattle.meta_types.specs.Lane.{lane_shape}
+use Rattle.meta_types.specs.Lane.{lane_parts}
 use Rattle.meta_types.specs.Vector.{lanes_of}
-use Rattle.meta_types.specs.ValueTypes.{shape_of}
+use Rattle.meta_types.specs.ValueTypes.{type_parts_of}
 use Rattle.meta_types.specs.declared.lane.LaneType.{LaneType}
 use Rattle.meta_typevar.proofs.Typing.{pushed_more, one_or_more}
 use Rattle.meta_typevar.proofs.listing.push_fixed.Goals as goal
@@ -14,7 +14,7 @@ pub by-requires : goal.by-requires
 by-requires c = one_or_more c.args.lanes c.requires
 
 pub loop-lane_type-preserved : goal.loop-lane_type-preserved
-loop-lane_type-preserved c = pushed_more shape_of (λ (x : LaneType). lanes_of (lane_shape x) c.args.lanes) c.args.lane_types.now c.loop-lane_type.lane_type-index _ _ _ _ _ c.loop-lane_type-test.true c.in_ok-push.ensures.items c.by.ensures c.loop-lane_type.invariant
+loop-lane_type-preserved c = pushed_more type_parts_of (λ (x : LaneType). lanes_of (lane_parts x) c.args.lanes) c.args.lane_types.now c.loop-lane_type.lane_type-index _ _ _ _ _ c.loop-lane_type-test.true c.in_ok-push.ensures.items c.by.ensures c.loop-lane_type.invariant
 
 pub returns : goal.returns
-returns c = c.loop-lane_type.invariant ∙ ap (λ (xs : List LaneType). map shape_of c.args.types.now.items ++ map (λ (x : LaneType). lanes_of (lane_shape x) c.args.lanes) xs) (take_all c.loop-lane_type.lane_type-index c.args.lane_types.now c.loop-lane_type-test.false)
+returns c = c.loop-lane_type.invariant ∙ ap (λ (xs : List LaneType). map type_parts_of c.args.types.now.items ++ map (λ (x : LaneType). lanes_of (lane_parts x) c.args.lanes) xs) (take_all c.loop-lane_type.lane_type-index c.args.lane_types.now c.loop-lane_type-test.false)

@@ -1,5 +1,5 @@
 use Rattle.std.proofs.Common.{sym, ap, ◌∙◌, map}
-use Rattle.meta_types.specs.Shape.{number_of}
+use Rattle.meta_types.specs.TypeParts.{number_of}
 use Rattle.meta_query.specs.Question.{Question}
 use Rattle.meta_query.proofs.QuestionLemmas.{numbers_back}
 use Rattle.meta_query.proofs.question.Question.results.Goals as goal

@@ -2,7 +2,7 @@ use Rattle.std.proofs.Common.{◌≡◌, ◌∙◌, ap, arith, below_more}
 use Rattle.std.specs.List.{slice_get}
 use Rattle.std.specs.Prelude.{Some}
 use Rattle.std.proofs.lemmas.Option.{get_or_from_slice_get, slice_get_within}
-use Rattle.meta_types.specs.Shape.{log2}
+use Rattle.meta_types.specs.TypeParts.{log2}
 use Rattle.meta_types.specs.Vector.{lane_count}
 use Rattle.meta_types.specs.declared.lane_count.TheConstants.{LANE_COUNTS}
 use Rattle.meta_types.proofs.Lanes.{every_count}

@@ -1,7 +1,7 @@
 use Rattle.std.proofs.Common.{◌≡◌, ◌≢◌, ℕ, ◌<◌}
 use Rattle.std.specs.List.{slice_get}
 use Rattle.std.specs.Prelude.{Some}
-use Rattle.meta_types.specs.Shape.{log2}
+use Rattle.meta_types.specs.TypeParts.{log2}
 use Rattle.meta_types.specs.Vector.{lane_count}
 use Rattle.meta_types.specs.declared.lane_count.LaneCount.{LaneCount}
 use Rattle.meta_types.specs.declared.lane_count.TheConstants.{LANE_COUNTS}

@@ -1,6 +1,6 @@
 use Rattle.std.proofs.Common.{◌∙◌, ap, sym, subst, Contains, List}
-use Rattle.meta_types.specs.Shape.{Shape}
-use Rattle.meta_types.specs.Lane.{lane_shape}
+use Rattle.meta_types.specs.TypeParts.{TypeParts}
+use Rattle.meta_types.specs.Lane.{lane_parts}
 use Rattle.meta_types.specs.LaneTypes.{lane_types_left}
 use Rattle.meta_types.specs.declared.lane.LaneType.{LaneType}
 use Rattle.meta_types.proofs.Lanes.{every_lane, among_lane_types}
@@ -13,9 +13,9 @@ loop-lane-init c = λ x t h k w e. subst (λ (xs : List LaneType). Contains xs x
 pub loop-lane-preserved : goal.loop-lane-preserved
 loop-lane-preserved c = λ x t h k w e.
     still_left _ _ c.in-Some.lane x c.in-Some.ensures.steps (c.loop-lane.invariant x t h k w e)
-    (λ same. c.in_default.ensures.none t h (k ∙ ap (λ y. (lane_shape y).kind) (sym same)) (w ∙ ap (λ y. (lane_shape y).width) (sym same)) e)
+    (λ same. c.in_default.ensures.none t h (k ∙ ap (λ y. (lane_parts y).kind) (sym same)) (w ∙ ap (λ y. (lane_parts y).width) (sym same)) e)
 
 pub returns-clause-none : goal.returns-clause-none
 returns-clause-none c = λ t h e.
     let a = every_lane t.kind t.width h.width in
-    none_left _ a.0 c.in-None.ensures.steps.0 (c.loop-lane.invariant a.0 t h (ap (λ (s : Shape). s.kind) (sym a.1)) (ap (λ (s : Shape). s.width) (sym a.1)) e)
+    none_left _ a.0 c.in-None.ensures.steps.0 (c.loop-lane.invariant a.0 t h (ap (λ (s : TypeParts). s.kind) (sym a.1)) (ap (λ (s : TypeParts). s.width) (sym a.1)) e)

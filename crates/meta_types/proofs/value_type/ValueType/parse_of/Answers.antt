@@ -1,5 +1,5 @@
 use Rattle.std.proofs.Common.{◌∙◌, ap, sym, List, ℕ, ◌++◌}
-use Rattle.meta_types.specs.Shape.{name_of}
+use Rattle.meta_types.specs.TypeParts.{name_of}
 use Rattle.meta_types.proofs.Affixes.{front_and_rest, before_and_end}
 use Rattle.meta_types.proofs.Endings.{no_lane, past_lane, ending_is, no_least, no_count, lane_read, count_read, least_read, if_none, empty}
 use Rattle.meta_types.proofs.value_type.ValueType.parse_of.Goals as goal

@@ -1,8 +1,8 @@
 use Rattle.std.proofs.Common.{◌∙◌, ◌++◌, ap, sym, map, List, [], ℕ, true, false}
 use Rattle.std.specs.List.{flat_map}
 use Rattle.std.proofs.lemmas.List.{take_all, append-nil}
-use Rattle.meta_types.specs.Shape.{lane_counts}
-use Rattle.meta_types.specs.ValueTypes.{shape_of}
+use Rattle.meta_types.specs.TypeParts.{lane_counts}
+use Rattle.meta_types.specs.ValueTypes.{type_parts_of}
 use Rattle.meta_typevar.specs.Concrete.{types_at}
 use Rattle.meta_typevar.specs.MaskSets.{sets_in}
 use Rattle.meta_typevar.proofs.MaskLemmas.{is_type_set}
@@ -10,7 +10,7 @@ use Rattle.meta_typevar.proofs.Typing.{types_more, one_of_all}
 use Rattle.meta_typevar.proofs.masks.Masks.concrete_types.Goals as goal
 
 pub loop-lanes-init : goal.loop-lanes-init
-loop-lanes-init c = ap (map shape_of) c.new-types.ensures.items
+loop-lanes-init c = ap (map type_parts_of) c.new-types.ensures.items
 
 pub push_fixed-requires : goal.push_fixed-requires
 push_fixed-requires c =

@@ -1,14 +1,14 @@
 use Rattle.std.proofs.Common.{◌∙◌, ◌++◌, ap, sym, map, List, [], ℕ}
 use Rattle.std.proofs.lemmas.List.{take_all, append-nil}
-use Rattle.meta_types.specs.Shape.{IntKind, FloatKind, scalar, widths}
-use Rattle.meta_types.specs.Lane.{lane_shape}
+use Rattle.meta_types.specs.TypeParts.{IntKind, FloatKind, scalar, widths}
+use Rattle.meta_types.specs.Lane.{lane_parts}
 use Rattle.meta_typevar.specs.MaskSets.{sets_in}
 use Rattle.meta_typevar.proofs.MaskLemmas.{is_type_set}
 use Rattle.meta_typevar.proofs.Typing.{pushed_more, one_of_all}
 use Rattle.meta_typevar.proofs.masks.Masks.lane_types.Goals as goal
 
 pub loop-int-init : goal.loop-int-init
-loop-int-init c = ap (map lane_shape) c.new-lane_types.ensures.items
+loop-int-init c = ap (map lane_parts) c.new-lane_types.ensures.items
 
 pub int_from_bits-requires : goal.int_from_bits-requires
 int_from_bits-requires c =
@@ -16,7 +16,7 @@ int_from_bits-requires c =
     one_of_all (sets_in c.args.self).ints (widths IntKind) c.as_slice-int-items.result.now c.loop-int.int-index (is_type_set c.args.self).ints is c.loop-int-test.true
 
 pub loop-int-preserved : goal.loop-int-preserved
-loop-int-preserved c = pushed_more lane_shape (scalar IntKind) c.as_slice-int-items.result.now c.loop-int.int-index 0 _ _ _ [] c.loop-int-test.true c.in_ok-push.ensures.items c.int_from_bits.ensures c.loop-int.invariant
+loop-int-preserved c = pushed_more lane_parts (scalar IntKind) c.as_slice-int-items.result.now c.loop-int.int-index 0 _ _ _ [] c.loop-int-test.true c.in_ok-push.ensures.items c.int_from_bits.ensures c.loop-int.invariant
 
 pub loop-float-init : goal.loop-float-init
 loop-float-init c =
@@ -29,7 +29,7 @@ float_from_bits-requires c =
     one_of_all (sets_in c.args.self).floats (widths FloatKind) c.as_slice-float-items.result.now c.loop-float.float-index (is_type_set c.args.self).floats is c.loop-float-test.true
 
 pub loop-float-preserved : goal.loop-float-preserved
-loop-float-preserved c = pushed_more lane_shape (scalar FloatKind) c.as_slice-float-items.result.now c.loop-float.float-index 0 _ _ _ (map (scalar IntKind) (sets_in c.args.self).ints) c.loop-float-test.true c.in_ok-push-2.ensures.items c.float_from_bits.ensures c.loop-float.invariant
+loop-float-preserved c = pushed_more lane_parts (scalar FloatKind) c.as_slice-float-items.result.now c.loop-float.float-index 0 _ _ _ (map (scalar IntKind) (sets_in c.args.self).ints) c.loop-float-test.true c.in_ok-push-2.ensures.items c.float_from_bits.ensures c.loop-float.invariant
 
 pub returns : goal.returns
 returns c =

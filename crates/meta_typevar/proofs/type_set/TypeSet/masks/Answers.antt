@@ -1,5 +1,5 @@
 use Rattle.std.proofs.Common.{subst}
-use Rattle.meta_typevar.specs.FourSets.{IsTypeSet}
+use Rattle.meta_typevar.specs.TypeSetParts.{IsTypeSet}
 use Rattle.meta_typevar.proofs.MaskLemmas.{is_type_set}
 use Rattle.meta_typevar.proofs.type_set.TypeSet.masks.Goals as goal
 

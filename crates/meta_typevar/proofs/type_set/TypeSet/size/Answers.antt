@@ -1,5 +1,5 @@
 use Rattle.std.proofs.Common.{◌≡◌, ◌↔◌, ◌∙◌, ap, subst, sym, ℕ, arith}
-use Rattle.meta_typevar.specs.FourSets.{IsTypeSet, HasOne}
+use Rattle.meta_typevar.specs.TypeSetParts.{IsTypeSet, HasOne}
 use Rattle.meta_typevar.proofs.MaskLemmas.{members, mask_members, few_bits, is_type_set}
 use Rattle.meta_typevar.proofs.Size.{size_one}
 use Rattle.meta_typevar.proofs.Listed.{length_in}

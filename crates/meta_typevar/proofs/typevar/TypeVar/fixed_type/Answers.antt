@@ -1,7 +1,7 @@
 use Rattle.std.proofs.Common.{◌∙◌, ap, sym, subst, List}
 use Rattle.std.specs.Prelude.{IfNone}
 use Rattle.meta_types.specs.Function.{Function}
-use Rattle.meta_typevar.specs.FourSets.{FourSets}
+use Rattle.meta_typevar.specs.TypeSetParts.{TypeSetParts}
 use Rattle.meta_typevar.specs.Chain.{IsFixedNowhere}
 use Rattle.meta_typevar.specs.Chained.{functions_of}
 use Rattle.meta_typevar.specs.Variable.{Variable}
@@ -13,5 +13,5 @@ pub returns-clause-none : goal.returns-clause-none
 returns-clause-none c =
     let set = sym (ap set_at c.content.ensures.kept) ∙ ap (sets_of c.args.vars.now) c.root.ensures.root in
     let chain = c.as_slice.ensures ∙ sym (ap (λ (v : Variable). v.chain) (kept_variable c.args.vars.now c.args.self _ c.content-2.ensures.kept)) in
-    let at_set = subst (λ (s : FourSets). IfNone c.fixed_along.result (IsFixedNowhere s (functions_of c.as_slice.result.now))) set c.fixed_along.ensures.none in
+    let at_set = subst (λ (s : TypeSetParts). IfNone c.fixed_along.result (IsFixedNowhere s (functions_of c.as_slice.result.now))) set c.fixed_along.ensures.none in
     subst (λ (fs : List Function). IfNone c.fixed_along.result (IsFixedNowhere (sets_of c.args.vars.now (variable_at c.args.vars.now c.args.self).root) fs)) chain at_set

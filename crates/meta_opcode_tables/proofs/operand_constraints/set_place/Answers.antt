@@ -2,7 +2,7 @@ use Rattle.std.proofs.Common.{arith}
 use Rattle.std.proofs.lemmas.Option.{slice_get_within}
 use Rattle.meta_declared.proofs.Interning.{stands_at, found_there}
 use Rattle.meta_declared.proofs.Needing.{set_is, root_raw}
-use Rattle.meta_opcode_tables.proofs.describe.set_place.Goals as goal
+use Rattle.meta_opcode_tables.proofs.operand_constraints.set_place.Goals as goal
 
 pub get_raw_typeset-requires-clause-raw : goal.get_raw_typeset-requires-clause-raw
 get_raw_typeset-requires-clause-raw c = root_raw c.args.vars.now c.root-root.result c.root-root.ensures.underived

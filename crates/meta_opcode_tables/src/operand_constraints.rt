@@ -1,4 +1,4 @@
-ghost use Rattle.std.specs.Prelude.{◌≡◌, ◌↔◌, ◌<◌, ◌≤◌, ◌+◌, ℕ, IsTrue, IsSome, IfOk, length, slice_get, Some};
+ghost use Rattle.std.specs.Prelude.{◌≡◌, ◌↔◌, ◌<◌, ◌≤◌, ◌+◌, ℕ, IsTrue, IsSome, IfOk, IfSome, length, slice_get, Some};
 ghost use Rattle.meta_typevar.specs.Registry.{sets_of, variable_at};
 ghost use Rattle.meta_inst.specs.Operands.{AreOf};
 ghost use Rattle.meta_declared.specs.Needed.{IsOfRegistry};
@@ -58,6 +58,28 @@ fn constraint_of(
     }
 }
 
+/// The constraint of the next operand, which is that of the one before where both have one variable.
+fn next_constraint(
+    vars: &TypeVars,
+    control: &Option<TypeVar>,
+    before: &Option<(TypeVar, Constraint)>,
+    tv: TypeVar,
+    type_sets: &UniqueTable<'_, TypeSet>,
+) -> Constraint
+    requires of_registry { tv < length vars.now }
+    requires control_of { IsOfRegistry vars.now control.now }
+    requires few { length type_sets.now ≤ 255 }
+    requires constrained { HasConstraint vars.now control.now tv }
+    requires held { IsFreeNumber vars.now control.now tv → IsHeld type_sets.now (sets_of vars.now (variable_at vars.now tv).root) }
+    requires before { IfSome before.now (λ p. Describes vars.now control.now type_sets.now p.0 p.1) }
+    ensures { Describes vars.now control.now type_sets.now tv result }
+{
+    match before {
+        Some((other, constraint)) if *other == tv => *constraint,
+        _ => constraint_of(vars, control, tv, type_sets),
+    }
+}
+
 /// The constraints of operands with these variables, in order.
 pub(crate) fn constraints_of(
     alloc: Global,
@@ -73,9 +95,13 @@ pub(crate) fn constraints_of(
     requires held { HoldFree vars.now control.now type_sets.now variables.now }
     ensures { IfOk result (λ v. AreDescribed vars.now control.now type_sets.now v.items variables.now) }
 {
-    let mut constraints = Vec::new(alloc);
+    let mut constraints = Vec::with_capacity(alloc, variables.len())?;
+    let mut before = None;
     for place in 0..variables.len() {
-        constraints.push(constraint_of(vars, control, variables[place], type_sets))?;
+        let tv = variables[place];
+        let constraint = next_constraint(vars, control, &before, tv, type_sets);
+        constraints.push(constraint)?;
+        before = Some((tv, constraint));
     }
     Ok(constraints)
 }

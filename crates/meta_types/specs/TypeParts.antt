@@ -1,5 +1,5 @@
 -- Value types, as contracts see them.
---     Shape                  a kind, a width in bits, a count of lanes and a dynamic mark
+--     TypeParts                  a kind, a width in bits, a count of lanes and a dynamic mark
 --     IsType t               t is one of the 153 value types
 --     number_of t, name_of t      the number and the name of a type
 --     known_lanes t, bits_of t, bytes_of t      how many lanes are known to be there, and how much room these take
@@ -12,7 +12,7 @@ pub data Kind : Type 0 where
   FloatKind : Kind
 
 -- a type: what a lane holds, how wide a lane is in bits, how many lanes there are, and whether that is only the least count
-pub record Shape : Type 0 where
+pub record TypeParts : Type 0 where
   pub kind : Kind
   pub width : ℕ
   pub lanes : ℕ
@@ -29,12 +29,12 @@ lane_counts false = 1 ∷ 2 ∷ 4 ∷ 8 ∷ 16 ∷ 32 ∷ 64 ∷ 128 ∷ 256 ∷
 lane_counts true = 2 ∷ 4 ∷ 8 ∷ 16 ∷ 32 ∷ 64 ∷ 128 ∷ 256 ∷ []
 
 -- t is one of the 153 value types
-pub record IsType (t : Shape) : Type 0 where
+pub record IsType (t : TypeParts) : Type 0 where
   pub width : Contains (widths t.kind) t.width
   pub lanes : Contains (lane_counts t.is_dynamic) t.lanes
 
 -- the type of one lane of this kind and width
-abbrev pub scalar : Kind → ℕ → Shape
+abbrev pub scalar : Kind → ℕ → TypeParts
 scalar kind width = record { kind = kind; width = width; lanes = 1; is_dynamic = false }
 
 -- the exponent of a power of two, up to 256
@@ -55,7 +55,7 @@ lane_code IntKind width = log2 width + 1
 lane_code FloatKind width = log2 width + 5
 
 -- the number of a type: from 0x70 on the lane's code, 16 more for each doubling of the lanes, and 0x80 more for a dynamic vector
-abbrev pub number_of : Shape → ℕ
+abbrev pub number_of : TypeParts → ℕ
 number_of t = 0x70 + (lane_code t.kind t.width + (16 * log2 t.lanes + (if t.is_dynamic then 0x80 else 0)))
 
 -- `i` or `f`
@@ -74,16 +74,16 @@ lanes_name lanes is_dynamic =
     else (120 ∷ (decimal lanes ++ (if is_dynamic then 120 ∷ 78 ∷ [] else [])))
 
 -- the name of a type: `i32`, `i32x4`, `i32x4xN`
-abbrev pub name_of : Shape → List ℕ
+abbrev pub name_of : TypeParts → List ℕ
 name_of t = lane_name t.kind t.width ++ lanes_name t.lanes t.is_dynamic
 
 -- how many lanes are known to be there: of a dynamic vector, whose lanes grow with the machine, one
-abbrev pub known_lanes : Shape → ℕ
+abbrev pub known_lanes : TypeParts → ℕ
 known_lanes t = if t.is_dynamic then 1 else t.lanes
 
 -- the bits, and the bytes in memory, of the lanes that are known to be there
-abbrev pub bits_of : Shape → ℕ
+abbrev pub bits_of : TypeParts → ℕ
 bits_of t = known_lanes t * t.width
 
-abbrev pub bytes_of : Shape → ℕ
+abbrev pub bytes_of : TypeParts → ℕ
 bytes_of t = bits_of t / 8

@@ -1,5 +1,5 @@
 use Rattle.meta_opcode_tables.proofs.Describing.{refused, concrete, free, free_number, by_parent, underived_by}
-use Rattle.meta_opcode_tables.proofs.describe.constraint_of.Goals as goal
+use Rattle.meta_opcode_tables.proofs.operand_constraints.constraint_of.Goals as goal
 
 pub returns-in-Some : goal.returns-in-Some
 returns-in-Some c = concrete _ _ _ _ c.in-Some.fixed _ c.in-Some.ensures.found c.number.ensures

@@ -2,13 +2,13 @@ use Rattle.std.proofs.Common.{arith, refl}
 use Rattle.std.proofs.lemmas.Option.{slice_get_read, slice_get_within}
 use Rattle.meta_lists.proofs.Pushed.{one_longer}
 use Rattle.meta_opcode_tables.proofs.Describing.{one_more}
-use Rattle.meta_opcode_tables.proofs.describe.constraints_of.Goals as goal
+use Rattle.meta_opcode_tables.proofs.operand_constraints.constraints_of.Goals as goal
 
-pub constraint_of-requires-clause-held : goal.constraint_of-requires-clause-held
-constraint_of-requires-clause-held c = c.requires.held _ _ (slice_get_read c.args.variables.now _ _ _ refl c.loop-place-test.true c.index-variables-place.is)
+pub next_constraint-requires-clause-held : goal.next_constraint-requires-clause-held
+next_constraint-requires-clause-held c = c.requires.held _ _ (slice_get_read c.args.variables.now _ _ _ refl c.loop-place-test.true c.index-variables-place.is)
 
-pub constraint_of-requires-clause-constrained : goal.constraint_of-requires-clause-constrained
-constraint_of-requires-clause-constrained c = c.requires.constrained _ _ (slice_get_read c.args.variables.now _ _ _ refl c.loop-place-test.true c.index-variables-place.is)
+pub next_constraint-requires-clause-constrained : goal.next_constraint-requires-clause-constrained
+next_constraint-requires-clause-constrained c = c.requires.constrained _ _ (slice_get_read c.args.variables.now _ _ _ refl c.loop-place-test.true c.index-variables-place.is)
 
 pub loop-place-preserved : goal.loop-place-preserved
 loop-place-preserved c =
@@ -19,7 +19,8 @@ loop-place-preserved c =
       count = omega arith;
       described = one_more _ _ _ _ _ _ added _ _ _ count
           (slice_get_read c.args.variables.now _ _ _ refl c.loop-place-test.true c.index-variables-place.is)
-          c.constraint_of.ensures c.loop-place.invariant.described;
+          c.next_constraint.ensures c.loop-place.invariant.described;
+      before = c.next_constraint.ensures;
     }
 
 pub returns : goal.returns
