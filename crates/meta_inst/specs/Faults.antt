@@ -5,7 +5,7 @@
 use Rattle.std.specs.Prelude.{◌≡◌, ◌≢◌, ◌<◌, ◌+◌, ◌⊎◌, ℕ, List, [], length, map, slice_get, Option, Some}
 use Rattle.meta_types.specs.Name.{IsName}
 use Rattle.meta_types.specs.SharedNames.{IsDuplicate}
-use Rattle.meta_types.specs.FirstFault.{Key, key_at, IsFirst, ShowsNone}
+use Rattle.meta_types.specs.FirstFault.{Key, key_at, IsFirstShown, ShowsNone}
 use Rattle.meta_types.specs.declared.fault.Place.TheVariants.{Instruction as AtInstruction, Format as AtFormat}
 use Rattle.meta_types.specs.declared.fault.DefinitionError.{DefinitionError}
 use Rattle.meta_types.specs.declared.fault.DefinitionError.TheVariants.{BadName, DuplicateName, TooManyOpcodes, BadFormat, FormatClash, TooManyTypeSets}
@@ -163,7 +163,7 @@ ShowsAt d OfTypeSets e = (count : ℕ) × (e ≡ TooManyTypeSets count) × HasTo
 
 -- e is the first fault
 abbrev pub IsFirstFault : InstructionSet → DefinitionError → Type 0
-IsFirstFault d e = IsFirst position_key (ShowsAt d) e
+IsFirstFault d e = IsFirstShown position_key (ShowsAt d) e
 
 -- no fault is shown
 abbrev pub IsValid : InstructionSet → Type 0

@@ -5,7 +5,7 @@
 use Rattle.std.specs.Prelude.{◌≡◌, ◌≢◌, ◌<◌, ◌≤◌, ◌⊎◌, ◌&&◌, ℕ, Bool, true, not, List, length, slice_get, Some, is_some}
 use Rattle.std.specs.List.{position}
 use Rattle.meta_types.specs.Name.{IsName}
-use Rattle.meta_types.specs.FirstFault.{Key, key_at, IsFirst, ShowsNone, ShowsNoneBefore}
+use Rattle.meta_types.specs.FirstFault.{Key, key_at, IsFirstShown, ShowsNone, ShowsNoneBefore}
 use Rattle.meta_types.specs.declared.fault.Place.TheVariants.{Instruction as AtInstruction}
 use Rattle.meta_types.specs.declared.fault.DefinitionError.{DefinitionError}
 use Rattle.meta_types.specs.declared.fault.DefinitionError.TheVariants.{BadName, BadOutput, FormatMismatch, NoControl, BadDerivation, TooManyOperands, BadImmMethod}
@@ -111,7 +111,7 @@ Breaks vars formats b n MethodRule e = (e ≡ BadImmMethod n) × HasBadImmMethod
 
 -- e tells of the first rule that the instruction breaks
 abbrev pub IsFirstOwnFault : List TypeVarContent → List InstructionFormat → Builder → ℕ → DefinitionError → Type 0
-IsFirstOwnFault vars formats b n e = IsFirst rule_key (Breaks vars formats b n) e
+IsFirstOwnFault vars formats b n e = IsFirstShown rule_key (Breaks vars formats b n) e
 
 -- the instruction breaks no rule, whatever its number is
 abbrev pub IsWellMade : List TypeVarContent → List InstructionFormat → Builder → Type 0

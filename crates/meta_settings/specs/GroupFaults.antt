@@ -10,7 +10,7 @@ use Rattle.meta_types.specs.declared.fault.DefinitionError.TheVariants.{BadName,
 use Rattle.meta_settings.specs.declared.index.PresetType.{PresetType}
 use Rattle.meta_settings.specs.declared.index.PresetType.TheVariants.{BoolSetting, OtherPreset}
 use Rattle.meta_types.specs.SharedNames.{IsDuplicate, AreDistinct}
-use Rattle.meta_types.specs.FirstFault.{Key, key_at, IsFirst, ShowsNone}
+use Rattle.meta_types.specs.FirstFault.{Key, key_at, IsFirstShown, ShowsNone}
 use Rattle.meta_settings.specs.GroupDeclaration.{GroupDeclaration, Entry, entries_of, names_of, entry_count, boolean_count, byte_count}
 
 -- a byte that a description may have: one of 0x20 to 0x7e, but no double quote and no backslash
@@ -90,7 +90,7 @@ ShowsAt d g OfCounts e = (e ≡ TooManySettings g (boolean_count d) (byte_count 
 
 -- e is the first fault of the group with the number g
 abbrev pub IsFirstGroupFault : GroupDeclaration → ℕ → DefinitionError → Type 0
-IsFirstGroupFault d g e = IsFirst position_key (ShowsAt d g) e
+IsFirstGroupFault d g e = IsFirstShown position_key (ShowsAt d g) e
 
 -- the group breaks no rule, whatever its number is
 abbrev pub IsValidGroup : GroupDeclaration → Type 0

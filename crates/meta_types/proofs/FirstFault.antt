@@ -2,7 +2,7 @@
 use Rattle.std.proofs.Common.{◌≡◌, ◌<◌, ◌+◌, ◌⊎◌, inl, inr, ⊎_elim, ℕ, suc, sym, ap, ◌∙◌, subst, arith}
 use Rattle.std.proofs.lemmas.Bool.{cases_order}
 use Rattle.meta_types.specs.declared.fault.DefinitionError.{DefinitionError}
-use Rattle.meta_types.specs.FirstFault.{Key, key_at, IsEarlier, ShowsNoneBefore, IsFirst, ShowsNone}
+use Rattle.meta_types.specs.FirstFault.{Key, key_at, IsEarlier, ShowsNoneBefore, IsFirstShown, ShowsNone}
 
 -- k is one of so many parts, of so many places in its part, and of so many rules
 pub record IsIn (parts : ℕ) (places rules : ℕ → ℕ) (k : Key) : Type 0 where
@@ -41,7 +41,7 @@ module _ {P : Type 0} {key : P → Key} {Shows : P → DefinitionError → Type 
   same p q is = sym (so.known p) ∙ ap so.position_of is ∙ so.known q
 
   -- two first faults are one
-  pub one_first : (e f : DefinitionError) → IsFirst key Shows e → IsFirst key Shows f → e ≡ f
+  pub one_first : (e f : DefinitionError) → IsFirstShown key Shows e → IsFirstShown key Shows f → e ≡ f
   one_first e f a b =
       ⊎_elim
       (λ is. so.one a.position e f a.shows (subst (λ p. Shows p f) (sym (same a.position b.position is)) b.shows))

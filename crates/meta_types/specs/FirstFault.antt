@@ -1,5 +1,5 @@
 -- Faults are looked for in one order, and the first counts.
---     IsFirst key Shows e           e is the first fault
+--     IsFirstShown key Shows e      e is the first fault
 --     ShowsNone Shows               there is none
 --     ShowsNoneBefore key Shows k   none is looked for before k and shown
 use Rattle.std.specs.Prelude.{◌≡◌, ◌<◌, ◌⊎◌, ℕ}
@@ -27,7 +27,7 @@ abbrev pub ShowsNoneBefore : {P : Type 0} → (P → Key) → (P → DefinitionE
 ShowsNoneBefore {P} key Shows k = (p : P) (e : DefinitionError) → IsEarlier (key p) k → Shows p e → ⊥
 
 -- e is the first fault: it is shown at a position, and none is shown at an earlier one
-pub record IsFirst {P : Type 0} (key : P → Key) (Shows : P → DefinitionError → Type 0) (e : DefinitionError) : Type 0 where
+pub record IsFirstShown {P : Type 0} (key : P → Key) (Shows : P → DefinitionError → Type 0) (e : DefinitionError) : Type 0 where
   pub position : P
   pub shows : Shows position e
   pub first : ShowsNoneBefore key Shows (key position)
