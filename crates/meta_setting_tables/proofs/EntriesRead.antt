@@ -1,11 +1,9 @@
 -- What is read at an entry of the tables.
-use Rattle.std.proofs.Common.{◌≡◌, ℕ, ◌+◌, ◌-◌, ◌/◌, ◌^◌, ◌<◌, ◌≤◌, Bool, false, List, nat_eq, length, take, slice_get, get_or, Some, None, Option, inl, inr, refl, sym, ap, ◌∙◌, subst, bit_and, arith}
-use Rattle.std.specs.Int.{bit_at}
+use Rattle.std.proofs.Common.{◌≡◌, ℕ, ◌+◌, ◌-◌, ◌<◌, ◌≤◌, Bool, false, List, nat_eq, length, take, slice_get, slice_index_or, get_or, Some, None, Option, inl, inr, refl, sym, ap, ◌∙◌, subst, arith}
 use Rattle.std.specs.Option.{option_map}
 use Rattle.std.specs.Cmp.Lexicographic.{pointwise}
 use Rattle.std.proofs.lemmas.Bool.{cases_lt}
-use Rattle.std.proofs.lemmas.Nat.Bits.{shr_and_one}
-use Rattle.std.proofs.lemmas.Option.{slice_get-map, slice_get_within, slice_get_past, slice_get-get_or, get_or_from_slice_get, same_Some}
+use Rattle.std.proofs.lemmas.Option.{slice_get-map, slice_get_within, slice_get_past, slice_get_read, get_or_from_slice_get, same_Some}
 use Rattle.meta_lists.proofs.Places.{get_there}
 use Rattle.meta_settings.specs.declared.setting.SpecificSetting.{SpecificSetting}
 use Rattle.meta_settings.specs.declared.setting.SpecificSetting.TheVariants.{Bool as ABool, Enum as AnEnum, Num as ANum}
@@ -17,7 +15,7 @@ use Rattle.meta_setting_tables.specs.Descriptor.{IsDetailOf, preset_descriptor}
 use Rattle.meta_setting_tables.specs.DefaultBytes.{default_number, HoldsDefault}
 use Rattle.meta_unique.specs.NameSlots.{NameAnswers}
 use Rattle.meta_unique.proofs.Finding.{answers_name}
-use Rattle.meta_setting_tables.specs.GroupTables.{GroupContents, names_in, IsPresetIn, AreTablesOfGroup, IsPresetOf, IsInside, default_in, AnswersDefault}
+use Rattle.meta_setting_tables.specs.GroupTables.{GroupContents, names_in, IsPresetIn, AreTablesOfGroup, IsPresetOf, default_in, AnswersDefault}
 
 -- ---- names
 
@@ -77,15 +75,6 @@ preset_is g t e d h is = go (slice_get g.settings e) refl
 
 -- ---- defaults
 
-pub value_read : (defaults : List ℕ) (offset v : ℕ) → offset < length defaults → v ≡ get_or defaults offset v → get_or defaults offset 0 ≡ v
-value_read defaults offset v l e = get_or_from_slice_get defaults offset v 0 (slice_get-get_or defaults offset v l ∙ ap Some (sym e))
-
-pub default_bit : (defaults : List ℕ) (offset bit v : ℕ) (detail : Detail) → offset < length defaults → v ≡ get_or defaults offset v → detail ≡ BoolDetail bit → Some (bit_and (v / 2 ^ bit) 1) ≡ default_in (get_or defaults offset 0) detail
-default_bit defaults offset bit v detail l e is = ap Some (shr_and_one v bit ∙ ap (λ n. bit_at n bit) (sym (value_read defaults offset v l e))) ∙ ap (default_in (get_or defaults offset 0)) (sym is)
-
-pub default_byte : (defaults : List ℕ) (offset v : ℕ) (detail : Detail) → offset < length defaults → v ≡ get_or defaults offset v → detail ≡ NumDetail → Some v ≡ default_in (get_or defaults offset 0) detail
-default_byte defaults offset v detail l e is = ap Some (sym (value_read defaults offset v l e)) ∙ ap (default_in (get_or defaults offset 0)) (sym is)
-
 -- what is answered at the entry's descriptor is answered at whatever stands there
 pub default_at : (ds : List Descriptor) (defaults : List ℕ) (index : ℕ) (d : Descriptor) (answer : Option ℕ) → slice_get ds index ≡ Some d → answer ≡ default_in (get_or defaults d.offset 0) d.detail
     → (other : Descriptor) → slice_get ds index ≡ Some other → answer ≡ default_in (get_or defaults other.offset 0) other.detail
@@ -106,8 +95,23 @@ answers_default g t index d answer at e h = record {
   other = λ none. let b = preset_behind g t index d h at none in e ∙ ap (λ (x : Descriptor). default_in (get_or t.defaults d.offset 0) x.detail) b.2.2;
 }
 
-pub inside_bool : (size masks offset bit : ℕ) (detail : Detail) → IsInside size masks offset detail → detail ≡ BoolDetail bit → offset < size
-inside_bool size masks offset bit detail h e = (subst (IsInside size masks offset) e h).0
+-- an entry that was read stands in the list that was lent
+pub read_at : (ds lent : List Descriptor) (index : ℕ) (d : Descriptor) → lent ≡ ds → index < length lent → d ≡ slice_index_or lent index d → slice_get ds index ≡ Some d
+read_at ds lent index d is within at = ap (λ (w : List Descriptor). slice_get w index) (sym is) ∙ slice_get_read lent (length lent) index d refl within at
 
-pub inside_num : (size masks offset : ℕ) (detail : Detail) → IsInside size masks offset detail → detail ≡ NumDetail → offset < size
-inside_num size masks offset detail h e = subst (IsInside size masks offset) e h
+-- an answer at an entry of the tables
+pub record IsAnsweredAt (t : GroupContents) (index : ℕ) (d : Descriptor) (answer : Option ℕ) : Type 0 where
+  pub at : slice_get t.descriptors index ≡ Some d
+  pub is : answer ≡ default_in (get_or t.defaults d.offset 0) d.detail
+
+-- what is answered at the entry that was read is answered at an entry of the tables as they are shown
+pub answered_at : (inside shown : GroupContents) (index : ℕ) (d : Descriptor) (answer : Option ℕ) (defaults : List ℕ) → inside ≡ shown → defaults ≡ inside.defaults → slice_get inside.descriptors index ≡ Some d
+    → answer ≡ default_in (get_or defaults d.offset 0) d.detail → IsAnsweredAt shown index d answer
+answered_at inside shown index d answer defaults is own at e = subst (λ t. IsAnsweredAt t index d answer) is (record {
+  at = at;
+  is = e ∙ ap (λ (xs : List ℕ). default_in (get_or xs d.offset 0) d.detail) own;
+})
+
+-- so there is an entry
+pub some_entry : (t : GroupContents) (index : ℕ) (d : Descriptor) (answer : Option ℕ) → IsAnsweredAt t index d answer → slice_get t.descriptors index ≡ None → answer ≡ None
+some_entry t index d answer h none = let bad : Some d ≡ None = sym h.at ∙ none in absurd (cc)

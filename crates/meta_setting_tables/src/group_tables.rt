@@ -9,7 +9,7 @@ ghost use Rattle.meta_setting_tables.specs.EnumeratorList.{enumerators_of, value
 ghost use Rattle.meta_unique.specs.NameSlots.{AreNameSlots, NameAnswers, IsNameLookup};
 ghost use Rattle.meta_setting_tables.specs.FoundSetting.{entry_names, entry_count, FindsEntry};
 ghost use Rattle.meta_setting_tables.specs.PresetMasks.{AreJoined};
-ghost use Rattle.meta_setting_tables.specs.GroupTables.{names_in, IsPresetIn, AreTablesOfGroup, default_in, AnswersDefault, Applies};
+ghost use Rattle.meta_setting_tables.specs.GroupTables.{names_in, IsInside, IsPresetIn, AreTablesOfGroup, default_in, AnswersDefault, Applies};
 
 use super::default_bytes::default_bytes;
 use super::descriptor::{Descriptor, Detail};
@@ -43,6 +43,20 @@ impl Model for GroupTables {
     ghost view = { λ t. record { name = t.name; descriptors = t.descriptors.items; enumerators = t.enumerators.items; defaults = t.defaults.items; preset_masks = t.preset_masks.items; slots = t.slots.items } };
 
     ghost invariant = { λ t. AreKept t.descriptors.items t.defaults.items t.preset_masks.items t.slots.items };
+}
+
+/// What an entry is by default whose descriptor points inside these default bytes.
+fn default_of(defaults: &[u8], descriptor: &Descriptor) -> Option<u8>
+    requires { (masks : ℕ) × IsInside (length defaults.now) masks descriptor.now.offset descriptor.now.detail }
+    ensures { result ≡ default_in (slice_index_or defaults.now descriptor.now.offset 0) descriptor.now.detail }
+{
+    let offset = descriptor.offset as usize;
+    match descriptor.detail {
+        Detail::Bool { bit } => Some(defaults[offset] >> bit & 1),
+        Detail::Enum { .. } => Some(0),
+        Detail::Num => Some(defaults[offset]),
+        Detail::Preset => None,
+    }
 }
 
 /// What a setting is, where the values of an enum are added to the enumerators.
@@ -276,14 +290,7 @@ impl GroupTables {
         ensures absent { slice_get self.now.descriptors index ≡ None → result ≡ None }
         ensures meaning { (g : Layout) → AreTablesOfGroup g self.now → AnswersDefault g index result }
     {
-        let descriptor = self.descriptors.get(index as usize)?;
-        let offset = descriptor.offset as usize;
-        match descriptor.detail {
-            Detail::Bool { bit } => Some(self.defaults[offset] >> bit & 1),
-            Detail::Enum { .. } => Some(0),
-            Detail::Num => Some(self.defaults[offset]),
-            Detail::Preset => None,
-        }
+        default_of(&self.defaults, self.descriptors.get(index as usize)?)
     }
 
     /// Whether the entry with this number has the name.
