@@ -1,3 +1,5 @@
+ghost use Rattle.std.specs.Prelude.{◌≡◌, IfOk, None};
+
 use super::trouble::Trouble;
 use super::variables::Variables;
 use super::words::list;
@@ -96,7 +98,10 @@ fn instruction(
     alloc: Global,
     name: &str,
     format: FormatId,
-) -> Result<InstructionBuilder, AllocError> {
+) -> Result<InstructionBuilder, AllocError>
+    ensures inputs { IfOk result (λ b. b.operands_in ≡ None) }
+    ensures outputs { IfOk result (λ b. b.operands_out ≡ None) }
+{
     let (name, doc) = (Text::new(alloc, name)?, Text::new(alloc, "")?);
     Ok(InstructionBuilder::new(alloc, name, doc, format))
 }

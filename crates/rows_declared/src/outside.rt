@@ -17,6 +17,13 @@ pub(crate) struct Outside {
     pub(crate) failing_write: u64,
 }
 
+/// Which calls fail.
+#[derive(Clone, Copy)]
+pub(crate) enum Fails {
+    Read,
+    Write,
+}
+
 impl Outside {
     /// Nothing fails, and there is room for 8,192 bytes.
     pub(crate) fn well() -> Outside {
@@ -29,20 +36,14 @@ impl Outside {
         }
     }
 
-    /// The same, where the read with this number fails.
-    pub(crate) fn with_failing_read(self, number: u64) -> Outside {
-        Outside {
-            failing_read: number,
-            ..self
+    /// The same, where the call with this number fails.
+    pub(crate) fn failing(self, fails: Fails, number: u64) -> Outside {
+        let mut outside = self;
+        match fails {
+            Fails::Read => outside.failing_read = number,
+            Fails::Write => outside.failing_write = number,
         }
-    }
-
-    /// The same, where the write with this number fails.
-    pub(crate) fn with_failing_write(self, number: u64) -> Outside {
-        Outside {
-            failing_write: number,
-            ..self
-        }
+        outside
     }
 
     fn source(self, alloc: Global, input: &[u8]) -> Result<MemorySource, Trouble> {

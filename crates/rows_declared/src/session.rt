@@ -1,6 +1,6 @@
 use super::case::Case;
 use super::escapes::decoded;
-use super::outside::{Outside, Ran, run_over};
+use super::outside::{Fails, Outside, Ran, run_over};
 use super::trouble::Trouble;
 use super::words::number;
 use super::{group_answers, opcode_answers, questions};
@@ -102,7 +102,8 @@ impl Asked {
     fn each_failing(
         &self,
         alloc: Global,
-        outsides: impl Fn(u64) -> Outside,
+        outside: Outside,
+        fails: Fails,
         count: u64,
         input: &[u8],
         out: &mut String,
@@ -112,7 +113,7 @@ impl Asked {
             if failing > 0 {
                 out.push_str("; ")?;
             }
-            self.run(alloc, outsides(failing), &query, input, out)?;
+            self.run(alloc, outside.failing(fails, failing), &query, input, out)?;
         }
         Ok(())
     }
@@ -240,12 +241,10 @@ impl Session {
         match words {
             ["run", rest @ ..] => asked.run(alloc, outside, &run_words(alloc, rest)?, input, out),
             ["reads", count] => {
-                let reads = |failing| outside.with_failing_read(failing);
-                asked.each_failing(alloc, reads, number(count)?, input, out)
+                asked.each_failing(alloc, outside, Fails::Read, number(count)?, input, out)
             }
             ["writes", count] => {
-                let writes = |failing| outside.with_failing_write(failing);
-                asked.each_failing(alloc, writes, number(count)?, input, out)
+                asked.each_failing(alloc, outside, Fails::Write, number(count)?, input, out)
             }
             _ => Err(Trouble::NoCase),
         }

@@ -4,11 +4,11 @@ use Rattle.meta_lists.proofs.Pushed.{one_longer}
 use Rattle.meta_opcode_tables.proofs.Describing.{one_more}
 use Rattle.meta_opcode_tables.proofs.operand_constraints.constraints_of.Goals as goal
 
-pub next_constraint-requires-clause-held : goal.next_constraint-requires-clause-held
-next_constraint-requires-clause-held c = c.requires.held _ _ (slice_get_read c.args.variables.now _ _ _ refl c.loop-place-test.true c.index-variables-place.is)
+pub next_constraint-constraint-requires-clause-held : goal.next_constraint-constraint-requires-clause-held
+next_constraint-constraint-requires-clause-held c = c.requires.held _ _ (slice_get_read c.args.variables.now _ _ _ refl c.loop-place-test.true c.index-variables-place.is)
 
-pub next_constraint-requires-clause-constrained : goal.next_constraint-requires-clause-constrained
-next_constraint-requires-clause-constrained c = c.requires.constrained _ _ (slice_get_read c.args.variables.now _ _ _ refl c.loop-place-test.true c.index-variables-place.is)
+pub next_constraint-constraint-requires-clause-constrained : goal.next_constraint-constraint-requires-clause-constrained
+next_constraint-constraint-requires-clause-constrained c = c.requires.constrained _ _ (slice_get_read c.args.variables.now _ _ _ refl c.loop-place-test.true c.index-variables-place.is)
 
 pub loop-place-preserved : goal.loop-place-preserved
 loop-place-preserved c =
@@ -19,8 +19,8 @@ loop-place-preserved c =
       count = omega arith;
       described = one_more _ _ _ _ _ _ added _ _ _ count
           (slice_get_read c.args.variables.now _ _ _ refl c.loop-place-test.true c.index-variables-place.is)
-          c.next_constraint.ensures c.loop-place.invariant.described;
-      before = c.next_constraint.ensures;
+          c.next_constraint-constraint.ensures c.loop-place.invariant.described;
+      before = c.next_constraint-constraint.ensures;
     }
 
 pub returns : goal.returns
