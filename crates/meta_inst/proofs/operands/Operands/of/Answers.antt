@@ -1,4 +1,4 @@
-use Rattle.std.proofs.Common.{◌++◌, List, ℕ, ap, sym, ◌∙◌, subst}
+use Rattle.std.proofs.Common.{◌++◌, List, ℕ, ap, sym, ◌∙◌, subst, rules}
 use Rattle.meta_operands.specs.Operand.{variables_of}
 use Rattle.meta_operands.specs.declared.operand.Operand.{Operand}
 use Rattle.meta_inst.specs.Builder.{inputs_of, outputs_of}
@@ -13,3 +13,6 @@ returns-clause-fits c = λ vars fits.
     ∙ ap (λ (xs : List ℕ). xs ++ variables_of c.inputs.result.now) (c.in_ok-push_variables.ensures ∙ ap (λ (xs : List ℕ). xs ++ variables_of c.outputs.result.now) c.in_ok-variables.ensures.items ∙ ap variables_of c.outputs.ensures)
     ∙ ap (λ (os : List Operand). variables_of (outputs_of c.args.builder.now) ++ variables_of os) c.inputs.ensures))
     (are_of_both vars (variables_of (outputs_of c.args.builder.now)) (variables_of (inputs_of c.args.builder.now)) fits.outputs fits.inputs)
+
+pub invariant_of-result : goal.invariant_of-result
+invariant_of-result c = search rules
