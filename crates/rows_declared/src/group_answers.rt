@@ -150,6 +150,11 @@ pub(crate) fn setting(
     push_found(tables.find_setting(group, name), counted, out)
 }
 
+/// Writes whether a preset applied, and the bytes.
+fn push_applied(applied: bool, bytes: &[u8], out: &mut String) -> Result<(), AllocError> {
+    write!(out, "{applied} {bytes:?}")
+}
+
 /// Writes whether the entry is a preset of the group that applies to these bytes, and the bytes after it.
 pub(crate) fn apply(
     alloc: Global,
@@ -159,7 +164,7 @@ pub(crate) fn apply(
     words: &str,
     out: &mut String,
 ) -> Result<(), Trouble> {
-    let mut bytes: Vec<u8> = numbers(alloc, words)?;
+    let mut bytes = numbers(alloc, words)?;
     let applied = tables.apply_preset(group, preset, &mut bytes);
-    Ok(write!(out, "{applied} {bytes:?}")?)
+    Ok(push_applied(applied, &bytes, out)?)
 }

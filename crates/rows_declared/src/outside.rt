@@ -88,14 +88,25 @@ fn run_between(
     source: &mut MemorySource,
     sink: &mut MemorySink,
 ) -> Result<Ran, Trouble> {
-    let status = run(alloc, words, declarations, source, sink);
-    if status == Status::OutOfMemory {
-        return Err(Trouble::OutOfMemory);
+    match run(alloc, words, declarations, source, sink) {
+        Status::OutOfMemory => Err(Trouble::OutOfMemory),
+        status => Ok(left(alloc, status, source, sink)?),
     }
+}
+
+/// How a run ended with this status, and what it left.
+fn left(
+    alloc: Global,
+    status: Status,
+    source: &mut MemorySource,
+    sink: &MemorySink,
+) -> Result<Ran, AllocError> {
+    let next = next_byte(source);
+    let taken = sink.bytes().to_vec(alloc)?;
     Ok(Ran {
         status,
-        taken: sink.bytes().to_vec(alloc)?,
-        next: next_byte(source),
+        taken,
+        next,
     })
 }
 

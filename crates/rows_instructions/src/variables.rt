@@ -152,6 +152,22 @@ impl<'l> Session<'l> {
         self.keep(word, tv, out)
     }
 
+    /// The variable that is derived from one by the function of this name, which is counted.
+    fn derived_by(&mut self, tv: TypeVar, function: &str) -> Result<TypeVar, Trouble> {
+        let tv = self.derived(tv, function_of(function)?, false)?;
+        self.is_added(tv)?;
+        Ok(tv)
+    }
+
+    /// The same by functions with commas between them, the first of which is taken first.
+    fn derived_by_all(&mut self, tv: TypeVar, functions: &str) -> Result<TypeVar, Trouble> {
+        let mut tv = tv;
+        for function in functions.split(',') {
+            tv = self.derived_by(tv, function)?;
+        }
+        Ok(tv)
+    }
+
     /// `derive X Y FUNCTIONS`: the variable that is derived from one by these functions, the first of which is taken first.
     pub(crate) fn derive_by_all(
         &mut self,
@@ -161,11 +177,7 @@ impl<'l> Session<'l> {
         let [word, from, functions] = words else {
             return Err(Trouble::BadLine);
         };
-        let mut tv = self.variable(from)?;
-        for function in functions.split(',') {
-            tv = self.derived(tv, function_of(function)?, false)?;
-            self.is_added(tv)?;
-        }
+        let tv = self.derived_by_all(self.variable(from)?, functions)?;
         self.keep(word, tv, out)
     }
 
