@@ -40,7 +40,7 @@ compare() {
         'BEGIN { printf "%s: %.2f times the size, %.2f times the time\n", subject, b / a, large / small }'
 }
 
-compare 0 instructions 127 255 2001 || exit 1
+compare 0 instructions 2047 4095 101 || exit 1
 compare 0 settings 32767 65535 31 || exit 1
 compare 1 FormatMismatch 50000 100000 101 || exit 1
 compare 1 NoControl 50000 100000 11 || exit 1

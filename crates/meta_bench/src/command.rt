@@ -3,11 +3,14 @@ ghost use Rattle.std.specs.Prelude.{◌≡◌, ◌<◌, IfSome, length};
 use super::inputs::Shown;
 use meta_types::Text;
 
+/// The most instructions of one set.
+const MOST_INSTRUCTIONS: u16 = 4095;
+
 /// What is declared, and how much of it.
 #[derive(Clone, Copy, Debug, PartialEq, Eq)]
 pub(crate) enum Subject {
     /// So many instructions.
-    Instructions(u8),
+    Instructions(u16),
     /// One group of so many settings and presets.
     Settings(u16),
     /// One instruction with inputs of so many variables, which shows a fault.
@@ -22,10 +25,15 @@ pub(crate) struct Command {
 }
 
 impl Subject {
+    /// So many instructions, where there may be so many.
+    fn of_instructions(count: u16) -> Option<Subject> {
+        (count <= MOST_INSTRUCTIONS).then_some(Subject::Instructions(count))
+    }
+
     /// The subject of this name and size.
     fn of(name: &str, size: &str) -> Option<Subject> {
         match name {
-            "instructions" => Some(Subject::Instructions(size.parse().ok()?)),
+            "instructions" => Subject::of_instructions(size.parse().ok()?),
             "settings" => Some(Subject::Settings(size.parse().ok()?)),
             _ => Some(Subject::Inputs(Shown::of(name)?, size.parse().ok()?)),
         }

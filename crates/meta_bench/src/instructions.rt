@@ -58,11 +58,11 @@ fn instruction(
     alloc: Global,
     tv: TypeVar,
     format: FormatId,
-    number: u8,
+    number: u16,
 ) -> Result<InstructionBuilder, AllocError>
     ensures { IfOk result (λ b. (vars : List TypeVarContent) (formats : List InstructionFormat) → tv < length vars → format < length formats → FitsBuilder vars formats b) }
 {
-    let (name, doc) = (numbered(alloc, u16::from(number))?, Text::new(alloc, "")?);
+    let (name, doc) = (numbered(alloc, number)?, Text::new(alloc, "")?);
     let builder = InstructionBuilder::new(alloc, name, doc, format);
     let builder = builder.operands_in(operands(alloc, tv, 7)?);
     Ok(builder.operands_out(operands(alloc, tv, 1)?))
@@ -85,7 +85,7 @@ fn add_instruction(
     instructions: &mut AllInstructions,
     tv: TypeVar,
     format: FormatId,
-    number: u8,
+    number: u16,
 ) -> Result<(), AllocError>
     ensures added { OnOk result (length instructions.new ≡ length instructions.old + 1) }
     ensures fits { OnOk result ((vars : List TypeVarContent) (formats : List InstructionFormat) → tv < length vars → format < length formats → Fits vars formats instructions.old → Fits vars formats instructions.new) }
@@ -97,7 +97,10 @@ fn add_instruction(
 
 /// Declarations of so many instructions `i0`, `i1` and so on, each of seven inputs and one output, all of the variable `Int`,
 /// and of no settings.
-pub(crate) fn instruction_declarations(alloc: Global, count: u8) -> Result<Declarations, AllocError>
+pub(crate) fn instruction_declarations(
+    alloc: Global,
+    count: u16,
+) -> Result<Declarations, AllocError>
     ensures instructions { IfOk result (λ d. length d.set.instructions ≡ count) }
     ensures groups { IfOk result (λ d. d.groups ≡ []) }
 {

@@ -28,7 +28,7 @@ fn generated(
 }
 
 /// What the tables of instructions hold.
-fn about_instructions(alloc: Global, count: u8, tables: &Tables) -> Result<String, AllocError> {
+fn about_instructions(alloc: Global, count: u16, tables: &Tables) -> Result<String, AllocError> {
     let opcodes = tables.opcode_count();
     let type_sets = tables.type_sets().len();
     let constraints = tables.operand_constraints().len();

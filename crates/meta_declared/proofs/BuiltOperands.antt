@@ -11,7 +11,7 @@ use Rattle.meta_inst.specs.Content.{operand_list, control_kept, ctrl_number}
 use Rattle.meta_inst.specs.Control.{IsControl}
 use Rattle.meta_inst.specs.Instruction.{Instruction}
 use Rattle.meta_inst.specs.InstructionSet.{InstructionSet, root_sets, instruction_in_set, FitsBuilder}
-use Rattle.meta_inst.specs.Operands.{OperandList, AreOf, instruction_of_operands}
+use Rattle.meta_inst.specs.Operands.{OperandList, AreOf, SecondIsOf, instruction_of_operands}
 use Rattle.meta_inst.specs.declared.polymorphic.PolymorphicInfo.{PolymorphicInfo}
 use Rattle.meta_inst.proofs.Listed.{listed, listed_of}
 use Rattle.meta_declared.specs.BuiltInstructions.{IsInstructionOf}
@@ -49,3 +49,7 @@ module _ (d : InstructionSet) (b : Builder) (c : Built) (is : IsInstructionOf d 
 
   pub control_of_registry : IsOfRegistry d.vars (ctrl_number c.polymorphic_info)
   control_of_registry = number_of d.vars c.polymorphic_info is.control.of_registry
+
+  -- the second control, if one is named, is of the registry
+  pub second_is : FitsBuilder d.vars d.formats b → SecondIsOf d.vars c.value_operands.second
+  second_is fits = subst (λ (o : OperandList). SecondIsOf d.vars o.second) (sym operands_are) fits.second

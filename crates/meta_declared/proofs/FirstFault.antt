@@ -17,10 +17,10 @@ module _ (d : InstructionSet) where
 
   -- the needed sets are too many, or they are few
   module _ (clean : IsCleanBefore d OfTypeSets) (sets : List TypeSetParts) (needed : AreNeededSets d sets) where
-    pub first_of_type_sets : 255 < length sets → IsFirstFault d (TooManyTypeSets (length sets))
+    pub first_of_type_sets : 4095 < length sets → IsFirstFault d (TooManyTypeSets (length sets))
     first_of_type_sets many = record { position = OfTypeSets; shows = (_, refl, (sets, needed, refl, many)); first = clean }
 
-    pub valid : length sets ≤ 255 → IsValid d
+    pub valid : length sets ≤ 4095 → IsValid d
     valid few = none_left (searchable d) (next_part (searchable d) 3 (next_place (searchable d) 3 0 (passed (searchable d) OfTypeSets clean (λ e s.
         let counted = one_count d s.2.0 sets s.2.1 needed in
         let is = s.2.2 in
@@ -28,5 +28,5 @@ module _ (d : InstructionSet) where
         omega arith))))
 
   -- valid declarations have few opcodes
-  pub few_opcodes : IsValid d → length d.instructions ≤ 255
-  few_opcodes valid = ⊎_elim (λ l. absurd (valid OfOpcodes _ (refl, l))) (λ l. l) (cases_lt 255 (length d.instructions))
+  pub few_opcodes : IsValid d → length d.instructions ≤ 4095
+  few_opcodes valid = ⊎_elim (λ l. absurd (valid OfOpcodes _ (refl, l))) (λ l. l) (cases_lt 4095 (length d.instructions))

@@ -178,9 +178,9 @@ HasMany x = (2 < x.num_block_operands) ⊎ (1 < x.num_raw_block_operands)
 pub has_few : (d : InstructionSet) (f : ℕ) (x : InstructionFormat) → slice_get d.formats f ≡ Some x → (HasMany x → ⊥) → HasTooManyBlocks d f → ⊥
 has_few d f x at few many = few (subst HasMany (same_Some many.0 x (sym many.1 ∙ at)) many.2)
 
--- what holds of equal lists and numbers
-pub carry : (P : List UsedFormat → ℕ → Type 0) (xs ys : List UsedFormat) (f g : ℕ) → xs ≡ ys → f ≡ g → P xs f → P ys g
-carry P xs ys f g e h p = subst (λ (z : List UsedFormat). P z g) e (subst (P xs) h p)
+-- what holds of equal tables and numbers
+pub of_here : (P : List InstructionFormat → ℕ → Type 0) (xs ys : List InstructionFormat) (f g : ℕ) → xs ≡ ys → f ≡ g → P xs f → P ys g
+of_here P xs ys f g e h p = subst (λ (z : List InstructionFormat). P z g) e (subst (P xs) h p)
 
 -- one more format of the table
 pub of_table_more : (formats : List InstructionFormat) (used more : List UsedFormat) (new : UsedFormat) → AreOfTable formats used → IsOfTable formats new → more ≡ used ++ new ∷ [] → AreOfTable formats more

@@ -8,6 +8,8 @@ use Rattle.meta_typevar.specs.Compared.{are_equal}
 use Rattle.meta_typevar.specs.TypeSetParts.{TypeSetParts, IsTypeSet}
 use Rattle.meta_typevar.specs.Registry.{HoldTypeSets}
 use Rattle.meta_typevar.proofs.EqualSets.{one_set}
+use Rattle.meta_inst.specs.Instruction.{controls_of}
+use Rattle.meta_inst.specs.Which.{Which, First, Second}
 use Rattle.meta_inst.specs.InstructionSet.{InstructionSet, root_sets, instruction_in_set}
 use Rattle.meta_inst.specs.Faults.{IsControlSet, IsFreeSet, NeedsSetAt}
 use Rattle.meta_unique.specs.Interning.{IsIndexOf, IsNew}
@@ -90,16 +92,21 @@ behind l q k p m r before not = elim (cases_order m k) [
 pub needs_set : (d : InstructionSet) (k p : ℕ) (s : TypeSetParts) → NeedsInOrder d k p s → NeedsSetAt d k s
 needs_set d k p s n = record { user = n.user; at = n.at; control = n.needs.control; is_control = n.needs.is_control; needs = which p n.needs.needs }
   where
-    which : (p : ℕ) → NeedsUnder (root_sets d) (instruction_in_set d n.user) n.needs.control p s → IsControlSet (root_sets d) n.needs.control s ⊎ IsFreeSet (root_sets d) (instruction_in_set d n.user) n.needs.control s
-    which zero h = inl h
-    which (suc k) h = inr h.0
+    which : (p : ℕ) → NeedsUnder (root_sets d) (instruction_in_set d n.user) n.needs.control p s → ((a : Which) × IsControlSet (root_sets d) (controls_of (instruction_in_set d n.user) n.needs.control) a s) ⊎ IsFreeSet (root_sets d) (instruction_in_set d n.user) n.needs.control s
+    which zero h = inl (First, h)
+    which (suc zero) h = inl (Second, h)
+    which (suc (suc k)) h = inr h.0
 
 -- and a need has its place
 set_needed : (d : InstructionSet) (k : ℕ) (s : TypeSetParts) → NeedsSetAt d k s → (p : ℕ) × NeedsInOrder d k p s
 set_needed d k s n = ⊎_elim
-    (λ c. (0, record { user = n.user; at = n.at; needs = record { control = n.control; is_control = n.is_control; needs = c } }))
-    (λ f. (suc f.place, record { user = n.user; at = n.at; needs = record { control = n.control; is_control = n.is_control; needs = (f, refl) } }))
+    (λ c. of_control c.0 c.1)
+    (λ f. (suc (suc f.place), record { user = n.user; at = n.at; needs = record { control = n.control; is_control = n.is_control; needs = (f, refl) } }))
     n.needs
+  where
+    of_control : (a : Which) → IsControlSet (root_sets d) (controls_of (instruction_in_set d n.user) n.control) a s → (p : ℕ) × NeedsInOrder d k p s
+    of_control First c = (0, record { user = n.user; at = n.at; needs = record { control = n.control; is_control = n.is_control; needs = c } })
+    of_control Second c = (1, record { user = n.user; at = n.at; needs = record { control = n.control; is_control = n.is_control; needs = c } })
 
 -- the sets that are needed before a place of an instruction, each once, in order of first need
 pub record IsInterned (d : InstructionSet) (k p : ℕ) (sets : List TypeSetParts) : Type 0 where
@@ -185,7 +192,7 @@ module _ (d : InstructionSet) where
     -- a set that is needed is the set of a variable
     type_set : (k p : ℕ) (s : TypeSetParts) → NeedsInOrder d k p s → IsTypeSet s
     type_set k p s n = ⊎_elim
-        (λ c. subst IsTypeSet (sym c.set) (types c.variable.root))
+        (λ c. subst IsTypeSet (sym c.1.set) (types c.1.variable.root))
         (λ f. subst IsTypeSet (sym f.set) (types f.variable.root))
         (needs_set d k p s n).needs
 

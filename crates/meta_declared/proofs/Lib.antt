@@ -2,6 +2,7 @@
 mod Rules
 mod NamesSoFar
 mod FormatSearch
+mod FormatPlaces
 mod Counted
 mod ByName
 pub mod FirstFault

@@ -21,11 +21,11 @@ pub record BuiltDeclarations : Type 0 where
 
 -- the declarations show no fault, each instruction and each group is built in its order, the formats are those in use by
 -- their names, and the type sets are those that the
--- instructions need, each once, in order of first need, at most 255
+-- instructions need, each once, in order of first need, at most 4,095
 pub record AreBuilt (b : BuiltDeclarations) : Type 0 where
   pub valid : AreValid b.declared
   pub instructions : AreInstructionsOf b.declared.set b.instructions
   pub formats : AreFormatsByName b.declared.set b.formats
   pub groups : b.groups ≡ map built_of b.declared.groups
   pub type_sets : AreSetsByNeed b.declared.set b.type_sets
-  pub few : length b.type_sets ≤ 255
+  pub few : length b.type_sets ≤ 4095

@@ -35,18 +35,19 @@ pub record IsControlSetOf (vars : List TypeVarContent) (control : Option ℕ) (s
   pub controls : control ≡ Some variable
   pub set : IsSetOf vars variable s
 
--- s is the set of the variable with the number n, which is underived and doesn't control, and s hasn't exactly one type
-pub record IsFreeSetOf (vars : List TypeVarContent) (control : Option ℕ) (n : ℕ) (s : TypeSetParts) : Type 0 where
+-- s is the set of the variable with the number n, which is underived and none of the controls, and s hasn't exactly one type
+pub record IsFreeSetOf (vars : List TypeVarContent) (control second : Option ℕ) (n : ℕ) (s : TypeSetParts) : Type 0 where
   pub other : control ≢ Some n
+  pub not_second : second ≢ Some n
   pub underived : (variable_at vars n).chain ≡ []
   pub set : IsSetOf vars n s
   pub several : HasOne s → ⊥
 
 -- s is such a set of the variable at this place
-pub record IsFreeSetAt (vars : List TypeVarContent) (control : Option ℕ) (numbers : List ℕ) (place : ℕ) (s : TypeSetParts) : Type 0 where
+pub record IsFreeSetAt (vars : List TypeVarContent) (control second : Option ℕ) (numbers : List ℕ) (place : ℕ) (s : TypeSetParts) : Type 0 where
   pub variable : ℕ
   pub at : slice_get numbers place ≡ Some variable
-  pub free : IsFreeSetOf vars control variable s
+  pub free : IsFreeSetOf vars control second variable s
 
 -- all sets that the instruction needs are added, in the order of the places where it needs them
 pub record AddsNeeded (sets : Sets) (i : Instruction) (before after : List TypeSetParts) : Type 0 where

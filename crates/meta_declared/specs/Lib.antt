@@ -1,5 +1,6 @@
 pub mod Searched
 pub mod FormatsUsed
+pub mod FormatsIndexed
 pub mod FormatsByName
 pub mod Needed
 pub mod Interned

@@ -9,7 +9,8 @@ use Rattle.meta_typevar.specs.declared.content.TypeVarContent.{TypeVarContent}
 use Rattle.meta_typevar.specs.declared.masks.Masks.{Masks}
 use Rattle.meta_inst.specs.Builder.{Builder}
 use Rattle.meta_typevar.specs.Variable.{Variable, Sets}
-use Rattle.meta_inst.specs.Instruction.{Instruction}
+use Rattle.meta_inst.specs.Which.{First, Second}
+use Rattle.meta_inst.specs.Instruction.{Instruction, controls_of}
 use Rattle.meta_inst.specs.Control.{IsControl}
 use Rattle.meta_inst.specs.InstructionSet.{InstructionSet, root_sets, instruction_in_set}
 use Rattle.meta_inst.specs.Faults.{IsAt, IsControlSet, IsFreeSet, AreNeededSets}
@@ -27,11 +28,12 @@ pub record StandForSets (masks : List Masks) (sets : List TypeSetParts) : Type 0
   pub count : length masks ≡ length sets
   pub each : (k : ℕ) (s : TypeSetParts) → slice_get sets k ≡ Some s → (m : Masks) × (slice_get masks k ≡ Some m) × AreMasksOf s m
 
--- at this place of its needs the instruction needs the set under this control: at 0 as the set of the control, and at k + 1 as
--- that of operand k, where it is free
+-- at this place of its needs the instruction needs the set under this control: at 0 as the set of the control, at 1 as that of its
+-- second control, and at k + 2 as that of operand k, where it is free
 abbrev pub NeedsUnder : Sets → Instruction → Option Variable → ℕ → TypeSetParts → Type 0
-NeedsUnder sets i control zero s = IsControlSet sets control s
-NeedsUnder sets i control (suc k) s = (free : IsFreeSet sets i control s) × (free.place ≡ k)
+NeedsUnder sets i control zero s = IsControlSet sets (controls_of i control) First s
+NeedsUnder sets i control (suc zero) s = IsControlSet sets (controls_of i control) Second s
+NeedsUnder sets i control (suc (suc k)) s = (free : IsFreeSet sets i control s) × (free.place ≡ k)
 
 -- the instruction needs the set at this place of its needs, under its control
 pub record NeedsAtPlace (sets : Sets) (i : Instruction) (place : ℕ) (s : TypeSetParts) : Type 0 where

@@ -23,11 +23,11 @@ use meta_unique::UniqueTable;
 use std::alloc::Global;
 use std::marker::Model;
 
-/// The most instructions that may be declared: opcodes have the numbers 1 to 255.
-const MAX_OPCODES: usize = 255;
+/// The most instructions that may be declared: opcodes have the numbers 1 to 4,095.
+const MAX_OPCODES: usize = 4095;
 
-/// The most type sets that may be needed: their places in tables have 8 bits, and 255 stands for none.
-const MAX_TYPE_SETS: usize = 255;
+/// The most type sets that may be needed: their places in tables have 16 bits, and 65,535 stands for none.
+const MAX_TYPE_SETS: usize = 4095;
 
 /// What is built of an instruction set: its instructions, the formats that they use, and the type sets that they need.
 #[derive(Drop)]
@@ -68,7 +68,7 @@ fn build_set<'d>(alloc: Global, set: &'d DeclaredSet) -> Result<BuiltSet<'d>, De
     ensures instructions { IfOk result (λ b. AreInstructionsOf set.now b.instructions.items) }
     ensures formats { IfOk result (λ b. AreFormatsByName set.now b.formats.items) }
     ensures type_sets { IfOk result (λ b. AreSetsByNeed set.now b.type_sets) }
-    ensures few { IfOk result (λ b. length b.type_sets ≤ 255) }
+    ensures few { IfOk result (λ b. length b.type_sets ≤ 4095) }
 {
     let count = set.instructions().len();
     if count > MAX_OPCODES {
@@ -156,11 +156,11 @@ impl<'d> Built<'d> {
         &self.groups
     }
 
-    /// The type sets that the instructions need, each once, in order of first need. There are at most 255.
+    /// The type sets that the instructions need, each once, in order of first need. There are at most 4,095.
     pub fn type_sets(&self) -> &UniqueTable<'d, TypeSet>
         ensures type_sets { result.now ≡ self.now.type_sets }
         ensures needed { AreSetsByNeed self.now.declared.set self.now.type_sets }
-        ensures few { length self.now.type_sets ≤ 255 }
+        ensures few { length self.now.type_sets ≤ 4095 }
     {
         &self.set.type_sets
     }

@@ -1,13 +1,14 @@
-ghost use Rattle.std.specs.Prelude.{◌≡◌, ◌≢◌, ◌↔◌, ◌<◌, ◌⊎◌, ℕ, List, IsTrue, MatchBool, IfOk, IfErr, OnOk, IfSome, IfNone, length, slice_get, Some};
+ghost use Rattle.std.specs.Prelude.{◌≡◌, ◌≢◌, ◌↔◌, ◌<◌, ◌⊎◌, ℕ, List, IsTrue, IfOk, IfErr, OnOk, length, slice_get, Some};
 ghost use Rattle.meta_types.specs.declared.fault.DefinitionError.TheVariants.{OutOfMemory};
 ghost use Rattle.meta_typevar.specs.declared.content.TypeVarContent.{TypeVarContent};
 ghost use Rattle.meta_inst.specs.Builder.{Builder};
 ghost use Rattle.meta_inst.specs.InstructionSet.{InstructionSet};
 ghost use Rattle.meta_inst.specs.Faults.{FormatNameRule, OfFormat, OfTypeSets, IsFirstFault};
-ghost use Rattle.meta_declared.specs.FormatsUsed.{AreUsedBefore, AreApart, IsAmong, IsNotAmong, IsOfTable, AreOfTable, ClashIn, ClashesWithNone, IsFirstToClash};
+ghost use Rattle.meta_declared.specs.FormatsUsed.{AreUsedBefore, AreApart, AreOfTable};
 ghost use Rattle.meta_declared.specs.FormatsByName.{AreByName};
 ghost use Rattle.meta_declared.specs.Searched.{IsCleanBefore};
 
+use super::formats_in_use::FormatsInUse;
 use meta_inst::AllInstructions;
 use meta_operands::{FormatId, FormatStructure, FormatTable, InstructionFormat};
 use meta_types::{DefinitionError, Place, is_name};
@@ -24,19 +25,7 @@ const MAX_RAW_BLOCKS: u32 = 1;
 #[derive(Drop)]
 pub(crate) struct UsedFormat {
     pub(crate) id: FormatId,
-    structure: FormatStructure,
-}
-
-/// Whether the format is one of these.
-fn is_among(used: &[UsedFormat], id: FormatId) -> bool
-    ensures { MatchBool result (IsAmong used.now id) (IsNotAmong used.now id) }
-{
-    for format in used {
-        if format.id == id {
-            return true;
-        }
-    }
-    false
+    pub(crate) structure: FormatStructure,
 }
 
 /// Whether the format has more blocks than a format may.
@@ -44,30 +33,6 @@ fn has_too_many_blocks(format: &InstructionFormat) -> bool
     ensures { IsTrue result ↔ ((2 < format.now.num_block_operands) ⊎ (1 < format.now.num_raw_block_operands)) }
 {
     format.num_block_operands > MAX_BLOCKS || format.num_raw_block_operands > MAX_RAW_BLOCKS
-}
-
-/// Whether two formats can't both be in use: they share their name or their structure.
-fn clash(formats: &FormatTable, one: &UsedFormat, other: &UsedFormat) -> bool
-    requires one { IsOfTable formats.now one.now }
-    requires other { IsOfTable formats.now other.now }
-    ensures { IsTrue result ↔ ClashIn formats.now one.now.id other.now.id }
-{
-    formats.get(one.id).name == formats.get(other.id).name || one.structure == other.structure
-}
-
-/// The first of these that the format can't stand beside.
-fn first_clash(formats: &FormatTable, used: &[UsedFormat], format: &UsedFormat) -> Option<FormatId>
-    requires format { IsOfTable formats.now format.now }
-    requires used { AreOfTable formats.now used.now }
-    ensures none { IfNone result (ClashesWithNone formats.now used.now format.now.id) }
-    ensures some { IfSome result (λ g. IsFirstToClash formats.now used.now format.now.id g) }
-{
-    for earlier in used {
-        if clash(formats, format, earlier) {
-            return Some(earlier.id);
-        }
-    }
-    None
 }
 
 /// The formats in use, in the order of their first uses. They are refused by the first fault that one shows, in this order: that
@@ -85,10 +50,10 @@ pub(crate) fn used_formats(
     ensures of_table { IfOk result (λ v. AreOfTable formats.now v.items) }
     ensures apart { IfOk result (λ v. AreApart formats.now v.items) }
 {
-    let mut used: Vec<UsedFormat> = Vec::new(alloc);
+    let mut used = FormatsInUse::new(alloc, formats)?;
     for place in 0..instructions.len() {
         let id = instructions.get(place).format();
-        if is_among(&used, id) {
+        if used.contains(id) {
             continue;
         }
         let format = formats.get(id);
@@ -101,12 +66,12 @@ pub(crate) fn used_formats(
         }
         let structure = format.structure(alloc)?;
         let this = UsedFormat { id, structure };
-        if let Some(earlier) = first_clash(formats, &used, &this) {
+        if let Some(earlier) = used.first_clash(&this) {
             return Err(DefinitionError::FormatClash(number, u64::from(earlier.number())));
         }
-        used.push(this)?;
+        used.add(alloc, this)?;
     }
-    Ok(used)
+    Ok(used.into_used())
 }
 
 /// The formats, by their names, no two of which are the same.

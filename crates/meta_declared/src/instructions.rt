@@ -29,7 +29,7 @@ fn built_instruction<'d>(
     place: usize,
     names: &mut EarlierNames<'d>,
 ) -> Result<InstructionContent, DefinitionError>
-    requires few { length set.now.instructions ≤ 255 }
+    requires few { length set.now.instructions ≤ 4095 }
     requires within { place < length set.now.instructions }
     requires kept { names.old ≡ take place (names_of set.now) }
     requires clean { IsCleanBefore set.now (OfInstruction place NameRule) }
@@ -57,7 +57,7 @@ pub(crate) fn built_instructions(
     alloc: Global,
     set: &DeclaredSet,
 ) -> Result<Vec<InstructionContent>, DefinitionError>
-    requires few { length set.now.instructions ≤ 255 }
+    requires few { length set.now.instructions ≤ 4095 }
     requires clean { IsCleanBefore set.now (OfInstruction 0 NameRule) }
     ensures clean { OnOk result (IsCleanBefore set.now (OfFormat 0 FormatNameRule)) }
     ensures built { IfOk result (λ v. AreInstructionsOf set.now v.items) }

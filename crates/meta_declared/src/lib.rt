@@ -7,6 +7,7 @@ mod built;
 mod declarations;
 mod declared_set;
 mod formats;
+mod formats_in_use;
 mod instructions;
 mod laws;
 mod needed;

@@ -1,6 +1,6 @@
 ghost use Rattle.std.specs.Prelude.{◌≡◌, ◌<◌, ◌≤◌, ℕ, IfOk, OnOk, length, Some};
 ghost use Rattle.meta_typevar.specs.Registry.{sets_of, variable_at, IsRegistry};
-ghost use Rattle.meta_inst.specs.Operands.{AreOf, instruction_of_operands};
+ghost use Rattle.meta_inst.specs.Operands.{AreOf, instruction_of_operands, SecondIsOf};
 ghost use Rattle.meta_inst.specs.Control.{IsControl};
 ghost use Rattle.meta_inst.specs.InstructionSet.{Fits};
 ghost use Rattle.meta_inst.specs.Content.{ctrl_number};
@@ -43,17 +43,21 @@ fn intern_control<'d>(
     }
 }
 
-/// Adds the set of the variable, where it is underived, doesn't control, and no type is fixed for it.
+/// Adds the set of the variable, where it is underived, none of the controls, and no type is fixed for it.
 fn intern_operand<'d>(
     type_sets: &mut UniqueTable<'d, TypeSet>,
     vars: &'d TypeVars,
     control: &Option<TypeVar>,
+    second: &Option<TypeVar>,
     tv: TypeVar,
 ) -> Result<(), AllocError>
     requires { tv < length vars.now }
-    ensures { OnOk result (AddsSome (IsFreeSetOf vars.now control.now tv) type_sets.old type_sets.new) }
+    ensures { OnOk result (AddsSome (IsFreeSetOf vars.now control.now second.now tv) type_sets.old type_sets.new) }
 {
     if *control == Some(tv) {
+        return Ok(());
+    }
+    if *second == Some(tv) {
         return Ok(());
     }
     if vars.content(tv).base.is_some() {
@@ -65,23 +69,24 @@ fn intern_operand<'d>(
     intern_set(type_sets, vars, tv)
 }
 
-/// Adds the sets of the underived variables that don't control and for which no type is fixed.
+/// Adds the sets of the underived variables that are none of the controls and for which no type is fixed.
 fn intern_free<'d>(
     type_sets: &mut UniqueTable<'d, TypeSet>,
     vars: &'d TypeVars,
     control: &Option<TypeVar>,
+    second: &Option<TypeVar>,
     variables: &[TypeVar],
 ) -> Result<(), AllocError>
     requires { AreOf vars.now variables.now }
-    ensures { OnOk result (AddsEach (IsFreeSetAt vars.now control.now variables.now) (length variables.now) type_sets.old type_sets.new) }
+    ensures { OnOk result (AddsEach (IsFreeSetAt vars.now control.now second.now variables.now) (length variables.now) type_sets.old type_sets.new) }
 {
     for place in 0..variables.len() {
-        intern_operand(type_sets, vars, control, variables[place])?;
+        intern_operand(type_sets, vars, control, second, variables[place])?;
     }
     Ok(())
 }
 
-/// Adds the sets that the built instruction needs: first that of its control, then those of its operands.
+/// Adds the sets that the built instruction needs: first that of its control, then that of its second control, and then those of its operands.
 fn intern_instruction<'d>(
     type_sets: &mut UniqueTable<'d, TypeSet>,
     vars: &'d TypeVars,
@@ -92,15 +97,19 @@ fn intern_instruction<'d>(
     requires registry { IsRegistry vars.now }
     requires control { IsControl (sets_of vars.now) (instruction_of_operands vars.now instruction.now.value_operands) (control_at vars.now (ctrl_number instruction.now.polymorphic_info)) }
     requires of_registry { IsOfRegistry vars.now (ctrl_number instruction.now.polymorphic_info) }
+    requires second { SecondIsOf vars.now instruction.now.value_operands.second }
     ensures { OnOk result (AddsNeeded (sets_of vars.now) (instruction_of_operands vars.now instruction.now.value_operands) type_sets.old type_sets.new) }
 {
     let control = instruction.ctrl_typevar();
+    let operands = instruction.value_operands();
     intern_control(type_sets, vars, &control)?;
+    intern_control(type_sets, vars, operands.second())?;
     intern_free(
         type_sets,
         vars,
         &control,
-        instruction.value_operands().variables(),
+        operands.second(),
+        operands.variables(),
     )
 }
 

@@ -1,10 +1,12 @@
 ghost use Rattle.std.specs.Prelude.{◌≡◌, ◌≢◌, ◌↔◌, ℕ, List, Option, IfOk, IfErr, OnOk, length, slice_get, Some};
 ghost use Rattle.meta_types.specs.declared.fault.DefinitionError.TheVariants.{OutOfMemory};
+ghost use Rattle.meta_meaning.specs.Inference.{GivesResults};
 ghost use Rattle.meta_meaning.specs.Tables.{Allows};
 ghost use Rattle.meta_settings.specs.Layout.{Layout};
 ghost use Rattle.meta_setting_tables.specs.BuiltLayout.{IsBuiltLayout};
 ghost use Rattle.meta_setting_tables.specs.GroupTables.{GroupContents, AreTablesOfGroup};
 ghost use Rattle.meta_declared.specs.AllDeclared.{ShowsFirst, AreValid};
+ghost use Rattle.meta_opcode_tables.specs.Inferred.{InfersOpcode};
 ghost use Rattle.meta_opcode_tables.specs.TablesOf.{AcceptsOpcode};
 ghost use Rattle.meta_gen.specs.WholeTables.{AreWholeTablesOf};
 
@@ -34,12 +36,14 @@ fn group_tables(alloc: Global, groups: &[SettingGroup]) -> Result<Vec<GroupTable
 /// and `gen_settings.rs`).
 ///
 /// The tables hold each instruction, in order, under its name: opcode 1 is the first. Read by the decoding, they allow
-/// exactly what the declarations accept. They hold each group of settings, in order.
+/// exactly what the declarations accept, and they give exactly the results that the declarations infer. They hold each group of
+/// settings, in order.
 pub fn generate(alloc: Global, declarations: &Declarations) -> Result<Tables, DefinitionError>
     ensures refused { IfErr result (λ e. e ≢ OutOfMemory → ShowsFirst declarations.now e) }
     ensures valid { OnOk result (AreValid declarations.now) }
     ensures tables { IfOk result (λ t. AreWholeTablesOf declarations.now t) }
-    ensures acceptance { IfOk result (λ t. (op : ℕ) (c : Option ℕ) (rs vs : List ℕ) → (Allows t.opcodes op c rs vs ↔ AcceptsOpcode declarations.now.set op c rs vs)) }
+    ensures acceptance { IfOk result (λ t. (op : ℕ) (c e : Option ℕ) (rs vs : List ℕ) → (Allows t.opcodes op c e rs vs ↔ AcceptsOpcode declarations.now.set op c e rs vs)) }
+    ensures inference { IfOk result (λ t. (op : ℕ) (c e : Option ℕ) (numbers : List ℕ) → (GivesResults t.opcodes op c e numbers ↔ InfersOpcode declarations.now.set op c e numbers)) }
 {
     built_groups_have_tables();
     let built = build_all(alloc, declarations)?;

@@ -8,7 +8,9 @@ ghost use Rattle.meta_meaning.specs.Tables.{at_opcode, Allows};
 ghost use Rattle.meta_opcode_tables.specs.TablesOf.{AreTablesOf, AcceptsOpcode};
 ghost use Rattle.meta_opcode_tables.specs.Constraint.{number_constraint_of, entry_of};
 ghost use Rattle.meta_opcode_tables.specs.Contents.{IsOpcode, IsOpcodeNamed};
+ghost use Rattle.meta_meaning.specs.Inference.{GivesResults};
 ghost use Rattle.meta_opcode_tables.specs.Found.{IsDeclaredAs, FindsName};
+ghost use Rattle.meta_opcode_tables.specs.Inferred.{InfersControl, InfersOpcode, HasControlType};
 ghost use Rattle.meta_setting_tables.specs.declared.descriptor.Descriptor.{Descriptor};
 ghost use Rattle.meta_setting_tables.specs.Descriptor.{DescribesEntry};
 ghost use Rattle.meta_unique.specs.NameSlots.{AreNameSlots, IsNameLookup};
@@ -53,11 +55,11 @@ impl Tables {
         Tables { opcodes, groups }
     }
 
-    /// How many opcodes there are, at most 255: they are 1 to this number.
+    /// How many opcodes there are, at most 4,095: they are 1 to this number.
     pub fn opcode_count(&self) -> u16
         ensures count { result ≡ length self.now.opcodes.entries }
         ensures named { length self.now.opcodes.names ≡ length self.now.opcodes.entries }
-        ensures few { length self.now.opcodes.entries ≤ 255 }
+        ensures few { length self.now.opcodes.entries ≤ 4095 }
     {
         self.opcodes.opcode_count()
     }
@@ -150,19 +152,83 @@ impl Tables {
     }
 
     /// Whether the opcode accepts these types, by their numbers: the controlling type, the types of the value results and
-    /// those of the value inputs. It is false for a number that no type has, and for an opcode that there isn't.
+    /// those of the value inputs, without a second controlling type. It is false for a number that no type has, and for an
+    /// opcode that there isn't.
     pub fn accepts(&self, opcode: u16, ctrl: Option<u16>, results: &[u16], values: &[u16]) -> bool
-        ensures decoding { IsTrue result ↔ Allows self.now.opcodes opcode ctrl results.now values.now }
-        ensures meaning { (d : InstructionSet) → HoldTypeSets d.vars → AreTablesOf d self.now.opcodes → (IsTrue result ↔ AcceptsOpcode d opcode ctrl results.now values.now) }
+        ensures decoding { IsTrue result ↔ Allows self.now.opcodes opcode ctrl None results.now values.now }
+        ensures meaning { (d : InstructionSet) → HoldTypeSets d.vars → AreTablesOf d self.now.opcodes → (IsTrue result ↔ AcceptsOpcode d opcode ctrl None results.now values.now) }
     {
         self.opcodes.accepts(opcode, ctrl, results, values)
+    }
+
+    /// As `accepts`, with the number of the second controlling type, which an opcode that names a second control has.
+    pub fn accepts2(
+        &self,
+        opcode: u16,
+        ctrl: Option<u16>,
+        second: Option<u16>,
+        results: &[u16],
+        values: &[u16],
+    ) -> bool
+        ensures decoding { IsTrue result ↔ Allows self.now.opcodes opcode ctrl second results.now values.now }
+        ensures meaning { (d : InstructionSet) → HoldTypeSets d.vars → AreTablesOf d self.now.opcodes → (IsTrue result ↔ AcceptsOpcode d opcode ctrl second results.now values.now) }
+    {
+        self.opcodes.accepts2(opcode, ctrl, second, results, values)
+    }
+
+    /// The number itself, exactly where the designated operand's variable controls the opcode and its type set contains the
+    /// number: then a designated value of this type has the controlling type.
+    pub fn infer_control(&self, opcode: u16, value: u16) -> Option<u16>
+        ensures value { IfSome result (λ n. n ≡ value) }
+        ensures some { IsSome result ↔ InfersControl self.now.opcodes opcode value }
+        ensures meaning { (d : InstructionSet) → HoldTypeSets d.vars → AreTablesOf d self.now.opcodes → IfSome result (λ n. (c e : Option ℕ) (rs vs : List ℕ) → Allows self.now.opcodes opcode c e rs vs → HasControlType d opcode c vs) }
+    {
+        self.opcodes.infer_control(opcode, value)
+    }
+
+    /// As `infer_results2`, without a second controlling type.
+    pub fn infer_results(&self, opcode: u16, ctrl: Option<u16>, out: &mut [u16; 7]) -> Option<usize>
+        ensures given { IfSome result (λ count. GivesResults self.now.opcodes opcode ctrl None (take count out.new)) }
+        ensures few { IfSome result (λ count. count ≤ 7) }
+        ensures rest { IfSome result (λ count. drop count out.new ≡ drop count out.old) }
+        ensures none { IfNone result ((numbers : List ℕ) → ¬ GivesResults self.now.opcodes opcode ctrl None numbers) }
+        ensures unchanged { IfNone result (out.new ≡ out.old) }
+        ensures meaning { (d : InstructionSet) → HoldTypeSets d.vars → AreTablesOf d self.now.opcodes → IfSome result (λ count. InfersOpcode d opcode ctrl None (take count out.new)) }
+        ensures refused { (d : InstructionSet) → HoldTypeSets d.vars → AreTablesOf d self.now.opcodes → IfNone result ((numbers : List ℕ) → ¬ InfersOpcode d opcode ctrl None numbers) }
+        ensures accepted { IfSome result (λ count. (rs vs : List ℕ) → Allows self.now.opcodes opcode ctrl None rs vs → (k m n : ℕ) → slice_get (take count out.new) k ≡ Some n → n ≢ 0 → slice_get rs k ≡ Some m → m ≡ n) }
+        ensures unaccepted { IfNone result ((rs vs : List ℕ) → ¬ Allows self.now.opcodes opcode ctrl None rs vs) }
+    {
+        self.opcodes.infer_results(opcode, ctrl, out)
+    }
+
+    /// The numbers of the results' types, as far as the controlling types determine them: how many results there are, with one
+    /// number each at the front of `out`, 0 for a result of several possible types. `None` where the controlling types aren't
+    /// those that the opcode has, or a result can have no type under them; then no combination with them is accepted.
+    pub fn infer_results2(
+        &self,
+        opcode: u16,
+        ctrl: Option<u16>,
+        second: Option<u16>,
+        out: &mut [u16; 7],
+    ) -> Option<usize>
+        ensures given { IfSome result (λ count. GivesResults self.now.opcodes opcode ctrl second (take count out.new)) }
+        ensures few { IfSome result (λ count. count ≤ 7) }
+        ensures rest { IfSome result (λ count. drop count out.new ≡ drop count out.old) }
+        ensures none { IfNone result ((numbers : List ℕ) → ¬ GivesResults self.now.opcodes opcode ctrl second numbers) }
+        ensures unchanged { IfNone result (out.new ≡ out.old) }
+        ensures meaning { (d : InstructionSet) → HoldTypeSets d.vars → AreTablesOf d self.now.opcodes → IfSome result (λ count. InfersOpcode d opcode ctrl second (take count out.new)) }
+        ensures refused { (d : InstructionSet) → HoldTypeSets d.vars → AreTablesOf d self.now.opcodes → IfNone result ((numbers : List ℕ) → ¬ InfersOpcode d opcode ctrl second numbers) }
+        ensures accepted { IfSome result (λ count. (rs vs : List ℕ) → Allows self.now.opcodes opcode ctrl second rs vs → (k m n : ℕ) → slice_get (take count out.new) k ≡ Some n → n ≢ 0 → slice_get rs k ≡ Some m → m ≡ n) }
+        ensures unaccepted { IfNone result ((rs vs : List ℕ) → ¬ Allows self.now.opcodes opcode ctrl second rs vs) }
+    {
+        self.opcodes.infer_results2(opcode, ctrl, second, out)
     }
 
     /// The name of a group, and `None` exactly where there is no such group.
     pub fn group_name(&self, group: usize) -> Option<&Text>
         ensures { option_map (λ name. name.now) result ≡ part_in self.now group (λ t. t.name) }
     {
-        let tables = self.groups.get(group)?;
+        let tables = self.tables_of(group)?;
         Some(tables.name())
     }
 
@@ -171,7 +237,7 @@ impl Tables {
         ensures size { result ≡ part_in self.now group (λ t. length t.defaults) }
         ensures meaning { OfGroup self.now group (λ t. (g : Layout) → AreTablesOfGroup g t → result ≡ Some g.settings_size) }
     {
-        let tables = self.groups.get(group)?;
+        let tables = self.tables_of(group)?;
         Some(tables.settings_size())
     }
 
@@ -180,7 +246,7 @@ impl Tables {
     pub fn enumerators(&self, group: usize) -> Option<&[Text]>
         ensures { option_map (λ list. list.now) result ≡ part_in self.now group (λ t. t.enumerators) }
     {
-        let tables = self.groups.get(group)?;
+        let tables = self.tables_of(group)?;
         Some(tables.enumerators())
     }
 
@@ -189,7 +255,7 @@ impl Tables {
     pub fn defaults(&self, group: usize) -> Option<&[u8]>
         ensures { option_map (λ bytes. bytes.now) result ≡ part_in self.now group (λ t. t.defaults) }
     {
-        let tables = self.groups.get(group)?;
+        let tables = self.tables_of(group)?;
         Some(tables.defaults())
     }
 
@@ -198,7 +264,7 @@ impl Tables {
     pub fn preset_masks(&self, group: usize) -> Option<&[u8]>
         ensures { option_map (λ masks. masks.now) result ≡ part_in self.now group (λ t. t.preset_masks) }
     {
-        let tables = self.groups.get(group)?;
+        let tables = self.tables_of(group)?;
         Some(tables.preset_masks())
     }
 
@@ -207,7 +273,7 @@ impl Tables {
         ensures slots { option_map (λ slots. slots.now) result ≡ part_in self.now group (λ t. t.slots) }
         ensures names { OfGroup self.now group (λ t. AreNameSlots 0 (names_in t.descriptors) t.slots) }
     {
-        let tables = self.groups.get(group)?;
+        let tables = self.tables_of(group)?;
         Some(tables.setting_slots())
     }
 
@@ -218,7 +284,7 @@ impl Tables {
         ensures none { OfGroup self.now group (λ t. (g : Layout) → AreTablesOfGroup g t → (IsSome result ↔ (index < entry_count g))) }
         ensures meaning { OfGroup self.now group (λ t. (g : Layout) → AreTablesOfGroup g t → IfSome result (λ d. DescribesEntry g t.enumerators index d.now)) }
     {
-        let tables = self.groups.get(group)?;
+        let tables = self.tables_of(group)?;
         tables.descriptor(index)
     }
 
@@ -230,7 +296,7 @@ impl Tables {
         ensures no_group { HasNoGroup self.now group → result ≡ None }
         ensures meaning { OfGroup self.now group (λ t. (g : Layout) → AreTablesOfGroup g t → AnswersDefault g index result) }
     {
-        let tables = self.groups.get(group)?;
+        let tables = self.tables_of(group)?;
         tables.default_value(index)
     }
 
@@ -280,7 +346,7 @@ impl Tables {
         ensures unchanged { result ≡ false → bytes.new ≡ bytes.old }
         ensures meaning { OfGroup self.now group (λ t. (g : Layout) → AreTablesOfGroup g t → Applies g preset bytes.old bytes.new result) }
     {
-        match self.groups.get(group) {
+        match self.tables_of(group) {
             Some(tables) => tables.apply_preset(preset, bytes),
             None => false,
         }

@@ -6,7 +6,7 @@ use Rattle.meta_typevar.specs.declared.content.TypeVarContent.{TypeVarContent}
 use Rattle.meta_operands.specs.Operand.{variables_of}
 use Rattle.meta_operands.specs.declared.format.InstructionFormat.{InstructionFormat}
 use Rattle.meta_inst.specs.Builder.{Builder, inputs_of, outputs_of}
-use Rattle.meta_inst.specs.Operands.{AreOf, instruction_of_operands}
+use Rattle.meta_inst.specs.Operands.{AreOf, second_in, instruction_of_operands}
 use Rattle.meta_inst.specs.InstructionSet.{instruction_of_builder, designated_in, begins_with_value, FitsBuilder}
 use Rattle.std.specs.List.{slice_get}
 use Rattle.meta_lists.proofs.Places.{get_cases}
@@ -18,7 +18,7 @@ module _ (vars : List TypeVarContent) (formats : List InstructionFormat) (b : Bu
   listed =
       let results = ap (map (variable_at vars)) (take-append_seam (variables_of (outputs_of b)) (variables_of (inputs_of b))) in
       let values = ap (map (variable_at vars)) (drop-append_seam (variables_of (outputs_of b)) (variables_of (inputs_of b))) in
-      λ i. record { results = results i; values = values i; designated = designated_in (slice_get formats b.format); begins_with_value = begins_with_value (outputs_of b) }
+      λ i. record { results = results i; values = values i; designated = designated_in (slice_get formats b.format); begins_with_value = begins_with_value (outputs_of b); second = second_in vars b.second }
 
   -- and of the registry, if the instruction is
   pub listed_of : FitsBuilder vars formats b → AreOf vars (operand_list formats b).variables

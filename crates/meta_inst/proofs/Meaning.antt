@@ -1,18 +1,20 @@
 -- The operands by the numbers of their variables, and the instruction that they make.
 use Rattle.std.proofs.Common.{◌≡◌, ◌<◌, ◌≤◌, inl, inr, ℕ, List, [], Bool, true, false, length, take, drop, Option, None, Some, slice_get, arith, refl, sym, ap, ◌∙◌, map, subst, ⊎_elim, ◌+◌}
-use Rattle.std.specs.Prelude.{◌↔◌, IsTrue, option_and_then, if◌then◌else◌}
+use Rattle.std.specs.Prelude.{◌↔◌, IsTrue, IfSome, option_map, option_and_then, if◌then◌else◌}
+use Rattle.std.proofs.lemmas.Bool.{false≢true}
 use Rattle.std.proofs.lemmas.Option.{same_Some, option_and_then_some}
+use Rattle.meta_lists.proofs.Options.{mapped}
 use Rattle.std.proofs.lemmas.List.{take-append-drop, map-append, length-map, length-take}
 use Rattle.meta_lists.proofs.Places.{get_drop, get_taken}
 use Rattle.meta_lists.proofs.Mapped.{get_map, get_mapped}
 use Rattle.meta_typevar.specs.TypeSetParts.{HasOne}
-use Rattle.meta_typevar.specs.Variable.{Variable}
-use Rattle.meta_typevar.specs.Registry.{sets_of, variable_at, IsRegistry}
-use Rattle.meta_typevar.proofs.Variables.{kept_at, underived_told, root_is, one_variable}
+use Rattle.meta_typevar.specs.Variable.{Variable, underived}
+use Rattle.meta_typevar.specs.Registry.{sets_of, variable_at, IsKept, IsRegistry}
+use Rattle.meta_typevar.proofs.Variables.{kept_at, kept_variable, underived_told, root_is, root_underived, one_variable}
 use Rattle.meta_typevar.specs.declared.content.TypeVarContent.{TypeVarContent}
 use Rattle.meta_inst.specs.Instruction.{Instruction, operands, IsOperand, IsDesignated, IsFirstOutput}
-use Rattle.meta_inst.specs.Control.{IsLoneInput, IsRuled, MayControl, IsPolymorphic, HasOneEverywhere, IsControlledBy, DesignatesNone}
-use Rattle.meta_inst.specs.Operands.{OperandList, instruction_of_operands, variables_at, IsLone, LetsControl, CanControl, HasSeveralTypes, AllHaveOneType, designated_number, first_number, AreOf}
+use Rattle.meta_inst.specs.Control.{IsLoneInput, IsRuled, MayControl, CannotBeSecond, HasBadSecond, IsPolymorphic, HasOneEverywhere, IsControlledBy, DesignatesNone}
+use Rattle.meta_inst.specs.Operands.{OperandList, instruction_of_operands, variables_at, IsLone, LetsControl, CanControl, HasSeveralTypes, AllHaveOneType, designated_number, first_number, AreOf, SecondIsOf, IsNoSecond, second_in}
 use Rattle.meta_inst.specs.FoundControl.{IsFound, IsFoundIn, MayNot, IsChosen}
 use Rattle.meta_inst.specs.declared.operands.Controlling.{Controlling}
 use Rattle.meta_inst.specs.declared.operands.Controlling.TheVariants.{NotPolymorphic, By, Missing}
@@ -34,7 +36,11 @@ root_self vars v r l e =
     let is = root_is vars v r (record { content = c; kept = k; without_parent = base }) in
     ap (λ (w : Variable). w.root) is
 
-module _ (vars : List TypeVarContent) (o : OperandList) (within : o.result_count ≤ length o.variables) (registry : IsRegistry vars) (are : AreOf vars o.variables) where
+-- the root of a variable is the one that is kept
+root_kept : (vars : List TypeVarContent) (n : ℕ) (c : TypeVarContent) → IsKept vars n c → (variable_at vars n).root ≡ c.root
+root_kept vars n c k = ap (λ (v : Variable). v.root) (kept_variable vars n c k)
+
+module _ (vars : List TypeVarContent) (o : OperandList) (within : o.result_count ≤ length o.variables) (registry : IsRegistry vars) (are : AreOf vars o.variables) (second_of : SecondIsOf vars o.second) where
   abbrev i : Instruction
   i = instruction_of_operands vars o
 
@@ -81,27 +87,38 @@ module _ (vars : List TypeVarContent) (o : OperandList) (within : o.result_count
   }
 
   -- what lets v control rules the operand
-  ruled : (v k n : ℕ) → v < length vars → (variable_at vars v).chain ≡ [] → slice_get o.variables k ≡ Some n → LetsControl vars o.variables o.result_count v k n → IsRuled (sets_of vars) i (variable_at vars v) k (variable_at vars n)
+  ruled : (v k n : ℕ) → v < length vars → (variable_at vars v).chain ≡ [] → slice_get o.variables k ≡ Some n → LetsControl vars o.second o.variables o.result_count v k n → IsRuled (sets_of vars) i (variable_at vars v) k (variable_at vars n)
   ruled v k n l none at (inl e) = inl (e ∙ sym (root_self vars v registry l none))
-  ruled v k n l none at (inr (inl one)) = inr (inl one)
-  ruled v k n l none at (inr (inr alone)) = inr (inr (lone k n at alone))
+  ruled v k n l none at (inr (inl second)) =
+      let (c, kept) = kept_at vars n (are k n at) in
+      let root : (variable_at vars n).root ≡ c.root = root_kept vars n c kept in
+      inr (inl (ap (option_map (variable_at vars)) (second ∙ ap Some root) ∙ ap Some (root_underived vars n c registry kept ∙ ap underived (sym root))))
+  ruled v k n l none at (inr (inr (inl one))) = inr (inr (inl one))
+  ruled v k n l none at (inr (inr (inr alone))) = inr (inr (inr (lone k n at alone)))
 
-  ruled_from : (v k n : ℕ) → v < length vars → (variable_at vars v).chain ≡ [] → slice_get o.variables k ≡ Some n → IsRuled (sets_of vars) i (variable_at vars v) k (variable_at vars n) → LetsControl vars o.variables o.result_count v k n
+  ruled_from : (v k n : ℕ) → v < length vars → (variable_at vars v).chain ≡ [] → slice_get o.variables k ≡ Some n → IsRuled (sets_of vars) i (variable_at vars v) k (variable_at vars n) → LetsControl vars o.second o.variables o.result_count v k n
   ruled_from v k n l none at (inl e) = inl (e ∙ root_self vars v registry l none)
-  ruled_from v k n l none at (inr (inl one)) = inr (inl one)
-  ruled_from v k n l none at (inr (inr lone)) = inr (inr (alone_from k n at lone))
+  ruled_from v k n l none at (inr (inl second)) =
+      let (s, is, e) = mapped (variable_at vars) o.second (underived (variable_at vars n).root) second in
+      let root : (variable_at vars s).root ≡ s = root_self vars s registry (second_of s is) (ap (λ (x : Variable). x.chain) e) in
+      inr (inl (is ∙ ap Some (sym (sym (ap (λ (x : Variable). x.root) e) ∙ root))))
+  ruled_from v k n l none at (inr (inr (inl one))) = inr (inr (inl one))
+  ruled_from v k n l none at (inr (inr (inr lone))) = inr (inr (inr (alone_from k n at lone)))
 
   -- that all let v control is that it may control
-  may : (v : ℕ) → v < length vars → CanControl vars o.variables o.result_count v → MayControl (sets_of vars) i (variable_at vars v)
+  may : (v : ℕ) → v < length vars → CanControl vars o.second o.variables o.result_count v → MayControl (sets_of vars) i (variable_at vars v)
   may v l h = record {
     underived = h.underived;
+    not_second = λ e.
+        let (s, is, same) = mapped (variable_at vars) o.second (variable_at vars v) e in
+        h.not_second (is ∙ ap Some (one_variable vars registry s v (second_of s is) l same));
     others = λ k w op.
         let (n, at, e) = operand_from k w op in
         subst (IsRuled (sets_of vars) i (variable_at vars v) k) (sym e) (ruled v k n l h.underived at (h.all k n at));
   }
 
-  may_from : (v : ℕ) → v < length vars → MayControl (sets_of vars) i (variable_at vars v) → CanControl vars o.variables o.result_count v
-  may_from v l m = record { underived = m.underived; all = λ k n at. ruled_from v k n l m.underived at (m.others k (variable_at vars n) (operand_at k n at)) }
+  may_from : (v : ℕ) → v < length vars → MayControl (sets_of vars) i (variable_at vars v) → CanControl vars o.second o.variables o.result_count v
+  may_from v l m = record { underived = m.underived; not_second = λ e. m.not_second (ap (option_map (variable_at vars)) e); all = λ k n at. ruled_from v k n l m.underived at (m.others k (variable_at vars n) (operand_at k n at)) }
 
   -- the designated variable and the first are of the registry
   pub designated_of : (u : ℕ) → designated_number o ≡ Some u → u < length vars
@@ -151,21 +168,44 @@ module _ (vars : List TypeVarContent) (o : OperandList) (within : o.result_count
       let (n, at, e) = operand_from k w op in
       subst (λ (w : Variable). HasOne (sets_of vars w.root)) (sym e) (all k n at)
 
+  -- that a second control can't be one, by numbers and of the instruction
+  no_second : (s : ℕ) → IsNoSecond vars o.variables s → CannotBeSecond (sets_of vars) i (variable_at vars s)
+  no_second s (inl derived) = inl derived
+  no_second s (inr (inl nowhere)) = inr (inl (λ k w op. let (n, at, e) = operand_from k w op in λ r. nowhere k n at (ap (λ (x : Variable). x.root) (sym e) ∙ r)))
+  no_second s (inr (inr all)) = inr (inr (one_everywhere all))
+
+  no_second_from : (s : ℕ) → CannotBeSecond (sets_of vars) i (variable_at vars s) → IsNoSecond vars o.variables s
+  no_second_from s (inl derived) = inl derived
+  no_second_from s (inr (inl nowhere)) = inr (inl (λ k n at. nowhere k (variable_at vars n) (operand_at k n at)))
+  no_second_from s (inr (inr one)) = inr (inr (λ k n at. one k (variable_at vars n) (operand_at k n at)))
+
+  pub bad_second_told : (s : ℕ) (r : Bool) → o.second ≡ Some s → (IsTrue r ↔ IsNoSecond vars o.variables s) → (IsTrue r ↔ HasBadSecond (sets_of vars) i)
+  bad_second_told s r is told = (
+    (λ t. (variable_at vars s, ap (second_in vars) is, no_second s (told.0 t))),
+    (λ (v, e, why).
+        let (u, at, same) = mapped (variable_at vars) o.second v e in
+        let number : u ≡ s = same_Some u s (sym at ∙ is) in
+        told.1 (no_second_from s (subst (CannotBeSecond (sets_of vars) i) (sym same ∙ ap (variable_at vars) number) why))),
+  )
+
+  pub no_bad_second : o.second ≡ None → (IsTrue false ↔ HasBadSecond (sets_of vars) i)
+  no_bad_second none = ((λ t. absurd (false≢true t)), (λ (v, e, why). let at : None ≡ Some v = sym (ap (second_in vars) none) ∙ e in absurd (cc)))
+
   -- a candidate that may not control
-  designates_none : MayNot vars o.variables o.result_count (designated_number o) → DesignatesNone (sets_of vars) i
+  designates_none : MayNot vars o.second o.variables o.result_count (designated_number o) → DesignatesNone (sets_of vars) i
   designates_none never w is m =
       let (d, at, e) = designated_from w is in
       never d at (may_from d (designated_of d at) (subst (MayControl (sets_of vars) i) e m))
 
-  first_never : MayNot vars o.variables o.result_count (first_number o) → (w : Variable) → IsFirstOutput i w → MayControl (sets_of vars) i w → ⊥
+  first_never : MayNot vars o.second o.variables o.result_count (first_number o) → (w : Variable) → IsFirstOutput i w → MayControl (sets_of vars) i w → ⊥
   first_never never w is m =
       let (v, at, e) = first_from w is in
       never v at (may_from v (first_of v at) (subst (MayControl (sets_of vars) i) e m))
 
-  chosen_of : (v : ℕ) → IsChosen vars o.variables o.result_count (designated_number o) (first_number o) v → v < length vars
+  chosen_of : (v : ℕ) → IsChosen vars o.second o.variables o.result_count (designated_number o) (first_number o) v → v < length vars
   chosen_of v h = ⊎_elim (λ d. designated_of v d) (λ f. first_of v f.1) h.chosen
 
-  controlled : (v : ℕ) → IsChosen vars o.variables o.result_count (designated_number o) (first_number o) v → IsControlledBy (sets_of vars) i (variable_at vars v)
+  controlled : (v : ℕ) → IsChosen vars o.second o.variables o.result_count (designated_number o) (first_number o) v → IsControlledBy (sets_of vars) i (variable_at vars v)
   controlled v h = record {
     polymorphic = polymorphic h.several;
     may = may v (chosen_of v h) h.may;
@@ -173,13 +213,13 @@ module _ (vars : List TypeVarContent) (o : OperandList) (within : o.result_count
   }
 
   -- what was found by numbers is found of the instruction
-  pub found : (c : Controlling) → IsFoundIn vars o.variables o.result_count (designated_number o) (first_number o) c → IsFound vars i c
+  pub found : (c : Controlling) → IsFoundIn vars o.second o.variables o.result_count (designated_number o) (first_number o) c → IsFound vars i c
   found NotPolymorphic h = one_everywhere h
   found (By v) h = controlled v h
   found Missing h = record { polymorphic = polymorphic h.several; designated = designates_none h.designated_may_not; first = first_never h.first_may_not }
 
   -- the variable that controls is of the registry
-  pub of_registry : (c : Controlling) (v : ℕ) → IsFoundIn vars o.variables o.result_count (designated_number o) (first_number o) c → c ≡ By v → v < length vars
+  pub of_registry : (c : Controlling) (v : ℕ) → IsFoundIn vars o.second o.variables o.result_count (designated_number o) (first_number o) c → c ≡ By v → v < length vars
   of_registry NotPolymorphic v h e = absurd (cc)
   of_registry Missing v h e = absurd (cc)
   of_registry (By u) v h e =

@@ -15,7 +15,7 @@ use Rattle.meta_inst.specs.Instruction.{Instruction}
 use Rattle.meta_inst.specs.InstructionSet.{instruction_of_builder}
 use Rattle.meta_typevar.specs.Registry.{sets_of}
 use Rattle.meta_inst.specs.Control.{IsFirstBadDerivation, DerivesBadly}
-use Rattle.meta_inst.specs.InstructionFaults.{AreTooMany, Rule, NameRule, DuplicateRule, OutputRule, MismatchRule, ControlRule, DerivationRule, CountRule, MethodRule, rule_number, rule_key, Breaks, IsFirstOwnFault}
+use Rattle.meta_inst.specs.InstructionFaults.{AreTooMany, Rule, NameRule, DuplicateRule, OutputRule, MismatchRule, ControlRule, SecondRule, DerivationRule, CountRule, MethodRule, rule_number, rule_key, Breaks, IsFirstOwnFault}
 use Rattle.meta_inst.proofs.OneControl.{same_control}
 
 -- two places of the first operand that is badly derived are one
@@ -34,7 +34,7 @@ one_many results values m n (inr h) (inr g) = h.2 ∙ sym g.2
 
 -- the rules, in order
 abbrev rules : List Rule
-rules = NameRule ∷ DuplicateRule ∷ OutputRule ∷ MismatchRule ∷ ControlRule ∷ DerivationRule ∷ CountRule ∷ MethodRule ∷ []
+rules = NameRule ∷ DuplicateRule ∷ OutputRule ∷ MismatchRule ∷ ControlRule ∷ SecondRule ∷ DerivationRule ∷ CountRule ∷ MethodRule ∷ []
 
 abbrev pub rule_of : ℕ → Rule
 rule_of n = get_or rules n NameRule
@@ -56,6 +56,7 @@ module _ (vars : List TypeVarContent) (formats : List InstructionFormat) (b : Bu
   one_broken OutputRule e f h g = h.1 ∙ ap (BadOutput n) (same_Some h.0 g.0 (sym h.2 ∙ g.2)) ∙ sym g.1
   one_broken MismatchRule e f h g = h.0 ∙ sym g.0
   one_broken ControlRule e f h g = h.0 ∙ sym g.0
+  one_broken SecondRule e f h g = h.0 ∙ sym g.0
   one_broken DerivationRule e f h g = h.1 ∙ ap (BadDerivation n) (one_bad (sets_of vars) (instruction_of_builder vars formats b) h.0 g.0 h.2 g.2) ∙ sym g.1
   one_broken CountRule e f h g = h.1 ∙ ap (TooManyOperands n) (one_many _ _ h.0 g.0 h.2 g.2) ∙ sym g.1
   one_broken MethodRule e f h g = h.0 ∙ sym g.0

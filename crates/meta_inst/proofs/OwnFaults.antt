@@ -11,11 +11,11 @@ use Rattle.meta_typevar.specs.Registry.{sets_of}
 use Rattle.meta_operands.specs.Operand.{variables_of}
 use Rattle.meta_operands.specs.declared.format.InstructionFormat.{InstructionFormat}
 use Rattle.meta_inst.specs.Builder.{Builder, inputs_of, outputs_of}
-use Rattle.meta_inst.specs.Control.{HasBadDerivation, IsFirstBadDerivation}
+use Rattle.meta_inst.specs.Control.{HasBadSecond, HasBadDerivation, IsFirstBadDerivation}
 use Rattle.meta_inst.specs.FoundControl.{control_in, IsFound, AreOperandsOf}
 use Rattle.meta_inst.specs.InstructionSet.{instruction_of_builder}
 use Rattle.meta_inst.specs.Operands.{OperandList, instruction_of_operands}
-use Rattle.meta_inst.specs.InstructionFaults.{HasBadOutput, LacksItsControl, IsDerivedBadlyAt, AreTooMany, HasTooManyOperands, TakesNoImmediate, HasBadImmMethod, Rule, NameRule, DuplicateRule, OutputRule, MismatchRule, ControlRule, DerivationRule, CountRule, MethodRule, rule_number, rule_key, Breaks, IsWellMade, KeepsRulesBefore}
+use Rattle.meta_inst.specs.InstructionFaults.{HasBadOutput, LacksItsControl, NamesBadSecond, IsDerivedBadlyAt, AreTooMany, HasTooManyOperands, TakesNoImmediate, HasBadImmMethod, Rule, NameRule, DuplicateRule, OutputRule, MismatchRule, ControlRule, SecondRule, DerivationRule, CountRule, MethodRule, rule_number, rule_key, Breaks, IsWellMade, KeepsRulesBefore}
 use Rattle.meta_inst.specs.declared.operands.Controlling.{Controlling}
 use Rattle.meta_inst.specs.declared.operands.Controlling.TheVariants.{Missing}
 use Rattle.meta_inst.proofs.OneOwnFault.{few_rules, searchable}
@@ -50,8 +50,15 @@ module _ {vars : List TypeVarContent} {formats : List InstructionFormat} {b : Bu
     has_control : LacksItsControl vars formats b → ⊥
     has_control = found_controls vars (instruction_of_builder vars formats b) c found there
 
-    pub kept_control : KeepsRulesBefore vars formats b ControlRule → KeepsRulesBefore vars formats b DerivationRule
+    pub kept_control : KeepsRulesBefore vars formats b ControlRule → KeepsRulesBefore vars formats b SecondRule
     kept_control before = kept vars formats b ControlRule before (λ n e h. has_control h.1)
+
+    -- the test of the second control found it bad, or not
+    pub broken_second : HasBadSecond (sets_of vars) (instruction_of_operands vars o) → NamesBadSecond vars formats b
+    broken_second bad = subst (λ i. HasBadSecond (sets_of vars) i) operands.meaning bad
+
+    pub kept_second : KeepsRulesBefore vars formats b ControlRule → (HasBadSecond (sets_of vars) (instruction_of_operands vars o) → ⊥) → KeepsRulesBefore vars formats b DerivationRule
+    kept_second before none = kept vars formats b SecondRule (kept_control before) (λ n e h. none (subst (λ i. HasBadSecond (sets_of vars) i) (sym operands.meaning) h.1))
 
     -- the search for a bad derivation found one, or none
     pub broken_derivation : (place : ℕ) → IsFirstBadDerivation (sets_of vars) (instruction_of_operands vars o) (control_in vars c) place → IsDerivedBadlyAt vars formats b place
@@ -60,8 +67,8 @@ module _ {vars : List TypeVarContent} {formats : List InstructionFormat} {b : Bu
     well_derived : ((k : ℕ) → HasBadDerivation (sets_of vars) (instruction_of_operands vars o) (control_in vars c) k → ⊥) → (place : ℕ) → IsDerivedBadlyAt vars formats b place → ⊥
     well_derived none = search_clean vars (instruction_of_builder vars formats b) c found has_control (λ k h. none k (subst (λ i. HasBadDerivation (sets_of vars) i (control_in vars c) k) (sym operands.meaning) h))
 
-    pub kept_derivation : KeepsRulesBefore vars formats b ControlRule → ((k : ℕ) → HasBadDerivation (sets_of vars) (instruction_of_operands vars o) (control_in vars c) k → ⊥) → KeepsRulesBefore vars formats b CountRule
-    kept_derivation before none = kept vars formats b DerivationRule (kept_control before) (λ n e h. well_derived none h.0 h.2)
+    pub kept_derivation : KeepsRulesBefore vars formats b ControlRule → (HasBadSecond (sets_of vars) (instruction_of_operands vars o) → ⊥) → ((k : ℕ) → HasBadDerivation (sets_of vars) (instruction_of_operands vars o) (control_in vars c) k → ⊥) → KeepsRulesBefore vars formats b CountRule
+    kept_derivation before second none = kept vars formats b DerivationRule (kept_second before second) (λ n e h. well_derived none h.0 h.2)
 
   module _ (results : ℕ) (variables : List ℕ) (count : results ≡ o.result_count) (is : variables ≡ o.variables) where
     -- how many value inputs there are

@@ -38,10 +38,11 @@ abbrev pub ctrl_number : Option PolymorphicInfo → Option ℕ
 ctrl_number info = option_map (λ (p : PolymorphicInfo). p.ctrl_typevar) info
 
 -- what is kept of an instruction's control: it is that of the declaration, or none where the instruction isn't polymorphic;
--- its variable is of the registry; and the mark says whether it is the designated operand's variable
+-- its variable is of the registry; the second control is that which was named; and the mark says whether it is the designated operand's variable
 pub record IsPolymorphicInfoOf (vars : List TypeVarContent) (formats : List InstructionFormat) (b : Builder) (info : Option PolymorphicInfo) : Type 0 where
   pub control : IsControl (sets_of vars) (instruction_of_builder vars formats b) (control_kept vars info)
   pub of_registry : (p : PolymorphicInfo) → info ≡ Some p → p.ctrl_typevar < length vars
+  pub second : (p : PolymorphicInfo) → info ≡ Some p → p.second_typevar ≡ b.second
   pub designated : (p : PolymorphicInfo) → info ≡ Some p → (IsTrue p.use_typevar_operand ↔ IsDesignated (instruction_of_builder vars formats b) (variable_at vars p.ctrl_typevar))
 
 -- the value operands of a declared instruction: the variables of its results and then of its values, how many are results, the
@@ -52,6 +53,7 @@ operand_list formats b = record {
   result_count = length (variables_of (outputs_of b));
   designated = designated_in (slice_get formats b.format);
   begins_with_value = begins_with_value (outputs_of b);
+  second = b.second;
 }
 
 -- What is built of a declared instruction, with what is kept of its control: its texts, operands, format and marks are those

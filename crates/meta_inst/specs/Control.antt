@@ -3,13 +3,15 @@
 --     MayControl sets i v       v may control
 --     IsControl sets i v        v controls i, or, for None, i isn't polymorphic
 --     HasNoControl sets i       i is polymorphic and nothing controls it
+--     HasBadSecond sets i       i names a second control that can't be one
 --     HasBadDerivation sets i control k      the operand at place k is derived in a way that no constraint says
 --     DerivesBadly sets i place              the first such operand, under the control of i, is the one at the place
 use Rattle.std.specs.Prelude.{◌≡◌, ◌≢◌, ℕ, ◌<◌, ◌≤◌, ◌⊎◌, [], length, Option, None, Some}
 use Rattle.meta_typevar.specs.TypeSetParts.{HasOne}
 use Rattle.meta_types.specs.Function.{Function}
-use Rattle.meta_typevar.specs.Variable.{Variable, Sets, IsDerivedBy, IsOpen}
-use Rattle.meta_inst.specs.Instruction.{Instruction, IsOperand, IsDesignated, IsFirstOutput}
+use Rattle.meta_typevar.specs.Variable.{Variable, Sets, underived, IsDerivedBy, IsOpen}
+use Rattle.meta_inst.specs.Which.{Which}
+use Rattle.meta_inst.specs.Instruction.{Instruction, IsOperand, IsDesignated, IsFirstOutput, controls_of}
 
 -- some operand's root has a set that hasn't exactly one type
 pub record IsPolymorphic (sets : Sets) (i : Instruction) : Type 0 where
@@ -28,14 +30,20 @@ pub record IsLoneInput (i : Instruction) (k : ℕ) (w : Variable) : Type 0 where
   pub is_input : length i.results ≤ k
   pub alone : (j : ℕ) → length i.results ≤ j → IsOperand i j w → j ≡ k
 
--- what lets another variable control beside the operand w at place k: w is derived from it or is it, or w's root has one
--- type alone, or w is a lone input
-abbrev pub IsRuled : Sets → Instruction → Variable → ℕ → Variable → Type 0
-IsRuled sets i v k w = (w.root ≡ v.root) ⊎ HasOne (sets w.root) ⊎ IsLoneInput i k w
+-- the root of w is the second control
+abbrev pub HasSecondRoot : Instruction → Variable → Type 0
+HasSecondRoot i w = i.second ≡ Some (underived w.root)
 
--- v is underived and each operand is ruled by it, has one type, or is a lone input
+-- what lets another variable control beside the operand w at place k: it is w's root, or the second control is, or w's root
+-- has one type alone, or w is a lone input
+abbrev pub IsRuled : Sets → Instruction → Variable → ℕ → Variable → Type 0
+IsRuled sets i v k w = (w.root ≡ v.root) ⊎ HasSecondRoot i w ⊎ HasOne (sets w.root) ⊎ IsLoneInput i k w
+
+-- v is underived and isn't the second control, and each operand is ruled by it or by the second control, has one type, or is a
+-- lone input
 pub record MayControl (sets : Sets) (i : Instruction) (v : Variable) : Type 0 where
   pub underived : v.chain ≡ []
+  pub not_second : i.second ≢ Some v
   pub others : (k : ℕ) (w : Variable) → IsOperand i k w → IsRuled sets i v k w
 
 -- the designated operand's variable, if there is one, may not control
@@ -60,17 +68,25 @@ pub record HasNoControl (sets : Sets) (i : Instruction) : Type 0 where
   pub designated : DesignatesNone sets i
   pub first : (v : Variable) → IsFirstOutput i v → MayControl sets i v → ⊥
 
--- w is derived, no type is fixed for it, and it isn't one step from the control
-pub record IsBadlyDerived (sets : Sets) (control : Option Variable) (w : Variable) : Type 0 where
+-- s can't be a second control: it is derived, or it is the root of no operand, or the instruction isn't polymorphic
+abbrev pub CannotBeSecond : Sets → Instruction → Variable → Type 0
+CannotBeSecond sets i s = (s.chain ≢ []) ⊎ ((k : ℕ) (w : Variable) → IsOperand i k w → w.root ≢ s.root) ⊎ HasOneEverywhere sets i
+
+-- the instruction names a second control that can't be one
+abbrev pub HasBadSecond : Sets → Instruction → Type 0
+HasBadSecond sets i = (s : Variable) × (i.second ≡ Some s) × CannotBeSecond sets i s
+
+-- w is derived, no type is fixed for it, and it isn't one step from a control
+pub record IsBadlyDerived (sets : Sets) (controls : Which → Option Variable) (w : Variable) : Type 0 where
   pub derived : w.chain ≢ []
   pub not_fixed : IsOpen sets w
-  pub no_step : (v : Variable) (f : Function) → control ≡ Some v → IsDerivedBy v w f → ⊥
+  pub no_step : (a : Which) (v : Variable) (f : Function) → controls a ≡ Some v → IsDerivedBy v w f → ⊥
 
 -- the operand at place k is such a variable
 pub record HasBadDerivation (sets : Sets) (i : Instruction) (control : Option Variable) (k : ℕ) : Type 0 where
   pub variable : Variable
   pub operand : IsOperand i k variable
-  pub bad : IsBadlyDerived sets control variable
+  pub bad : IsBadlyDerived sets (controls_of i control) variable
 
 -- and no operand before it is
 pub record IsFirstBadDerivation (sets : Sets) (i : Instruction) (control : Option Variable) (k : ℕ) : Type 0 where

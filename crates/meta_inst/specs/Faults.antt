@@ -14,7 +14,8 @@ use Rattle.meta_typevar.specs.Variable.{Variable, Sets}
 use Rattle.meta_operands.specs.declared.format.InstructionFormat.{InstructionFormat}
 use Rattle.meta_operands.specs.Structure.{SharesStructure}
 use Rattle.meta_inst.specs.Builder.{Builder}
-use Rattle.meta_inst.specs.Instruction.{Instruction, IsOperand}
+use Rattle.meta_inst.specs.Which.{Which}
+use Rattle.meta_inst.specs.Instruction.{Instruction, IsOperand, controls_of}
 use Rattle.meta_inst.specs.Control.{IsControl}
 use Rattle.meta_inst.specs.InstructionFaults.{Rule, DuplicateRule, rule_number, Breaks}
 use Rattle.meta_inst.specs.InstructionSet.{InstructionSet, root_sets, instruction_in_set}
@@ -27,9 +28,9 @@ IsAt d k b = slice_get d.instructions k ≡ Some b
 abbrev pub names_of : InstructionSet → List (List ℕ)
 names_of d = map (λ b. b.name) d.instructions
 
--- more than 255 instructions
+-- more than 4,095 instructions
 abbrev pub HasTooManyOpcodes : InstructionSet → Type 0
-HasTooManyOpcodes d = 255 < length d.instructions
+HasTooManyOpcodes d = 4095 < length d.instructions
 
 -- the format f is in use, and the instruction at place k is the first that uses it
 pub record IsFirstUse (d : InstructionSet) (f k : ℕ) : Type 0 where
@@ -63,18 +64,18 @@ pub record IsFirstClash (d : InstructionSet) (f k g : ℕ) : Type 0 where
   pub first : (i h : ℕ) → i < place → IsFirstUse d h i → AreClashing d f h → ⊥
 
 -- s is the set of the control
-pub record IsControlSet (sets : Sets) (control : Option Variable) (s : TypeSetParts) : Type 0 where
+pub record IsControlSet (sets : Sets) (controls : Which → Option Variable) (a : Which) (s : TypeSetParts) : Type 0 where
   pub variable : Variable
-  pub controls : control ≡ Some variable
+  pub controls_is : controls a ≡ Some variable
   pub set : s ≡ sets variable.root
 
--- s is the set of an underived value operand other than the control, and hasn't exactly one type
+-- s is the set of an underived value operand other than the controls, and hasn't exactly one type
 pub record IsFreeSet (sets : Sets) (i : Instruction) (control : Option Variable) (s : TypeSetParts) : Type 0 where
   pub place : ℕ
   pub variable : Variable
   pub operand : IsOperand i place variable
   pub underived : variable.chain ≡ []
-  pub other : control ≢ Some variable
+  pub other : (a : Which) → controls_of i control a ≢ Some variable
   pub set : s ≡ sets variable.root
   pub several : HasOne s → ⊥
 
@@ -85,7 +86,7 @@ pub record NeedsSetAt (d : InstructionSet) (k : ℕ) (s : TypeSetParts) : Type 0
   pub at : IsAt d k user
   pub control : Option Variable
   pub is_control : IsControl (root_sets d) (instruction_in_set d user) control
-  pub needs : IsControlSet (root_sets d) control s ⊎ IsFreeSet (root_sets d) (instruction_in_set d user) control s
+  pub needs : ((a : Which) × IsControlSet (root_sets d) (controls_of (instruction_in_set d user) control) a s) ⊎ IsFreeSet (root_sets d) (instruction_in_set d user) control s
 
 -- an instruction needs the set
 abbrev pub NeedsSet : InstructionSet → TypeSetParts → Type 0
@@ -97,9 +98,9 @@ pub record AreNeededSets (d : InstructionSet) (sets : List TypeSetParts) : Type 
   pub all : (s : TypeSetParts) → NeedsSet d s → (k : ℕ) × (slice_get sets k ≡ Some s)
   pub once : (j k : ℕ) (s : TypeSetParts) → slice_get sets j ≡ Some s → slice_get sets k ≡ Some s → j ≡ k
 
--- the instructions need this many different sets, and these are more than 255
+-- the instructions need this many different sets, and these are more than 4,095
 abbrev pub HasTooManyTypeSets : InstructionSet → ℕ → Type 0
-HasTooManyTypeSets d count = (sets : List TypeSetParts) × AreNeededSets d sets × (count ≡ length sets) × (255 < count)
+HasTooManyTypeSets d count = (sets : List TypeSetParts) × AreNeededSets d sets × (count ≡ length sets) × (4095 < count)
 
 -- the rules for a format
 pub data FormatRule : Type 0 where

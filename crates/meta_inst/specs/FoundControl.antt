@@ -8,7 +8,8 @@ use Rattle.meta_operands.specs.Operand.{variables_of}
 use Rattle.meta_operands.specs.declared.format.InstructionFormat.{InstructionFormat}
 use Rattle.meta_inst.specs.Builder.{Builder, inputs_of, outputs_of}
 use Rattle.meta_inst.specs.InstructionSet.{instruction_of_builder}
-use Rattle.meta_inst.specs.Operands.{OperandList, AreOf, instruction_of_operands, CanControl, HasSeveralTypes, AllHaveOneType}
+use Rattle.meta_inst.specs.Operands.{OperandList, AreOf, second_in, instruction_of_operands, CanControl, HasSeveralTypes, AllHaveOneType}
+use Rattle.meta_inst.specs.Which.{both}
 use Rattle.meta_inst.specs.Control.{HasOneEverywhere, IsControlledBy, HasNoControl, IsBadlyDerived}
 use Rattle.meta_inst.specs.declared.operands.Controlling.{Controlling}
 use Rattle.meta_inst.specs.declared.operands.Controlling.TheVariants.{NotPolymorphic, By, Missing}
@@ -26,37 +27,37 @@ IsFound vars i (By v) = IsControlledBy (sets_of vars) i (variable_at vars v)
 IsFound vars i Missing = HasNoControl (sets_of vars) i
 
 -- the candidate, if there is one, may not control
-abbrev pub MayNot : List TypeVarContent → List ℕ → ℕ → Option ℕ → Type 0
-MayNot vars numbers from candidate = (v : ℕ) → candidate ≡ Some v → CanControl vars numbers from v → ⊥
+abbrev pub MayNot : List TypeVarContent → Option ℕ → List ℕ → ℕ → Option ℕ → Type 0
+MayNot vars second numbers from candidate = (v : ℕ) → candidate ≡ Some v → CanControl vars second numbers from v → ⊥
 
 -- the variable v may control, and it is the designated one, or that may not and it is the first
-pub record IsChosen (vars : List TypeVarContent) (numbers : List ℕ) (from : ℕ) (designated first : Option ℕ) (v : ℕ) : Type 0 where
+pub record IsChosen (vars : List TypeVarContent) (second : Option ℕ) (numbers : List ℕ) (from : ℕ) (designated first : Option ℕ) (v : ℕ) : Type 0 where
   pub several : HasSeveralTypes vars numbers
-  pub may : CanControl vars numbers from v
-  pub chosen : (designated ≡ Some v) ⊎ (MayNot vars numbers from designated × (first ≡ Some v))
+  pub may : CanControl vars second numbers from v
+  pub chosen : (designated ≡ Some v) ⊎ (MayNot vars second numbers from designated × (first ≡ Some v))
 
 -- there are several types, and neither the designated variable nor the first may control
-pub record IsMissing (vars : List TypeVarContent) (numbers : List ℕ) (from : ℕ) (designated first : Option ℕ) : Type 0 where
+pub record IsMissing (vars : List TypeVarContent) (second : Option ℕ) (numbers : List ℕ) (from : ℕ) (designated first : Option ℕ) : Type 0 where
   pub several : HasSeveralTypes vars numbers
-  pub designated_may_not : MayNot vars numbers from designated
-  pub first_may_not : MayNot vars numbers from first
+  pub designated_may_not : MayNot vars second numbers from designated
+  pub first_may_not : MayNot vars second numbers from first
 
 -- what was found, by the numbers of the variables
-abbrev pub IsFoundIn : List TypeVarContent → List ℕ → ℕ → Option ℕ → Option ℕ → Controlling → Type 0
-IsFoundIn vars numbers from designated first NotPolymorphic = AllHaveOneType vars numbers
-IsFoundIn vars numbers from designated first (By v) = IsChosen vars numbers from designated first v
-IsFoundIn vars numbers from designated first Missing = IsMissing vars numbers from designated first
+abbrev pub IsFoundIn : List TypeVarContent → Option ℕ → List ℕ → ℕ → Option ℕ → Option ℕ → Controlling → Type 0
+IsFoundIn vars second numbers from designated first NotPolymorphic = AllHaveOneType vars numbers
+IsFoundIn vars second numbers from designated first (By v) = IsChosen vars second numbers from designated first v
+IsFoundIn vars second numbers from designated first Missing = IsMissing vars second numbers from designated first
 
 -- the variable at the place is badly derived under the control
-pub record IsBadAt (vars : List TypeVarContent) (control : Controlling) (numbers : List ℕ) (place : ℕ) : Type 0 where
+pub record IsBadAt (vars : List TypeVarContent) (control : Controlling) (second : Option ℕ) (numbers : List ℕ) (place : ℕ) : Type 0 where
   pub number : ℕ
   pub at : slice_get numbers place ≡ Some number
-  pub bad : IsBadlyDerived (sets_of vars) (control_in vars control) (variable_at vars number)
+  pub bad : IsBadlyDerived (sets_of vars) (both (control_in vars control) (second_in vars second)) (variable_at vars number)
 
 -- and none before it is
-pub record IsFirstBadAt (vars : List TypeVarContent) (control : Controlling) (numbers : List ℕ) (place : ℕ) : Type 0 where
-  pub bad : IsBadAt vars control numbers place
-  pub first : (j : ℕ) → j < place → IsBadAt vars control numbers j → ⊥
+pub record IsFirstBadAt (vars : List TypeVarContent) (control : Controlling) (second : Option ℕ) (numbers : List ℕ) (place : ℕ) : Type 0 where
+  pub bad : IsBadAt vars control second numbers place
+  pub first : (j : ℕ) → j < place → IsBadAt vars control second numbers j → ⊥
 
 -- the control, if a variable controls, is of the registry
 abbrev pub IsOf : List TypeVarContent → Controlling → Type 0
@@ -68,3 +69,4 @@ pub record AreOperandsOf (vars : List TypeVarContent) (formats : List Instructio
   pub variables : o.variables ≡ variables_of (outputs_of b) ++ variables_of (inputs_of b)
   pub result_count : o.result_count ≡ length (variables_of (outputs_of b))
   pub of_registry : AreOf vars o.variables
+  pub second : o.second ≡ b.second

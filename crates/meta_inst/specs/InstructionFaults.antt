@@ -8,7 +8,7 @@ use Rattle.meta_types.specs.Name.{IsName}
 use Rattle.meta_types.specs.FirstFault.{Key, key_at, IsFirstShown, ShowsNone, ShowsNoneBefore}
 use Rattle.meta_types.specs.declared.fault.Place.TheVariants.{Instruction as AtInstruction}
 use Rattle.meta_types.specs.declared.fault.DefinitionError.{DefinitionError}
-use Rattle.meta_types.specs.declared.fault.DefinitionError.TheVariants.{BadName, BadOutput, FormatMismatch, NoControl, BadDerivation, TooManyOperands, BadImmMethod}
+use Rattle.meta_types.specs.declared.fault.DefinitionError.TheVariants.{BadName, BadOutput, FormatMismatch, NoControl, BadSecond, BadDerivation, TooManyOperands, BadImmMethod}
 use Rattle.meta_typevar.specs.Registry.{sets_of}
 use Rattle.meta_typevar.specs.declared.content.TypeVarContent.{TypeVarContent}
 use Rattle.meta_operands.specs.Operand.{variable_of, variables_of, is_varargs_operand}
@@ -16,7 +16,7 @@ use Rattle.meta_operands.specs.declared.operand.Operand.{Operand}
 use Rattle.meta_operands.specs.declared.format.InstructionFormat.{InstructionFormat}
 use Rattle.meta_inst.specs.Builder.{Builder, inputs_of, outputs_of}
 use Rattle.meta_inst.specs.FormatMatch.{MatchesFormat}
-use Rattle.meta_inst.specs.Control.{HasNoControl, DerivesBadly}
+use Rattle.meta_inst.specs.Control.{HasNoControl, HasBadSecond, DerivesBadly}
 use Rattle.meta_inst.specs.InstructionSet.{instruction_of_builder}
 
 -- the rules for an instruction
@@ -26,6 +26,7 @@ pub data Rule : Type 0 where
   OutputRule : Rule
   MismatchRule : Rule
   ControlRule : Rule
+  SecondRule : Rule
   DerivationRule : Rule
   CountRule : Rule
   MethodRule : Rule
@@ -37,9 +38,10 @@ rule_number DuplicateRule = 1
 rule_number OutputRule = 2
 rule_number MismatchRule = 3
 rule_number ControlRule = 4
-rule_number DerivationRule = 5
-rule_number CountRule = 6
-rule_number MethodRule = 7
+rule_number SecondRule = 5
+rule_number DerivationRule = 6
+rule_number CountRule = 7
+rule_number MethodRule = 8
 
 -- an instruction by itself is one place
 abbrev pub rule_key : Rule → Key
@@ -64,6 +66,10 @@ HasFormatMismatch formats b = (format : InstructionFormat) × (slice_get formats
 -- the instruction is polymorphic, and nothing controls it
 abbrev pub LacksItsControl : List TypeVarContent → List InstructionFormat → Builder → Type 0
 LacksItsControl vars formats b = HasNoControl (sets_of vars) (instruction_of_builder vars formats b)
+
+-- the instruction names a second control that can't be one
+abbrev pub NamesBadSecond : List TypeVarContent → List InstructionFormat → Builder → Type 0
+NamesBadSecond vars formats b = HasBadSecond (sets_of vars) (instruction_of_builder vars formats b)
 
 -- under its control, the first operand that is badly derived is the one at the place, among results and then values
 abbrev pub IsDerivedBadlyAt : List TypeVarContent → List InstructionFormat → Builder → ℕ → Type 0
@@ -102,7 +108,9 @@ Breaks vars formats b n OutputRule e = (place : ℕ) × (e ≡ BadOutput n place
 Breaks vars formats b n MismatchRule e = (e ≡ FormatMismatch n) × HasFormatMismatch formats b
 -- it is polymorphic, and nothing controls it
 Breaks vars formats b n ControlRule e = (e ≡ NoControl n) × LacksItsControl vars formats b
--- an operand is derived, has no fixed type, and isn't one step from the control; the first such is told
+-- its second control can't be one
+Breaks vars formats b n SecondRule e = (e ≡ BadSecond n) × NamesBadSecond vars formats b
+-- an operand is derived, has no fixed type, and isn't one step from a control; the first such is told
 Breaks vars formats b n DerivationRule e = (place : ℕ) × (e ≡ BadDerivation n place) × IsDerivedBadlyAt vars formats b place
 -- it has more than seven value results, or more than seven value inputs
 Breaks vars formats b n CountRule e = (count : ℕ) × (e ≡ TooManyOperands n count) × HasTooManyOperands b count

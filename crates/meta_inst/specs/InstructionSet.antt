@@ -8,7 +8,7 @@ use Rattle.meta_operands.specs.declared.operand.Operand.{Operand}
 use Rattle.meta_operands.specs.declared.format.InstructionFormat.{InstructionFormat}
 use Rattle.meta_inst.specs.Builder.{Builder, inputs_of, outputs_of}
 use Rattle.meta_inst.specs.Instruction.{Instruction}
-use Rattle.meta_inst.specs.Operands.{variables_at, AreOf}
+use Rattle.meta_inst.specs.Operands.{variables_at, second_in, AreOf, SecondIsOf}
 
 -- what is declared: type variables and formats by their numbers, and instructions in order
 pub record InstructionSet : Type 0 where
@@ -37,18 +37,20 @@ instruction_of_builder vars formats b = record {
   values = variables_at vars (variables_of (inputs_of b));
   designated = designated_in (slice_get formats b.format);
   begins_with_value = begins_with_value (outputs_of b);
+  second = second_in vars b.second;
 }
 
 -- the same of an instruction of these declarations
 abbrev pub instruction_in_set : InstructionSet → Builder → Instruction
 instruction_in_set d b = instruction_of_builder d.vars d.formats b
 
--- the instruction is of these registries: its format is of the table, and the variable of each value operand of the
--- variables
+-- the instruction is of these registries: its format is of the table, and the variable of each value operand and its second
+-- control of the variables
 pub record FitsBuilder (vars : List TypeVarContent) (formats : List InstructionFormat) (b : Builder) : Type 0 where
   pub format : b.format < length formats
   pub outputs : AreOf vars (variables_of (outputs_of b))
   pub inputs : AreOf vars (variables_of (inputs_of b))
+  pub second : SecondIsOf vars b.second
 
 -- each instruction is of the registries
 abbrev pub Fits : List TypeVarContent → List InstructionFormat → List Builder → Type 0

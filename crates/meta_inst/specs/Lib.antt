@@ -1,3 +1,4 @@
+pub mod Which
 pub mod Instruction
 pub mod Control
 pub mod Marks

@@ -5,7 +5,7 @@ ghost use Rattle.meta_typevar.specs.declared.content.TypeVarContent.{TypeVarCont
 ghost use Rattle.meta_operands.specs.Operand.{variables_of};
 ghost use Rattle.meta_operands.specs.declared.format.InstructionFormat.{InstructionFormat};
 ghost use Rattle.meta_inst.specs.Marks.{no_marks, terminator, branch, returning};
-ghost use Rattle.meta_inst.specs.Operands.{AreOf};
+ghost use Rattle.meta_inst.specs.Operands.{AreOf, SecondIsOf};
 ghost use Rattle.meta_inst.specs.InstructionSet.{FitsBuilder, instruction_of_builder};
 ghost use Rattle.meta_inst.specs.FoundControl.{IsFound, IsOf, AreOperandsOf};
 ghost use Rattle.meta_inst.specs.InstructionFaults.{TakesNoImmediate, ControlRule, KeepsRulesBefore, IsFirstOwnFault, IsWellMade};
@@ -19,7 +19,7 @@ use super::operands::{Controlling, Operands};
 use super::polymorphic::PolymorphicInfo;
 use meta_operands::{FormatId, FormatTable, InstructionFormat, Operand};
 use meta_types::{DefinitionError, Place, Text, camel_case, is_name};
-use meta_typevar::TypeVars;
+use meta_typevar::{TypeVar, TypeVars};
 use std::alloc::{AllocError, Global};
 use std::marker::Model;
 
@@ -32,6 +32,7 @@ pub struct InstructionBuilder {
     operands_in: Option<Vec<Operand>>,
     operands_out: Option<Vec<Operand>>,
     marks: Marks,
+    second: Option<TypeVar>,
 }
 
 impl Model for InstructionBuilder {
@@ -40,13 +41,13 @@ impl Model for InstructionBuilder {
 
     ghost Value = { Builder };
 
-    ghost view = { λ b. record { name = b.name; doc = b.doc; format = b.format; operands_in = option_map (λ v. v.items) b.operands_in; operands_out = option_map (λ v. v.items) b.operands_out; marks = b.marks } };
+    ghost view = { λ b. record { name = b.name; doc = b.doc; format = b.format; operands_in = option_map (λ v. v.items) b.operands_in; operands_out = option_map (λ v. v.items) b.operands_out; marks = b.marks; second = b.second } };
 }
 
 impl InstructionBuilder {
     /// An instruction of this name, doc and format, without operands.
     pub fn new(_alloc: Global, name: Text, doc: Text, format: FormatId) -> Self
-        ensures { result ≡ record { name = name; doc = doc; format = format; operands_in = None; operands_out = None; marks = no_marks } }
+        ensures { result ≡ record { name = name; doc = doc; format = format; operands_in = None; operands_out = None; marks = no_marks; second = None } }
     {
         InstructionBuilder {
             name,
@@ -55,6 +56,7 @@ impl InstructionBuilder {
             operands_in: None,
             operands_out: None,
             marks: Marks::none(),
+            second: None,
         }
     }
 
@@ -123,6 +125,30 @@ impl InstructionBuilder {
         self.operands_out = Some(operands);
         self
     }
+
+    /// Whether a second control was named.
+    pub fn has_second_control(&self) -> bool
+        ensures { IsTrue result ↔ IsSome self.now.second }
+    {
+        self.second.is_some()
+    }
+
+    /// The second control, where one was named.
+    pub fn second(&self) -> Option<TypeVar>
+        ensures { result ≡ self.now.second }
+    {
+        self.second
+    }
+
+    /// Names the second control, which wasn't named before.
+    pub fn second_control(mut self, tv: TypeVar) -> Self
+        requires { self.second ≡ None }
+        ensures { result ≡ record self { second = Some tv } }
+    {
+        self.second = Some(tv);
+        self
+    }
+
     /// Marks it as one that ends a block.
     pub fn terminates_block(mut self) -> Self
         ensures { result ≡ record self { marks = terminator self.marks } }
@@ -214,6 +240,9 @@ impl InstructionBuilder {
         if !are_operands_of(vars, self.outputs()) {
             return false;
         }
+        if !is_second_of(vars, self.second) {
+            return false;
+        }
         are_operands_of(vars, self.inputs())
     }
 
@@ -266,6 +295,9 @@ impl InstructionBuilder {
     {
         if control.is_missing() {
             return Some(DefinitionError::NoControl(number));
+        }
+        if operands.has_bad_second(vars) {
+            return Some(DefinitionError::BadSecond(number));
         }
         if let Some(place) = operands.bad_derivation(vars, control) {
             return Some(DefinitionError::BadDerivation(number, place as u64));
@@ -333,6 +365,16 @@ impl InstructionBuilder {
         }
         let polymorphic_info = operands.polymorphic_info(vars, &control);
         Ok(self.content(alloc, operands, polymorphic_info)?)
+    }
+}
+
+/// Whether the second control, if one is named, is of the registry.
+fn is_second_of(vars: &TypeVars, second: Option<TypeVar>) -> bool
+    ensures { IsTrue result ↔ SecondIsOf vars.now second }
+{
+    match second {
+        Some(tv) => vars.is_of(tv),
+        None => true,
     }
 }
 

@@ -1,4 +1,4 @@
-ghost use Rattle.std.specs.Prelude.{◌≡◌, ◌↔◌, ◌≤◌, List, ◌++◌, ◌∷◌, [], ◌<◌, ℕ, IsTrue, MatchBool, OnOk, IfOk, IfSome, nat_eq, IfNone, length, slice_get, take, Some};
+ghost use Rattle.std.specs.Prelude.{◌≡◌, ◌↔◌, ◌⊎◌, ◌≤◌, List, ◌++◌, ◌∷◌, [], ◌<◌, ℕ, IsTrue, MatchBool, OnOk, IfOk, IfSome, nat_eq, IfNone, length, slice_get, take, Some};
 ghost use Rattle.meta_typevar.specs.declared.content.TypeVarContent.{TypeVarContent};
 ghost use Rattle.meta_typevar.specs.Registry.{sets_of, variable_at, IsRegistry};
 ghost use Rattle.meta_operands.specs.Operand.{variables_of};
@@ -7,9 +7,10 @@ ghost use Rattle.meta_inst.specs.InstructionSet.{instruction_of_builder, designa
 ghost use Rattle.meta_inst.specs.Instruction.{IsDesignated};
 ghost use Rattle.meta_inst.specs.Content.{control_kept, operand_list};
 ghost use Rattle.meta_inst.specs.Control.{IsBadlyDerived};
+ghost use Rattle.meta_inst.specs.Which.{both};
 ghost use Rattle.meta_inst.specs.FoundControl.{IsFoundIn, MayNot, control_in, IsBadAt, IsFirstBadAt, IsOf};
 ghost use Rattle.std.specs.HashMap.{get};
-ghost use Rattle.meta_inst.specs.Operands.{AreInputCounts, AreOf, IsAlone, HasOneType, LetsControl, CanControl, HasSeveralTypes, AllHaveOneType, instruction_of_operands, designated_number, first_number};
+ghost use Rattle.meta_inst.specs.Operands.{AreInputCounts, AreOf, SecondIsOf, second_in, IsAlone, HasOneType, LetsControl, CanControl, Uses, UsesNowhere, IsNoSecond, HasSeveralTypes, AllHaveOneType, instruction_of_operands, designated_number, first_number};
 
 use super::builder::InstructionBuilder;
 use super::checks::MAX_OPERANDS;
@@ -93,14 +94,31 @@ fn counted_inputs(alloc: Global, inputs: &[TypeVar]) -> Result<Option<InputCount
     Ok(Some(InputCounts::of(alloc, inputs)?))
 }
 
+/// Whether the variable is the second control.
+fn is_second(second: &Option<TypeVar>, tv: TypeVar) -> bool
+    ensures { IsTrue result ↔ (second.now ≡ Some tv) }
+{
+    match second {
+        Some(s) => *s == tv,
+        None => false,
+    }
+}
+
+/// Whether the root is `v` or the second control.
+fn rules(second: &Option<TypeVar>, v: TypeVar, root: TypeVar) -> bool
+    ensures { IsTrue result ↔ ((root ≡ v) ⊎ (second.now ≡ Some root)) }
+{
+    root == v || is_second(second, root)
+}
+
 /// Whether the variable at this place lets `v` control.
 fn lets_control(vars: &TypeVars, operands: &Operands, v: TypeVar, place: usize) -> bool
     requires variables { AreOf vars.now operands.now.variables }
     requires within { place < length operands.now.variables }
-    ensures { (n : ℕ) → slice_get operands.now.variables place ≡ Some n → (IsTrue result ↔ LetsControl vars.now operands.now.variables operands.now.result_count v place n) }
+    ensures { (n : ℕ) → slice_get operands.now.variables place ≡ Some n → (IsTrue result ↔ LetsControl vars.now operands.now.second operands.now.variables operands.now.result_count v place n) }
 {
     let tv = operands.variables()[place];
-    tv.root(vars) == v
+    rules(operands.second(), v, tv.root(vars))
         || has_one_type(vars, tv)
         || (is_underived(vars, tv) && operands.is_alone(place))
 }
@@ -109,9 +127,12 @@ fn lets_control(vars: &TypeVars, operands: &Operands, v: TypeVar, place: usize) 
 fn may_control(vars: &TypeVars, operands: &Operands, v: TypeVar) -> bool
     requires variables { AreOf vars.now operands.now.variables }
     requires of { v < length vars.now }
-    ensures { IsTrue result ↔ CanControl vars.now operands.now.variables operands.now.result_count v }
+    ensures { IsTrue result ↔ CanControl vars.now operands.now.second operands.now.variables operands.now.result_count v }
 {
     if !is_underived(vars, v) {
+        return false;
+    }
+    if is_second(operands.second(), v) {
         return false;
     }
     for place in 0..operands.variables().len() {
@@ -135,12 +156,42 @@ fn is_polymorphic(vars: &TypeVars, variables: &[TypeVar]) -> bool
     false
 }
 
+/// Whether some variable has the root of `s`.
+fn is_used(vars: &TypeVars, variables: &[TypeVar], s: TypeVar) -> bool
+    requires variables { AreOf vars.now variables.now }
+    requires of { s < length vars.now }
+    ensures { MatchBool result (Uses vars.now variables.now s) (UsesNowhere vars.now variables.now s) }
+{
+    let root = s.root(vars);
+    for place in 0..variables.len() {
+        if variables[place].root(vars) == root {
+            return true;
+        }
+    }
+    false
+}
+
+/// Whether `s` can't be a second control: it is derived, or no variable has its root, or nothing is polymorphic.
+fn is_no_second(vars: &TypeVars, variables: &[TypeVar], s: TypeVar) -> bool
+    requires variables { AreOf vars.now variables.now }
+    requires of { s < length vars.now }
+    ensures { IsTrue result ↔ IsNoSecond vars.now variables.now s }
+{
+    if !is_underived(vars, s) {
+        return true;
+    }
+    if !is_used(vars, variables, s) {
+        return true;
+    }
+    !is_polymorphic(vars, variables)
+}
+
 /// The candidate, if there is one and it may control.
 fn eligible(vars: &TypeVars, operands: &Operands, candidate: Option<TypeVar>) -> Option<TypeVar>
     requires variables { AreOf vars.now operands.now.variables }
     requires of { IfSome candidate (λ v. v < length vars.now) }
-    ensures some { IfSome result (λ v. (candidate ≡ Some v) × CanControl vars.now operands.now.variables operands.now.result_count v) }
-    ensures none { IfNone result (MayNot vars.now operands.now.variables operands.now.result_count candidate) }
+    ensures some { IfSome result (λ v. (candidate ≡ Some v) × CanControl vars.now operands.now.second operands.now.variables operands.now.result_count v) }
+    ensures none { IfNone result (MayNot vars.now operands.now.second operands.now.variables operands.now.result_count candidate) }
 {
     let v = candidate?;
     if may_control(vars, operands, v) {
@@ -183,7 +234,7 @@ fn control_of(
     requires variables { AreOf vars.now operands.now.variables }
     requires designated { IfSome designated (λ v. v < length vars.now) }
     requires first { IfSome first (λ v. v < length vars.now) }
-    ensures { IsFoundIn vars.now operands.now.variables operands.now.result_count designated first result }
+    ensures { IsFoundIn vars.now operands.now.second operands.now.variables operands.now.result_count designated first result }
 {
     if !is_polymorphic(vars, operands.variables()) {
         return Controlling::NotPolymorphic;
@@ -208,10 +259,16 @@ fn is_by(control: &Controlling, tv: TypeVar) -> bool
 }
 
 /// Whether the variable is derived, no type is fixed for it, and its parent isn't the control.
-fn is_badly_derived(vars: &TypeVars, control: &Controlling, tv: TypeVar) -> bool
+fn is_badly_derived(
+    vars: &TypeVars,
+    control: &Controlling,
+    second: &Option<TypeVar>,
+    tv: TypeVar,
+) -> bool
     requires of { tv < length vars.now }
     requires control { IsOf vars.now control.now }
-    ensures { IsTrue result ↔ IsBadlyDerived (sets_of vars.now) (control_in vars.now control.now) (variable_at vars.now tv) }
+    requires second { SecondIsOf vars.now second.now }
+    ensures { IsTrue result ↔ IsBadlyDerived (sets_of vars.now) (both (control_in vars.now control.now) (second_in vars.now second.now)) (variable_at vars.now tv) }
 {
     let Some(parent) = vars.content(tv).base else {
         return false;
@@ -219,18 +276,27 @@ fn is_badly_derived(vars: &TypeVars, control: &Controlling, tv: TypeVar) -> bool
     if is_by(control, parent.type_var) {
         return false;
     }
+    if is_second(second, parent.type_var) {
+        return false;
+    }
     tv.fixed_type(vars).is_none()
 }
 
 /// The place of the first of the variables that is badly derived.
-fn first_bad(vars: &TypeVars, control: &Controlling, variables: &[TypeVar]) -> Option<usize>
+fn first_bad(
+    vars: &TypeVars,
+    control: &Controlling,
+    second: &Option<TypeVar>,
+    variables: &[TypeVar],
+) -> Option<usize>
     requires variables { AreOf vars.now variables.now }
     requires control { IsOf vars.now control.now }
-    ensures found { IfSome result (IsFirstBadAt vars.now control.now variables.now) }
-    ensures none { IfNone result ((k : ℕ) → IsBadAt vars.now control.now variables.now k → ⊥) }
+    requires second { SecondIsOf vars.now second.now }
+    ensures found { IfSome result (IsFirstBadAt vars.now control.now second.now variables.now) }
+    ensures none { IfNone result ((k : ℕ) → IsBadAt vars.now control.now second.now variables.now k → ⊥) }
 {
     for place in 0..variables.len() {
-        if is_badly_derived(vars, control, variables[place]) {
+        if is_badly_derived(vars, control, second, variables[place]) {
             return Some(place);
         }
     }
@@ -247,6 +313,7 @@ pub struct Operands {
     input_counts: Option<InputCounts>,
     designated: Option<usize>,
     begins_with_value: bool,
+    second: Option<TypeVar>,
 }
 
 impl Model for Operands {
@@ -256,13 +323,13 @@ impl Model for Operands {
 
     ghost Value = { OperandList };
 
-    ghost view = { λ o. record { variables = o.variables.items; result_count = o.result_count; designated = o.designated; begins_with_value = o.begins_with_value } };
+    ghost view = { λ o. record { variables = o.variables.items; result_count = o.result_count; designated = o.designated; begins_with_value = o.begins_with_value; second = o.second } };
 
     ghost invariant = { λ o. (o.result_count ≤ length o.variables.items) × IfSome o.input_counts (λ c. AreInputCounts (drop o.result_count o.variables.items) (get nat_eq c.counts)) };
 }
 
 impl Operands {
-    ghost use Rattle.meta_inst.specs.Control.{HasBadDerivation, IsFirstBadDerivation};
+    ghost use Rattle.meta_inst.specs.Control.{HasBadSecond, HasBadDerivation, IsFirstBadDerivation};
     ghost use Rattle.meta_inst.specs.FoundControl.{IsFound};
     ghost use Rattle.meta_inst.specs.InstructionSet.{instruction_of_builder, FitsBuilder};
     ghost use Rattle.meta_inst.specs.Builder.{inputs_of, outputs_of};
@@ -279,6 +346,7 @@ impl Operands {
         ensures fits { IfOk result (λ o. (vars : List TypeVarContent) → FitsBuilder vars formats.now builder.now → AreOf vars o.variables) }
         ensures variables { IfOk result (λ o. o.variables ≡ variables_of (outputs_of builder.now) ++ variables_of (inputs_of builder.now)) }
         ensures result_count { IfOk result (λ o. o.result_count ≡ length (variables_of (outputs_of builder.now))) }
+        ensures second { IfOk result (λ o. o.second ≡ builder.now.second) }
     {
         let mut variables = Vec::with_capacity(alloc, FEW_OPERANDS)?;
         push_variables(&mut variables, builder.outputs())?;
@@ -291,6 +359,7 @@ impl Operands {
             input_counts,
             designated: formats.get(builder.format()).typevar_operand,
             begins_with_value: begins_with_value(builder.outputs()),
+            second: builder.second(),
         })
     }
 
@@ -307,6 +376,13 @@ impl Operands {
         ensures within { self.now.result_count ≤ length self.now.variables }
     {
         self.result_count
+    }
+
+    /// The second control, where one is named.
+    pub fn second(&self) -> &Option<TypeVar>
+        ensures { result.now ≡ self.now.second }
+    {
+        &self.second
     }
 
     /// The variable of the value input that the format designates.
@@ -363,7 +439,8 @@ impl Operands {
     /// What controls the instruction, whose variables are of the registry: the designated operand's variable, if that may
     /// control, and else the first output's (`verify_polymorphic` of `cdsl/instructions.rs`).
     pub fn control(&self, vars: &TypeVars) -> Controlling
-        requires { AreOf vars.now self.now.variables }
+        requires variables { AreOf vars.now self.now.variables }
+        requires second { SecondIsOf vars.now self.now.second }
         ensures found { IsFound vars.now (instruction_of_operands vars.now self.now) result }
         ensures of_registry { IsOf vars.now result }
     {
@@ -371,16 +448,30 @@ impl Operands {
         control_of(vars, self, self.designated(), self.first())
     }
 
+    /// Whether a second control is named that can't be one.
+    pub fn has_bad_second(&self, vars: &TypeVars) -> bool
+        requires variables { AreOf vars.now self.now.variables }
+        requires second { SecondIsOf vars.now self.now.second }
+        ensures { IsTrue result ↔ HasBadSecond (sets_of vars.now) (instruction_of_operands vars.now self.now) }
+    {
+        self.holds_with(vars);
+        match self.second() {
+            Some(s) => is_no_second(vars, self.variables(), *s),
+            None => false,
+        }
+    }
+
     /// The place, among results and then values, of the first operand that is derived, has no fixed type, and whose parent
     /// isn't the control, which is of the registry as the variables are; `None` exactly where there is none.
     pub fn bad_derivation(&self, vars: &TypeVars, control: &Controlling) -> Option<usize>
         requires variables { AreOf vars.now self.now.variables }
         requires control { IsOf vars.now control.now }
+        requires second { SecondIsOf vars.now self.now.second }
         ensures found { IfSome result (IsFirstBadDerivation (sets_of vars.now) (instruction_of_operands vars.now self.now) (control_in vars.now control.now)) }
         ensures none { IfNone result ((k : ℕ) → HasBadDerivation (sets_of vars.now) (instruction_of_operands vars.now self.now) (control_in vars.now control.now) k → ⊥) }
     {
         self.holds_with(vars);
-        first_bad(vars, control, self.variables())
+        first_bad(vars, control, self.second(), self.variables())
     }
     /// Whether the variable is that of the designated operand.
     fn is_designated(&self, tv: TypeVar) -> bool
@@ -396,9 +487,11 @@ impl Operands {
         control: &Controlling,
     ) -> Option<PolymorphicInfo>
         requires variables { AreOf vars.now self.now.variables }
+        requires second { SecondIsOf vars.now self.now.second }
         requires control { IsOf vars.now control.now }
         ensures kept { control_kept vars.now result ≡ control_in vars.now control.now }
         ensures of_registry { IfSome result (λ p. p.ctrl_typevar < length vars.now) }
+        ensures second { IfSome result (λ p. p.second_typevar ≡ self.now.second) }
         ensures designated { IfSome result (λ p. IsTrue p.use_typevar_operand ↔ IsDesignated (instruction_of_operands vars.now self.now) (variable_at vars.now p.ctrl_typevar)) }
     {
         self.holds_with(vars);
@@ -406,6 +499,7 @@ impl Operands {
             Controlling::By(v) => Some(PolymorphicInfo {
                 use_typevar_operand: self.is_designated(*v),
                 ctrl_typevar: *v,
+                second_typevar: self.second,
             }),
             Controlling::NotPolymorphic | Controlling::Missing => None,
         }

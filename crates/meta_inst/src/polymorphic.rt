@@ -7,4 +7,6 @@ pub struct PolymorphicInfo {
     pub use_typevar_operand: bool,
     /// The variable that controls, which is underived.
     pub ctrl_typevar: TypeVar,
+    /// The second control, where one is named.
+    pub second_typevar: Option<TypeVar>,
 }

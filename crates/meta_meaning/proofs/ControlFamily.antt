@@ -1,61 +1,62 @@
--- The one control of an instruction is a family of one, and rules it.
+-- The control and the second control of an instruction rule it.
+--     under_or_not        whether a variable has the root of a control is decided
+--     ruling_of           the four facts hold of the two controls
 --     admits_from_accepts, accepts_from_admits      one test an operand is one joint choice, where each operand has a constraint
-use Rattle.std.proofs.Common.{◌≡◌, ◌≢◌, ◌+◌, ℕ, ◌⊎◌, List, [], ◌++◌, length, Option, None, Some, slice_get, refl, sym, ap, ap₂, ◌∙◌, subst, inl, inr, length-append}
+use Rattle.std.proofs.Common.{◌≡◌, ◌≢◌, ◌+◌, ℕ, zero, suc, ◌⊎◌, List, [], ◌∷◌, ◌++◌, length, Option, None, Some, slice_get, refl, sym, ap, ap₂, ◌∙◌, subst, inl, inr, length-append}
 use Rattle.std.proofs.lemmas.Bool.{cases_eq}
-use Rattle.std.proofs.lemmas.Option.{same_Some}
+use Rattle.std.proofs.lemmas.Option.{same_Some, none-some}
 use Rattle.meta_lists.proofs.Places.{get_stays, get_right}
 use Rattle.meta_types.specs.TypeParts.{TypeParts}
-use Rattle.meta_typevar.specs.Variable.{Variable, Sets}
-use Rattle.meta_inst.specs.Instruction.{Instruction, IsOperand, IsDesignated, IsFirstOutput, operands}
-use Rattle.meta_inst.specs.Control.{IsControl, DesignatesNone, IsRuled}
+use Rattle.meta_types.specs.Function.{Function}
+use Rattle.meta_typevar.specs.TypeSetParts.{HasOne}
+use Rattle.meta_typevar.specs.Variable.{Variable, Sets, underived}
+use Rattle.meta_inst.specs.Which.{Which, First, Second, both}
+use Rattle.meta_inst.specs.Instruction.{Instruction, IsOperand, IsDesignated, IsFirstOutput, operands, controls_of}
+use Rattle.meta_inst.specs.Control.{IsControl, DesignatesNone, IsRuled, IsLoneInput, HasBadSecond}
 use Rattle.meta_meaning.specs.Acceptance.{Accepts, Controls}
-use Rattle.meta_meaning.specs.Constraint.{Constraint, Concrete, Free, Same, By, IsConstraint, Passes, ControlFits, Admits}
-use Rattle.meta_meaning.proofs.Family.{IsControlled, IsUsed, IsSettled, Ruling, Rule, OneType, AnyOf, SameAs, ByOf, IsRule, RulePasses, AllFit, IsChoice}
-use Rattle.meta_meaning.proofs.OneChoice.{AllPass, choice_from_tests, passes_from_choice, fits_from_choice}
+use Rattle.meta_meaning.specs.Constraint.{Constraint, IsConstraint, PassesOwn, ControlFits, Admits}
+use Rattle.meta_meaning.proofs.Candidates.{same_variable}
+use Rattle.meta_meaning.proofs.Family.{IsControlled, IsUsed, IsSettled, Ruling, AllFit, IsChoice}
+use Rattle.meta_meaning.proofs.OneChoice.{choice_from_tests, passes_from_choice, fits_from_choice}
 
--- the one control that an instruction may have
-pub data TheOne : Type 0 where
-  the_one : TheOne
-
--- the family of one, of controls or of controlling types
-abbrev pub alone : {X : Type 0} → X → TheOne → X
-alone x the_one = x
-
--- there is one of them
-one_of_one : (a b : TheOne) → a ≡ b
-one_of_one the_one the_one = refl
-
--- the rule that a constraint is
-abbrev pub rule_of : Constraint → Rule TheOne
-rule_of (Concrete t) = OneType t
-rule_of (Free s) = AnyOf s
-rule_of Same = SameAs the_one
-rule_of (By f) = ByOf the_one f
-
--- an operand's constraint is a rule of it
-rule_from_constraint : (sets : Sets) (control : Option Variable) (w : Variable) (x : Constraint) → IsConstraint sets control w x → IsRule sets TheOne (alone control) w (rule_of x)
-rule_from_constraint sets control w (Concrete t) h = h
-rule_from_constraint sets control w (Free s) h = record { underived = h.underived; other = other; set = h.set }
+-- whether a control that may be there has the root of w
+rooted_or_not : (o : Option Variable) (w : Variable) → ((v : Variable) × (o ≡ Some v) × (w.root ≡ v.root)) ⊎ ((v : Variable) → o ≡ Some v → w.root ≡ v.root → ⊥)
+rooted_or_not None w = inr (λ v e. absurd (none-some v e))
+rooted_or_not (Some v) w = by_case (cases_eq w.root v.root)
   where
-    -- the control is another variable
-    other : (a : TheOne) → alone control a ≢ Some w
-    other the_one = h.other
-rule_from_constraint sets control w Same h = h.controls
-rule_from_constraint sets control w (By f) h = record { variable = h.variable; controls_is = h.controls; derived = h.derived }
+    by_case : (w.root ≡ v.root) ⊎ (w.root ≡ v.root → ⊥) → ((u : Variable) × (Some v ≡ Some u) × (w.root ≡ u.root)) ⊎ ((u : Variable) → Some v ≡ Some u → w.root ≡ u.root → ⊥)
+    by_case (inl r) = inl (v, refl, r)
+    by_case (inr other) = inr (λ u e r. other (r ∙ ap (λ (x : Variable). x.root) (sym (same_Some v u e))))
 
--- what passes a constraint passes the rule
-rule_passes : (c : Option TypeParts) (x : Constraint) (t : TypeParts) → Passes c x t → RulePasses TheOne (alone c) (rule_of x) t
-rule_passes c (Concrete n) t h = h
-rule_passes c (Free s) t h = h
-rule_passes c Same t h = h
-rule_passes c (By f) t h = h
+-- Whether a variable has the root of a control.
+pub under_or_not : (controls : Which → Option Variable) (w : Variable) → IsControlled controls w ⊎ (IsControlled controls w → ⊥)
+under_or_not controls w = by_both (rooted_or_not (controls First) w) (rooted_or_not (controls Second) w)
+  where
+    by_both : ((v : Variable) × (controls First ≡ Some v) × (w.root ≡ v.root)) ⊎ ((v : Variable) → controls First ≡ Some v → w.root ≡ v.root → ⊥)
+        → ((v : Variable) × (controls Second ≡ Some v) × (w.root ≡ v.root)) ⊎ ((v : Variable) → controls Second ≡ Some v → w.root ≡ v.root → ⊥)
+        → IsControlled controls w ⊎ (IsControlled controls w → ⊥)
+    by_both (inl (v, e, r)) second = inl (First, record { variable = v; controls_is = e; root = r })
+    by_both (inr none) (inl (v, e, r)) = inl (Second, record { variable = v; controls_is = e; root = r })
+    by_both (inr none) (inr nothing) = inr neither
+      where
+        neither : IsControlled controls w → ⊥
+        neither (First, p) = none p.variable p.controls_is p.root
+        neither (Second, p) = nothing p.variable p.controls_is p.root
 
--- and the other way round
-constraint_passes : (c : Option TypeParts) (x : Constraint) (t : TypeParts) → RulePasses TheOne (alone c) (rule_of x) t → Passes c x t
-constraint_passes c (Concrete n) t h = h
-constraint_passes c (Free s) t h = h
-constraint_passes c Same t h = h
-constraint_passes c (By f) t h = h
+-- whether a root stands in a list of variables
+root_stands : (ws : List Variable) (r : ℕ) → ((k : ℕ) × (w : Variable) × (slice_get ws k ≡ Some w) × (w.root ≡ r)) ⊎ ((k : ℕ) (w : Variable) → slice_get ws k ≡ Some w → w.root ≢ r)
+root_stands [] r = inr (λ k w at. absurd (none-some w at))
+root_stands (v ∷ ws) r = by_case (cases_eq v.root r) (root_stands ws r)
+  where
+    by_case : (v.root ≡ r) ⊎ (v.root ≡ r → ⊥) → ((k : ℕ) × (w : Variable) × (slice_get ws k ≡ Some w) × (w.root ≡ r)) ⊎ ((k : ℕ) (w : Variable) → slice_get ws k ≡ Some w → w.root ≢ r)
+        → ((k : ℕ) × (w : Variable) × (slice_get (v ∷ ws) k ≡ Some w) × (w.root ≡ r)) ⊎ ((k : ℕ) (w : Variable) → slice_get (v ∷ ws) k ≡ Some w → w.root ≢ r)
+    by_case (inl e) rest = inl (0, v, refl, e)
+    by_case (inr other) (inl (k, w, at, e)) = inl (suc k, w, at, e)
+    by_case (inr other) (inr none) = inr nowhere
+      where
+        nowhere : (k : ℕ) (w : Variable) → slice_get (v ∷ ws) k ≡ Some w → w.root ≢ r
+        nowhere zero w at e = other (ap (λ (x : Variable). x.root) (same_Some v w at) ∙ e)
+        nowhere (suc k) w at e = none k w at e
 
 -- the designated operand's variable is an operand
 designated_used : (i : Instruction) (v : Variable) → IsDesignated i v → IsUsed i v
@@ -70,88 +71,125 @@ control_used : (sets : Sets) (i : Instruction) (v : Variable) → IsDesignated i
 control_used sets i v (inl d) = designated_used i v d
 control_used sets i v (inr (_, f)) = first_used i v f
 
--- a variable that isn't under the one control is under none of the family
-none_under : (v w : Variable) → (w.root ≡ v.root → ⊥) → IsControlled TheOne (alone (Some v)) w → ⊥
-none_under v w other (the_one, p) = other (p.root ∙ ap (λ (x : Variable). x.root) (sym (same_Some v p.variable p.controls_is)))
+module _ (sets : Sets) (i : Instruction) (good : HasBadSecond sets i → ⊥) where
+  -- a second control that isn't bad is underived
+  second_underived : (s : Variable) → i.second ≡ Some s → s.chain ≡ []
+  second_underived s e = by_chain s.chain refl
+    where
+      by_chain : (fs : List Function) → s.chain ≡ fs → s.chain ≡ []
+      by_chain [] d = d
+      by_chain (f ∷ fs) d = absurd (good (s, e, inl (λ none. let h : f ∷ fs ≡ [] = sym d ∙ none in cc)))
 
--- each operand is settled by what may control
-settled_by : (sets : Sets) (i : Instruction) (v : Variable) (k : ℕ) (w : Variable) → ((w.root ≡ v.root) ⊎ (w.root ≡ v.root → ⊥)) → IsRuled sets i v k w → IsSettled sets i TheOne (alone (Some v)) k w
-settled_by sets i v k w (inl same) ruled = inl (the_one, record { variable = v; controls_is = refl; root = same })
-settled_by sets i v k w (inr other) (inl same) = absurd (other same)
-settled_by sets i v k w (inr other) (inr (inl one)) = inr (none_under v w other, inl one)
-settled_by sets i v k w (inr other) (inr (inr lone)) = inr (none_under v w other, inr lone)
+  -- and its root is used
+  second_used : (s : Variable) → i.second ≡ Some s → IsUsed i s
+  second_used s e = by_case (root_stands (operands i) s.root)
+    where
+      by_case : ((k : ℕ) × (w : Variable) × (slice_get (operands i) k ≡ Some w) × (w.root ≡ s.root)) ⊎ ((k : ℕ) (w : Variable) → slice_get (operands i) k ≡ Some w → w.root ≢ s.root) → IsUsed i s
+      by_case (inl (k, w, at, r)) = record { place = k; variable = w; operand = at; root = r }
+      by_case (inr none) = absurd (good (s, e, inr (inl none)))
 
--- without a control there is none in the family
-none_there : (w : Variable) → IsControlled TheOne (alone None) w → ⊥
-none_there w (the_one, p) = absurd (let e : None ≡ Some p.variable = p.controls_is in cc)
+-- what is under a control, has one type or is a lone input, is settled
+settled : (sets : Sets) (i : Instruction) (controls : Which → Option Variable) (k : ℕ) (w : Variable) → IsControlled controls w ⊎ (IsControlled controls w → ⊥)
+    → IsControlled controls w ⊎ HasOne (sets w.root) ⊎ IsLoneInput i k w → IsSettled sets i controls k w
+settled sets i controls k w (inl under) why = inl under
+settled sets i controls k w (inr none) (inl under) = absurd (none under)
+settled sets i controls k w (inr none) (inr why) = inr (none, why)
 
--- the control of an instruction rules it
-pub ruling_of : (sets : Sets) (i : Instruction) (control : Option Variable) → IsControl sets i control → Ruling sets i TheOne (alone control)
-ruling_of sets i None h = record {
-  underived = λ a v e. absurd (nothing a v e);
-  one = λ a b u v d e r. one_of_one a b;
-  used = λ a v e. absurd (nothing a v e);
-  settled = λ k w at. inr (none_there w, inl (h k w at));
-}
+-- each operand is under a control, has one type or is a lone input
+why_settled : (sets : Sets) (i : Instruction) (control : Option Variable) → IsControl sets i control → (k : ℕ) (w : Variable) → IsOperand i k w → IsControlled (controls_of i control) w ⊎ HasOne (sets w.root) ⊎ IsLoneInput i k w
+why_settled sets i None h k w at = inr (inl (h k w at))
+why_settled sets i (Some v) h k w at = by_rule (h.may.others k w at)
   where
-    -- no member of the family is there
-    nothing : (a : TheOne) (v : Variable) → alone {X = Option Variable} None a ≡ Some v → ⊥
-    nothing the_one v e = cc
-ruling_of sets i (Some v) h = record {
-  underived = underived;
-  one = λ a b u w d e r. one_of_one a b;
+    by_rule : IsRuled sets i v k w → IsControlled (controls_of i (Some v)) w ⊎ HasOne (sets w.root) ⊎ IsLoneInput i k w
+    by_rule (inl r) = inl (First, record { variable = v; controls_is = refl; root = r })
+    by_rule (inr (inl s)) = inl (Second, record { variable = underived w.root; controls_is = s; root = refl })
+    by_rule (inr (inr why)) = inr why
+
+-- the control is underived, its root is used, and the second control isn't it
+control_underived : (sets : Sets) (i : Instruction) (control : Option Variable) → IsControl sets i control → (v : Variable) → control ≡ Some v → v.chain ≡ []
+control_underived sets i None h v e = absurd (none-some v e)
+control_underived sets i (Some w) h v e = subst (λ (x : Variable). x.chain ≡ []) (same_Some w v e) h.may.underived
+
+control_is_used : (sets : Sets) (i : Instruction) (control : Option Variable) → IsControl sets i control → (v : Variable) → control ≡ Some v → IsUsed i v
+control_is_used sets i None h v e = absurd (none-some v e)
+control_is_used sets i (Some w) h v e = subst (λ (x : Variable). IsUsed i x) (same_Some w v e) (control_used sets i w h.chosen)
+
+not_the_second : (sets : Sets) (i : Instruction) (control : Option Variable) → IsControl sets i control → (v : Variable) → control ≡ Some v → i.second ≢ Some v
+not_the_second sets i None h v e = absurd (none-some v e)
+not_the_second sets i (Some w) h v e = subst (λ (x : Variable). i.second ≢ Some x) (same_Some w v e) h.may.not_second
+
+-- The two controls of an instruction rule it.
+pub ruling_of : (sets : Sets) (i : Instruction) (control : Option Variable) → IsControl sets i control → (HasBadSecond sets i → ⊥) → Ruling sets i (controls_of i control)
+ruling_of sets i control h good = record {
+  underived = under;
+  one = one;
   used = used;
-  settled = λ k w at. settled_by sets i v k w (cases_eq w.root v.root) (h.may.others k w at);
+  settled = λ k w at. settled sets i (controls_of i control) k w (under_or_not (controls_of i control) w) (why_settled sets i control h k w at);
 }
   where
-    -- the one control is underived
-    underived : (a : TheOne) (w : Variable) → alone (Some v) a ≡ Some w → w.chain ≡ []
-    underived the_one w e = subst (λ (x : Variable). x.chain ≡ []) (same_Some v w e) h.may.underived
+    under : (a : Which) (v : Variable) → controls_of i control a ≡ Some v → v.chain ≡ []
+    under First v e = control_underived sets i control h v e
+    under Second v e = second_underived sets i good v e
 
-    -- and its root is used
-    used : (a : TheOne) (w : Variable) → alone (Some v) a ≡ Some w → IsUsed i w
-    used the_one w e = subst (λ (x : Variable). IsUsed i x) (same_Some v w e) (control_used sets i v h.chosen)
+    used : (a : Which) (v : Variable) → controls_of i control a ≡ Some v → IsUsed i v
+    used First v e = control_is_used sets i control h v e
+    used Second v e = second_used sets i good v e
+
+    -- the two have two roots
+    apart : (u v : Variable) → control ≡ Some u → i.second ≡ Some v → u.root ≡ v.root → ⊥
+    apart u v d e r =
+        let same : v ≡ u = same_variable v u (sym r) (second_underived sets i good v e ∙ sym (control_underived sets i control h u d)) in
+        not_the_second sets i control h u d (e ∙ ap Some same)
+
+    one : (a b : Which) (u v : Variable) → controls_of i control a ≡ Some u → controls_of i control b ≡ Some v → u.root ≡ v.root → a ≡ b
+    one First First u v d e r = refl
+    one First Second u v d e r = absurd (apart u v d e r)
+    one Second First u v d e r = absurd (apart v u e d (sym r))
+    one Second Second u v d e r = refl
 
 -- two lists of the right lengths are as long as the operands
 pub as_long : (i : Instruction) (rs vs : List TypeParts) → length rs ≡ length i.results → length vs ≡ length i.values → length (operands i) ≡ length (rs ++ vs)
 as_long i rs vs r v = length-append i.results i.values ∙ (sym (ap₂ (λ (m n : ℕ). m + n) r v) ∙ sym (length-append rs vs))
 
-module _ (sets : Sets) (i : Instruction) (control : Option Variable) (c : Option TypeParts) (rs vs : List TypeParts) (h : IsControl sets i control) where
-  -- the controlling type of the family fits
-  all_fit : ControlFits sets control c → AllFit sets TheOne (alone control) (alone c)
-  all_fit f the_one = f
+module _ (sets : Sets) (i : Instruction) (control : Option Variable) (c d : Option TypeParts) (rs vs : List TypeParts) (h : IsControl sets i control) (good : HasBadSecond sets i → ⊥) where
+  ruling : Ruling sets i (controls_of i control)
+  ruling = ruling_of sets i control h good
 
-  -- the controlling type of a choice for the family
-  controlled : (choice : ℕ → TypeParts) → Controls choice control c → (a : TheOne) → Controls choice (alone control a) (alone c a)
-  controlled choice f the_one = f
+  -- the two controlling types fit
+  all_fit : ControlFits sets control c → ControlFits sets i.second d → AllFit sets (controls_of i control) (both c d)
+  all_fit f g First = f
+  all_fit f g Second = g
+
+  -- the controlling types of a choice
+  controlled : (choice : ℕ → TypeParts) → Controls choice control c → Controls choice i.second d → (a : Which) → Controls choice (controls_of i control a) (both c d a)
+  controlled choice f g First = f
+  controlled choice f g Second = g
 
   -- One test an operand gives one joint choice.
-  pub accepts_from_admits : Admits sets i control c rs vs → Accepts sets i control c rs vs
+  pub accepts_from_admits : Admits sets i control c d rs vs → Accepts sets i control c d rs vs
   accepts_from_admits a =
-      let (choice, fits) = choice_from_tests sets i TheOne (alone control) (ruling_of sets i control h) (alone c) (rs ++ vs) (all_fit a.control_fits) pass (as_long i rs vs a.results a.values) in
-      record { results = a.results; values = a.values; choice = choice; members = fits.members; controlled = fits.controlled the_one; agrees = fits.agrees }
-    where
-      -- each operand's type passes a rule of it
-      pass : AllPass sets i TheOne (alone control) (ruling_of sets i control h) (alone c) (rs ++ vs)
-      pass k w t at_k t_at =
-          let (x, is, passes) = a.passes k w t at_k t_at in
-          (rule_of x, rule_from_constraint sets control w x is, rule_passes c x t passes)
+      let (choice, fits) = choice_from_tests sets i (controls_of i control) ruling (both c d) (rs ++ vs) (all_fit a.control_fits a.second_fits) a.passes (as_long i rs vs a.results a.values) in
+      record { results = a.results; values = a.values; choice = choice; members = fits.members; controlled = fits.controlled First; second_controlled = fits.controlled Second; agrees = fits.agrees }
+
+  -- the choice of what is accepted
+  pub choice_of : (a : Accepts sets i control c d rs vs) → IsChoice sets i (controls_of i control) (both c d) (rs ++ vs) a.choice
+  choice_of a = record { members = a.members; controlled = controlled a.choice a.controlled a.second_controlled; agrees = a.agrees }
 
   -- One joint choice gives one test an operand, where each operand has a constraint.
-  pub admits_from_accepts : ((k : ℕ) (w : Variable) → IsOperand i k w → (x : Constraint) × IsConstraint sets control w x) → Accepts sets i control c rs vs → Admits sets i control c rs vs
+  pub admits_from_accepts : ((k : ℕ) (w : Variable) → IsOperand i k w → (x : Constraint) × IsConstraint sets (controls_of i control) w x) → Accepts sets i control c d rs vs → Admits sets i control c d rs vs
   admits_from_accepts constrained a = record {
     results = a.results;
     values = a.values;
-    control_fits = fits_from_choice sets i TheOne (alone control) (ruling_of sets i control h) (alone c) (rs ++ vs) a.choice one the_one;
+    control_fits = fits First;
+    second_fits = fits Second;
     passes = passes;
   }
     where
-      -- the choice is one for the family
-      one : IsChoice sets i TheOne (alone control) (alone c) (rs ++ vs) a.choice
-      one = record { members = a.members; controlled = controlled a.choice a.controlled; agrees = a.agrees }
+      fits : AllFit sets (controls_of i control) (both c d)
+      fits = fits_from_choice sets i (controls_of i control) ruling (both c d) (rs ++ vs) a.choice (choice_of a)
 
       -- each operand's type passes its constraint
-      passes : (k : ℕ) (w : Variable) (t : TypeParts) → IsOperand i k w → slice_get (rs ++ vs) k ≡ Some t → (x : Constraint) × IsConstraint sets control w x × Passes c x t
+      passes : (k : ℕ) (w : Variable) (t : TypeParts) → IsOperand i k w → slice_get (rs ++ vs) k ≡ Some t → PassesOwn sets (controls_of i control) (both c d) w t
       passes k w t at_k t_at =
           let (x, is) = constrained k w at_k in
-          (x, is, constraint_passes c x t (passes_from_choice sets i TheOne (alone control) (ruling_of sets i control h) (alone c) (rs ++ vs) a.choice one k w t at_k t_at (rule_of x) (rule_from_constraint sets control w x is)))
+          (x, is, passes_from_choice sets i (controls_of i control) ruling (both c d) (rs ++ vs) a.choice (choice_of a) k w t at_k t_at x is)

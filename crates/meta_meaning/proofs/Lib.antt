@@ -14,7 +14,13 @@ pub mod OneChoice
 pub mod ControlFamily
 pub mod Constrained
 pub mod Only
+-- what the controlling types give, and instructions with one control
+pub mod Inferring
+pub mod WithoutSecond
 -- the tables mean the instruction
 pub mod Listed
 pub mod Passing
 pub mod Decoding
+-- and give for the results what is inferred
+pub mod Giving
+pub mod Given

@@ -7,6 +7,7 @@ use Rattle.meta_types.specs.Function.{Steps}
 use Rattle.meta_typevar.specs.TypeSetParts.{TypeSetParts, IsMember, IsTypeSet}
 use Rattle.meta_typevar.specs.Masks.{AreMasksOf}
 use Rattle.meta_typevar.specs.Variable.{Variable, Sets}
+use Rattle.meta_inst.specs.Which.{Which}
 use Rattle.meta_meaning.specs.Acceptance.{IsNumberOf}
 use Rattle.meta_meaning.specs.Constraint.{Constraint, Concrete, Free, Same, By, IsConstraint, Passes, ControlFits}
 use Rattle.meta_meaning.specs.Tables.{TableContents, NumberConstraint, SetContains, HoldsSet, StandsFor, NumberPasses, ControlNumberFits, IsTypeSetOffset, no_type_set}
@@ -19,15 +20,15 @@ use Rattle.meta_meaning.proofs.Listed.{IsTypeNumber, type_of_number, number_of_t
 abbrev pub IsSound : Constraint → Type 0
 IsSound (Concrete t) = IsType t
 IsSound (Free s) = IsTypeSet s
-IsSound Same = Unit {0}
-IsSound (By f) = Unit {0}
+IsSound (Same a) = Unit {0}
+IsSound (By a f) = Unit {0}
 
 -- an operand's constraint names a type or a set of types, where its root has a set of types
-pub constraint_sound : (sets : Sets) (control : Option Variable) (w : Variable) (x : Constraint) → IsTypeSet (sets w.root) → IsConstraint sets control w x → IsSound x
-constraint_sound sets control w (Concrete t) is h = agrees_type w.chain h.member t h.inhabited.is_type (h.reached h.member h.inhabited)
-constraint_sound sets control w (Free s) is h = subst IsTypeSet (sym h.set) is
-constraint_sound sets control w Same is h = tt
-constraint_sound sets control w (By f) is h = tt
+pub constraint_sound : (sets : Sets) (controls : Which → Option Variable) (w : Variable) (x : Constraint) → IsTypeSet (sets w.root) → IsConstraint sets controls w x → IsSound x
+constraint_sound sets controls w (Concrete t) is h = agrees_type w.chain h.member t h.inhabited.is_type (h.reached h.member h.inhabited)
+constraint_sound sets controls w (Free s) is h = subst IsTypeSet (sym h.set) is
+constraint_sound sets controls w (Same a) is h = tt
+constraint_sound sets controls w (By a f) is h = tt
 
 module _ (tables : TableContents) (j : ℕ) (s : TypeSetParts) (is : IsTypeSet s) (holds : HoldsSet tables j s) where
   -- a number that type set j contains is that of a member
@@ -44,17 +45,17 @@ module _ (tables : TableContents) (j : ℕ) (s : TypeSetParts) (is : IsTypeSet s
   pub set_of_member : (t : TypeParts) → IsMember s t → SetContains tables j (number_of t)
   set_of_member t m = record { masks = holds.masks; is_set = holds.is_set; contains = (numbers_of_members s holds.masks (number_of t) is holds.are_masks).1 (t, m, refl) }
 
-module _ (tables : TableContents) (e : Option TypeParts) (c : Option ℕ) (numbered : IsNumberOf e c) where
+module _ (tables : TableContents) (e : Which → Option TypeParts) (c : Which → Option ℕ) (numbered : (a : Which) → IsNumberOf (e a) (c a)) where
   -- a number that passes what stands for a constraint is that of a type
   pub passing_typed : (x : Constraint) (y : NumberConstraint) (n : ℕ) → IsSound x → StandsFor tables x y → NumberPasses tables c y n → IsTypeNumber n
   passing_typed (Concrete t) y n sound stands p = (t, sound, sym (subst (λ z. NumberPasses tables c z n) stands p))
   passing_typed (Free s) y n sound (j, stands, holds) p =
       let (t, m, is) = member_of_set tables j s sound holds n (subst (λ z. NumberPasses tables c z n) stands p) in
       (t, m.is_type, is)
-  passing_typed Same y n sound stands p =
-      let (t, _, is, number) = type_of_number e c n numbered (subst (λ z. NumberPasses tables c z n) stands p) in
+  passing_typed (Same a) y n sound stands p =
+      let (t, _, is, number) = type_of_number (e a) (c a) n (numbered a) (subst (λ z. NumberPasses tables c z n) stands p) in
       (t, is, number)
-  passing_typed (By f) y n sound stands p =
+  passing_typed (By a f) y n sound stands p =
       let (u, _, steps) = subst (λ z. NumberPasses tables c z n) stands p in
       (steps.to, steps.steps.to, steps.number_to)
 
@@ -62,12 +63,12 @@ module _ (tables : TableContents) (e : Option TypeParts) (c : Option ℕ) (numbe
   pub type_passes : (x : Constraint) (y : NumberConstraint) (t : TypeParts) → IsSound x → IsType t → StandsFor tables x y → NumberPasses tables c y (number_of t) → Passes e x t
   type_passes (Concrete m) y t sound is stands p = one_number t m is sound (subst (λ z. NumberPasses tables c z (number_of t)) stands p)
   type_passes (Free s) y t sound is (j, stands, holds) p = member_in_set tables j s sound holds t is (subst (λ z. NumberPasses tables c z (number_of t)) stands p)
-  type_passes Same y t sound is stands p =
-      let (u, e_is, is_u, number) = type_of_number e c (number_of t) numbered (subst (λ z. NumberPasses tables c z (number_of t)) stands p) in
+  type_passes (Same a) y t sound is stands p =
+      let (u, e_is, is_u, number) = type_of_number (e a) (c a) (number_of t) (numbered a) (subst (λ z. NumberPasses tables c z (number_of t)) stands p) in
       e_is ∙ ap Some (one_number u t is_u is number)
-  type_passes (By f) y t sound is stands p =
-      let (a, c_is, steps) = subst (λ z. NumberPasses tables c z (number_of t)) stands p in
-      let (u, e_is, is_u, number) = type_of_number e c a numbered c_is in
+  type_passes (By a f) y t sound is stands p =
+      let (n, c_is, steps) = subst (λ z. NumberPasses tables c z (number_of t)) stands p in
+      let (u, e_is, is_u, number) = type_of_number (e a) (c a) n (numbered a) c_is in
       let from : steps.from ≡ u = one_number steps.from u steps.steps.from is_u (steps.number_from ∙ sym number) in
       let to : steps.to ≡ t = one_number steps.to t steps.steps.to is steps.number_to in
       (u, e_is, subst₂ (λ (v w : TypeParts). Steps f v w) from to steps.steps)
@@ -76,10 +77,10 @@ module _ (tables : TableContents) (e : Option TypeParts) (c : Option ℕ) (numbe
   pub number_passes : (x : Constraint) (y : NumberConstraint) (t : TypeParts) → IsSound x → StandsFor tables x y → Passes e x t → NumberPasses tables c y (number_of t)
   number_passes (Concrete m) y t sound stands p = subst (λ z. NumberPasses tables c z (number_of t)) (sym stands) (ap number_of p)
   number_passes (Free s) y t sound (j, stands, holds) p = subst (λ z. NumberPasses tables c z (number_of t)) (sym stands) (set_of_member tables j s sound holds t p)
-  number_passes Same y t sound stands p = subst (λ z. NumberPasses tables c z (number_of t)) (sym stands) (number_of_type e c t numbered p)
-  number_passes (By f) y t sound stands (u, e_is, steps) =
+  number_passes (Same a) y t sound stands p = subst (λ z. NumberPasses tables c z (number_of t)) (sym stands) (number_of_type (e a) (c a) t (numbered a) p)
+  number_passes (By a f) y t sound stands (u, e_is, steps) =
       subst (λ z. NumberPasses tables c z (number_of t)) (sym stands)
-      (number_of u, number_of_type e c u numbered e_is, record { from = u; to = t; steps = steps; number_from = refl; number_to = refl })
+      (number_of u, number_of_type (e a) (c a) u (numbered a) e_is, record { from = u; to = t; steps = steps; number_from = refl; number_to = refl })
 
 -- a controlling number that fits the table's offset is that of a type that fits the control
 pub control_type : (sets : Sets) (control : Option Variable) (tables : TableContents) (offset : ℕ) (c : Option ℕ) → ((v : Variable) → control ≡ Some v → IsTypeSet (sets v.root)) → IsTypeSetOffset sets control tables offset → ControlNumberFits tables offset c

@@ -1,3 +1,5 @@
 pub mod Acceptance
 pub mod Constraint
+pub mod Inference
+pub mod OneControl
 pub mod Tables

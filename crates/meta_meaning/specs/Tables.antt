@@ -1,5 +1,5 @@
 -- Tables, as contracts see them, and how they are read.
---     Allows tables op c rs vs              the decoding: the tables accept these numbers for the opcode
+--     Allows tables op c d rs vs            the decoding: the tables accept these numbers for the opcode
 --     AreOpcodeNumbersOf sets i control tables entry   the tables hold the instruction as this entry
 use Rattle.std.specs.Prelude.{◌≡◌, ℕ, ◌+◌, ◌/◌, ◌%◌, ◌<◌, ◌==◌, ◌↔◌, ◌≢◌, List, ◌++◌, length, slice_get, Option, None, Some, MatchBool, zero, suc}
 use Rattle.meta_types.specs.TypeParts.{number_of}
@@ -8,20 +8,22 @@ use Rattle.meta_typevar.specs.TypeSetParts.{TypeSetParts}
 use Rattle.meta_typevar.specs.Masks.{ContainsNumber, AreMasksOf}
 use Rattle.meta_typevar.specs.declared.masks.Masks.{Masks}
 use Rattle.meta_typevar.specs.Variable.{Variable, Sets}
-use Rattle.meta_inst.specs.Instruction.{Instruction, IsOperand, IsDesignated}
+use Rattle.meta_inst.specs.Which.{Which, both}
+use Rattle.meta_inst.specs.Instruction.{Instruction, IsOperand, IsDesignated, controls_of}
 use Rattle.meta_meaning.specs.Constraint.{Constraint, Concrete, Free, Same, By, IsConstraint}
 
 -- the constraint of an operand in a table, by numbers: of a type, and of a type set
 pub data NumberConstraint : Type 0 where
   ConcreteNumber : ℕ → NumberConstraint
   FreeOf : ℕ → NumberConstraint
-  SameNumber : NumberConstraint
-  ByNumber : Function → NumberConstraint
+  SameNumber : Which → NumberConstraint
+  ByNumber : Which → Function → NumberConstraint
 
--- the three numbers of an opcode
+-- the four numbers of an opcode
 pub record OpcodeNumbers : Type 0 where
   pub flags : ℕ
   pub typeset_offset : ℕ
+  pub second_offset : ℕ
   pub constraint_offset : ℕ
 
 -- the tables: the type sets, the one list of operand constraints, by opcode, from 1 on, the names, the names of the formats and
@@ -34,9 +36,9 @@ pub record TableContents : Type 0 where
   pub operand_constraints : List NumberConstraint
   pub entries : List OpcodeNumbers
 
--- the type set offset of an opcode without a control
+-- the type set offset where an opcode has no control, or no second control
 abbrev pub no_type_set : ℕ
-no_type_set = 255
+no_type_set = 65535
 
 -- what stands at opcode op in a list by opcodes, which begin at 1
 abbrev pub at_opcode : {X : Type 0} → List X → ℕ → Option X
@@ -56,33 +58,34 @@ pub record SetContains (tables : TableContents) (j n : ℕ) : Type 0 where
   pub is_set : slice_get tables.type_sets j ≡ Some masks
   pub contains : ContainsNumber masks n
 
--- the controlling number is none where the opcode has no control, and else the type set at the offset contains it
+-- the number of a control is none where the opcode hasn't that control, and else the type set at the offset contains it
 abbrev pub ControlNumberFits : TableContents → ℕ → Option ℕ → Type 0
 ControlNumberFits tables offset c = MatchBool (offset == no_type_set) (c ≡ None) ((n : ℕ) × (c ≡ Some n) × SetContains tables offset n)
 
--- under the controlling number c the number n passes the constraint
-abbrev pub NumberPasses : TableContents → Option ℕ → NumberConstraint → ℕ → Type 0
+-- under these controlling numbers the number n passes the constraint
+abbrev pub NumberPasses : TableContents → (Which → Option ℕ) → NumberConstraint → ℕ → Type 0
 NumberPasses tables c (ConcreteNumber m) n = n ≡ m
 NumberPasses tables c (FreeOf j) n = SetContains tables j n
-NumberPasses tables c SameNumber n = c ≡ Some n
-NumberPasses tables c (ByNumber f) n = (u : ℕ) × (c ≡ Some u) × StepsNumbers f u n
+NumberPasses tables c (SameNumber a) n = c a ≡ Some n
+NumberPasses tables c (ByNumber a f) n = (u : ℕ) × (c a ≡ Some u) × StepsNumbers f u n
 
 -- there is a constraint at this place of the list, and n passes it
-pub record PassesAt (tables : TableContents) (c : Option ℕ) (place n : ℕ) : Type 0 where
+pub record PassesAt (tables : TableContents) (c : Which → Option ℕ) (place n : ℕ) : Type 0 where
   pub constraint : NumberConstraint
   pub is_constraint : slice_get tables.operand_constraints place ≡ Some constraint
   pub passes : NumberPasses tables c constraint n
 
--- The decoding. The tables accept, for the opcode op, the controlling number c, the numbers rs of the results and vs of
--- the values: op is an opcode, the counts are those of its flags, the controlling number fits, and the k-th number
--- passes the k-th constraint from the entry's offset on.
-pub record Allows (tables : TableContents) (op : ℕ) (c : Option ℕ) (rs vs : List ℕ) : Type 0 where
+-- The decoding. The tables accept, for the opcode op, the controlling number c, the second controlling number d, the numbers rs
+-- of the results and vs of the values: op is an opcode, the counts are those of its flags, the two controlling numbers fit, and
+-- the k-th number passes the k-th constraint from the entry's offset on.
+pub record Allows (tables : TableContents) (op : ℕ) (c d : Option ℕ) (rs vs : List ℕ) : Type 0 where
   pub entry : OpcodeNumbers
   pub is_opcode : at_opcode tables.entries op ≡ Some entry
   pub results : length rs ≡ result_count entry.flags
   pub values : length vs ≡ value_count entry.flags
   pub control_fits : ControlNumberFits tables entry.typeset_offset c
-  pub passes : (k n : ℕ) → slice_get (rs ++ vs) k ≡ Some n → PassesAt tables c (entry.constraint_offset + k) n
+  pub second_fits : ControlNumberFits tables entry.second_offset d
+  pub passes : (k n : ℕ) → slice_get (rs ++ vs) k ≡ Some n → PassesAt tables (both c d) (entry.constraint_offset + k) n
 
 -- the designated operand's variable controls
 abbrev pub DesignatedControls : Instruction → Option Variable → Type 0
@@ -106,7 +109,7 @@ pub record HoldsSet (tables : TableContents) (j : ℕ) (s : TypeSetParts) : Type
   pub is_set : slice_get tables.type_sets j ≡ Some masks
   pub are_masks : AreMasksOf s masks
 
--- the offset is 255 exactly where there is no control, and else that of the control's set
+-- the offset of a control is 65535 exactly where that control isn't there, and else that of its set
 abbrev pub IsTypeSetOffset : Sets → Option Variable → TableContents → ℕ → Type 0
 IsTypeSetOffset sets None tables offset = offset ≡ no_type_set
 IsTypeSetOffset sets (Some v) tables offset = (offset < no_type_set) × HoldsSet tables offset (sets v.root)
@@ -115,19 +118,20 @@ IsTypeSetOffset sets (Some v) tables offset = (offset < no_type_set) × HoldsSet
 abbrev pub StandsFor : TableContents → Constraint → NumberConstraint → Type 0
 StandsFor tables (Concrete t) x = x ≡ ConcreteNumber (number_of t)
 StandsFor tables (Free s) x = (j : ℕ) × (x ≡ FreeOf j) × HoldsSet tables j s
-StandsFor tables Same x = x ≡ SameNumber
-StandsFor tables (By f) x = x ≡ ByNumber f
+StandsFor tables (Same a) x = x ≡ SameNumber a
+StandsFor tables (By a f) x = x ≡ ByNumber a f
 
 -- at this place the list has the constraint of the operand w
-pub record Constrains (sets : Sets) (control : Option Variable) (tables : TableContents) (place : ℕ) (w : Variable) : Type 0 where
+pub record Constrains (sets : Sets) (controls : Which → Option Variable) (tables : TableContents) (place : ℕ) (w : Variable) : Type 0 where
   pub constraint : Constraint
-  pub is_constraint : IsConstraint sets control w constraint
+  pub is_constraint : IsConstraint sets controls w constraint
   pub number_constraint : NumberConstraint
   pub stands : StandsFor tables constraint number_constraint
   pub placed : slice_get tables.operand_constraints place ≡ Some number_constraint
 
--- the entry holds the instruction with this control: flags, type set and constraints are those of its declaration
+-- the entry holds the instruction with this control: flags, type sets and constraints are those of its declaration
 pub record AreOpcodeNumbersOf (sets : Sets) (i : Instruction) (control : Option Variable) (tables : TableContents) (entry : OpcodeNumbers) : Type 0 where
   pub flags : AreFlagsOf i control entry.flags
   pub type_set : IsTypeSetOffset sets control tables entry.typeset_offset
-  pub constraints : (k : ℕ) (w : Variable) → IsOperand i k w → Constrains sets control tables (entry.constraint_offset + k) w
+  pub second_set : IsTypeSetOffset sets i.second tables entry.second_offset
+  pub constraints : (k : ℕ) (w : Variable) → IsOperand i k w → Constrains sets (controls_of i control) tables (entry.constraint_offset + k) w

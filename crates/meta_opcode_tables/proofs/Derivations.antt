@@ -4,8 +4,8 @@ use Rattle.meta_typevar.specs.Variable.{Variable, Sets}
 use Rattle.meta_typevar.specs.Registry.{sets_of, variable_at, IsRegistry}
 use Rattle.meta_typevar.specs.declared.content.TypeVarContent.{TypeVarContent}
 use Rattle.meta_inst.specs.Instruction.{Instruction}
-use Rattle.meta_inst.specs.Operands.{OperandList, instruction_of_operands, AreOf}
-use Rattle.meta_inst.specs.Control.{IsControl, HasBadDerivation, IsFirstBadDerivation, DerivesBadly}
+use Rattle.meta_inst.specs.Operands.{OperandList, instruction_of_operands, AreOf, SecondIsOf}
+use Rattle.meta_inst.specs.Control.{IsControl, HasBadSecond, HasBadDerivation, IsFirstBadDerivation, DerivesBadly}
 use Rattle.meta_inst.proofs.Meaning.{operand_at}
 use Rattle.meta_meaning.proofs.Constrained.{has_constraint}
 use Rattle.meta_opcode_tables.specs.Entries.{AreConstrained}
@@ -20,8 +20,8 @@ pub none_bad : (sets : Sets) (i : Instruction) (control : Option Variable) → I
 none_bad sets i control is none k b = none_below sets i control (λ j f. none j (record { control = control; is_control = is; first = f })) (k + 1) k (omega arith) b
 
 -- where no operand is badly derived there is a constraint for each
-pub all_constrained : (vars : List TypeVarContent) (o : OperandList) → o.result_count ≤ length o.variables → IsRegistry vars → AreOf vars o.variables → (control : Option ℕ) → IsControl (sets_of vars) (instruction_of_operands vars o) (control_at vars control)
-    → ((place : ℕ) → DerivesBadly (sets_of vars) (instruction_of_operands vars o) place → ⊥) → (numbers : List ℕ) → numbers ≡ o.variables → AreConstrained vars control numbers
-all_constrained vars o within registry are control is none numbers same k n at =
-    has_constraint (sets_of vars) (instruction_of_operands vars o) (control_at vars control) is (none_bad (sets_of vars) (instruction_of_operands vars o) (control_at vars control) is none) k (variable_at vars n)
-    (operand_at vars o within registry are k n (ap (λ ns. slice_get ns k) (sym same) ∙ at))
+pub all_constrained : (vars : List TypeVarContent) (o : OperandList) → o.result_count ≤ length o.variables → IsRegistry vars → AreOf vars o.variables → SecondIsOf vars o.second → (control : Option ℕ) → IsControl (sets_of vars) (instruction_of_operands vars o) (control_at vars control)
+    → (HasBadSecond (sets_of vars) (instruction_of_operands vars o) → ⊥) → ((place : ℕ) → DerivesBadly (sets_of vars) (instruction_of_operands vars o) place → ⊥) → (numbers : List ℕ) → numbers ≡ o.variables → AreConstrained vars control o.second numbers
+all_constrained vars o within registry are second_of control is good none numbers same k n at =
+    has_constraint (sets_of vars) (instruction_of_operands vars o) (control_at vars control) is good (none_bad (sets_of vars) (instruction_of_operands vars o) (control_at vars control) is none) k (variable_at vars n)
+    (operand_at vars o within registry are second_of k n (ap (λ ns. slice_get ns k) (sym same) ∙ at))

@@ -4,15 +4,15 @@ use Rattle.meta_typevar.specs.TypeSetParts.{TypeSetParts}
 use Rattle.meta_operands.specs.Operand.{variables_of}
 use Rattle.meta_inst.specs.Builder.{Builder, inputs_of, outputs_of}
 use Rattle.meta_inst.specs.Built.{Built}
-use Rattle.meta_inst.specs.Control.{DerivesBadly}
+use Rattle.meta_inst.specs.Control.{HasBadSecond, DerivesBadly}
 use Rattle.meta_inst.specs.Instruction.{Instruction}
-use Rattle.meta_inst.specs.InstructionFaults.{DerivationRule, CountRule, HasTooManyOperands}
+use Rattle.meta_inst.specs.InstructionFaults.{SecondRule, DerivationRule, CountRule, HasTooManyOperands}
 use Rattle.meta_inst.specs.InstructionSet.{InstructionSet, root_sets, instruction_in_set, Fits}
 use Rattle.meta_inst.specs.Faults.{IsValid, OfInstruction}
 use Rattle.meta_inst.specs.Operands.{OperandList}
 use Rattle.meta_declared.specs.BuiltInstructions.{IsBuiltAt}
 use Rattle.meta_declared.specs.Needed.{AreSetsByNeed}
-use Rattle.meta_declared.proofs.BuiltOperands.{operands_are, within_is, meaning, variables_are, control_is, control_of_registry}
+use Rattle.meta_declared.proofs.BuiltOperands.{operands_are, within_is, meaning, variables_are, control_is, control_of_registry, second_is}
 use Rattle.meta_opcode_tables.specs.Entries.{CanEnter, HoldNeeded}
 use Rattle.meta_opcode_tables.proofs.Held.{needed_held}
 
@@ -35,6 +35,9 @@ module _ (d : InstructionSet) (valid : IsValid d) (fits : Fits d.vars d.formats 
   derived : (place : ℕ) → DerivesBadly (root_sets d) (instruction_in_set d h.builder) place → ⊥
   derived place bad = valid (OfInstruction k DerivationRule) _ (inl (record { builder = h.builder; at = h.at; breaks = (place, refl, bad) }))
 
+  good : HasBadSecond (root_sets d) (instruction_in_set d h.builder) → ⊥
+  good bad = valid (OfInstruction k SecondRule) _ (inl (record { builder = h.builder; at = h.at; breaks = (refl, bad) }))
+
   pub can_enter : CanEnter d.vars sets c
   can_enter =
       let list = operands_are d h.builder c h.is in
@@ -47,6 +50,8 @@ module _ (d : InstructionSet) (valid : IsValid d) (fits : Fits d.vars d.formats 
         variables = variables_are d h.builder c h.is (fits k h.builder h.at);
         is_control = control_is d h.builder c h.is;
         of_registry = control_of_registry d h.builder c h.is;
+        second = second_is d h.builder c h.is (fits k h.builder h.at);
+        good = subst (λ (i : Instruction). HasBadSecond (root_sets d) i → ⊥) (sym means) good;
         derived = subst (λ (i : Instruction). (place : ℕ) → DerivesBadly (root_sets d) i place → ⊥) (sym means) derived;
         results = omega arith;
         values = omega arith;

@@ -8,7 +8,7 @@ use Rattle.meta_lists.proofs.Places.{get_taken}
 use Rattle.meta_typevar.specs.Registry.{variable_at, IsRegistry}
 use Rattle.meta_typevar.specs.declared.content.TypeVarContent.{TypeVarContent}
 use Rattle.meta_inst.specs.Instruction.{Instruction}
-use Rattle.meta_inst.specs.Operands.{OperandList, instruction_of_operands, designated_number, AreOf}
+use Rattle.meta_inst.specs.Operands.{OperandList, instruction_of_operands, designated_number, AreOf, SecondIsOf}
 use Rattle.meta_inst.proofs.Meaning.{results_length, designated_is, designated_from, designated_of}
 use Rattle.meta_meaning.specs.Tables.{AreFlagsOf, DesignatedControls, FirstResultDiffers, result_count, value_count}
 use Rattle.meta_declared.specs.Needed.{control_at, IsOfRegistry}
@@ -19,7 +19,7 @@ not_true : (b : Bool) → (IsTrue b → ⊥) → b ≡ false
 not_true true h = absurd (h refl)
 not_true false h = refl
 
-module _ (vars : List TypeVarContent) (o : OperandList) (within : o.result_count ≤ length o.variables) (registry : IsRegistry vars) (are : AreOf vars o.variables) (control : Option ℕ) (of : IsOfRegistry vars control) where
+module _ (vars : List TypeVarContent) (o : OperandList) (within : o.result_count ≤ length o.variables) (registry : IsRegistry vars) (are : AreOf vars o.variables) (second_of : SecondIsOf vars o.second) (control : Option ℕ) (of : IsOfRegistry vars control) where
   abbrev i : Instruction
   i = instruction_of_operands vars o
 
@@ -31,12 +31,12 @@ module _ (vars : List TypeVarContent) (o : OperandList) (within : o.result_count
   IsFirstNumber = (v : ℕ) × (control ≡ Some v) × (slice_get (take o.result_count o.variables) 0 ≡ Some v)
 
   designated_controls : IsDesignatedNumber → DesignatedControls i (control_at vars control)
-  designated_controls (v, is, at) = (variable_at vars v, control_is vars control v is, designated_is vars o within registry are v at)
+  designated_controls (v, is, at) = (variable_at vars v, control_is vars control v is, designated_is vars o within registry are second_of v at)
 
   number_controls : DesignatedControls i (control_at vars control) → IsDesignatedNumber
   number_controls (w, is, designated) =
-      let (d, at, e) = designated_from vars o within registry are w designated in
-      (d, control_from vars registry control of d (designated_of vars o within registry are d at) (is ∙ ap Some e), at)
+      let (d, at, e) = designated_from vars o within registry are second_of w designated in
+      (d, control_from vars registry control of d (designated_of vars o within registry are second_of d at) (is ∙ ap Some e), at)
 
   first_differs : (IsFirstNumber → ⊥) → FirstResultDiffers i (control_at vars control)
   first_differs other w at is =
@@ -57,7 +57,7 @@ module _ (vars : List TypeVarContent) (o : OperandList) (within : o.result_count
       → (flags / 8 % 2 ≡ 1) ↔ IsTrue designated → (flags / 16 % 2 ≡ 1) ↔ (IsTrue designated × (first ≡ false))
       → AreFlagsOf i (control_at vars control) flags
   are_flags flags results values designated first is_results is_values is_designated is_first count_results count_values bit_designated bit_differs = record {
-    results = count_results ∙ is_results ∙ sym (results_length vars o within registry are);
+    results = count_results ∙ is_results ∙ sym (results_length vars o within registry are second_of);
     values = count_values ∙ is_values ∙ sym values_length;
     designated = ((λ h. designated_controls (is_designated.0 (bit_designated.0 h))), (λ h. bit_designated.1 (is_designated.1 (number_controls h))));
     differs = (

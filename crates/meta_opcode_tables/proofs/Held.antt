@@ -8,11 +8,12 @@ use Rattle.meta_typevar.specs.TypeSetParts.{TypeSetParts}
 use Rattle.meta_typevar.specs.declared.content.TypeVarContent.{TypeVarContent}
 use Rattle.meta_operands.specs.declared.format.InstructionFormat.{InstructionFormat}
 use Rattle.meta_inst.specs.Builder.{Builder}
-use Rattle.meta_inst.specs.Instruction.{Instruction, IsOperand}
-use Rattle.meta_inst.specs.Control.{IsControl}
+use Rattle.meta_inst.specs.Instruction.{Instruction, IsOperand, controls_of}
+use Rattle.meta_inst.specs.Which.{Which, First, Second}
+use Rattle.meta_inst.specs.Control.{IsControl, HasBadSecond}
 use Rattle.meta_inst.specs.InstructionSet.{InstructionSet, root_sets, instruction_of_builder, instruction_in_set}
 use Rattle.meta_inst.specs.Faults.{IsAt, AreNeededSets}
-use Rattle.meta_inst.specs.Operands.{OperandList, instruction_of_operands, AreOf}
+use Rattle.meta_inst.specs.Operands.{OperandList, instruction_of_operands, AreOf, SecondIsOf, second_in}
 use Rattle.meta_inst.proofs.Meaning.{operand_at, operand_from, results_length}
 use Rattle.meta_meaning.specs.Tables.{TableContents, OpcodeNumbers, AreFlagsOf, IsTypeSetOffset}
 use Rattle.meta_opcode_tables.specs.Constraint.{number_constraint_of, entry_of}
@@ -21,7 +22,7 @@ use Rattle.meta_opcode_tables.specs.declared.constraint.Constraint.{Constraint}
 use Rattle.meta_opcode_tables.specs.declared.constraint.OpcodeConstraints.{OpcodeConstraints}
 use Rattle.meta_unique.specs.Overlap.{added, added_at}
 use Rattle.meta_opcode_tables.specs.ConstraintLists.{same_constraint, three_same, overlapped, IsConstraintAt, IsConstraintList, AreOverlapped}
-use Rattle.meta_opcode_tables.specs.Entries.{StaysIn, IsHeld, HoldNeeded, HoldFree, HasTypeSets, IsDescribedAt, AreDescribed, EntryHolds, IsAdded, AreAdded, IsListOf, IsHeldAt, set_with}
+use Rattle.meta_opcode_tables.specs.Entries.{StaysIn, IsHeld, IsFreeNumber, HoldNeeded, HoldFree, HasTypeSets, IsDescribedAt, AreDescribed, EntryHolds, IsAdded, AreAdded, IsListOf, IsHeldAt, set_with}
 use Rattle.meta_declared.specs.Needed.{IsOfRegistry, control_at}
 use Rattle.meta_opcode_tables.proofs.Describing.{control_is, control_from}
 use Rattle.meta_opcode_tables.proofs.Overlapping.{one_list_more}
@@ -36,30 +37,38 @@ pub needed_held : (d : InstructionSet) (type_sets : List TypeSetParts) → AreNe
 needed_held d type_sets needed k b at control s is which = needed.all s (k, record { user = b; at = at; control = control; is_control = is; needs = which })
 
 module _ (vars : List TypeVarContent) (o : OperandList) (within : o.result_count ≤ length o.variables) (control : Option ℕ) (type_sets : List TypeSetParts)
-    (held : HoldNeeded type_sets (sets_of vars) (instruction_of_operands vars o)) (is_control : IsControl (sets_of vars) (instruction_of_operands vars o) (control_at vars control)) (registry : IsRegistry vars) (are : AreOf vars o.variables) (of : IsOfRegistry vars control) where
+    (held : HoldNeeded type_sets (sets_of vars) (instruction_of_operands vars o)) (is_control : IsControl (sets_of vars) (instruction_of_operands vars o) (control_at vars control)) (registry : IsRegistry vars) (are : AreOf vars o.variables) (of : IsOfRegistry vars control) (second_of : SecondIsOf vars o.second) where
   -- the set of the control is held
   pub control_held : (v : ℕ) → control ≡ Some v → IsHeld type_sets (sets_of vars (variable_at vars v).root)
-  control_held v e = held (control_at vars control) (sets_of vars (variable_at vars v).root) is_control (inl record { variable = variable_at vars v; controls = control_is vars control v e; set = refl })
+  control_held v e = held (control_at vars control) (sets_of vars (variable_at vars v).root) is_control (inl (First, record { variable = variable_at vars v; controls_is = control_is vars control v e; set = refl }))
+
+  -- that of the second control
+  pub second_held : (v : ℕ) → o.second ≡ Some v → IsHeld type_sets (sets_of vars (variable_at vars v).root)
+  second_held v e = held (control_at vars control) (sets_of vars (variable_at vars v).root) is_control (inl (Second, record { variable = variable_at vars v; controls_is = control_is vars o.second v e; set = refl }))
 
   -- and the set of each other operand that needs one
-  pub free_held : (numbers : List ℕ) → numbers ≡ o.variables → HoldFree vars control type_sets numbers
+  pub free_held : (numbers : List ℕ) → numbers ≡ o.variables → HoldFree vars control o.second type_sets numbers
   free_held numbers same k n at f = held (control_at vars control) (sets_of vars (variable_at vars n).root) is_control (inr record {
     place = k;
     variable = variable_at vars n;
-    operand = operand_at vars o within registry are k n (ap (λ ns. slice_get ns k) (sym same) ∙ at);
+    operand = operand_at vars o within registry are second_of k n (ap (λ ns. slice_get ns k) (sym same) ∙ at);
     underived = f.underived;
-    other = λ e. f.other (control_from vars registry control of n (are k n (ap (λ ns. slice_get ns k) (sym same) ∙ at)) e);
+    other = no_control n (are k n (ap (λ ns. slice_get ns k) (sym same) ∙ at)) f;
     set = refl;
     several = f.several;
   })
+    where
+      no_control : (n : ℕ) → n < length vars → IsFreeNumber vars control o.second n → (a : Which) → controls_of (instruction_of_operands vars o) (control_at vars control) a ≡ Some (variable_at vars n) → ⊥
+      no_control n below f First e = f.other (control_from vars registry control of n below e)
+      no_control n below f Second e = f.not_second (control_from vars registry o.second second_of n below e)
 
-module _ (vars : List TypeVarContent) (o : OperandList) (within : o.result_count ≤ length o.variables) (registry : IsRegistry vars) (are : AreOf vars o.variables) (control : Option ℕ) (type_sets : List TypeSetParts) (list : List Constraint) (described : AreDescribed vars control type_sets list o.variables) where
+module _ (vars : List TypeVarContent) (o : OperandList) (within : o.result_count ≤ length o.variables) (registry : IsRegistry vars) (are : AreOf vars o.variables) (second_of : SecondIsOf vars o.second) (control : Option ℕ) (type_sets : List TypeSetParts) (list : List Constraint) (described : AreDescribed vars control o.second type_sets list o.variables) where
   -- the constraint of an operand
-  constraint_at : (tables : TableContents) → HasTypeSets tables type_sets → (k : ℕ) (w : Variable) → IsOperand (instruction_of_operands vars o) k w → IsConstraintAt (sets_of vars) (control_at vars control) tables list k w
+  constraint_at : (tables : TableContents) → HasTypeSets tables type_sets → (k : ℕ) (w : Variable) → IsOperand (instruction_of_operands vars o) k w → IsConstraintAt (sets_of vars) (controls_of (instruction_of_operands vars o) (control_at vars control)) tables list k w
   constraint_at tables has k w op =
-      let (n, at, is) = operand_from vars o within registry are k w op in
-      let h : IsDescribedAt vars control type_sets list k n = described.each k n at in
-      subst (IsConstraintAt (sets_of vars) (control_at vars control) tables list k) (sym is) (record {
+      let (n, at, is) = operand_from vars o within registry are second_of k w op in
+      let h : IsDescribedAt vars control o.second type_sets list k n = described.each k n at in
+      subst (IsConstraintAt (sets_of vars) (controls_of (instruction_of_operands vars o) (control_at vars control)) tables list k) (sym is) (record {
         type_constraint = h.describes.constraint;
         is_constraint = h.describes.is_constraint;
         constraint = h.constraint;
@@ -70,7 +79,7 @@ module _ (vars : List TypeVarContent) (o : OperandList) (within : o.result_count
   -- there is one for each operand
   list_length : length list ≡ length (instruction_of_operands vars o).results + length (instruction_of_operands vars o).values
   list_length =
-      let results : length (instruction_of_operands vars o).results ≡ o.result_count = results_length vars o within registry are in
+      let results : length (instruction_of_operands vars o).results ≡ o.result_count = results_length vars o within registry are second_of in
       let values : length (instruction_of_operands vars o).values ≡ length o.variables - o.result_count = length-map (drop o.result_count o.variables) (variable_at vars) ∙ length-drop o.result_count o.variables in
       omega (arith, described.count, results, values, within)
 
@@ -80,16 +89,20 @@ module _ (vars : List TypeVarContent) (o : OperandList) (within : o.result_count
   -- the entry of an instruction whose list stands in the constraints
   pub entry_holds : (e : OpcodeConstraints) (constraints : List Constraint)
       → IsControl (sets_of vars) (instruction_of_operands vars o) (control_at vars control)
+      → (HasBadSecond (sets_of vars) (instruction_of_operands vars o) → ⊥)
       → AreFlagsOf (instruction_of_operands vars o) (control_at vars control) e.flags
       → ((tables : TableContents) → HasTypeSets tables type_sets → IsTypeSetOffset (sets_of vars) (control_at vars control) tables e.typeset_offset)
+      → ((tables : TableContents) → HasTypeSets tables type_sets → IsTypeSetOffset (sets_of vars) (second_in vars o.second) tables e.second_offset)
       → ((k : ℕ) (x : Constraint) → slice_get list k ≡ Some x → slice_get constraints (e.constraint_offset + k) ≡ Some x)
       → EntryHolds vars (instruction_of_operands vars o) type_sets constraints e
-  entry_holds e constraints is_control flags type_set stands = record {
+  entry_holds e constraints is_control good flags type_set second_set stands = record {
     control = control_at vars control;
     is_control = is_control;
+    good = good;
     is_entry = λ tables has hold. record {
       flags = flags;
       type_set = type_set tables has;
+      second_set = second_set tables has;
       constraints = λ k w op.
           let h = constraint_at tables has k w op in
           record {
@@ -107,6 +120,7 @@ pub holds_later : (vars : List TypeVarContent) (i : Instruction) (type_sets : Li
 holds_later vars i type_sets old new e stay h = record {
   control = h.control;
   is_control = h.is_control;
+  good = h.good;
   is_entry = λ tables has hold. h.is_entry tables has (λ k x at. hold k x (stay k x at));
 }
 
@@ -137,6 +151,7 @@ module _ (vars : List TypeVarContent) (formats : List InstructionFormat) (type_s
   instruction_held instructions tables constraints entries has has_constraints has_entries k b h = record {
     control = h.holds.control;
     is_control = h.holds.is_control;
+    good = h.holds.good;
     entry = entry_of h.entry;
     at = ap (λ xs. slice_get xs k) has_entries ∙ slice_get-map entry_of entries k ∙ ap (option_map entry_of) h.at;
     is_entry = h.holds.is_entry tables has (λ j x at. ap (λ xs. slice_get xs j) has_constraints ∙ slice_get-map number_constraint_of constraints j ∙ ap (option_map number_constraint_of) at);

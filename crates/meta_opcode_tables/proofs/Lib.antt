@@ -15,3 +15,4 @@ mod Entering
 mod Masked
 mod Made
 pub mod Derivations
+pub mod Inferring

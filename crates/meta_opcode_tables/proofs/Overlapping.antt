@@ -11,7 +11,7 @@ use Rattle.meta_unique.specs.Overlap.{AreAlike, added, added_at, stands_at, IsSh
 use Rattle.meta_opcode_tables.specs.Entries.{StaysIn}
 use Rattle.meta_opcode_tables.specs.ConstraintLists.{same_constraint, three_same, overlapped}
 use Rattle.meta_opcode_tables.specs.declared.constraint.Constraint.{Constraint}
-use Rattle.meta_opcode_tables.specs.declared.constraint.Constraint.TheVariants.{Concrete, Free, Same, LaneOf, AsTruthy, HalfWidth, DoubleWidth, SplitLanes, MergeLanes, DynamicToVector, Narrower, Wider}
+use Rattle.meta_opcode_tables.specs.declared.constraint.Constraint.TheVariants.{Concrete, Free, Same, LaneOf, AsTruthy, HalfWidth, DoubleWidth, SplitLanes, MergeLanes, DynamicToVector, Narrower, Wider, Same2, LaneOf2, AsTruthy2, HalfWidth2, DoubleWidth2, SplitLanes2, MergeLanes2, DynamicToVector2, Narrower2, Wider2}
 
 pub same_is : (a b : Constraint) → same_constraint a b ≡ true → a ≡ b
 same_is (Concrete m) b e = search rules
@@ -26,6 +26,16 @@ same_is MergeLanes b e = search rules
 same_is DynamicToVector b e = search rules
 same_is Narrower b e = search rules
 same_is Wider b e = search rules
+same_is Same2 b e = search rules
+same_is LaneOf2 b e = search rules
+same_is AsTruthy2 b e = search rules
+same_is HalfWidth2 b e = search rules
+same_is DoubleWidth2 b e = search rules
+same_is SplitLanes2 b e = search rules
+same_is MergeLanes2 b e = search rules
+same_is DynamicToVector2 b e = search rules
+same_is Narrower2 b e = search rules
+same_is Wider2 b e = search rules
 
 pub is_same : (a b : Constraint) → a ≡ b → same_constraint a b ≡ true
 is_same a b e = search rules

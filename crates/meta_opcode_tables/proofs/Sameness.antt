@@ -3,13 +3,14 @@ use Rattle.std.proofs.Common.{rules, ◌≡◌, true, List, map, refl}
 use Rattle.std.specs.Bool.{Decides}
 use Rattle.meta_lists.proofs.Mapped.{same_mapped}
 use Rattle.meta_types.specs.Function.{Function, LaneOf as LaneOfFunction, AsTruthy as AsTruthyFunction, HalfWidth as HalfWidthFunction, DoubleWidth as DoubleWidthFunction, SplitLanes as SplitLanesFunction, MergeLanes as MergeLanesFunction, DynamicToVector as DynamicToVectorFunction, Narrower as NarrowerRelation, Wider as WiderRelation}
+use Rattle.meta_inst.specs.Which.{Which, First, Second}
 use Rattle.meta_typevar.specs.declared.masks.Masks.{Masks}
 use Rattle.meta_typevar.specs.contracts.masks.MasksPartialEq.TheImpl.{eq-value as masks_eq}
 use Rattle.meta_meaning.specs.Tables.{NumberConstraint, ConcreteNumber, FreeOf, SameNumber, ByNumber, OpcodeNumbers}
 use Rattle.meta_opcode_tables.specs.Constraint.{number_constraint_of, entry_of}
 use Rattle.meta_opcode_tables.specs.contracts.constraint.OpcodeConstraintsPartialEq.TheImpl.{eq-value as entry_eq}
 use Rattle.meta_opcode_tables.specs.declared.constraint.Constraint.{Constraint}
-use Rattle.meta_opcode_tables.specs.declared.constraint.Constraint.TheVariants.{Concrete, Free, Same, LaneOf, AsTruthy, HalfWidth, DoubleWidth, SplitLanes, MergeLanes, DynamicToVector, Narrower, Wider}
+use Rattle.meta_opcode_tables.specs.declared.constraint.Constraint.TheVariants.{Concrete, Free, Same, LaneOf, AsTruthy, HalfWidth, DoubleWidth, SplitLanes, MergeLanes, DynamicToVector, Narrower, Wider, Same2, LaneOf2, AsTruthy2, HalfWidth2, DoubleWidth2, SplitLanes2, MergeLanes2, DynamicToVector2, Narrower2, Wider2}
 use Rattle.meta_opcode_tables.specs.declared.constraint.OpcodeConstraints.{OpcodeConstraints}
 
 masks_are : (a b : Masks) → masks_eq.it a b ≡ true → a ≡ b
@@ -30,8 +31,9 @@ entry_is : (a b : OpcodeConstraints) → entry_eq.it a b ≡ true → a ≡ b
 entry_is a b e =
     let flags : a.flags ≡ b.flags = search rules in
     let typeset_offset : a.typeset_offset ≡ b.typeset_offset = search rules in
+    let second_offset : a.second_offset ≡ b.second_offset = search rules in
     let constraint_offset : a.constraint_offset ≡ b.constraint_offset = search rules in
-    λ i. record { flags = flags i; typeset_offset = typeset_offset i; constraint_offset = constraint_offset i }
+    λ i. record { flags = flags i; typeset_offset = typeset_offset i; second_offset = second_offset i; constraint_offset = constraint_offset i }
 
 is_entry : (a b : OpcodeConstraints) → a ≡ b → entry_eq.it a b ≡ true
 is_entry a b e = search rules
@@ -39,22 +41,32 @@ is_entry a b e = search rules
 pub entry_decides : (a b : OpcodeConstraints) → Decides (entry_eq.it a b) (a ≡ b)
 entry_decides a b = (entry_is a b, is_entry a b)
 
-abbrev by_function : Function → Constraint
-by_function LaneOfFunction = LaneOf
-by_function AsTruthyFunction = AsTruthy
-by_function HalfWidthFunction = HalfWidth
-by_function DoubleWidthFunction = DoubleWidth
-by_function SplitLanesFunction = SplitLanes
-by_function MergeLanesFunction = MergeLanes
-by_function DynamicToVectorFunction = DynamicToVector
-by_function NarrowerRelation = Narrower
-by_function WiderRelation = Wider
+abbrev by_function : Which → Function → Constraint
+by_function First LaneOfFunction = LaneOf
+by_function First AsTruthyFunction = AsTruthy
+by_function First HalfWidthFunction = HalfWidth
+by_function First DoubleWidthFunction = DoubleWidth
+by_function First SplitLanesFunction = SplitLanes
+by_function First MergeLanesFunction = MergeLanes
+by_function First DynamicToVectorFunction = DynamicToVector
+by_function First NarrowerRelation = Narrower
+by_function First WiderRelation = Wider
+by_function Second LaneOfFunction = LaneOf2
+by_function Second AsTruthyFunction = AsTruthy2
+by_function Second HalfWidthFunction = HalfWidth2
+by_function Second DoubleWidthFunction = DoubleWidth2
+by_function Second SplitLanesFunction = SplitLanes2
+by_function Second MergeLanesFunction = MergeLanes2
+by_function Second DynamicToVectorFunction = DynamicToVector2
+by_function Second NarrowerRelation = Narrower2
+by_function Second WiderRelation = Wider2
 
 abbrev constraint_from : NumberConstraint → Constraint
 constraint_from (ConcreteNumber n) = Concrete n
 constraint_from (FreeOf j) = Free j
-constraint_from SameNumber = Same
-constraint_from (ByNumber f) = by_function f
+constraint_from (SameNumber First) = Same
+constraint_from (SameNumber Second) = Same2
+constraint_from (ByNumber a f) = by_function a f
 
 constraint_back : (x : Constraint) → constraint_from (number_constraint_of x) ≡ x
 constraint_back (Concrete n) = refl
@@ -69,12 +81,22 @@ constraint_back MergeLanes = refl
 constraint_back DynamicToVector = refl
 constraint_back Narrower = refl
 constraint_back Wider = refl
+constraint_back Same2 = refl
+constraint_back LaneOf2 = refl
+constraint_back AsTruthy2 = refl
+constraint_back HalfWidth2 = refl
+constraint_back DoubleWidth2 = refl
+constraint_back SplitLanes2 = refl
+constraint_back MergeLanes2 = refl
+constraint_back DynamicToVector2 = refl
+constraint_back Narrower2 = refl
+constraint_back Wider2 = refl
 
 pub same_numbers : (xs ys : List Constraint) → map number_constraint_of xs ≡ map number_constraint_of ys → xs ≡ ys
 same_numbers = same_mapped number_constraint_of constraint_from constraint_back
 
 abbrev entry_from : OpcodeNumbers → OpcodeConstraints
-entry_from e = record { flags = e.flags; typeset_offset = e.typeset_offset; constraint_offset = e.constraint_offset }
+entry_from e = record { flags = e.flags; typeset_offset = e.typeset_offset; second_offset = e.second_offset; constraint_offset = e.constraint_offset }
 
 pub same_entry_lists : (xs ys : List OpcodeConstraints) → map entry_of xs ≡ map entry_of ys → xs ≡ ys
 same_entry_lists = same_mapped entry_of entry_from (λ x. refl)

@@ -5,7 +5,8 @@
 use Rattle.std.specs.Prelude.{◌≡◌, ◌+◌, ℕ, Bool, List, [], ◌∷◌, length, map, fold, take, slice_get, Option, Some}
 use Rattle.meta_typevar.specs.Variable.{Variable, Sets}
 use Rattle.meta_inst.specs.Builder.{Builder}
-use Rattle.meta_inst.specs.Instruction.{Instruction, IsOperand}
+use Rattle.meta_inst.specs.Which.{Which}
+use Rattle.meta_inst.specs.Instruction.{Instruction, IsOperand, controls_of}
 use Rattle.meta_inst.specs.Control.{IsControl}
 use Rattle.meta_inst.specs.InstructionSet.{InstructionSet, root_sets, instruction_in_set}
 use Rattle.meta_inst.specs.Faults.{IsAt}
@@ -22,9 +23,9 @@ abbrev pub same_constraint : Constraint → Constraint → Bool
 same_constraint x y = eq-value.it x y
 
 -- at this place of the list stands, in these tables, the constraint of the operand w
-pub record IsConstraintAt (sets : Sets) (control : Option Variable) (tables : TableContents) (list : List Constraint) (k : ℕ) (w : Variable) : Type 0 where
+pub record IsConstraintAt (sets : Sets) (controls : Which → Option Variable) (tables : TableContents) (list : List Constraint) (k : ℕ) (w : Variable) : Type 0 where
   pub type_constraint : TypeConstraint
-  pub is_constraint : IsConstraint sets control w type_constraint
+  pub is_constraint : IsConstraint sets controls w type_constraint
   pub constraint : Constraint
   pub stands : StandsFor tables type_constraint (number_constraint_of constraint)
   pub placed : slice_get list k ≡ Some constraint
@@ -32,7 +33,7 @@ pub record IsConstraintAt (sets : Sets) (control : Option Variable) (tables : Ta
 -- the list has the constraints of the operands, those of the results and then those of the values, and no more
 pub record IsConstraintList (sets : Sets) (control : Option Variable) (tables : TableContents) (i : Instruction) (list : List Constraint) : Type 0 where
   pub count : length list ≡ length i.results + length i.values
-  pub each : (k : ℕ) (w : Variable) → IsOperand i k w → IsConstraintAt sets control tables list k w
+  pub each : (k : ℕ) (w : Variable) → IsOperand i k w → IsConstraintAt sets (controls_of i control) tables list k w
 
 -- what the one list begins with
 abbrev pub three_same : List Constraint

@@ -5,6 +5,7 @@
 use Rattle.std.specs.Prelude.{◌≡◌, ◌<◌, ◌≤◌, ◌+◌, ℕ, List, length, map, slice_get, Contains, Option, None, Some}
 use Rattle.meta_types.specs.SharedNames.{AreDifferentNames}
 use Rattle.meta_typevar.specs.declared.masks.Masks.{Masks}
+use Rattle.meta_inst.specs.Which.{Which}
 use Rattle.meta_meaning.specs.Tables.{TableContents, at_opcode, PassesAt}
 use Rattle.meta_opcode_tables.specs.declared.constraint.Constraint.{Constraint}
 use Rattle.meta_opcode_tables.specs.declared.constraint.OpcodeConstraints.{OpcodeConstraints}
@@ -28,12 +29,12 @@ contents_of names type_sets operand_constraints constraints = record {
   entries = map entry_of constraints;
 }
 
--- there are as many names and names of formats as entries, at most 255; no name stands twice, and the slots are those of the
+-- there are as many names and names of formats as entries, at most 4,095; no name stands twice, and the slots are those of the
 -- names, one of them vacant
 pub record AreIndexed (names : OpcodeNames) (constraints : List OpcodeConstraints) : Type 0 where
   pub named : length names.names ≡ length constraints
   pub formatted : length names.formats ≡ length constraints
-  pub few : length constraints ≤ 255
+  pub few : length constraints ≤ 4095
   pub different : AreDifferentNames names.names
   pub slots : AreNameSlots 1 names.names names.slots
   pub vacant : Contains names.slots None
@@ -46,6 +47,6 @@ IsOpcode tables op = (0 < op) × (op ≤ length tables.entries)
 abbrev pub IsOpcodeNamed : List (List ℕ) → List ℕ → ℕ → Type 0
 IsOpcodeNamed names name op = at_opcode names op ≡ Some name
 
--- under the controlling number c each number passes the constraint that stands at its place behind the offset
-abbrev pub AllPass : TableContents → Option ℕ → ℕ → List ℕ → Type 0
+-- under the controlling numbers c each number passes the constraint that stands at its place behind the offset
+abbrev pub AllPass : TableContents → (Which → Option ℕ) → ℕ → List ℕ → Type 0
 AllPass tables c offset numbers = (k n : ℕ) → slice_get numbers k ≡ Some n → PassesAt tables c (offset + k) n

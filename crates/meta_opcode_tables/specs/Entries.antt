@@ -4,21 +4,24 @@
 --     HoldNeeded type_sets sets i                    the type sets hold what the instruction needs
 --     CanEnter vars type_sets c                      the built instruction can have an entry
 use Rattle.std.specs.Prelude.{◌≡◌, ◌≢◌, ◌⊎◌, ◌<◌, ◌≤◌, ◌+◌, ℕ, List, [], length, take, slice_get, Option, Some}
+use Rattle.meta_types.specs.DerivedFunc.{function_of}
 use Rattle.meta_typevar.specs.TypeSetParts.{TypeSetParts, HasOne}
 use Rattle.meta_typevar.specs.Variable.{Variable, Sets}
 use Rattle.meta_typevar.specs.Registry.{sets_of, variable_at}
 use Rattle.meta_typevar.specs.declared.content.TypeVarContent.{TypeVarContent}
+use Rattle.meta_typevar.specs.declared.content.TypeVarParent.{TypeVarParent}
 use Rattle.meta_operands.specs.declared.format.InstructionFormat.{InstructionFormat}
 use Rattle.meta_inst.specs.Builder.{Builder}
-use Rattle.meta_inst.specs.Instruction.{Instruction}
+use Rattle.meta_inst.specs.Which.{Which, First, Second, both}
+use Rattle.meta_inst.specs.Instruction.{Instruction, controls_of}
 use Rattle.meta_inst.specs.InstructionSet.{InstructionSet, instruction_of_builder}
 use Rattle.meta_inst.specs.Built.{Built}
 use Rattle.meta_inst.specs.Content.{ctrl_number}
-use Rattle.meta_inst.specs.Operands.{AreOf, instruction_of_operands}
-use Rattle.meta_inst.specs.Control.{IsControl, DerivesBadly}
+use Rattle.meta_inst.specs.Operands.{AreOf, SecondIsOf, second_in, instruction_of_operands}
+use Rattle.meta_inst.specs.Control.{IsControl, HasBadSecond, DerivesBadly}
 use Rattle.meta_inst.specs.Faults.{IsControlSet, IsFreeSet}
 use Rattle.meta_meaning.specs.Constraint.{IsConstraint, Constraint as TypeConstraint}
-use Rattle.meta_meaning.specs.Tables.{TableContents, StandsFor, AreOpcodeNumbersOf}
+use Rattle.meta_meaning.specs.Tables.{ByNumber, TableContents, StandsFor, AreOpcodeNumbersOf}
 use Rattle.meta_opcode_tables.specs.Constraint.{number_constraint_of, entry_of}
 use Rattle.meta_declared.specs.Needed.{StandForSets, control_at, IsOfRegistry}
 use Rattle.meta_unique.specs.Overlap.{added, added_at}
@@ -36,67 +39,81 @@ IsHeld type_sets s = (place : ℕ) × (slice_get type_sets place ≡ Some s)
 
 -- the type sets hold each set that the instruction needs
 abbrev pub HoldNeeded : List TypeSetParts → Sets → Instruction → Type 0
-HoldNeeded type_sets sets i = (control : Option Variable) (s : TypeSetParts) → IsControl sets i control → IsControlSet sets control s ⊎ IsFreeSet sets i control s → IsHeld type_sets s
+HoldNeeded type_sets sets i = (control : Option Variable) (s : TypeSetParts) → IsControl sets i control → ((a : Which) × IsControlSet sets (controls_of i control) a s) ⊎ IsFreeSet sets i control s → IsHeld type_sets s
 
 -- the tables have the masks of these type sets
 abbrev pub HasTypeSets : TableContents → List TypeSetParts → Type 0
 HasTypeSets tables type_sets = StandForSets tables.type_sets type_sets
 
--- The built instruction can have an entry: its variables and its control are of the registry, something controls it where it is
--- polymorphic, no operand is badly derived, it has at most seven results and seven values, and the type sets hold what it needs.
+-- The built instruction can have an entry: its variables and its controls are of the registry, something controls it where it is
+-- polymorphic, the second control that it may name can be one, no operand is badly derived, it has at most seven results and seven values, and the type sets hold what it needs.
 pub record CanEnter (vars : List TypeVarContent) (type_sets : List TypeSetParts) (c : Built) : Type 0 where
   pub variables : AreOf vars c.value_operands.variables
   pub is_control : IsControl (sets_of vars) (instruction_of_operands vars c.value_operands) (control_at vars (ctrl_number c.polymorphic_info))
   pub of_registry : IsOfRegistry vars (ctrl_number c.polymorphic_info)
+  pub second : SecondIsOf vars c.value_operands.second
+  pub good : HasBadSecond (sets_of vars) (instruction_of_operands vars c.value_operands) → ⊥
   pub derived : (place : ℕ) → DerivesBadly (sets_of vars) (instruction_of_operands vars c.value_operands) place → ⊥
   pub results : c.value_operands.result_count ≤ 7
   pub values : length c.value_operands.variables ≤ c.value_operands.result_count + 7
   pub within : c.value_operands.result_count ≤ length c.value_operands.variables
   pub held : HoldNeeded type_sets (sets_of vars) (instruction_of_operands vars c.value_operands)
 
--- there is a constraint for an operand whose variable is n
-abbrev pub HasConstraint : List TypeVarContent → Option ℕ → ℕ → Type 0
-HasConstraint vars control n = (x : TypeConstraint) × IsConstraint (sets_of vars) (control_at vars control) (variable_at vars n) x
+-- the controls with these numbers
+abbrev pub controls_at : List TypeVarContent → Option ℕ → Option ℕ → Which → Option Variable
+controls_at vars control second = both (control_at vars control) (second_in vars second)
 
--- the variable n isn't the control, it is underived, and its set hasn't exactly one type
-pub record IsFreeNumber (vars : List TypeVarContent) (control : Option ℕ) (n : ℕ) : Type 0 where
+-- there is a constraint for an operand whose variable is n
+abbrev pub HasConstraint : List TypeVarContent → Option ℕ → Option ℕ → ℕ → Type 0
+HasConstraint vars control second n = (x : TypeConstraint) × IsConstraint (sets_of vars) (controls_at vars control second) (variable_at vars n) x
+
+-- what is asked of the number of a variable with this parent: the parent's function of the second control, where that is the
+-- parent's variable, and else of the control
+abbrev pub IsByParent : Option ℕ → TypeVarParent → Constraint → Type 0
+IsByParent second p x = ((second ≡ Some p.type_var) × (number_constraint_of x ≡ ByNumber Second (function_of p.derived_func))) ⊎ ((second ≢ Some p.type_var) × (number_constraint_of x ≡ ByNumber First (function_of p.derived_func)))
+
+-- the variable n is none of the controls, it is underived, and its set hasn't exactly one type
+pub record IsFreeNumber (vars : List TypeVarContent) (control second : Option ℕ) (n : ℕ) : Type 0 where
   pub other : control ≢ Some n
+  pub not_second : second ≢ Some n
   pub underived : (variable_at vars n).chain ≡ []
   pub several : HasOne (sets_of vars (variable_at vars n).root) → ⊥
 
--- the type sets hold the set of each underived variable that isn't the control and hasn't one type
-abbrev pub HoldFree : List TypeVarContent → Option ℕ → List TypeSetParts → List ℕ → Type 0
-HoldFree vars control type_sets numbers = (k n : ℕ) → slice_get numbers k ≡ Some n → IsFreeNumber vars control n → IsHeld type_sets (sets_of vars (variable_at vars n).root)
+-- the type sets hold the set of each underived variable that is none of the controls and hasn't one type
+abbrev pub HoldFree : List TypeVarContent → Option ℕ → Option ℕ → List TypeSetParts → List ℕ → Type 0
+HoldFree vars control second type_sets numbers = (k n : ℕ) → slice_get numbers k ≡ Some n → IsFreeNumber vars control second n → IsHeld type_sets (sets_of vars (variable_at vars n).root)
 
 -- there is a constraint for each of the variables
-abbrev pub AreConstrained : List TypeVarContent → Option ℕ → List ℕ → Type 0
-AreConstrained vars control numbers = (k n : ℕ) → slice_get numbers k ≡ Some n → HasConstraint vars control n
+abbrev pub AreConstrained : List TypeVarContent → Option ℕ → Option ℕ → List ℕ → Type 0
+AreConstrained vars control second numbers = (k n : ℕ) → slice_get numbers k ≡ Some n → HasConstraint vars control second n
 
 -- in tables with these type sets, x is the constraint of an operand whose variable is n
-pub record Describes (vars : List TypeVarContent) (control : Option ℕ) (type_sets : List TypeSetParts) (n : ℕ) (x : Constraint) : Type 0 where
+pub record Describes (vars : List TypeVarContent) (control second : Option ℕ) (type_sets : List TypeSetParts) (n : ℕ) (x : Constraint) : Type 0 where
   pub constraint : TypeConstraint
-  pub is_constraint : IsConstraint (sets_of vars) (control_at vars control) (variable_at vars n) constraint
+  pub is_constraint : IsConstraint (sets_of vars) (controls_at vars control second) (variable_at vars n) constraint
   pub stands : (tables : TableContents) → HasTypeSets tables type_sets → StandsFor tables constraint (number_constraint_of x)
 
 -- such a constraint stands at this place of the list
-pub record IsDescribedAt (vars : List TypeVarContent) (control : Option ℕ) (type_sets : List TypeSetParts) (constraints : List Constraint) (place n : ℕ) : Type 0 where
+pub record IsDescribedAt (vars : List TypeVarContent) (control second : Option ℕ) (type_sets : List TypeSetParts) (constraints : List Constraint) (place n : ℕ) : Type 0 where
   pub constraint : Constraint
   pub at : slice_get constraints place ≡ Some constraint
-  pub describes : Describes vars control type_sets n constraint
+  pub describes : Describes vars control second type_sets n constraint
 
 -- the list is the constraints of the variables, in order
-pub record AreDescribed (vars : List TypeVarContent) (control : Option ℕ) (type_sets : List TypeSetParts) (list : List Constraint) (numbers : List ℕ) : Type 0 where
+pub record AreDescribed (vars : List TypeVarContent) (control second : Option ℕ) (type_sets : List TypeSetParts) (list : List Constraint) (numbers : List ℕ) : Type 0 where
   pub count : length list ≡ length numbers
-  pub each : (k n : ℕ) → slice_get numbers k ≡ Some n → IsDescribedAt vars control type_sets list k n
+  pub each : (k n : ℕ) → slice_get numbers k ≡ Some n → IsDescribedAt vars control second type_sets list k n
 
 -- each constraint stands in the tables, at its place
 abbrev pub HoldConstraints : TableContents → List Constraint → Type 0
 HoldConstraints tables constraints = (k : ℕ) (x : Constraint) → slice_get constraints k ≡ Some x → slice_get tables.operand_constraints k ≡ Some (number_constraint_of x)
 
--- in tables with these type sets and operand constraints, the entry holds the instruction, under its control
+-- in tables with these type sets and operand constraints, the entry holds the instruction, under its control; the second control
+-- that it may name can be one
 pub record EntryHolds (vars : List TypeVarContent) (i : Instruction) (type_sets : List TypeSetParts) (constraints : List Constraint) (e : OpcodeConstraints) : Type 0 where
   pub control : Option Variable
   pub is_control : IsControl (sets_of vars) i control
+  pub good : HasBadSecond (sets_of vars) i → ⊥
   pub is_entry : (tables : TableContents) → HasTypeSets tables type_sets → HoldConstraints tables constraints → AreOpcodeNumbersOf (sets_of vars) i control tables (entry_of e)
 
 -- the list of the instruction's constraints was added to the one list, and the entry says where it then stands

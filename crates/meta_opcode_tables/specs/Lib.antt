@@ -1,6 +1,8 @@
 pub mod Constraint
+pub mod Asked
 pub mod ConstraintLists
 pub mod Entries
 pub mod Contents
 pub mod TablesOf
 pub mod Found
+pub mod Inferred

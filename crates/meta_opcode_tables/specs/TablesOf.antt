@@ -1,11 +1,11 @@
 -- What tables say of the declarations that they were made for.
 --     AreTablesOf d tables            the tables hold each declared instruction
---     AcceptsOpcode d op c rs vs      what the declarations accept for an opcode, by numbers
+--     AcceptsOpcode d op c e rs vs    what the declarations accept for an opcode, by numbers
 use Rattle.std.specs.Prelude.{◌≡◌, ◌+◌, ℕ, List, length, slice_get, Option, Some}
 use Rattle.meta_typevar.specs.Variable.{Variable}
 use Rattle.meta_operands.specs.declared.format.InstructionFormat.{InstructionFormat}
 use Rattle.meta_inst.specs.Builder.{Builder}
-use Rattle.meta_inst.specs.Control.{IsControl}
+use Rattle.meta_inst.specs.Control.{IsControl, HasBadSecond}
 use Rattle.meta_inst.specs.InstructionSet.{InstructionSet, root_sets, instruction_in_set}
 use Rattle.meta_inst.specs.Faults.{IsAt, names_of}
 use Rattle.meta_meaning.specs.Acceptance.{AcceptsNumbers}
@@ -14,10 +14,12 @@ use Rattle.meta_unique.specs.NameSlots.{AreNameSlots}
 use Rattle.meta_declared.specs.Needed.{AreNeededMasks}
 use Rattle.meta_opcode_tables.specs.ConstraintLists.{AreOverlapped}
 
--- at this place the tables hold the instruction: its entry is that of its declaration, under its control
+-- at this place the tables hold the instruction: its entry is that of its declaration, under its control; and the second control
+-- that it may name can be one
 pub record HoldsInstruction (d : InstructionSet) (tables : TableContents) (k : ℕ) (b : Builder) : Type 0 where
   pub control : Option Variable
   pub is_control : IsControl (root_sets d) (instruction_in_set d b) control
+  pub good : HasBadSecond (root_sets d) (instruction_in_set d b) → ⊥
   pub entry : OpcodeNumbers
   pub at : slice_get tables.entries k ≡ Some entry
   pub is_entry : AreOpcodeNumbersOf (root_sets d) (instruction_in_set d b) control tables entry
@@ -45,12 +47,13 @@ pub record AreTablesOf (d : InstructionSet) (tables : TableContents) : Type 0 wh
   pub count : length tables.entries ≡ length d.instructions
   pub holds : (k : ℕ) (b : Builder) → IsAt d k b → HoldsInstruction d tables k b
 
--- op is the number of a declared instruction, and the instruction accepts the types that have these numbers
-pub record AcceptsOpcode (d : InstructionSet) (op : ℕ) (c : Option ℕ) (rs vs : List ℕ) : Type 0 where
+-- op is the number of a declared instruction, and the instruction accepts the types that have these numbers: the controlling types
+-- c and e, those of the results and those of the values
+pub record AcceptsOpcode (d : InstructionSet) (op : ℕ) (c e : Option ℕ) (rs vs : List ℕ) : Type 0 where
   pub place : ℕ
   pub builder : Builder
   pub at : IsAt d place builder
   pub number : op ≡ place + 1
   pub control : Option Variable
   pub is_control : IsControl (root_sets d) (instruction_in_set d builder) control
-  pub accepts : AcceptsNumbers (root_sets d) (instruction_in_set d builder) control c rs vs
+  pub accepts : AcceptsNumbers (root_sets d) (instruction_in_set d builder) control c e rs vs

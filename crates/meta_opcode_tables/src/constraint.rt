@@ -1,10 +1,15 @@
-ghost use Rattle.std.specs.Prelude.{◌≡◌};
-ghost use Rattle.meta_meaning.specs.Tables.{result_count, value_count};
+ghost use Rattle.std.specs.Prelude.{◌≡◌, ◌↔◌, ◌/◌, ◌%◌, ℕ, IsTrue, IfSome, IfNone};
+ghost use Rattle.meta_types.specs.DerivedFunc.{function_of};
+ghost use Rattle.meta_inst.specs.Which.{Second, both};
+ghost use Rattle.meta_meaning.specs.Inference.{IsRelation, GivesBy, GivesNumber};
+ghost use Rattle.meta_meaning.specs.Tables.{ByNumber, result_count, value_count};
+ghost use Rattle.meta_opcode_tables.specs.Constraint.{number_constraint_of};
+ghost use Rattle.meta_opcode_tables.specs.Asked.{which_of, number_constraint_asked};
 
 use meta_types::DerivedFunc;
 
-/// The type set offset of an opcode without a control.
-pub(crate) const NO_TYPE_SET: u8 = 255;
+/// The type set offset of an opcode without a control, and of one without a second control.
+pub(crate) const NO_TYPE_SET: u16 = 65535;
 
 /// What an operand's type has to be, by its number (in the crate `OperandConstraint` of the code that it writes).
 #[derive(Clone, Copy, Debug, PartialEq, Eq)]
@@ -12,7 +17,7 @@ pub enum Constraint {
     /// The type with this number.
     Concrete(u16),
     /// Any type of the type set at this place of the tables.
-    Free(u8),
+    Free(u16),
     /// The controlling type.
     Same,
     /// The lane of the controlling type.
@@ -33,15 +38,36 @@ pub enum Constraint {
     Narrower,
     /// A scalar of the controlling type's kind with more bits.
     Wider,
+    /// The second controlling type.
+    Same2,
+    /// The lane of the second controlling type.
+    LaneOf2,
+    /// What a comparison of values of the second controlling type gives.
+    AsTruthy2,
+    /// The second controlling type with lanes of half the width.
+    HalfWidth2,
+    /// The second controlling type with lanes of twice the width.
+    DoubleWidth2,
+    /// The second controlling type with twice the lanes, each of half the width.
+    SplitLanes2,
+    /// The second controlling type with half the lanes, each of twice the width.
+    MergeLanes2,
+    /// The fixed vector of the second controlling type.
+    DynamicToVector2,
+    /// A scalar of the second controlling type's kind with fewer bits.
+    Narrower2,
+    /// A scalar of the second controlling type's kind with more bits.
+    Wider2,
 }
 
 impl From<DerivedFunc> for Constraint {
     ghost use Rattle.std.specs.Prelude.{◌≡◌};
     ghost use Rattle.meta_types.specs.DerivedFunc.{function_of};
+    ghost use Rattle.meta_inst.specs.Which.{First};
     ghost use Rattle.meta_meaning.specs.Tables.{ByNumber};
     ghost use Rattle.meta_opcode_tables.specs.Constraint.{number_constraint_of};
 
-    ghost from_gives = { λ derived_func result. number_constraint_of result ≡ ByNumber (function_of derived_func) };
+    ghost from_gives = { λ derived_func result. number_constraint_of result ≡ ByNumber First (function_of derived_func) };
 
     fn from(derived_func: DerivedFunc) -> Constraint {
         match derived_func {
@@ -58,14 +84,141 @@ impl From<DerivedFunc> for Constraint {
     }
 }
 
+impl Constraint {
+    /// What the function gives of the second controlling type.
+    pub(crate) fn of_second(derived_func: DerivedFunc) -> Constraint
+        ensures { number_constraint_of result ≡ ByNumber Second (function_of derived_func) }
+    {
+        match derived_func {
+            DerivedFunc::LaneOf => Constraint::LaneOf2,
+            DerivedFunc::AsTruthy => Constraint::AsTruthy2,
+            DerivedFunc::HalfWidth => Constraint::HalfWidth2,
+            DerivedFunc::DoubleWidth => Constraint::DoubleWidth2,
+            DerivedFunc::SplitLanes => Constraint::SplitLanes2,
+            DerivedFunc::MergeLanes => Constraint::MergeLanes2,
+            DerivedFunc::DynamicToVector => Constraint::DynamicToVector2,
+            DerivedFunc::Narrower => Constraint::Narrower2,
+            DerivedFunc::Wider => Constraint::Wider2,
+        }
+    }
+
+    /// What it asks.
+    pub(crate) fn asked(self) -> Asked
+        ensures { number_constraint_asked result ≡ number_constraint_of self }
+    {
+        match self {
+            Constraint::Concrete(number) => Asked::Number(number),
+            Constraint::Free(set) => Asked::OfSet(set),
+            Constraint::Same => Asked::Controlling(Which::First),
+            Constraint::Same2 => Asked::Controlling(Which::Second),
+            Constraint::LaneOf => Asked::By(Which::First, DerivedFunc::LaneOf),
+            Constraint::AsTruthy => Asked::By(Which::First, DerivedFunc::AsTruthy),
+            Constraint::HalfWidth => Asked::By(Which::First, DerivedFunc::HalfWidth),
+            Constraint::DoubleWidth => Asked::By(Which::First, DerivedFunc::DoubleWidth),
+            Constraint::SplitLanes => Asked::By(Which::First, DerivedFunc::SplitLanes),
+            Constraint::MergeLanes => Asked::By(Which::First, DerivedFunc::MergeLanes),
+            Constraint::DynamicToVector => Asked::By(Which::First, DerivedFunc::DynamicToVector),
+            Constraint::Narrower => Asked::By(Which::First, DerivedFunc::Narrower),
+            Constraint::Wider => Asked::By(Which::First, DerivedFunc::Wider),
+            Constraint::LaneOf2 => Asked::By(Which::Second, DerivedFunc::LaneOf),
+            Constraint::AsTruthy2 => Asked::By(Which::Second, DerivedFunc::AsTruthy),
+            Constraint::HalfWidth2 => Asked::By(Which::Second, DerivedFunc::HalfWidth),
+            Constraint::DoubleWidth2 => Asked::By(Which::Second, DerivedFunc::DoubleWidth),
+            Constraint::SplitLanes2 => Asked::By(Which::Second, DerivedFunc::SplitLanes),
+            Constraint::MergeLanes2 => Asked::By(Which::Second, DerivedFunc::MergeLanes),
+            Constraint::DynamicToVector2 => Asked::By(Which::Second, DerivedFunc::DynamicToVector),
+            Constraint::Narrower2 => Asked::By(Which::Second, DerivedFunc::Narrower),
+            Constraint::Wider2 => Asked::By(Which::Second, DerivedFunc::Wider),
+        }
+    }
+}
+
+/// Whether the function is a relation, which leaves several types.
+fn is_relation(derived_func: DerivedFunc) -> bool
+    ensures { IsTrue result ↔ IsRelation (function_of derived_func) }
+{
+    matches!(derived_func, DerivedFunc::Narrower | DerivedFunc::Wider)
+}
+
+/// The number that the function gives of the number of a control, where there is that control and the function leads to a type:
+/// 0 for a relation.
+fn given_by(from: Option<u16>, derived_func: DerivedFunc) -> Option<u16>
+    ensures some { IfSome result (λ n. GivesBy from (function_of derived_func) n) }
+    ensures none { IfNone result ((n : ℕ) → ¬ GivesBy from (function_of derived_func) n) }
+{
+    if is_relation(derived_func) {
+        return Some(0);
+    }
+    derived_func.apply_number(from?)
+}
+
+/// The number that a constraint gives for a result under these controlling numbers: 0 where it leaves several, and `None` where
+/// there isn't what it asks for.
+pub(crate) fn given(controls: Controls, constraint: Constraint) -> Option<u16>
+    ensures some { IfSome result (λ n. GivesNumber (both controls.ctrl controls.second) (number_constraint_of constraint) n) }
+    ensures none { IfNone result ((n : ℕ) → ¬ GivesNumber (both controls.ctrl controls.second) (number_constraint_of constraint) n) }
+{
+    match constraint.asked() {
+        Asked::Number(number) => Some(number),
+        Asked::OfSet(_) => Some(0),
+        Asked::Controlling(which) => controls.of(which),
+        Asked::By(which, derived_func) => given_by(controls.of(which), derived_func),
+    }
+}
+
+/// One of the two controlling types that an opcode may have.
+#[derive(Clone, Copy)]
+pub(crate) enum Which {
+    /// The controlling type.
+    First,
+    /// The second controlling type.
+    Second,
+}
+
+/// What a constraint asks of the number of a type.
+#[derive(Clone, Copy)]
+pub(crate) enum Asked {
+    /// That it is this number.
+    Number(u16),
+    /// That the type set at this place contains it.
+    OfSet(u16),
+    /// That it is the number of this controlling type.
+    Controlling(Which),
+    /// That the function leads to it from this controlling type.
+    By(Which, DerivedFunc),
+}
+
+/// The numbers of the controlling types, where they are given.
+#[derive(Clone, Copy)]
+pub(crate) struct Controls {
+    /// That of the controlling type.
+    pub(crate) ctrl: Option<u16>,
+    /// That of the second controlling type.
+    pub(crate) second: Option<u16>,
+}
+
+impl Controls {
+    /// The number of one of them.
+    pub(crate) fn of(self, which: Which) -> Option<u16>
+        ensures { result ≡ both self.ctrl self.second (which_of which) }
+    {
+        match which {
+            Which::First => self.ctrl,
+            Which::Second => self.second,
+        }
+    }
+}
+
 /// What tables hold of one opcode (in the crate `OpcodeConstraints` of the code that it writes).
 #[derive(Clone, Copy, Debug, PartialEq, Eq)]
 pub struct OpcodeConstraints {
     /// Bits 0 to 2: how many value results there are. Bit 3: the designated operand's variable controls. Bit 4: it does,
     /// and the control doesn't stand at the first result too. Bits 5 to 7: how many value inputs there are.
     pub flags: u8,
-    /// The place of the control's type set, and 255 where there is no control.
-    pub typeset_offset: u8,
+    /// The place of the control's type set, and 65,535 where there is no control.
+    pub typeset_offset: u16,
+    /// The place of the second control's type set, and 65,535 where there is no second control.
+    pub second_offset: u16,
     /// The place of the first of the constraints, those of the results and then those of the inputs.
     pub constraint_offset: u16,
 }
@@ -76,6 +229,13 @@ impl OpcodeConstraints {
         ensures { result ≡ result_count self.flags }
     {
         (self.flags % 8) as usize
+    }
+
+    /// Whether the designated operand's variable controls.
+    pub(crate) fn designated_controls(self) -> bool
+        ensures { IsTrue result ↔ (self.flags / 8 % 2 ≡ 1) }
+    {
+        self.flags / 8 % 2 == 1
     }
 
     /// How many value inputs there are.

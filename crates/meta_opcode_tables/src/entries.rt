@@ -4,7 +4,7 @@ ghost use Rattle.meta_typevar.specs.declared.content.TypeVarContent.{TypeVarCont
 ghost use Rattle.meta_inst.specs.Builder.{Builder};
 ghost use Rattle.meta_inst.specs.Faults.{IsAt, IsValid};
 ghost use Rattle.meta_inst.specs.InstructionSet.{Fits};
-ghost use Rattle.meta_inst.specs.Operands.{AreOf, instruction_of_operands, designated_number};
+ghost use Rattle.meta_inst.specs.Operands.{AreOf, SecondIsOf, instruction_of_operands, designated_number};
 ghost use Rattle.meta_meaning.specs.Tables.{TableContents, AreFlagsOf, IsTypeSetOffset, result_count, value_count};
 ghost use Rattle.meta_unique.specs.Overlap.{added, added_at};
 ghost use Rattle.meta_opcode_tables.specs.ConstraintLists.{same_constraint, three_same};
@@ -57,7 +57,7 @@ fn packed(results: u8, values: u8, designated: bool, first_result: bool) -> u8
 fn flags_of(operands: &Operands, control: &Option<TypeVar>) -> u8
     requires results { operands.now.result_count ≤ 7 }
     requires values { length operands.now.variables ≤ operands.now.result_count + 7 }
-    ensures flags { (vars : List TypeVarContent) → IsRegistry vars → AreOf vars operands.now.variables → IsOfRegistry vars control.now → AreFlagsOf (instruction_of_operands vars operands.now) (control_at vars control.now) result }
+    ensures flags { (vars : List TypeVarContent) → IsRegistry vars → AreOf vars operands.now.variables → SecondIsOf vars operands.now.second → IsOfRegistry vars control.now → AreFlagsOf (instruction_of_operands vars operands.now) (control_at vars control.now) result }
     ensures within { operands.now.result_count ≤ length operands.now.variables }
 {
     let results = operands.result_count();
@@ -70,14 +70,14 @@ fn flags_of(operands: &Operands, control: &Option<TypeVar>) -> u8
     )
 }
 
-/// The place of the control's type set, and 255 where there is no control.
+/// The place of this control's type set, and 65,535 where there isn't this control.
 fn type_set_offset(
     vars: &TypeVars,
     control: &Option<TypeVar>,
     type_sets: &UniqueTable<'_, TypeSet>,
-) -> u8
+) -> u16
     requires of_registry { IsOfRegistry vars.now control.now }
-    requires few { length type_sets.now ≤ 255 }
+    requires few { length type_sets.now ≤ 4095 }
     requires held { (v : ℕ) → control.now ≡ Some v → IsHeld type_sets.now (sets_of vars.now (variable_at vars.now v).root) }
     ensures { (tables : TableContents) → HasTypeSets tables type_sets.now → IsTypeSetOffset (sets_of vars.now) (control_at vars.now control.now) tables result }
 {
@@ -113,7 +113,7 @@ fn entry_of(
 ) -> Result<OpcodeConstraints, AllocError>
     requires registry { IsRegistry vars.now }
     requires fits { CanEnter vars.now type_sets.now instruction.now }
-    requires few { length type_sets.now ≤ 255 }
+    requires few { length type_sets.now ≤ 4095 }
     requires room { length constraints.old + 14 < 2 ^ 16 }
     ensures holds { IfOk result (λ e. EntryHolds vars.now (instruction_of_operands vars.now instruction.now.value_operands) type_sets.now constraints.new e) }
     ensures added { IfOk result (λ e. IsAdded vars.now (instruction_of_operands vars.now instruction.now.value_operands) type_sets.now constraints.old constraints.new e) }
@@ -124,22 +124,31 @@ fn entry_of(
     let control = instruction.ctrl_typevar();
     let flags = flags_of(operands, &control);
     let typeset_offset = type_set_offset(vars, &control, type_sets);
-    let list = constraints_of(alloc, vars, &control, operands.variables(), type_sets)?;
+    let second_offset = type_set_offset(vars, operands.second(), type_sets);
+    let list = constraints_of(
+        alloc,
+        vars,
+        &control,
+        operands.second(),
+        operands.variables(),
+        type_sets,
+    )?;
     let constraint_offset = add_list(constraints, &list)?;
     Ok(OpcodeConstraints {
         flags,
         typeset_offset,
+        second_offset,
         constraint_offset,
     })
 }
 
-/// The operand constraints of instructions, in one list, and the three numbers of each instruction.
+/// The operand constraints of instructions, in one list, and the four numbers of each instruction.
 #[derive(Drop)]
 pub(crate) struct EntryLists {
     /// The operand constraints: first `Same` three times, to which the lists of the instructions were added in order, each
     /// one's results before its inputs.
     pub(crate) constraints: Vec<Constraint>,
-    /// The three numbers of each instruction.
+    /// The four numbers of each instruction.
     pub(crate) entries: Vec<OpcodeConstraints>,
 }
 

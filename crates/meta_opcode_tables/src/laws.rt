@@ -9,7 +9,7 @@ ghost use Rattle.meta_opcode_tables.specs.declared.constraint.Constraint.{Constr
 /// The tables mean the declarations: where they are those of declarations whose variables have sets of types, the decoding
 /// allows exactly those numbers, of all numbers, that the declarations accept.
 pub fn tables_mean_the_declarations()
-    ensures { (d : InstructionSet) (tables : TableContents) (op : ℕ) (c : Option ℕ) (rs vs : List ℕ) → HoldTypeSets d.vars → AreTablesOf d tables → (Allows tables op c rs vs ↔ AcceptsOpcode d op c rs vs) }
+    ensures { (d : InstructionSet) (tables : TableContents) (op : ℕ) (c e : Option ℕ) (rs vs : List ℕ) → HoldTypeSets d.vars → AreTablesOf d tables → (Allows tables op c e rs vs ↔ AcceptsOpcode d op c e rs vs) }
 {}
 
 /// Two operand constraints compare equal exactly where they are the same.

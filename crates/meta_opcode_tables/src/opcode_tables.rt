@@ -1,10 +1,11 @@
-ghost use Rattle.std.specs.Prelude.{◌≡◌, ◌≢◌, ◌↔◌, ◌≤◌, ◌+◌, ◌^◌, ◌<◌, ℕ, List, Option, IsTrue, IsSome, IfSome, IfNone, IfOk, length, map, slice_get, Contains, None, Some};
+ghost use Rattle.std.specs.Prelude.{◌≡◌, ◌≢◌, ◌↔◌, ◌≤◌, ◌+◌, ◌^◌, ◌<◌, ℕ, List, Option, IsTrue, IsSome, IfSome, IfNone, IfOk, length, map, take, drop, slice_get, Contains, None, Some};
 ghost use Rattle.meta_lists.specs.First.{IsFirst};
 ghost use Rattle.meta_types.specs.DerivedFunc.{function_of};
 ghost use Rattle.meta_types.specs.Function.{StepsNumbers};
 ghost use Rattle.meta_types.specs.SharedNames.{AreDifferentNames};
 ghost use Rattle.meta_typevar.specs.Registry.{HoldTypeSets};
 ghost use Rattle.meta_inst.specs.InstructionSet.{InstructionSet};
+ghost use Rattle.meta_inst.specs.Which.{both};
 ghost use Rattle.meta_meaning.specs.Tables.{TableContents, at_opcode, Allows, SetContains, ControlNumberFits, NumberPasses, PassesAt};
 ghost use Rattle.meta_opcode_tables.specs.TablesOf.{AreTablesOf, AcceptsOpcode};
 ghost use Rattle.meta_opcode_tables.specs.Constraint.{number_constraint_of, entry_of};
@@ -12,8 +13,10 @@ ghost use Rattle.meta_opcode_tables.specs.Contents.{contents_of, IsOpcode, IsOpc
 ghost use Rattle.meta_opcode_tables.specs.ConstraintLists.{same_constraint};
 ghost use Rattle.meta_unique.specs.NameSlots.{AreNameSlots, NameAnswers, IsNameLookup};
 ghost use Rattle.meta_opcode_tables.specs.Found.{IsDeclaredAs, FindsName};
+ghost use Rattle.meta_opcode_tables.specs.Inferred.{InfersControl, InfersOpcode, HasControlType};
+ghost use Rattle.meta_meaning.specs.Inference.{GivesAt, GivesResults};
 
-use super::constraint::{Constraint, NO_TYPE_SET, OpcodeConstraints};
+use super::constraint::{Asked, Constraint, Controls, NO_TYPE_SET, OpcodeConstraints, given};
 use super::entries::entries;
 use super::masks::masks_of;
 use super::names::{copied_formats, copied_names};
@@ -55,7 +58,7 @@ const FIRST_OPCODE: u16 = 1;
 
 /// The slots of the names of opcodes.
 fn opcode_slots(alloc: Global, names: &[Text]) -> Result<Vec<Option<u16>>, AllocError>
-    requires { length names.now ≤ 255 }
+    requires { length names.now ≤ 4095 }
     ensures slots { IfOk result (λ v. AreNameSlots 1 names.now v.items) }
     ensures vacant { IfOk result (λ v. Contains v.items None) }
 {
@@ -78,10 +81,12 @@ fn is_related(ctrl: Option<u16>, derived_func: DerivedFunc, number: u16) -> bool
 
 impl OpcodeTables {
     /// The tables of what is built of declarations: they hold each instruction, in order, under its name, and opcode 1 is the
-    /// first. Read by the decoding, they allow exactly what the declarations accept. The only error is want of memory.
+    /// first. Read by the decoding, they allow exactly what the declarations accept, and they give exactly the results that the
+    /// declarations infer. The only error is want of memory.
     pub fn of(alloc: Global, built: &Built<'_>) -> Result<OpcodeTables, AllocError>
         ensures tables { IfOk result (λ t. AreTablesOf built.now.declared.set t) }
-        ensures acceptance { IfOk result (λ t. (op : ℕ) (c : Option ℕ) (rs vs : List ℕ) → (Allows t op c rs vs ↔ AcceptsOpcode built.now.declared.set op c rs vs)) }
+        ensures acceptance { IfOk result (λ t. (op : ℕ) (c e : Option ℕ) (rs vs : List ℕ) → (Allows t op c e rs vs ↔ AcceptsOpcode built.now.declared.set op c e rs vs)) }
+        ensures inference { IfOk result (λ t. (op : ℕ) (c e : Option ℕ) (numbers : List ℕ) → (GivesResults t op c e numbers ↔ InfersOpcode built.now.declared.set op c e numbers)) }
     {
         let declarations = built.declarations();
         let instructions = declarations.instructions();
@@ -110,7 +115,7 @@ impl OpcodeTables {
     ) -> Result<OpcodeTables, AllocError>
         requires named { length names.items ≡ length constraints.items }
         requires formatted { length formats.items ≡ length constraints.items }
-        requires few { length constraints.items ≤ 255 }
+        requires few { length constraints.items ≤ 4095 }
         requires different { AreDifferentNames names.items }
         ensures parts { IfOk result (λ t. t ≡ contents_of (record { names = names.items; formats = formats.items; slots = t.opcode_slots }) type_sets.items operand_constraints.items constraints.items) }
         ensures slots { IfOk result (λ t. AreNameSlots 1 names.items t.opcode_slots) }
@@ -126,11 +131,11 @@ impl OpcodeTables {
         })
     }
 
-    /// How many opcodes there are, at most 255: they are 1 to this number.
+    /// How many opcodes there are, at most 4,095: they are 1 to this number.
     pub fn opcode_count(&self) -> u16
         ensures count { result ≡ length self.now.entries }
         ensures named { length self.now.names ≡ length self.now.entries }
-        ensures few { length self.now.entries ≤ 255 }
+        ensures few { length self.now.entries ≤ 4095 }
     {
         self.constraints.len() as u16
     }
@@ -259,10 +264,26 @@ impl OpcodeTables {
     }
 
     /// Whether the opcode accepts these types, by their numbers: the controlling type, the types of the value results and
-    /// those of the value inputs. It is false for a number that no type has, and for an opcode that there isn't.
+    /// those of the value inputs, without a second controlling type. It is false for a number that no type has, and for an
+    /// opcode that there isn't.
     pub fn accepts(&self, opcode: u16, ctrl: Option<u16>, results: &[u16], values: &[u16]) -> bool
-        ensures decoding { IsTrue result ↔ Allows self.now opcode ctrl results.now values.now }
-        ensures meaning { (d : InstructionSet) → HoldTypeSets d.vars → AreTablesOf d self.now → (IsTrue result ↔ AcceptsOpcode d opcode ctrl results.now values.now) }
+        ensures decoding { IsTrue result ↔ Allows self.now opcode ctrl None results.now values.now }
+        ensures meaning { (d : InstructionSet) → HoldTypeSets d.vars → AreTablesOf d self.now → (IsTrue result ↔ AcceptsOpcode d opcode ctrl None results.now values.now) }
+    {
+        self.accepts2(opcode, ctrl, None, results, values)
+    }
+
+    /// As `accepts`, with the number of the second controlling type, which an opcode that names a second control has.
+    pub fn accepts2(
+        &self,
+        opcode: u16,
+        ctrl: Option<u16>,
+        second: Option<u16>,
+        results: &[u16],
+        values: &[u16],
+    ) -> bool
+        ensures decoding { IsTrue result ↔ Allows self.now opcode ctrl second results.now values.now }
+        ensures meaning { (d : InstructionSet) → HoldTypeSets d.vars → AreTablesOf d self.now → (IsTrue result ↔ AcceptsOpcode d opcode ctrl second results.now values.now) }
     {
         let Some(entry) = self.constraints(opcode) else {
             return false;
@@ -276,15 +297,109 @@ impl OpcodeTables {
         if !self.control_fits(entry.typeset_offset, ctrl) {
             return false;
         }
-        let offset = entry.constraint_offset as usize;
-        if !self.all_pass(ctrl, offset, results) {
+        if !self.control_fits(entry.second_offset, second) {
             return false;
         }
-        self.all_pass(ctrl, offset + results.len(), values)
+        let controls = Controls { ctrl, second };
+        let offset = entry.constraint_offset as usize;
+        if !self.all_pass(controls, offset, results) {
+            return false;
+        }
+        self.all_pass(controls, offset + results.len(), values)
+    }
+
+    /// The number itself, exactly where the designated operand's variable controls the opcode and its type set contains the
+    /// number: then a designated value of this type has the controlling type.
+    pub fn infer_control(&self, opcode: u16, value: u16) -> Option<u16>
+        ensures value { IfSome result (λ n. n ≡ value) }
+        ensures some { IsSome result ↔ InfersControl self.now opcode value }
+        ensures meaning { (d : InstructionSet) → HoldTypeSets d.vars → AreTablesOf d self.now → IfSome result (λ n. (c e : Option ℕ) (rs vs : List ℕ) → Allows self.now opcode c e rs vs → HasControlType d opcode c vs) }
+    {
+        let entry = self.constraints(opcode)?;
+        if entry.designated_controls() && self.set_contains(entry.typeset_offset, value) {
+            Some(value)
+        } else {
+            None
+        }
+    }
+
+    /// As `infer_results2`, without a second controlling type.
+    pub fn infer_results(&self, opcode: u16, ctrl: Option<u16>, out: &mut [u16; 7]) -> Option<usize>
+        ensures given { IfSome result (λ count. GivesResults self.now opcode ctrl None (take count out.new)) }
+        ensures few { IfSome result (λ count. count ≤ 7) }
+        ensures rest { IfSome result (λ count. drop count out.new ≡ drop count out.old) }
+        ensures none { IfNone result ((numbers : List ℕ) → ¬ GivesResults self.now opcode ctrl None numbers) }
+        ensures unchanged { IfNone result (out.new ≡ out.old) }
+        ensures meaning { (d : InstructionSet) → HoldTypeSets d.vars → AreTablesOf d self.now → IfSome result (λ count. InfersOpcode d opcode ctrl None (take count out.new)) }
+        ensures refused { (d : InstructionSet) → HoldTypeSets d.vars → AreTablesOf d self.now → IfNone result ((numbers : List ℕ) → ¬ InfersOpcode d opcode ctrl None numbers) }
+        ensures accepted { IfSome result (λ count. (rs vs : List ℕ) → Allows self.now opcode ctrl None rs vs → (k m n : ℕ) → slice_get (take count out.new) k ≡ Some n → n ≢ 0 → slice_get rs k ≡ Some m → m ≡ n) }
+        ensures unaccepted { IfNone result ((rs vs : List ℕ) → ¬ Allows self.now opcode ctrl None rs vs) }
+    {
+        self.infer_results2(opcode, ctrl, None, out)
+    }
+
+    /// The numbers of the results' types, as far as the controlling types determine them: how many results there are, with one
+    /// number each at the front of `out`, 0 for a result of several possible types. `None` where the controlling types aren't
+    /// those that the opcode has, or a result can have no type under them; then no combination with them is accepted.
+    pub fn infer_results2(
+        &self,
+        opcode: u16,
+        ctrl: Option<u16>,
+        second: Option<u16>,
+        out: &mut [u16; 7],
+    ) -> Option<usize>
+        ensures given { IfSome result (λ count. GivesResults self.now opcode ctrl second (take count out.new)) }
+        ensures few { IfSome result (λ count. count ≤ 7) }
+        ensures rest { IfSome result (λ count. drop count out.new ≡ drop count out.old) }
+        ensures none { IfNone result ((numbers : List ℕ) → ¬ GivesResults self.now opcode ctrl second numbers) }
+        ensures unchanged { IfNone result (out.new ≡ out.old) }
+        ensures meaning { (d : InstructionSet) → HoldTypeSets d.vars → AreTablesOf d self.now → IfSome result (λ count. InfersOpcode d opcode ctrl second (take count out.new)) }
+        ensures refused { (d : InstructionSet) → HoldTypeSets d.vars → AreTablesOf d self.now → IfNone result ((numbers : List ℕ) → ¬ InfersOpcode d opcode ctrl second numbers) }
+        ensures accepted { IfSome result (λ count. (rs vs : List ℕ) → Allows self.now opcode ctrl second rs vs → (k m n : ℕ) → slice_get (take count out.new) k ≡ Some n → n ≢ 0 → slice_get rs k ≡ Some m → m ≡ n) }
+        ensures unaccepted { IfNone result ((rs vs : List ℕ) → ¬ Allows self.now opcode ctrl second rs vs) }
+    {
+        self.infer_into(Controls { ctrl, second }, opcode, out)
+    }
+
+    /// Writes what the constraints of the results give, one number each, to the front of `out`, and tells how many there are. `None`,
+    /// with nothing written, where the controlling numbers don't fit or a constraint gives nothing.
+    fn infer_into(&self, controls: Controls, opcode: u16, out: &mut [u16; 7]) -> Option<usize>
+        ensures given { IfSome result (λ count. GivesResults self.now opcode controls.ctrl controls.second (take count out.new)) }
+        ensures few { IfSome result (λ count. count ≤ 7) }
+        ensures rest { IfSome result (λ count. drop count out.new ≡ drop count out.old) }
+        ensures none { IfNone result ((numbers : List ℕ) → ¬ GivesResults self.now opcode controls.ctrl controls.second numbers) }
+        ensures unchanged { IfNone result (out.new ≡ out.old) }
+    {
+        let entry = self.constraints(opcode)?;
+        if !self.control_fits(entry.typeset_offset, controls.ctrl) {
+            return None;
+        }
+        if !self.control_fits(entry.second_offset, controls.second) {
+            return None;
+        }
+        let mut numbers = *out;
+        let offset = entry.constraint_offset as usize;
+        let count = entry.result_count();
+        for k in 0..count {
+            numbers[k] = self.given_at(controls, offset + k)?;
+        }
+        *out = numbers;
+        Some(count)
+    }
+
+    /// The number that the constraint at this place gives, and `None` where there is none or it gives none.
+    fn given_at(&self, controls: Controls, place: usize) -> Option<u16>
+        ensures some { IfSome result (λ n. GivesAt self.now (both controls.ctrl controls.second) place n) }
+        ensures none { IfNone result ((n : ℕ) → ¬ GivesAt self.now (both controls.ctrl controls.second) place n) }
+    {
+        match self.operand_constraints.get(place) {
+            Some(constraint) => given(controls, *constraint),
+            None => None,
+        }
     }
 
     /// Whether the type set at this place is there and contains the number.
-    fn set_contains(&self, set: u8, number: u16) -> bool
+    fn set_contains(&self, set: u16, number: u16) -> bool
         ensures { IsTrue result ↔ SetContains self.now set number }
     {
         match self.type_sets.get(set as usize) {
@@ -293,8 +408,8 @@ impl OpcodeTables {
         }
     }
 
-    /// Whether the controlling number is one of the type set at the offset, or none where the opcode has no control.
-    fn control_fits(&self, offset: u8, ctrl: Option<u16>) -> bool
+    /// Whether the number of a control is one of the type set at the offset, or none where the opcode hasn't that control.
+    fn control_fits(&self, offset: u16, ctrl: Option<u16>) -> bool
         ensures { IsTrue result ↔ ControlNumberFits self.now offset ctrl }
     {
         if offset == NO_TYPE_SET {
@@ -306,43 +421,35 @@ impl OpcodeTables {
         }
     }
 
-    /// Whether the number passes the constraint under the controlling number.
-    fn passes(&self, ctrl: Option<u16>, constraint: Constraint, number: u16) -> bool
-        ensures { IsTrue result ↔ NumberPasses self.now ctrl (number_constraint_of constraint) number }
+    /// Whether the number passes the constraint under the controlling numbers.
+    fn passes(&self, controls: Controls, constraint: Constraint, number: u16) -> bool
+        ensures { IsTrue result ↔ NumberPasses self.now (both controls.ctrl controls.second) (number_constraint_of constraint) number }
     {
-        match constraint {
-            Constraint::Concrete(wanted) => number == wanted,
-            Constraint::Free(set) => self.set_contains(set, number),
-            Constraint::Same => ctrl == Some(number),
-            Constraint::LaneOf => is_related(ctrl, DerivedFunc::LaneOf, number),
-            Constraint::AsTruthy => is_related(ctrl, DerivedFunc::AsTruthy, number),
-            Constraint::HalfWidth => is_related(ctrl, DerivedFunc::HalfWidth, number),
-            Constraint::DoubleWidth => is_related(ctrl, DerivedFunc::DoubleWidth, number),
-            Constraint::SplitLanes => is_related(ctrl, DerivedFunc::SplitLanes, number),
-            Constraint::MergeLanes => is_related(ctrl, DerivedFunc::MergeLanes, number),
-            Constraint::DynamicToVector => is_related(ctrl, DerivedFunc::DynamicToVector, number),
-            Constraint::Narrower => is_related(ctrl, DerivedFunc::Narrower, number),
-            Constraint::Wider => is_related(ctrl, DerivedFunc::Wider, number),
+        match constraint.asked() {
+            Asked::Number(wanted) => number == wanted,
+            Asked::OfSet(set) => self.set_contains(set, number),
+            Asked::Controlling(which) => controls.of(which) == Some(number),
+            Asked::By(which, derived_func) => is_related(controls.of(which), derived_func, number),
         }
     }
 
     /// Whether there is a constraint at this place and the number passes it.
-    fn passes_at(&self, ctrl: Option<u16>, place: usize, number: u16) -> bool
-        ensures { IsTrue result ↔ PassesAt self.now ctrl place number }
+    fn passes_at(&self, controls: Controls, place: usize, number: u16) -> bool
+        ensures { IsTrue result ↔ PassesAt self.now (both controls.ctrl controls.second) place number }
     {
         match self.operand_constraints.get(place) {
-            Some(constraint) => self.passes(ctrl, *constraint, number),
+            Some(constraint) => self.passes(controls, *constraint, number),
             None => false,
         }
     }
 
     /// Whether each number passes the constraint at its place behind the offset.
-    fn all_pass(&self, ctrl: Option<u16>, offset: usize, numbers: &[u16]) -> bool
+    fn all_pass(&self, controls: Controls, offset: usize, numbers: &[u16]) -> bool
         requires { offset < 2 ^ 32 }
-        ensures { IsTrue result ↔ AllPass self.now ctrl offset numbers.now }
+        ensures { IsTrue result ↔ AllPass self.now (both controls.ctrl controls.second) offset numbers.now }
     {
         for (k, number) in numbers.iter().enumerate() {
-            if !self.passes_at(ctrl, offset + k, *number) {
+            if !self.passes_at(controls, offset + k, *number) {
                 return false;
             }
         }

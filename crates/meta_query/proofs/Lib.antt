@@ -3,10 +3,12 @@ mod LineLemmas
 mod NameLemmas
 mod TypeNumbers
 mod QuestionLemmas
+pub mod InferenceLemmas
 mod QueryLemmas
 mod AnswerLemmas
 mod SettingLines
 mod LineParts
 mod Meant
 mod Runs
+mod OneInference
 mod OneOutput

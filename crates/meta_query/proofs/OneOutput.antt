@@ -3,7 +3,11 @@ use Rattle.std.proofs.Common.{◌≡◌, ◌+◌, inl, inr, ℕ, List, [], ◌�
 use Rattle.std.proofs.lemmas.Option.{same_Some}
 use Rattle.meta_lists.proofs.Mapped.{get_map}
 use Rattle.meta_inst.specs.Builder.{Builder}
-use Rattle.meta_inst.specs.InstructionSet.{InstructionSet}
+use Rattle.meta_inst.specs.InstructionSet.{InstructionSet, root_sets, instruction_in_set}
+use Rattle.meta_inst.proofs.OneControl.{same_control}
+use Rattle.meta_meaning.specs.Inference.{Infers}
+use Rattle.meta_opcode_tables.proofs.Derivations.{none_bad}
+use Rattle.meta_query.proofs.OneInference.{no_bad_second, no_bad_derivation, same_inferred}
 use Rattle.meta_types.specs.SharedNames.{AreDifferentNames}
 use Rattle.meta_inst.specs.Faults.{IsAt, names_of, IsValid}
 use Rattle.meta_query.specs.Lines.{lines_of}
@@ -14,12 +18,14 @@ use Rattle.meta_setting_tables.specs.FoundSetting.{entry_names}
 use Rattle.meta_declared.proofs.DifferentNames.{different_names}
 use Rattle.meta_declared.specs.AllDeclared.{Declared, AreValidGroups, AreValid}
 use Rattle.meta_query.specs.Question.{Question}
-use Rattle.meta_query.specs.Query.{Asked, OfQuestion, OfSetting}
+use Rattle.meta_query.specs.Inference.{Inference, IsResultsLine}
+use Rattle.meta_query.specs.Query.{Asked, OfQuestion, OfInference, OfSetting}
 use Rattle.meta_query.specs.SettingLine.{entry_lines}
-use Rattle.meta_query.specs.Answer.{AcceptsAsked, IsAskedFor, AcceptedReply, IsLineOfEntry, EntryReply, DeclaredReply, IsReply, reply_line, IsWrittenAnswer, AreWrittenAnswers, IsOutput}
+use Rattle.meta_query.specs.Answer.{AcceptsAsked, IsAskedFor, AcceptedReply, InfersAsked, InferredReply, IsLineOfEntry, EntryReply, DeclaredReply, IsReply, reply_line, IsWrittenAnswer, AreWrittenAnswers, IsOutput}
 use Rattle.meta_query.specs.declared.reply.Reply.{Reply}
-use Rattle.meta_query.specs.declared.reply.Reply.TheVariants.{Accept, Refuse, Unknown, Bad, Setting}
+use Rattle.meta_query.specs.declared.reply.Reply.TheVariants.{Accept, Refuse, Unknown, Bad, Results, Setting}
 use Rattle.meta_query.proofs.QueryLemmas.{one_query}
+use Rattle.meta_query.proofs.InferenceLemmas.{one_results_line}
 
 module _ (d : InstructionSet) (valid : IsValid d) where
   -- ---- two instructions of one name are one
@@ -34,28 +40,67 @@ module _ (d : InstructionSet) (valid : IsValid d) where
 
   -- ---- a question has one reply
 
+  one_asked : (name : List ℕ) (b c : Builder) → IsAskedFor d name b → IsAskedFor d name c → b ≡ c
+  one_asked name b c h g = one_named h.place g.place b c h.at g.at (h.named ∙ sym g.named)
+
   -- what the instruction accepts isn't refused
-  not_both : (q : Question) (b c : Builder) → IsAskedFor d q b → IsAskedFor d q c → AcceptsAsked d b q → (AcceptsAsked d c q → ⊥) → ⊥
-  not_both q b c h g accepts refuses = refuses (subst (λ b. AcceptsAsked d b q) (one_named h.place g.place b c h.at g.at (h.named ∙ sym g.named)) accepts)
+  not_both : (q : Question) (b c : Builder) → IsAskedFor d q.name b → IsAskedFor d q.name c → AcceptsAsked d b q → (AcceptsAsked d c q → ⊥) → ⊥
+  not_both q b c h g accepts refuses = refuses (subst (λ b. AcceptsAsked d b q) (one_asked q.name b c h g) accepts)
 
   -- a declared name isn't unknown
-  not_unknown : (q : Question) (b : Builder) → IsAskedFor d q b → ((k : ℕ) (c : Builder) → IsAt d k c → c.name ≡ q.name → ⊥) → ⊥
-  not_unknown q b h unknown = unknown h.place b h.at h.named
+  not_unknown : (name : List ℕ) (b : Builder) → IsAskedFor d name b → ((k : ℕ) (c : Builder) → IsAt d k c → c.name ≡ name → ⊥) → ⊥
+  not_unknown name b h unknown = unknown h.place b h.at h.named
 
   one_accepted : (q : Question) (r s : Reply) → AcceptedReply d q r → AcceptedReply d q s → r ≡ s
   one_accepted q Accept Accept h g = refl
   one_accepted q Accept Refuse (b, asked, accepts) (c, other, refuses) = absurd (not_both q b c asked other accepts refuses)
-  one_accepted q Accept Unknown (b, asked, accepts) unknown = absurd (not_unknown q b asked unknown)
+  one_accepted q Accept Unknown (b, asked, accepts) unknown = absurd (not_unknown q.name b asked unknown)
   one_accepted q Refuse Accept (c, other, refuses) (b, asked, accepts) = absurd (not_both q b c asked other accepts refuses)
   one_accepted q Refuse Refuse h g = refl
-  one_accepted q Refuse Unknown (b, asked, refuses) unknown = absurd (not_unknown q b asked unknown)
-  one_accepted q Unknown Accept unknown (b, asked, accepts) = absurd (not_unknown q b asked unknown)
-  one_accepted q Unknown Refuse unknown (b, asked, refuses) = absurd (not_unknown q b asked unknown)
+  one_accepted q Refuse Unknown (b, asked, refuses) unknown = absurd (not_unknown q.name b asked unknown)
+  one_accepted q Unknown Accept unknown (b, asked, accepts) = absurd (not_unknown q.name b asked unknown)
+  one_accepted q Unknown Refuse unknown (b, asked, refuses) = absurd (not_unknown q.name b asked unknown)
   one_accepted q Unknown Unknown h g = refl
   one_accepted q r Bad h g = absurd g
+  one_accepted q r (Results line) h g = absurd g
   one_accepted q r (Setting line) h g = absurd g
   one_accepted q Bad s h g = absurd h
+  one_accepted q (Results line) s h g = absurd h
   one_accepted q (Setting line) s h g = absurd h
+
+  -- ---- so has a question what is inferred
+
+  -- what is inferred isn't refused
+  not_refused : (q : Inference) (b c : Builder) → IsAskedFor d q.name b → IsAskedFor d q.name c → (numbers : List ℕ) → InfersAsked d b q numbers → ((numbers : List ℕ) → InfersAsked d c q numbers → ⊥) → ⊥
+  not_refused q b c h g numbers infers none = none numbers (subst (λ b. InfersAsked d b q numbers) (one_asked q.name b c h g) infers)
+
+  -- the numbers of one instruction are inferred once
+  one_inferred : (q : Inference) (b c : Builder) → IsAskedFor d q.name b → IsAskedFor d q.name c → (numbers others : List ℕ) → InfersAsked d b q numbers → InfersAsked d c q others → numbers ≡ others
+  one_inferred q b c h g numbers others i j =
+      let own : InfersAsked d b q others = subst (λ b. InfersAsked d b q others) (sym (one_asked q.name b c h g)) j in
+      let same = same_control (root_sets d) (instruction_in_set d b) own.control i.control own.is_control i.is_control in
+      same_inferred (root_sets d) (instruction_in_set d b) i.control q.control q.second i.is_control (no_bad_second d valid h.place b h.at)
+      (none_bad (root_sets d) (instruction_in_set d b) i.control i.is_control (no_bad_derivation d valid h.place b h.at))
+      numbers others i.infers (subst (λ x. Infers (root_sets d) (instruction_in_set d b) x q.control q.second others) same own.infers)
+
+  one_given : (q : Inference) (r s : Reply) → InferredReply d q r → InferredReply d q s → r ≡ s
+  one_given q Refuse Refuse h g = refl
+  one_given q Refuse Unknown (b, asked, none) unknown = absurd (not_unknown q.name b asked unknown)
+  one_given q Refuse (Results line) (c, other, none) (b, asked, numbers, infers, is) = absurd (not_refused q b c asked other numbers infers none)
+  one_given q Unknown Refuse unknown (b, asked, none) = absurd (not_unknown q.name b asked unknown)
+  one_given q Unknown Unknown h g = refl
+  one_given q Unknown (Results line) unknown (b, asked, numbers, infers, is) = absurd (not_unknown q.name b asked unknown)
+  one_given q (Results line) Refuse (b, asked, numbers, infers, is) (c, other, none) = absurd (not_refused q b c asked other numbers infers none)
+  one_given q (Results line) Unknown (b, asked, numbers, infers, is) unknown = absurd (not_unknown q.name b asked unknown)
+  one_given q (Results line) (Results text) (b, asked, numbers, infers, is) (c, other, ns, infer, tells) =
+      let same = one_inferred q b c asked other numbers ns infers infer in
+      ap (λ l. Results l) (one_results_line ns line text (subst (λ n. IsResultsLine n line) same is) tells)
+  one_given q r Accept h g = absurd g
+  one_given q r Bad h g = absurd g
+  one_given q r (Setting line) h g = absurd g
+  one_given q Accept s h g = absurd h
+  one_given q Bad s h g = absurd h
+  one_given q (Setting line) s h g = absurd h
 
 -- ---- so has the name of a setting
 
@@ -76,15 +121,18 @@ module _ (apart : (g : GroupDeclaration) → IsValidGroup g → AreDifferentName
   one_entry r Accept h g = absurd g
   one_entry r Refuse h g = absurd g
   one_entry r Bad h g = absurd g
+  one_entry r (Results line) h g = absurd g
   one_entry Accept s h g = absurd h
   one_entry Refuse s h g = absurd h
   one_entry Bad s h g = absurd h
+  one_entry (Results line) s h g = absurd h
 
 -- ---- so the lines have one answer
 
 module _ (apart : (g : GroupDeclaration) → IsValidGroup g → AreDifferentNames (entry_names (built_of g))) (d : Declared) (valid : AreValid d) where
   one_declared : (q : Asked) (r s : Reply) → DeclaredReply d q r → DeclaredReply d q s → r ≡ s
   one_declared (OfQuestion q) r s h g = one_accepted d.set valid.set q r s h g
+  one_declared (OfInference q) r s h g = one_given d.set valid.set q r s h g
   one_declared (OfSetting name) r s h g = one_entry apart d.groups valid.groups name r s h g
 
   one_reply : (line : List ℕ) (r s : Reply) → IsReply d line r → IsReply d line s → r ≡ s

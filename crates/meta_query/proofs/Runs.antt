@@ -2,6 +2,8 @@
 use Rattle.std.proofs.Common.{◌≡◌, ◌≢◌, ◌↔◌, ◌<◌, ◌≤◌, ℕ, List, [], ◌++◌, length, length-append, Option, None, Some, refl, sym, ap, ◌∙◌, subst, arith}
 use Rattle.std.proofs.lemmas.List.{append-nil}
 use Rattle.meta_types.specs.declared.fault.DefinitionError.{DefinitionError}
+use Rattle.meta_meaning.specs.Inference.{GivesResults}
+use Rattle.meta_opcode_tables.specs.Inferred.{InfersOpcode}
 use Rattle.meta_meaning.specs.Tables.{Allows}
 use Rattle.meta_opcode_tables.specs.TablesOf.{AcceptsOpcode}
 use Rattle.meta_declared.specs.AllDeclared.{Declared, ShowsFirst, AreValid}
@@ -15,12 +17,12 @@ use Rattle.meta_query.specs.declared.status.Status.TheVariants.{Done, Refused, U
 use Rattle.meta_query.proofs.Meant.{answers_mean}
 
 -- what tables of the declarations answered is their output
-module _ (d : Declared) (tables : WholeTables) (made : AreWholeTablesOf d tables) (means : (op : ℕ) (c : Option ℕ) (rs vs : List ℕ) → (Allows tables.opcodes op c rs vs ↔ AcceptsOpcode d.set op c rs vs)) (valid : AreValid d) (left left' taken taken' : Option (List ℕ)) where
+module _ (d : Declared) (tables : WholeTables) (made : AreWholeTablesOf d tables) (means : (op : ℕ) (c e : Option ℕ) (rs vs : List ℕ) → (Allows tables.opcodes op c e rs vs ↔ AcceptsOpcode d.set op c e rs vs)) (infers : (op : ℕ) (c e : Option ℕ) (numbers : List ℕ) → (GivesResults tables.opcodes op c e numbers ↔ InfersOpcode d.set op c e numbers)) (valid : AreValid d) (left left' taken taken' : Option (List ℕ)) where
   pub answered : IsWritten tables left left' taken taken' → IsAnsweredWhole d left left' taken taken'
-  answered h = record { valid = valid; input = h.input; output = h.output; read = h.read; end = h.end; within = h.within; answers = answers_mean d tables made means (lines_of h.input) h.output h.answers; took = h.took }
+  answered h = record { valid = valid; input = h.input; output = h.output; read = h.read; end = h.end; within = h.within; answers = answers_mean d tables made means infers (lines_of h.input) h.output h.answers; took = h.took }
 
   pub answered_in_part : IsWrittenInPart tables left left' taken taken' → IsAnsweredInPart d left left' taken taken'
-  answered_in_part h = record { valid = valid; input = h.input; output = h.output; read = h.read; end = h.end; answers = answers_mean d tables made means (lines_of h.input) h.output h.answers; took = h.took }
+  answered_in_part h = record { valid = valid; input = h.input; output = h.output; read = h.read; end = h.end; answers = answers_mean d tables made means infers (lines_of h.input) h.output h.answers; took = h.took }
 
 -- what wasn't read gave nothing
 pub gave_nothing : (n : ℕ) (left : Option (List ℕ)) → GaveAtMost n left left

@@ -15,6 +15,7 @@ use Rattle.meta_inst.specs.Control.{IsControl}
 use Rattle.meta_inst.specs.InstructionSet.{InstructionSet, root_sets, instruction_in_set}
 use Rattle.meta_inst.specs.Faults.{IsAt}
 use Rattle.meta_meaning.specs.Acceptance.{Accepts}
+use Rattle.meta_meaning.specs.Inference.{Infers, GivesResults}
 use Rattle.meta_meaning.specs.Tables.{TableContents, at_opcode, Allows}
 use Rattle.meta_settings.specs.GroupDeclaration.{GroupDeclaration}
 use Rattle.meta_settings.specs.LaidOut.{built_of}
@@ -26,11 +27,12 @@ use Rattle.meta_declared.specs.AllDeclared.{Declared}
 use Rattle.meta_gen.specs.WholeTables.{WholeTables}
 use Rattle.meta_query.specs.Lines.{lines_of}
 use Rattle.meta_query.specs.Question.{Question}
-use Rattle.meta_query.specs.Query.{Asked, OfQuestion, OfSetting, Asks}
+use Rattle.meta_query.specs.Inference.{Inference, IsResultsLine}
+use Rattle.meta_query.specs.Query.{Asked, OfQuestion, OfInference, OfSetting, Asks}
 use Rattle.meta_query.specs.SettingLine.{entry_lines, line_in}
 use Rattle.meta_query.specs.Reply.{reply_text}
 use Rattle.meta_query.specs.declared.reply.Reply.{Reply}
-use Rattle.meta_query.specs.declared.reply.Reply.TheVariants.{Accept, Refuse, Unknown, Bad, Setting}
+use Rattle.meta_query.specs.declared.reply.Reply.TheVariants.{Accept, Refuse, Unknown, Bad, Results, Setting}
 
 -- The reply to a line, where R says what is replied to what is asked: that of what the line asks, and `bad` where it asks nothing.
 abbrev pub IsReplyBy : (Asked → Reply → Type 0) → List ℕ → Reply → Type 0
@@ -42,7 +44,7 @@ IsReplyBy R line reply =
 
 -- the tables allow, for the opcode, the numbers of the types that are asked
 abbrev pub AllowsAsked : TableContents → ℕ → Question → Type 0
-AllowsAsked tables op q = Allows tables op (option_map number_of q.control) (map number_of q.results) (map number_of q.values)
+AllowsAsked tables op q = Allows tables op (option_map number_of q.control) (option_map number_of q.second) (map number_of q.results) (map number_of q.values)
 
 -- whether the decoding allows, for the opcode that has the name, what is asked; `unknown` where no opcode has it
 abbrev pub AllowedReply : TableContents → Question → Reply → Type 0
@@ -50,7 +52,22 @@ AllowedReply tables q Accept = (op : ℕ) × IsFirst (IsOpcodeNamed tables.names
 AllowedReply tables q Refuse = (op : ℕ) × IsFirst (IsOpcodeNamed tables.names q.name) op × (AllowsAsked tables op q → ⊥)
 AllowedReply tables q Unknown = (op : ℕ) → at_opcode tables.names op ≢ Some q.name
 AllowedReply tables q Bad = ⊥
+AllowedReply tables q (Results line) = ⊥
 AllowedReply tables q (Setting line) = ⊥
+
+-- the numbers are what the tables give for the results of the opcode, of the numbers of the types that are asked
+abbrev pub GivesAsked : TableContents → ℕ → Inference → List ℕ → Type 0
+GivesAsked tables op q numbers = GivesResults tables op (option_map number_of q.control) (option_map number_of q.second) numbers
+
+-- the line of the results that the tables give for the opcode that has the name; `refuse` where they give none; `unknown` where no
+-- opcode has the name
+abbrev pub GivenReply : TableContents → Inference → Reply → Type 0
+GivenReply tables q Accept = ⊥
+GivenReply tables q Refuse = (op : ℕ) × IsFirst (IsOpcodeNamed tables.names q.name) op × ((numbers : List ℕ) → GivesAsked tables op q numbers → ⊥)
+GivenReply tables q Unknown = (op : ℕ) → at_opcode tables.names op ≢ Some q.name
+GivenReply tables q Bad = ⊥
+GivenReply tables q (Results line) = (op : ℕ) × IsFirst (IsOpcodeNamed tables.names q.name) op × (numbers : List ℕ) × GivesAsked tables op q numbers × IsResultsLine numbers line
+GivenReply tables q (Setting line) = ⊥
 
 -- the text is the line of the entry of group 0 that has the name, by its tables
 pub record IsLineInTables (tables : WholeTables) (name line : List ℕ) : Type 0 where
@@ -68,11 +85,13 @@ SettingReply tables name Accept = ⊥
 SettingReply tables name Refuse = ⊥
 SettingReply tables name Unknown = (g : GroupContents) → slice_get tables.groups 0 ≡ Some g → (e : ℕ) → slice_get (names_in g.descriptors) e ≢ Some name
 SettingReply tables name Bad = ⊥
+SettingReply tables name (Results line) = ⊥
 SettingReply tables name (Setting line) = IsLineInTables tables name line
 
 -- what tables reply to what is asked
 abbrev pub TablesReply : WholeTables → Asked → Reply → Type 0
 TablesReply tables (OfQuestion q) reply = AllowedReply tables.opcodes q reply
+TablesReply tables (OfInference q) reply = GivenReply tables.opcodes q reply
 TablesReply tables (OfSetting name) reply = SettingReply tables name reply
 
 -- the reply to a line by tables alone
@@ -85,21 +104,38 @@ IsTableReply tables line reply = IsReplyBy (TablesReply tables) line reply
 pub record AcceptsAsked (d : InstructionSet) (b : Builder) (q : Question) : Type 0 where
   pub control : Option Variable
   pub is_control : IsControl (root_sets d) (instruction_in_set d b) control
-  pub accepts : Accepts (root_sets d) (instruction_in_set d b) control q.control q.results q.values
+  pub accepts : Accepts (root_sets d) (instruction_in_set d b) control q.control q.second q.results q.values
 
--- the instruction is declared, and has the name that the question asks for
-pub record IsAskedFor (d : InstructionSet) (q : Question) (b : Builder) : Type 0 where
+-- the instruction is declared, and has the name that is asked for
+pub record IsAskedFor (d : InstructionSet) (name : List ℕ) (b : Builder) : Type 0 where
   pub place : ℕ
   pub at : IsAt d place b
-  pub named : b.name ≡ q.name
+  pub named : b.name ≡ name
 
 -- whether the instruction that has the name accepts what is asked; `unknown` where no instruction has it
 abbrev pub AcceptedReply : InstructionSet → Question → Reply → Type 0
-AcceptedReply d q Accept = (b : Builder) × IsAskedFor d q b × AcceptsAsked d b q
-AcceptedReply d q Refuse = (b : Builder) × IsAskedFor d q b × (AcceptsAsked d b q → ⊥)
+AcceptedReply d q Accept = (b : Builder) × IsAskedFor d q.name b × AcceptsAsked d b q
+AcceptedReply d q Refuse = (b : Builder) × IsAskedFor d q.name b × (AcceptsAsked d b q → ⊥)
 AcceptedReply d q Unknown = (k : ℕ) (b : Builder) → IsAt d k b → b.name ≢ q.name
 AcceptedReply d q Bad = ⊥
+AcceptedReply d q (Results line) = ⊥
 AcceptedReply d q (Setting line) = ⊥
+
+-- of the controlling types that are asked the instruction infers these numbers of its results
+pub record InfersAsked (d : InstructionSet) (b : Builder) (q : Inference) (numbers : List ℕ) : Type 0 where
+  pub control : Option Variable
+  pub is_control : IsControl (root_sets d) (instruction_in_set d b) control
+  pub infers : Infers (root_sets d) (instruction_in_set d b) control q.control q.second numbers
+
+-- the line of the results that the instruction of the name infers; `refuse` where it infers none; `unknown` where no instruction has
+-- the name
+abbrev pub InferredReply : InstructionSet → Inference → Reply → Type 0
+InferredReply d q Accept = ⊥
+InferredReply d q Refuse = (b : Builder) × IsAskedFor d q.name b × ((numbers : List ℕ) → InfersAsked d b q numbers → ⊥)
+InferredReply d q Unknown = (k : ℕ) (b : Builder) → IsAt d k b → b.name ≢ q.name
+InferredReply d q Bad = ⊥
+InferredReply d q (Results line) = (b : Builder) × IsAskedFor d q.name b × (numbers : List ℕ) × InfersAsked d b q numbers × IsResultsLine numbers line
+InferredReply d q (Setting line) = ⊥
 
 -- the text is the line of the entry of group 0 that has the name
 pub record IsLineOfEntry (groups : List GroupDeclaration) (name line : List ℕ) : Type 0 where
@@ -115,11 +151,13 @@ EntryReply groups name Accept = ⊥
 EntryReply groups name Refuse = ⊥
 EntryReply groups name Unknown = (g : GroupDeclaration) → slice_get groups 0 ≡ Some g → (e : ℕ) → slice_get (entry_names (built_of g)) e ≢ Some name
 EntryReply groups name Bad = ⊥
+EntryReply groups name (Results line) = ⊥
 EntryReply groups name (Setting line) = IsLineOfEntry groups name line
 
 -- what declarations reply to what is asked
 abbrev pub DeclaredReply : Declared → Asked → Reply → Type 0
 DeclaredReply d (OfQuestion q) reply = AcceptedReply d.set q reply
+DeclaredReply d (OfInference q) reply = InferredReply d.set q reply
 DeclaredReply d (OfSetting name) reply = EntryReply d.groups name reply
 
 -- the reply to a line as the declarations mean

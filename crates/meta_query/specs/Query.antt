@@ -3,17 +3,20 @@
 use Rattle.std.specs.Prelude.{ℕ, List, [], ◌∷◌, codes}
 use Rattle.meta_query.specs.Words.{AreWords}
 use Rattle.meta_query.specs.Question.{Question, IsQuestion}
+use Rattle.meta_query.specs.Inference.{Inference, IsInference}
 use Rattle.meta_query.specs.declared.query.Query.{Query}
-use Rattle.meta_query.specs.declared.query.Query.TheVariants.{Accept, Setting}
+use Rattle.meta_query.specs.declared.query.Query.TheVariants.{Accept, Infer, Setting}
 
--- whether an instruction accepts types, or what the setting of this name is
+-- whether an instruction accepts types, what it infers, or what the setting of this name is
 pub data Asked : Type 0 where
   OfQuestion : Question → Asked
+  OfInference : Inference → Asked
   OfSetting : List ℕ → Asked
 
 -- what a query of the program asks for
 abbrev pub asked_by : Query → Asked
 asked_by (Accept q) = OfQuestion q
+asked_by (Infer q) = OfInference q
 asked_by (Setting name) = OfSetting name.now
 
 -- the words of the line that asks for a setting: `setting NAME`
@@ -23,4 +26,5 @@ setting_words name = codes "setting" ∷ name ∷ []
 -- the line asks it
 abbrev pub Asks : List ℕ → Asked → Type 0
 Asks line (OfQuestion q) = IsQuestion line q
+Asks line (OfInference q) = IsInference line q
 Asks line (OfSetting name) = AreWords line (setting_words name)

@@ -1,14 +1,17 @@
 ghost use Rattle.std.specs.Prelude.{◌≡◌, ◌++◌, ℕ, List, IfOk, OnOk, string_bytes};
 ghost use Rattle.meta_query.specs.Lines.{lines_of};
-ghost use Rattle.meta_query.specs.Query.{OfSetting, Asks};
+ghost use Rattle.meta_query.specs.Inference.{Inference};
+ghost use Rattle.meta_query.specs.Query.{OfInference, OfSetting, Asks};
 ghost use Rattle.meta_query.specs.Reply.{reply_text};
 ghost use Rattle.meta_query.specs.Answer.{AllowedReply, SettingReply, IsTableReply, IsLineAnswer, IsWrittenAnswer, AreWrittenAnswers};
 ghost use Rattle.meta_query.specs.declared.reply.Reply.{Reply};
 
+use super::inference::Inference;
 use super::lines::Lines;
 use super::query::setting_name;
 use super::question::Question;
 use super::reply::Reply;
+use super::results::push_inferred;
 use super::setting_line::push_setting_line;
 use meta_gen::Tables;
 use meta_types::Text;
@@ -21,9 +24,10 @@ fn accept_reply(tables: &Tables, question: &Question<'_>) -> Reply
     let Some(opcode) = tables.find_opcode(question.name()) else {
         return Reply::Unknown;
     };
-    if tables.accepts(
+    if tables.accepts2(
         opcode,
         question.control_number(),
+        question.second_number(),
         question.results(),
         question.values(),
     ) {
@@ -48,13 +52,13 @@ fn push_setting_reply(
     }
 }
 
-/// The reply of the tables to a line that asks for no setting. The question is one to read the line's into.
+/// The reply of the tables to a line that asks for no setting and no inference. The question is one to read the line's into.
 fn question_reply<'l>(
     tables: &Tables,
     question: &mut Question<'l>,
     line: &'l [u8],
 ) -> Result<Reply, AllocError>
-    ensures { IfOk result (λ reply. ((name : List ℕ) → ¬ Asks line.now (OfSetting name)) → IsTableReply tables.now line.now reply) }
+    ensures { IfOk result (λ reply. ((name : List ℕ) → ¬ Asks line.now (OfSetting name)) → ((q : Inference) → ¬ Asks line.now (OfInference q)) → IsTableReply tables.now line.now reply) }
 {
     if question.read(line)? {
         Ok(accept_reply(tables, question))
@@ -75,6 +79,9 @@ fn push_reply<'l>(
 {
     if let Some(name) = setting_name(line) {
         return push_setting_reply(alloc, out, tables, name);
+    }
+    if let Some(asked) = Inference::parse(line) {
+        return push_inferred(out, tables, &asked);
     }
     let reply = question_reply(tables, question, line)?;
     out.push_str(reply.text())

@@ -2,18 +2,21 @@
 #![tactic(auto)]
 
 mod answer;
+mod inference;
 mod laws;
 mod lines;
 mod pieces;
 mod query;
 mod question;
 mod reply;
+mod results;
 mod running;
 mod setting_line;
 mod status;
 mod type_name;
 
 pub use answer::answer_line;
+pub use inference::Inference;
 pub use laws::one_output;
 pub use lines::Lines;
 pub use query::{Query, asks_one_query};

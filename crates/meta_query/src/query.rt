@@ -2,6 +2,7 @@ ghost use Rattle.std.specs.Prelude.{◌≡◌, ◌≢◌, ℕ, ◌<◌, List, []
 ghost use Rattle.meta_query.specs.Words.{pieces_of};
 ghost use Rattle.meta_query.specs.Query.{Asked, asked_by, setting_words, Asks};
 
+use super::inference::Inference;
 use super::pieces::Pieces;
 use super::question::Question;
 use std::alloc::{AllocError, Global};
@@ -32,6 +33,8 @@ pub(crate) fn setting_name(line: &[u8]) -> Option<&[u8]>
 pub enum Query<'a> {
     /// Whether an instruction accepts types: `accept NAME CTRL RESULTS VALUES`.
     Accept(Question<'a>),
+    /// Which results an instruction infers: `infer NAME CTRL`.
+    Infer(Inference<'a>),
     /// What the entry of group 0 with this name is: `setting NAME`.
     Setting(&'a [u8]),
 }
@@ -44,6 +47,9 @@ impl<'a> Query<'a> {
     {
         if let Some(name) = setting_name(line) {
             return Ok(Some(Query::Setting(name)));
+        }
+        if let Some(inference) = Inference::parse(line) {
+            return Ok(Some(Query::Infer(inference)));
         }
         match Question::parse(alloc, line)? {
             Some(question) => Ok(Some(Query::Accept(question))),

@@ -3,9 +3,9 @@ ghost use Rattle.std.specs.Option.{option_map};
 ghost use Rattle.meta_types.specs.TypeParts.{TypeParts, IsType, number_of};
 ghost use Rattle.meta_query.specs.TypeNumber.{type_with, IsTypeNumber};
 ghost use Rattle.meta_query.specs.Words.{pieces_of};
-ghost use Rattle.meta_query.specs.Question.{Question, IsQuestion, control_text, types_text};
+ghost use Rattle.meta_query.specs.Question.{Question, IsQuestion, IsBehind, control_text, types_text};
 
-use super::pieces::Pieces;
+use super::pieces::{Pieces, cut};
 use super::type_name::type_number;
 use std::alloc::{AllocError, Global};
 use std::marker::Model;
@@ -50,17 +50,42 @@ fn accept_words(line: &[u8]) -> Option<AcceptWords<'_>>
     })
 }
 
-/// The number of the control that the word means, and `None` where it means none.
-fn parse_control(word: &[u8]) -> Option<Option<u16>>
-    ensures found { IfSome result (λ c. control_text (option_map type_with c) ≡ word.now) }
-    ensures known { IfSome result (λ c. IfSome c IsTypeNumber) }
-    ensures none { IfNone result ((c : Option TypeParts) → IfSome c IsType → control_text c ≢ word.now) }
+/// The numbers of the controlling types that a word gives. There is no second one alone.
+#[derive(Clone, Copy)]
+pub(crate) struct ControlNumbers {
+    pub(crate) control: Option<u16>,
+    pub(crate) second: Option<u16>,
+}
+
+/// The controlling types that the word gives: `-`, a name, or two names joined by `/`. `None` where it gives none.
+pub(crate) fn parse_control(word: &[u8]) -> Option<ControlNumbers>
+    ensures found { IfSome result (λ c. control_text (option_map type_with c.control) (option_map type_with c.second) ≡ word.now) }
+    ensures known { IfSome result (λ c. IfSome c.control IsTypeNumber) }
+    ensures second_known { IfSome result (λ c. IfSome c.second IsTypeNumber) }
+    ensures behind { IfSome result (λ c. IsBehind (option_map type_with c.control) (option_map type_with c.second)) }
+    ensures none { IfNone result ((c d : Option TypeParts) → IfSome c IsType → IfSome d IsType → IsBehind c d → control_text c d ≢ word.now) }
 {
     if word == b"-".as_slice() {
-        return Some(None);
+        return Some(ControlNumbers {
+            control: None,
+            second: None,
+        });
     }
-    let number = type_number(word)?;
-    Some(Some(number))
+    let (first, rest) = cut(word, b'/');
+    let number = type_number(first)?;
+    match rest {
+        None => Some(ControlNumbers {
+            control: Some(number),
+            second: None,
+        }),
+        Some(name) => {
+            let second = type_number(name)?;
+            Some(ControlNumbers {
+                control: Some(number),
+                second: Some(second),
+            })
+        }
+    }
 }
 
 /// Reads the types that the word lists into a list of their numbers, in place of what was there. It is false where the word is no
@@ -83,12 +108,13 @@ fn read_types(numbers: &mut Vec<u16>, word: &[u8]) -> Result<bool, AllocError>
     Ok(true)
 }
 
-/// A question whether an instruction accepts types: `accept NAME CTRL RESULTS VALUES` (this project's own). It holds the types by
-/// their numbers, as tables name them.
+/// A question whether an instruction accepts types: `accept NAME CTRL RESULTS VALUES` (this project's own). CTRL is `-`, the
+/// controlling type, or that and the second one, joined by `/`. It holds the types by their numbers, as tables name them.
 #[derive(Drop)]
 pub struct Question<'a> {
     name: &'a [u8],
     control: Option<u16>,
+    second: Option<u16>,
     results: Vec<u16>,
     values: Vec<u16>,
 }
@@ -101,9 +127,9 @@ impl<'a> Model for Question<'a> {
 
     ghost Value = { Question };
 
-    ghost view = { λ q. record { name = q.name.now; control = option_map type_with q.control; results = map type_with q.results.items; values = map type_with q.values.items } };
+    ghost view = { λ q. record { name = q.name.now; control = option_map type_with q.control; second = option_map type_with q.second; results = map type_with q.results.items; values = map type_with q.values.items } };
 
-    ghost invariant = { λ q. IfSome q.control IsTypeNumber × All IsTypeNumber q.results.items × All IsTypeNumber q.values.items };
+    ghost invariant = { λ q. IfSome q.control IsTypeNumber × All IsTypeNumber q.results.items × All IsTypeNumber q.values.items × IfSome q.second IsTypeNumber };
 }
 
 impl<'a> Question<'a> {
@@ -112,6 +138,7 @@ impl<'a> Question<'a> {
         Question {
             name: &[],
             control: None,
+            second: None,
             results: Vec::new(alloc),
             values: Vec::new(alloc),
         }
@@ -126,7 +153,7 @@ impl<'a> Question<'a> {
         let Some(words) = accept_words(line) else {
             return Ok(false);
         };
-        let Some(control) = parse_control(words.control) else {
+        let Some(controls) = parse_control(words.control) else {
             return Ok(false);
         };
         if !read_types(&mut self.results, words.results)? {
@@ -136,7 +163,8 @@ impl<'a> Question<'a> {
             return Ok(false);
         }
         self.name = words.name;
-        self.control = control;
+        self.control = controls.control;
+        self.second = controls.second;
         Ok(true)
     }
 
@@ -164,6 +192,13 @@ impl<'a> Question<'a> {
         ensures { result ≡ option_map number_of self.now.control }
     {
         self.control
+    }
+
+    /// The number of the second control's type, if there is a second control.
+    pub fn second_number(&self) -> Option<u16>
+        ensures { result ≡ option_map number_of self.now.second }
+    {
+        self.second
     }
 
     /// The numbers of the results' types, in place.

@@ -8,18 +8,20 @@ use meta_types::Text;
 pub enum Reply {
     /// The instruction accepts the types.
     Accept,
-    /// The instruction doesn't accept the types.
+    /// The instruction doesn't accept the types, or infers nothing of them.
     Refuse,
     /// Nothing has the name.
     Unknown,
     /// The line asks nothing.
     Bad,
+    /// The line that tells of the results that are inferred.
+    Results(Text),
     /// The line that tells of the setting.
     Setting(Text),
 }
 
 impl Reply {
-    /// The reply as it is written: `accept`, `refuse`, `unknown`, `bad`, or the line of the setting.
+    /// The reply as it is written: `accept`, `refuse`, `unknown`, `bad`, or the line of the results or of the setting.
     pub fn text(&self) -> &str
         ensures { result.now ≡ reply_text self.now }
     {
@@ -28,7 +30,7 @@ impl Reply {
             Reply::Refuse => "refuse",
             Reply::Unknown => "unknown",
             Reply::Bad => "bad",
-            Reply::Setting(line) => line.as_str(),
+            Reply::Results(line) | Reply::Setting(line) => line.as_str(),
         }
     }
 }

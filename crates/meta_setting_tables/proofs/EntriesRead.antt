@@ -1,6 +1,7 @@
 -- What is read at an entry of the tables.
-use Rattle.std.proofs.Common.{◌≡◌, ℕ, ◌+◌, ◌-◌, ◌<◌, ◌≤◌, Bool, false, List, nat_eq, length, take, slice_get, slice_index_or, get_or, Some, None, Option, inl, inr, refl, sym, ap, ◌∙◌, subst, arith}
-use Rattle.std.specs.Option.{option_map}
+use Rattle.std.proofs.Common.{Bor, ◌≡◌, ℕ, ◌+◌, ◌-◌, ◌<◌, ◌≤◌, Bool, false, List, nat_eq, length, take, slice_get, slice_index_or, get_or, Some, None, Option, inl, inr, refl, sym, ap, ◌∙◌, subst, arith}
+use Rattle.std.specs.Option.{option_map, IsSome, IfSome, MatchOption}
+use Rattle.std.specs.List.{HoldsAt}
 use Rattle.std.specs.Cmp.Lexicographic.{pointwise}
 use Rattle.std.proofs.lemmas.Bool.{cases_lt}
 use Rattle.std.proofs.lemmas.Option.{slice_get-map, slice_get_within, slice_get_past, slice_get_read, get_or_from_slice_get, same_Some}
@@ -11,8 +12,9 @@ use Rattle.meta_settings.specs.Layout.{PlacedSetting, BuiltPreset, Layout}
 use Rattle.meta_setting_tables.specs.declared.descriptor.Detail.{Detail}
 use Rattle.meta_setting_tables.specs.declared.descriptor.Detail.TheVariants.{Bool as BoolDetail, Enum as EnumDetail, Num as NumDetail, Preset}
 use Rattle.meta_setting_tables.specs.declared.descriptor.Descriptor.{Descriptor}
-use Rattle.meta_setting_tables.specs.Descriptor.{IsDetailOf, preset_descriptor}
+use Rattle.meta_setting_tables.specs.Descriptor.{IsDetailOf, preset_descriptor, DescribesEntry}
 use Rattle.meta_setting_tables.specs.DefaultBytes.{default_number, HoldsDefault}
+use Rattle.meta_setting_tables.specs.FoundSetting.{entry_count}
 use Rattle.meta_unique.specs.NameSlots.{NameAnswers}
 use Rattle.meta_unique.proofs.Finding.{answers_name}
 use Rattle.meta_setting_tables.specs.GroupTables.{GroupContents, names_in, IsPresetIn, AreTablesOfGroup, IsPresetOf, default_in, AnswersDefault}
@@ -98,6 +100,25 @@ answers_default g t index d answer at e h = record {
 -- an entry that was read stands in the list that was lent
 pub read_at : (ds lent : List Descriptor) (index : ℕ) (d : Descriptor) → lent ≡ ds → index < length lent → d ≡ slice_index_or lent index d → slice_get ds index ≡ Some d
 read_at ds lent index d is within at = ap (λ (w : List Descriptor). slice_get w index) (sym is) ∙ slice_get_read lent (length lent) index d refl within at
+
+-- what a look-up answers
+pub entry_read : (ds lent : List Descriptor) (index : ℕ) (r : Option (Bor Descriptor)) → lent ≡ ds → MatchOption r (length lent ≤ index) (λ x. (index < length lent) × HoldsAt (λ y. x.now ≡ y) lent index) → option_map (λ d. d.now) r ≡ slice_get ds index
+entry_read ds lent index None is past = sym (ap (λ (w : List Descriptor). slice_get w index) (sym is) ∙ slice_get_past lent index past)
+entry_read ds lent index (Some d) is m = sym (read_at ds lent index d.now is m.0 (m.1 d.now))
+
+-- there is an entry exactly below the count of the entries
+pub entry_there : (g : Layout) (t : GroupContents) (e : ℕ) (r : Option (Bor Descriptor)) → option_map (λ d. d.now) r ≡ slice_get t.descriptors e → AreTablesOfGroup g t → (IsSome r → e < entry_count g) × (e < entry_count g → IsSome r)
+entry_there g t e None at h =
+    let count = h.count in
+    (λ s. absurd (cc), λ l. let x = get_there t.descriptors e (omega (arith, l)) in let bad : None ≡ Some x.0 = at ∙ x.1 in absurd (cc))
+entry_there g t e (Some d) at h =
+    let count = h.count in
+    let inside = slice_get_within t.descriptors e d.now (sym at) in
+    (λ s. omega arith, λ l. refl)
+
+pub entry_described : (g : Layout) (t : GroupContents) (e : ℕ) (r : Option (Bor Descriptor)) → option_map (λ d. d.now) r ≡ slice_get t.descriptors e → AreTablesOfGroup g t → IfSome r (λ d. DescribesEntry g t.enumerators e d.now)
+entry_described g t e None at h = tt
+entry_described g t e (Some d) at h = h.entries e d.now (sym at)
 
 -- an answer at an entry of the tables
 pub record IsAnsweredAt (t : GroupContents) (index : ℕ) (d : Descriptor) (answer : Option ℕ) : Type 0 where

@@ -11,11 +11,7 @@ fn zeros(alloc: Global, size: u8) -> Result<Vec<u8>, AllocError>
     ensures size { IfOk result (λ v. length v.items ≡ size) }
     ensures zero { IfOk result (λ v. (byte : ℕ) → byte < size → slice_get v.items byte ≡ Some 0) }
 {
-    let mut bytes = Vec::with_capacity(alloc, size as usize)?;
-    for _byte in 0..size {
-        bytes.push(0)?;
-    }
-    Ok(bytes)
+    vec![in alloc; 0; size as usize]
 }
 
 /// Joins the defaults of the settings with the bytes, which are zero.

@@ -1,6 +1,7 @@
 -- Instructions of rows fit the registries.
 use Rattle.std.proofs.Common.{◌≡◌, ◌∙◌, ◌<◌, ◌+◌, ℕ, List, [], ◌∷◌, ◌++◌, length, map, slice_get, Option, Some, None, zero, suc, ap, sym, subst, refl, ⊎_elim, rules, arith}
 use Rattle.std.proofs.lemmas.List.{length-append, map-append}
+use Rattle.std.proofs.lemmas.Option.{same_Some}
 use Rattle.meta_lists.proofs.Places.{get_cases}
 use Rattle.meta_typevar.specs.declared.content.TypeVarContent.{TypeVarContent}
 use Rattle.meta_operands.specs.Kind.{variable_in}
@@ -22,6 +23,10 @@ use Rattle.meta_shared_core.specs.declared.word.Word.TheVariants.{Kind as AKind,
 use Rattle.meta_shared_core.specs.Kinds.{kind_of, HoldsNoVariable, EntitiesHoldNoVariable, ImmediatesHoldNoVariable}
 use Rattle.meta_shared_core.specs.Words.{Meanings, AreMeant, Grows, IsKindOfWord}
 use Rattle.meta_shared_core.specs.Rows.{AreOperandsOf, IsBuilderOf, AreBuildersOf, AddsRows, FitsNames, builder_name, row_name}
+
+-- something isn't nothing
+apart : {X : Type 0} (x : X) → None ≡ Some x → ⊥
+apart x e = absurd (cc)
 
 -- no kind is of values
 holds_none : (imm : Immediates) (entities : EntityRefs) → ImmediatesHoldNoVariable imm → EntitiesHoldNoVariable entities → (kind : Kind) → HoldsNoVariable (kind_of imm entities kind)
@@ -54,16 +59,11 @@ holds_none imm entities i e AtomicRmwOp = i.atomic_rmw_op
 -- the variable of a kind that a word means is of the variables
 kind_below : (vars : List TypeVarContent) (m : Meanings) (word : Word) (kind : OperandKind) (n : ℕ) → AreMeant vars m → IsKindOfWord vars m word kind → variable_in kind.fields ≡ Some n → n < length vars
 kind_below vars m (AKind k) kind n meant h at =
-    let none : variable_in kind.fields ≡ None = ap (λ (x : OperandKind). variable_in x.fields) h ∙ holds_none m.imm m.entities meant.immediates meant.entities k in
-    absurd (cc)
+    absurd (apart n (sym (ap (λ (x : OperandKind). variable_in x.fields) h ∙ holds_none m.imm m.entities meant.immediates meant.entities k) ∙ at))
 kind_below vars m (ARoot root) kind n meant h at =
-    let same : Some h.number ≡ Some n = sym (ap variable_in h.fields_are) ∙ at in
-    let equal : h.number ≡ n = cc in
-    subst (λ j. j < length vars) equal h.of
+    subst (λ j. j < length vars) (same_Some _ _ (sym (ap variable_in h.fields_are) ∙ at)) h.of
 kind_below vars m (ADerived function root) kind n meant h at =
-    let same : Some h.number ≡ Some n = sym (ap variable_in h.fields_are) ∙ at in
-    let equal : h.number ≡ n = cc in
-    subst (λ j. j < length vars) equal h.of
+    subst (λ j. j < length vars) (same_Some _ _ (sym (ap variable_in h.fields_are) ∙ at)) h.of
 
 -- the variables of an operand and of those behind it
 are_of_cons : (vars : List TypeVarContent) (o : Operand) (operands : List Operand) (v : Option ℕ) → variable_of o ≡ v → ((n : ℕ) → v ≡ Some n → n < length vars) → AreOf vars (variables_of operands) → AreOf vars (variables_of (o ∷ operands))
@@ -79,7 +79,7 @@ are_of_cons vars o operands (Some v) e below held =
     first_of vars v numbers within held (suc k) n at = held k n at
 
 operands_of : (vars : List TypeVarContent) (m : Meanings) (rows : List OperandRow) (operands : List Operand) → AreMeant vars m → AreOperandsOf vars m rows operands → AreOf vars (variables_of operands)
-operands_of vars m [] [] meant h = λ k n at. absurd (cc)
+operands_of vars m [] [] meant h = λ k n at. absurd (apart n at)
 operands_of vars m [] (o ∷ operands) meant h = absurd h
 operands_of vars m (row ∷ rows) [] meant h = absurd h
 operands_of vars m (row ∷ rows) (o ∷ operands) meant h = are_of_cons vars o operands (variable_of o) refl (λ n at. kind_below vars m row.word o.kind n meant h.0.kind at) (operands_of vars m rows operands meant h.1)
@@ -90,14 +90,15 @@ row_fits vars m row b meant h formats of = record {
   format = subst (λ id. id < length formats) (sym h.format) (of row.format);
   outputs = operands_of vars m row.outputs.now (outputs_of b) meant h.outputs;
   inputs = operands_of vars m row.inputs.now (inputs_of b) meant h.inputs;
+  second = λ s e. absurd (apart s (sym h.second ∙ e));
 }
 
 -- each of them does
 pub builders_fit : (vars : List TypeVarContent) (m : Meanings) (rows : List Row) (builders : List Builder) → AreMeant vars m → AreBuildersOf vars m rows builders → (k : ℕ) (b : Builder) → slice_get builders k ≡ Some b → FitsNames vars m.formats b
-builders_fit vars m [] [] meant h k b at = absurd (cc)
+builders_fit vars m [] [] meant h k b at = absurd (apart b at)
 builders_fit vars m [] (c ∷ builders) meant h k b at = absurd h
 builders_fit vars m (row ∷ rows) [] meant h k b at = absurd h
-builders_fit vars m (row ∷ rows) (c ∷ builders) meant h zero b at = let same : c ≡ b = (cc) in subst (FitsNames vars m.formats) same (row_fits vars m row c meant h.0)
+builders_fit vars m (row ∷ rows) (c ∷ builders) meant h zero b at = subst (FitsNames vars m.formats) (same_Some _ _ at) (row_fits vars m row c meant h.0)
 builders_fit vars m (row ∷ rows) (c ∷ builders) meant h (suc k) b at = builders_fit vars m rows builders meant h.1 k b at
 
 -- the names are those of the rows
@@ -105,7 +106,7 @@ pub builders_named : (vars : List TypeVarContent) (m : Meanings) (rows : List Ro
 builders_named vars m [] [] h = refl
 builders_named vars m [] (b ∷ builders) h = absurd h
 builders_named vars m (row ∷ rows) [] h = absurd h
-builders_named vars m (row ∷ rows) (b ∷ builders) h = let first : b.name ≡ row.name.now = h.0.name in let others = builders_named vars m rows builders h.1 in cc
+builders_named vars m (row ∷ rows) (b ∷ builders) h = ap (λ n. n ∷ map builder_name builders) h.0.name ∙ ap (λ ns. row.name.now ∷ ns) (builders_named vars m rows builders h.1)
 
 -- no instruction fits too
 pub none_fit : {vars : List TypeVarContent} {f : Formats} {all : List Builder} → all ≡ [] → (k : ℕ) (b : Builder) → slice_get all k ≡ Some b → FitsNames vars f b
@@ -114,6 +115,9 @@ none_fit none k b at = let at_none : slice_get [] k ≡ Some b = ap (λ xs. slic
 pub names_added : {vars : List TypeVarContent} {m : Meanings} {rows : List Row} {old new : List Builder} → AddsRows vars m rows old new → map builder_name new ≡ map builder_name old ++ map row_name rows
 names_added {vars} {m} {rows} {old} adds = ap (map builder_name) adds.is ∙ (map-append builder_name old adds.more ∙ ap (λ xs. map builder_name old ++ xs) (builders_named vars m rows adds.more adds.builders))
 
+below_more : (v few all more : ℕ) → v < few → all ≡ few + more → v < all
+below_more v few all more l e = omega arith
+
 -- the variables of a greater registry are those of the smaller, and more
 fits_grow : {n : ℕ} {old new : List TypeVarContent} (f : Formats) (b : Builder) → Grows n old new → FitsNames old f b → FitsNames new f b
 fits_grow {n} {old} {new} f b grows h formats of =
@@ -121,8 +125,9 @@ fits_grow {n} {old} {new} f b grows h formats of =
     let longer : length new ≡ length old + length grows.more = ap length grows.is ∙ length-append old grows.more in
     record {
       format = fits.format;
-      outputs = λ k v at. let below : v < length old = fits.outputs k v at in omega arith;
-      inputs = λ k v at. let below : v < length old = fits.inputs k v at in omega arith;
+      outputs = λ k v at. below_more v (length old) (length new) (length grows.more) (fits.outputs k v at) longer;
+      inputs = λ k v at. below_more v (length old) (length new) (length grows.more) (fits.inputs k v at) longer;
+      second = λ s e. below_more s (length old) (length new) (length grows.more) (fits.second s e) longer;
     }
 
 -- those that were there and those that are added name these variables and formats alone

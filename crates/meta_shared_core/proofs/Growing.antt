@@ -90,6 +90,7 @@ builder_stays vars more m row b h = record {
   inputs = operands_stay vars more m row.inputs.now (inputs_of b) h.inputs;
   outputs = operands_stay vars more m row.outputs.now (outputs_of b) h.outputs;
   marks = h.marks;
+  second = h.second;
 }
 
 pub operands_grow : {n : ℕ} {old new : List TypeVarContent} (m : Meanings) (rows : List OperandRow) (operands : List Operand) → Grows n old new → AreOperandsOf old m rows operands → AreOperandsOf new m rows operands

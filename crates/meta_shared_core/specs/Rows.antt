@@ -3,7 +3,7 @@
 --     IsBuilderOf vars m row b       the instruction is what the row says
 --     AddsRows vars m rows old new   an instruction is added for each row, in order
 --     FitsNames vars f b             the instruction names variables of vars and formats of f alone
-use Rattle.std.specs.Prelude.{◌≡◌, ◌+◌, ◌&&◌, ℕ, Bool, true, List, [], ◌∷◌, ◌++◌, length, map, Option, count_by, sum_by}
+use Rattle.std.specs.Prelude.{◌≡◌, ◌+◌, ◌&&◌, ℕ, Bool, true, List, [], ◌∷◌, ◌++◌, length, map, Option, None, count_by, sum_by}
 use Rattle.std.specs.List.{AllZip, flat_map, list_all}
 use Rattle.std.specs.Borrow.{Bor}
 use Rattle.std.specs.Option.{option_map}
@@ -63,6 +63,7 @@ pub record IsBuilderOf (vars : List TypeVarContent) (m : Meanings) (row : Row) (
   pub inputs : AreOperandsOf vars m row.inputs.now (inputs_of b)
   pub outputs : AreOperandsOf vars m row.outputs.now (outputs_of b)
   pub marks : b.marks ≡ marks_added no_marks row.marks.now
+  pub second : b.second ≡ None
 
 -- the instructions are what the rows say, in order
 abbrev pub AreBuildersOf : List TypeVarContent → Meanings → List Row → List Builder → Type 0

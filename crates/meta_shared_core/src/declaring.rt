@@ -104,13 +104,13 @@ fn with_marks(mut builder: InstructionBuilder, marks: &[Mark]) -> InstructionBui
     builder
 }
 
-/// The instruction of a row, yet without operands and marks.
+/// The instruction of a row, yet without operands and marks. It names no second control.
 fn without_operands(
     alloc: Global,
     names: &Names<'_>,
     row: &Row,
 ) -> Result<InstructionBuilder, AllocError>
-    ensures { IfOk result (λ b. b ≡ record { name = row.now.name.now; doc = row.now.doc.now; format = id_of names.now.formats row.now.format; operands_in = None; operands_out = None; marks = no_marks }) }
+    ensures { IfOk result (λ b. b ≡ record { name = row.now.name.now; doc = row.now.doc.now; format = id_of names.now.formats row.now.format; operands_in = None; operands_out = None; marks = no_marks; second = None }) }
 {
     let name = Text::new(alloc, row.name)?;
     let doc = Text::new(alloc, row.doc)?;

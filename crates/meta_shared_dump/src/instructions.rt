@@ -128,9 +128,9 @@ fn write_marks(out: &mut String, instruction: &InstructionContent) -> Result<(),
 }
 
 /// Writes the place of a type set, or `-` for none.
-fn write_type_set(out: &mut String, place: u8) -> Result<(), AllocError> {
+fn write_type_set(out: &mut String, place: u16) -> Result<(), AllocError> {
     match place {
-        255 => write!(out, "-"),
+        65535 => write!(out, "-"),
         place => write!(out, "{place}"),
     }
 }

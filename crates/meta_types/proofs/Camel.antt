@@ -1,5 +1,6 @@
 -- The camel case of a text, character by character.
-use Rattle.std.proofs.Common.{◌≡◌, ℕ, ◌+◌, ◌/◌, ◌<◌, ◌≤◌, ◌≢◌, Bool, true, false, cond, ltb, List, [], ◌∷◌, ◌++◌, ap, ◌∙◌, sym, refl, arith, ⊎_elim, append_assoc}
+use Rattle.std.proofs.Common.{◌≡◌, ℕ, ◌+◌, ◌/◌, ◌<◌, ◌≤◌, ◌≢◌, Bool, true, false, cond, ltb, List, [], ◌∷◌, ◌++◌, ap, ◌∙◌, sym, refl, arith, ⊎_elim, append_assoc, length}
+use Rattle.std.proofs.lemmas.List.{append-nil, nil_from_length}
 use Rattle.std.proofs.lemmas.Str.{encode_ascii}
 use Rattle.std.proofs.lemmas.Bool.Decides.{nat_tests}
 use Rattle.std.proofs.lemmas.Bool.{cases_lt}
@@ -63,3 +64,13 @@ camel_from-char c up rest h = ⊎_elim (ascii c up rest h) (past c up rest) (cas
 pub camel_more : (out more it rest all : List ℕ) (up : Bool) (c ch : ℕ) → more ≡ out ++ encode ch → ch ≡ capital_at up c → it ≡ encode c ++ rest → c ≢ 95 → out ++ camel_from up it ≡ all → more ++ camel_from false rest ≡ all
 camel_more out more it rest all up c ch pushed is next n before =
     rw (pushed, is, append_assoc) (ap (λ z. out ++ z) (sym (camel_from-char c up rest n) ∙ ap (camel_from up) (sym next)) ∙ before)
+
+-- a `_` is dropped
+pub camel_dropped : (out it rest all : List ℕ) (up : Bool) (c : ℕ) → it ≡ encode c ++ rest → c ≡ 95 → out ++ camel_from up it ≡ all → out ++ camel_from true rest ≡ all
+camel_dropped out it rest all up c next e before =
+    let same : camel_from up it ≡ camel_from true rest = ap (camel_from up) (next ∙ ap (λ k. encode k ++ rest) e ∙ ap (λ w. w ++ rest) (encode_ascii 95 (omega arith))) in
+    ap (λ z. out ++ z) (sym same) ∙ before
+
+-- nothing is left
+pub camel_end : (out it all : List ℕ) (up : Bool) → length it ≡ 0 → out ++ camel_from up it ≡ all → out ≡ all
+camel_end out it all up e before = sym (append-nil out) ∙ ap (λ z. out ++ camel_from up z) (sym (nil_from_length it e)) ∙ before

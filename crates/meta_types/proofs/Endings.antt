@@ -78,6 +78,15 @@ no_mark n least h e = false≢true (sym (unmarked n (among (lane_counts true) n 
 tails : (x y : ℕ) (xs ys : List ℕ) → x ∷ xs ≡ y ∷ ys → xs ≡ ys
 tails x y xs ys e = ap (drop 1) e
 
+-- a text that goes on, behind the lane's name, with something else than `x`, is no type's name
+pub no_x : (t : TypeParts) (rest mark : List ℕ) → IsType t → rest ≡ lanes_name t.lanes t.is_dynamic → (length rest == 0) ≡ false → mark ≡ 120 ∷ [] → pointwise eqb (take (length mark) rest) mark ≡ false → ⊥
+no_x t rest mark h is some m f = by_case (ending t.lanes t.is_dynamic h.lanes)
+  where
+    by_case : IsEnding t.lanes (lanes_name t.lanes t.is_dynamic) → ⊥
+    by_case (inl e) = let none : (length rest == 0) ≡ true = ap (λ (xs : List ℕ). length xs == 0) (is ∙ e) in absurd (cc)
+    by_case (inr (inl (c, e))) = no_front rest mark (decimal t.lanes) f (is ∙ e ∙ ap (λ xs. xs ++ decimal t.lanes) (sym m))
+    by_case (inr (inr (c, e))) = no_front rest mark (decimal t.lanes ++ 120 ∷ 78 ∷ []) f (is ∙ e ∙ ap (λ xs. xs ++ (decimal t.lanes ++ 120 ∷ 78 ∷ [])) (sym m))
+
 -- a text that goes on, behind the lane's name, with `x`, a count that is none, and `xN`, is no type's name
 pub no_least : (t : TypeParts) (rest lanes least : List ℕ) → IsType t → rest ≡ lanes_name t.lanes t.is_dynamic → rest ≡ 120 ∷ lanes → lanes ≡ least ++ 120 ∷ 78 ∷ [] → ((n : ℕ) → Contains (lane_counts true) n → decimal n ≡ least → ⊥) → ⊥
 no_least t rest lanes least h is x parted none = by_case (ending t.lanes t.is_dynamic h.lanes)

@@ -1,6 +1,5 @@
-ghost use Rattle.std.specs.Prelude.{◌≡◌, ◌∷◌, ◌++◌, IfOk};
-ghost use Rattle.std.specs.Fmt.{decimal};
-ghost use Rattle.meta_types.specs.Fault.{line_of, place_text};
+ghost use Rattle.std.specs.Prelude.{◌≡◌, ◌++◌, IfOk};
+ghost use Rattle.meta_types.specs.Fault.{line_of, name_of, detail_text};
 ghost use Rattle.meta_types.specs.declared.fault.DefinitionError.TheVariants.{OutOfMemory};
 
 use super::text::Text;
@@ -9,7 +8,7 @@ use std::fmt;
 use thiserror::Error;
 
 /// A place in declarations. Instructions are numbered from 1; formats, groups and the entries of a group from 0.
-#[derive(Clone, Copy, Debug, PartialEq, Eq)]
+#[derive(Clone, Copy, Debug)]
 pub enum Place {
     Instruction(u64),
     Format(u64),
@@ -20,57 +19,44 @@ pub enum Place {
 }
 
 /// Why declarations are refused (this project's own; the crate panics at these places).
-#[derive(Clone, Copy, Debug, Drop, PartialEq, Eq, Error)]
+#[derive(Clone, Copy, Drop, Error)]
 pub enum DefinitionError {
     /// The name at the place, or the name of one of its enumerators, isn't an ASCII letter followed by ASCII letters, digits or `_`;
     /// or its description holds a double quote, a backslash or a byte outside 0x20 to 0x7e.
-    #[error("BadName")]
     BadName(Place),
     /// The name at the place, or its camel case, is that of an earlier one, whose number is second.
-    #[error("DuplicateName")]
     DuplicateName(Place, u64),
-    /// More than 255 instructions are declared: how many.
-    #[error("TooManyOpcodes")]
+    /// More than 4,095 instructions are declared: how many.
     TooManyOpcodes(u64),
     /// The instruction (first) has an output (its place) that is neither a value nor varargs.
-    #[error("BadOutput")]
     BadOutput(u64, u64),
     /// The instruction's operands aren't those of its format.
-    #[error("FormatMismatch")]
     FormatMismatch(u64),
     /// The instruction is polymorphic, and nothing controls it.
-    #[error("NoControl")]
     NoControl(u64),
+    /// The instruction names a second control that is derived, or is the root of no value operand, or the instruction isn't
+    /// polymorphic.
+    BadSecond(u64),
     /// The instruction (first) has a derived value operand (its place among value results followed by value inputs) that isn't
-    /// fixed to one type and isn't derived from the control directly.
-    #[error("BadDerivation")]
+    /// fixed to one type and isn't derived from the control or the second control directly.
     BadDerivation(u64, u64),
     /// The instruction has eight or more value results (then their count), or else value inputs (then theirs).
-    #[error("TooManyOperands")]
     TooManyOperands(u64, u64),
     /// The instruction asks for an immediate method, which its format or its operands don't allow.
-    #[error("BadImmMethod")]
     BadImmMethod(u64),
     /// The format in use has more than two blocks or more than one raw block.
-    #[error("BadFormat")]
     BadFormat(u64),
     /// The format in use shares its name or structure with one that is used earlier, whose number is second.
-    #[error("FormatClash")]
     FormatClash(u64, u64),
-    /// The instructions need more than 255 different type sets: how many.
-    #[error("TooManyTypeSets")]
+    /// The instructions need more than 4,095 different type sets: how many.
     TooManyTypeSets(u64),
     /// The group's (first) enum (its entry) has no value, more than 256, or two with the same name or camel case.
-    #[error("BadEnum")]
     BadEnum(u64, u64),
     /// The group's (first) preset (its entry) names a boolean that the group doesn't have, or a preset that isn't earlier.
-    #[error("BadPreset")]
     BadPreset(u64, u64),
     /// The group (first) has more than 248 booleans, 255 setting bytes or 65,535 entries: how many of each.
-    #[error("TooManySettings")]
     TooManySettings(u64, u64, u64, u64),
     /// Memory ran out.
-    #[error("OutOfMemory")]
     OutOfMemory,
 }
 
@@ -90,6 +76,17 @@ impl<T: Drop> From<AllocFailed<T>> for DefinitionError {
     }
 }
 
+/// What the line of a fault shows behind its name.
+#[derive(Clone, Copy)]
+enum Detail {
+    Nothing,
+    One(u64),
+    Two(u64, u64),
+    Four(u64, u64, u64, u64),
+    At(Place),
+    AtAndOne(Place, u64),
+}
+
 impl fmt::Display for Place {
     ghost use Rattle.std.specs.Prelude.{Some};
     ghost use Rattle.meta_types.specs.Fault.{place_text};
@@ -106,73 +103,99 @@ impl fmt::Display for Place {
     }
 }
 
+/// Each number and each place with a space before it.
+impl fmt::Display for Detail {
+    ghost use Rattle.std.specs.Prelude.{Some};
+    ghost use Rattle.meta_types.specs.Fault.{detail_text};
+
+    ghost output = { λ d. Some (detail_text d) };
+
+    fn fmt<W: fmt::Write>(&self, f: &mut fmt::Formatter<W>) -> fmt::Result {
+        match self {
+            Detail::Nothing => Ok(()),
+            Detail::One(a) => write!(f, " {a}"),
+            Detail::Two(a, b) => write!(f, " {a} {b}"),
+            Detail::Four(a, b, c, d) => write!(f, " {a} {b} {c} {d}"),
+            Detail::At(p) => write!(f, " {p}"),
+            Detail::AtAndOne(p, a) => write!(f, " {p} {a}"),
+        }
+    }
+}
+
+/// The fault's name alone.
+impl fmt::Display for DefinitionError {
+    fn fmt<W: fmt::Write>(&self, f: &mut fmt::Formatter<W>) -> fmt::Result {
+        f.write_str(self.name())
+    }
+}
+
+/// The fault as its line shows it.
+impl fmt::Debug for DefinitionError {
+    fn fmt<W: fmt::Write>(&self, f: &mut fmt::Formatter<W>) -> fmt::Result {
+        let (name, detail) = (self.name(), self.detail());
+        write!(f, "{name}{detail}")
+    }
+}
+
 impl DefinitionError {
     /// The fault in one line: its name, and its numbers parted by single spaces, as `FormatClash 1 0`.
     pub fn line(&self, alloc: Global) -> Result<Text, AllocError>
         ensures { IfOk result (λ t. t ≡ line_of self.now) }
     {
+        let (name, detail) = (self.name(), self.detail());
+        let line = format!(in alloc; "{name}{detail}")?;
+        Ok(Text::of(line))
+    }
+
+    /// The fault's name.
+    fn name(&self) -> &'static str
+        ensures { result.now ≡ name_of self.now }
+    {
         match self {
-            DefinitionError::BadName(p) => with_place(alloc, "BadName", p),
-            DefinitionError::DuplicateName(p, earlier) => {
-                let line = format!(in alloc; "DuplicateName {p} {earlier}")?;
-                Text::new(alloc, line.as_str())
-            }
-            DefinitionError::TooManyOpcodes(count) => with_one(alloc, "TooManyOpcodes", *count),
-            DefinitionError::BadOutput(i, place) => with_two(alloc, "BadOutput", *i, *place),
-            DefinitionError::FormatMismatch(i) => with_one(alloc, "FormatMismatch", *i),
-            DefinitionError::NoControl(i) => with_one(alloc, "NoControl", *i),
-            DefinitionError::BadDerivation(i, place) => with_two(
-                alloc,
-                "BadDerivation",
-                *i,
-                *place,
-            ),
-            DefinitionError::TooManyOperands(i, count) => with_two(
-                alloc,
-                "TooManyOperands",
-                *i,
-                *count,
-            ),
-            DefinitionError::BadImmMethod(i) => with_one(alloc, "BadImmMethod", *i),
-            DefinitionError::BadFormat(n) => with_one(alloc, "BadFormat", *n),
-            DefinitionError::FormatClash(n, earlier) => with_two(
-                alloc,
-                "FormatClash",
-                *n,
-                *earlier,
-            ),
-            DefinitionError::TooManyTypeSets(count) => with_one(alloc, "TooManyTypeSets", *count),
-            DefinitionError::BadEnum(g, entry) => with_two(alloc, "BadEnum", *g, *entry),
-            DefinitionError::BadPreset(g, entry) => with_two(alloc, "BadPreset", *g, *entry),
-            DefinitionError::TooManySettings(g, bools, bytes, entries) => {
-                let line = format!(in alloc; "TooManySettings {g} {bools} {bytes} {entries}")?;
-                Text::new(alloc, line.as_str())
-            }
-            DefinitionError::OutOfMemory => Text::new(alloc, "OutOfMemory"),
+            DefinitionError::BadName(_) => "BadName",
+            DefinitionError::DuplicateName(_, _) => "DuplicateName",
+            DefinitionError::TooManyOpcodes(_) => "TooManyOpcodes",
+            DefinitionError::BadOutput(_, _) => "BadOutput",
+            DefinitionError::FormatMismatch(_) => "FormatMismatch",
+            DefinitionError::NoControl(_) => "NoControl",
+            DefinitionError::BadSecond(_) => "BadSecond",
+            DefinitionError::BadDerivation(_, _) => "BadDerivation",
+            DefinitionError::TooManyOperands(_, _) => "TooManyOperands",
+            DefinitionError::BadImmMethod(_) => "BadImmMethod",
+            DefinitionError::BadFormat(_) => "BadFormat",
+            DefinitionError::FormatClash(_, _) => "FormatClash",
+            DefinitionError::TooManyTypeSets(_) => "TooManyTypeSets",
+            DefinitionError::BadEnum(_, _) => "BadEnum",
+            DefinitionError::BadPreset(_, _) => "BadPreset",
+            DefinitionError::TooManySettings(_, _, _, _) => "TooManySettings",
+            DefinitionError::OutOfMemory => "OutOfMemory",
         }
     }
-}
 
-/// A fault's name and its place.
-fn with_place(alloc: Global, name: &str, place: &Place) -> Result<Text, AllocError>
-    ensures { IfOk result (λ t. t ≡ name.now ++ (32 ∷ place_text place.now)) }
-{
-    let line = format!(in alloc; "{name} {place}")?;
-    Text::new(alloc, line.as_str())
-}
-
-/// A fault's name and its one number.
-fn with_one(alloc: Global, name: &str, number: u64) -> Result<Text, AllocError>
-    ensures { IfOk result (λ t. t ≡ name.now ++ (32 ∷ decimal number)) }
-{
-    let line = format!(in alloc; "{name} {number}")?;
-    Text::new(alloc, line.as_str())
-}
-
-/// A fault's name and its two numbers.
-fn with_two(alloc: Global, name: &str, first: u64, second: u64) -> Result<Text, AllocError>
-    ensures { IfOk result (λ t. t ≡ name.now ++ (32 ∷ (decimal first ++ (32 ∷ decimal second)))) }
-{
-    let line = format!(in alloc; "{name} {first} {second}")?;
-    Text::new(alloc, line.as_str())
+    /// What the fault's line shows behind its name.
+    fn detail(&self) -> Detail
+        ensures { line_of self.now ≡ name_of self.now ++ detail_text result }
+    {
+        match self {
+            DefinitionError::BadName(p) => Detail::At(*p),
+            DefinitionError::DuplicateName(p, earlier) => Detail::AtAndOne(*p, *earlier),
+            DefinitionError::TooManyOpcodes(count) => Detail::One(*count),
+            DefinitionError::BadOutput(i, place) => Detail::Two(*i, *place),
+            DefinitionError::FormatMismatch(i) => Detail::One(*i),
+            DefinitionError::NoControl(i) => Detail::One(*i),
+            DefinitionError::BadSecond(i) => Detail::One(*i),
+            DefinitionError::BadDerivation(i, place) => Detail::Two(*i, *place),
+            DefinitionError::TooManyOperands(i, count) => Detail::Two(*i, *count),
+            DefinitionError::BadImmMethod(i) => Detail::One(*i),
+            DefinitionError::BadFormat(n) => Detail::One(*n),
+            DefinitionError::FormatClash(n, earlier) => Detail::Two(*n, *earlier),
+            DefinitionError::TooManyTypeSets(count) => Detail::One(*count),
+            DefinitionError::BadEnum(g, entry) => Detail::Two(*g, *entry),
+            DefinitionError::BadPreset(g, entry) => Detail::Two(*g, *entry),
+            DefinitionError::TooManySettings(g, bools, bytes, entries) => Detail::Four(
+                *g, *bools, *bytes, *entries,
+            ),
+            DefinitionError::OutOfMemory => Detail::Nothing,
+        }
+    }
 }

@@ -173,10 +173,10 @@ impl LaneType {
     {
         let bits = self.lane_bits();
         let doc = match self {
-            LaneType::Int(_) => format!(in alloc; "An integer type with {bits} bits.")?,
-            LaneType::Float(_) => format!(in alloc; "A {bits}-bit floating point type.")?,
+            LaneType::Int(_) => format!(in alloc; "An integer type with {bits} bits."),
+            LaneType::Float(_) => format!(in alloc; "A {bits}-bit floating point type."),
         };
-        Text::new(alloc, doc.as_str())
+        Ok(Text::of(doc?))
     }
 
     /// The name, as `i32`.

@@ -96,7 +96,7 @@ impl ValueType {
         let name = self.to_string(alloc)?;
         let capitals = name.to_ascii_uppercase(alloc)?;
         let rust_name = format!(in alloc; "ir::types::{capitals}")?;
-        Text::new(alloc, rust_name.as_str())
+        Ok(Text::of(rust_name))
     }
 
     /// The type that has the number, and `None` exactly where no type has it (this project's own).

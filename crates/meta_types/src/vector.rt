@@ -77,7 +77,7 @@ impl VectorType {
         let doc = format!(in alloc;
             "A SIMD vector with {lanes} lanes containing a `{base}` each."
         )?;
-        Text::new(alloc, doc.as_str())
+        Ok(Text::of(doc))
     }
 }
 
@@ -138,7 +138,7 @@ impl DynamicVectorType {
         let doc = format!(in alloc;
             "A dynamically-scaled SIMD vector with a minimum of {lanes} lanes containing `{base}` bits each."
         )?;
-        Text::new(alloc, doc.as_str())
+        Ok(Text::of(doc))
     }
 }
 

@@ -4,11 +4,11 @@ use Rattle.std.specs.Prelude.{slice_get, slice_set, Contains}
 use Rattle.std.specs.Option.{option_copied, option_map}
 use Rattle.std.proofs.lemmas.Bool.{cases_lt, cases_order}
 use Rattle.std.proofs.lemmas.Option.{slice_get_within, slice_get-map, get_or_from_slice_get}
-use Rattle.std.proofs.lemmas.List.{length-set, length-map, length-replicate, take_more}
+use Rattle.std.proofs.lemmas.List.{length-set, length-map, length-replicate, take_more, take_all}
 use Rattle.meta_lists.proofs.Places.{get_set_here, get_set_other, get_there}
 use Rattle.meta_lists.proofs.Pushed.{get_pushed_below}
 use Rattle.meta_unique.specs.Probing.{slot_at, Holds, IsVacant, IsTaken}
-use Rattle.meta_unique.specs.Slots.{IsTableSize, IsFirstFree, IsTakenBefore, IsFilled}
+use Rattle.meta_unique.specs.Slots.{IsTableSize, IsFirstFree, IsTakenBefore, IsFilled, IsSlots}
 use Rattle.meta_unique.proofs.Walks.{vacant_taken}
 
 -- how many slots are taken
@@ -161,6 +161,12 @@ filling_next hashes items index slots x h slot f below at says v free = record {
 
 pub filling_vacant : {X : Type 0} (hashes : X → ℕ → Type 0) (items : List X) (index : ℕ) (slots : List (Option X)) → Filling hashes items index slots → index ≤ length items → (slot : ℕ) × IsVacant slots slot
 filling_vacant hashes items index slots f below = vacant_left slots (omega (arith, f.count, f.size.above))
+
+pub filling_end : {X : Type 0} (hashes : X → ℕ → Type 0) (items : List X) (index : ℕ) (slots : List (Option X)) → Filling hashes items index slots → length items ≤ index → IsSlots hashes items slots
+filling_end hashes items index slots f past = record {
+  size = f.size;
+  filled = subst (λ ys. IsFilled hashes ys slots) (take_all index items past) f.filled;
+}
 
 -- a slot of references is as the slot of what they point to
 pub vacant_shown : {X : Type 0} (raw : List (Option (Bor X))) (slot : ℕ) → IsVacant raw slot → IsVacant (map option_copied raw) slot

@@ -88,7 +88,7 @@ indexed_same {X} eq entries entries' look_up look_up' e f indexed = subst (λ (e
   complete = λ r i h. f r ∙ indexed.complete r i h;
 })
 
-pushed : {X : Type 0} (raw raw' : List (Bor X)) (r : Bor X) → raw' ≡ raw ++ r ∷ [] → pointed_to raw' ≡ pointed_to raw ++ r.now ∷ []
+pub pushed : {X : Type 0} (raw raw' : List (Bor X)) (r : Bor X) → raw' ≡ raw ++ r ∷ [] → pointed_to raw' ≡ pointed_to raw ++ r.now ∷ []
 pushed raw raw' r e = ap pointed_to e ∙ map-append (λ q. q.now) raw (r ∷ [])
 
 -- the look-up and the index after a reference to a new entry is added

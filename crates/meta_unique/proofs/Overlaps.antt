@@ -5,7 +5,7 @@ use Rattle.std.specs.List.{starts_with, AllZip}
 use Rattle.std.specs.Cmp.{IsEquivalence}
 use Rattle.std.specs.Cmp.Lexicographic.{pointwise, as_long, lists_equiv}
 use Rattle.std.proofs.lemmas.Bool.{cases_lt, lt-ltb, le-ltb, and_parts}
-use Rattle.std.proofs.lemmas.List.{take_all, take-take, drop-take, length-take, length-take-le, length-drop, take-append-drop, drop-append-le, nil_from_length, get_or-drop}
+use Rattle.std.proofs.lemmas.List.{take_all, take-take, drop-take, length-take, length-take-le, length-drop, take-append-drop, take-append-le, drop-append-le, nil_from_length, get_or-drop}
 use Rattle.meta_unique.specs.Overlap.{AreAlike, stands_at, is_shared, first_place, shared, added, IsShortest}
 
 -- The table gained what follows the first n elements of the list, the longest tail of the table that is a proper prefix of it.
@@ -68,6 +68,19 @@ module _ {X : Type 0} (eq : X → X → Bool) where
   pub added_stood : (table list : List X) → first_place eq table list < length table → added eq table list ≡ table
   added_stood table [] h = refl
   added_stood table (x ∷ xs) h = ap (λ b. cond b table (table ++ drop (shared eq table (x ∷ xs)) (x ∷ xs))) (lt-ltb _ _ h)
+
+  pub stands_empty : (table list : List X) → length list ≡ 0 → stands_at eq table list 0 ≡ true
+  stands_empty table list e = ap (λ w. stands_at eq table w 0) (nil_from_length list e)
+
+  -- no list with the table in front is shorter than the table
+  pub shortest_kept : (table list : List X) → IsShortest eq table list table
+  shortest_kept table list other place front stands = omega (arith, as_long eq table (take (length table) other) front, length-take (length table) other)
+
+  pub shared_inside : (table list : List X) (n : ℕ) → n ≤ length list → is_shared eq table list n ≡ true → n ≤ length table
+  shared_inside table list n le h = omega (arith, as_long eq (take n list) (drop (length table - n) table) (tail_alike table list n le h), length-take-le n list le, length-drop (length table - n) table)
+
+  pub kept_new : (table list new : List X) (n : ℕ) → Extension eq table list new n → take (length table) new ≡ table
+  kept_new table list new n x = ap (take (length table)) x.gained.1 ∙ take-append-le (length table) table x.gained.0 (omega arith) ∙ take_all (length table) table (omega arith)
 
   pub added_new : (table list : List X) → 0 < length list → first_place eq table list ≡ length table → added eq table list ≡ table ++ drop (shared eq table list) list
   added_new table [] some h = absurd (omega arith)

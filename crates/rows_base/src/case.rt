@@ -1,8 +1,7 @@
 use super::asked::{ASKED, Asked};
 use super::lists::Lists;
-use super::no_answer::NoAnswer;
-use super::words::named;
 use super::{faults, functions, interning, lanes, lookups, slots, texts, types, vectors};
+use rows_words::{Case, named};
 use std::alloc::{AllocError, Global};
 
 /// The answers to all lines, one a line.
@@ -23,30 +22,20 @@ fn add_answer<'a>(
     line: &'a str,
     answers: &mut String,
 ) -> Result<(), AllocError> {
-    let mut answer = String::new(alloc);
-    let text = match write_answer(alloc, lists, line, &mut answer) {
-        Ok(()) => answer.as_str(),
-        Err(NoAnswer::NoCase) => "no case",
-        Err(NoAnswer::Differ) => "differ",
-        Err(NoAnswer::OutOfMemory) => return Err(AllocError),
-    };
-    writeln!(answers, "{text}")
+    let mut case = Case::of(alloc, "")?;
+    write_answer(alloc, lists, line, &mut case);
+    case.end(answers)
 }
 
 /// Writes the answer to a line: a comment is its own. The first word of a case says what is asked.
-fn write_answer<'a>(
-    alloc: Global,
-    lists: &mut Lists<'a>,
-    line: &'a str,
-    out: &mut String,
-) -> Result<(), NoAnswer> {
+fn write_answer<'a>(alloc: Global, lists: &mut Lists<'a>, line: &'a str, out: &mut Case<'_>) {
     if line.starts_with('#') {
-        return Ok(out.push_str(line)?);
+        return out.text(line);
     }
     let (word, rest) = line.split_once(' ').unwrap_or((line, ""));
     match named(&ASKED, word) {
-        Some(asked) => answer(alloc, lists, asked, rest, out),
-        None => functions::row(alloc, out, word, rest),
+        Ok(asked) => answer(alloc, lists, *asked, rest, out),
+        Err(_) => functions::row(alloc, out, word, rest),
     }
 }
 
@@ -56,8 +45,8 @@ fn answer<'a>(
     lists: &mut Lists<'a>,
     asked: Asked,
     rest: &'a str,
-    out: &mut String,
-) -> Result<(), NoAnswer> {
+    out: &mut Case<'_>,
+) {
     match asked {
         Asked::Type => types::named(alloc, out, rest),
         Asked::Number => types::numbered(out, rest),

@@ -1,8 +1,6 @@
-use super::no_answer::NoAnswer;
-use super::words::{named, pair_of, write_text};
 use meta_types::{DefinitionError, Place};
+use rows_words::{Case, named};
 use std::alloc::Global;
-use std::str::Split;
 
 /// A place of each kind.
 const PLACES: [(&str, Place); 4] = [
@@ -38,45 +36,47 @@ const FAULTS: [(&str, DefinitionError); 16] = [
     ("OutOfMemory", DefinitionError::OutOfMemory),
 ];
 
-/// The next word as a number, and 0 where there is none.
-fn number(words: &mut Split<'_, char>) -> Result<u64, NoAnswer> {
-    Ok(words.next().unwrap_or("0").parse()?)
+/// Up to four numbers, and 0 for each that there isn't.
+fn numbers_of(out: &mut Case<'_>, words: &str) -> [u64; 4] {
+    let mut numbers = [0; 4];
+    for (found, word) in numbers.iter_mut().zip(words.split(' ')) {
+        *found = out.number_of(word);
+    }
+    numbers
 }
 
 /// The words as a place, which is a kind and one number or two, and as the number behind it.
-fn place_of(words: &str) -> Result<(Place, u64), NoAnswer> {
-    let (kind, numbers) = pair_of(words, ' ')?;
-    let mut numbers = numbers.split(' ');
-    let (first, second) = (number(&mut numbers)?, number(&mut numbers)?);
-    match named(&PLACES, kind).ok_or(NoAnswer::NoCase)? {
-        Place::Instruction(_) => Ok((Place::Instruction(first), second)),
-        Place::Format(_) => Ok((Place::Format(first), second)),
-        Place::Group(_) => Ok((Place::Group(first), second)),
-        Place::Entry(_, _) => Ok((Place::Entry(first, second), number(&mut numbers)?)),
+fn place_of(out: &mut Case<'_>, words: &str) -> (Place, u64) {
+    let (kind, numbers) = words.split_once(' ').unwrap_or((words, ""));
+    let [first, second, third, _] = numbers_of(out, numbers);
+    match named(&PLACES, kind) {
+        Ok(Place::Instruction(_)) => (Place::Instruction(first), second),
+        Ok(Place::Format(_)) => (Place::Format(first), second),
+        Ok(Place::Group(_)) => (Place::Group(first), second),
+        Ok(Place::Entry(_, _)) => (Place::Entry(first, second), third),
+        Err(trouble) => {
+            out.refuse(trouble);
+            (Place::Group(0), 0)
+        }
     }
 }
 
 /// The fault of this kind with a place, or with these numbers.
-fn fault_of(kind: DefinitionError, words: &str) -> Result<DefinitionError, NoAnswer> {
+fn fault_of(out: &mut Case<'_>, kind: DefinitionError, words: &str) -> DefinitionError {
     match kind {
-        DefinitionError::BadName(_) => {
-            let (place, _) = place_of(words)?;
-            Ok(DefinitionError::BadName(place))
-        }
+        DefinitionError::BadName(_) => DefinitionError::BadName(place_of(out, words).0),
         DefinitionError::DuplicateName(_, _) => {
-            let (place, earlier) = place_of(words)?;
-            Ok(DefinitionError::DuplicateName(place, earlier))
+            let (place, earlier) = place_of(out, words);
+            DefinitionError::DuplicateName(place, earlier)
         }
-        kind => numbered(kind, words),
+        kind => numbered(out, kind, words),
     }
 }
 
 /// The fault of this kind with these numbers.
-fn numbered(kind: DefinitionError, words: &str) -> Result<DefinitionError, NoAnswer> {
-    let mut words = words.split(' ');
-    let (first, second) = (number(&mut words)?, number(&mut words)?);
-    let (third, fourth) = (number(&mut words)?, number(&mut words)?);
-    Ok(match kind {
+fn numbered(out: &mut Case<'_>, kind: DefinitionError, words: &str) -> DefinitionError {
+    let [first, second, third, fourth] = numbers_of(out, words);
+    match kind {
         DefinitionError::TooManyOpcodes(_) => DefinitionError::TooManyOpcodes(first),
         DefinitionError::BadOutput(_, _) => DefinitionError::BadOutput(first, second),
         DefinitionError::FormatMismatch(_) => DefinitionError::FormatMismatch(first),
@@ -93,18 +93,23 @@ fn numbered(kind: DefinitionError, words: &str) -> Result<DefinitionError, NoAns
             DefinitionError::TooManySettings(first, second, third, fourth)
         }
         other => other,
-    })
+    }
 }
 
 /// The line of a fault.
-pub(crate) fn line(alloc: Global, out: &mut String, words: &str) -> Result<(), NoAnswer> {
+pub(crate) fn line(alloc: Global, out: &mut Case<'_>, words: &str) {
     let (kind, words) = words.split_once(' ').unwrap_or((words, "0"));
-    let kind = named(&FAULTS, kind).ok_or(NoAnswer::NoCase)?;
-    write_text(out, fault_of(kind, words)?.line(alloc))
+    match named(&FAULTS, kind) {
+        Ok(kind) => {
+            let fault = fault_of(out, *kind, words);
+            out.made(fault.line(alloc));
+        }
+        Err(trouble) => out.refuse(trouble),
+    }
 }
 
 /// The text of a place.
-pub(crate) fn place(out: &mut String, words: &str) -> Result<(), NoAnswer> {
-    let (place, _) = place_of(words)?;
-    Ok(write!(out, "{place}")?)
+pub(crate) fn place(out: &mut Case<'_>, words: &str) {
+    let (place, _) = place_of(out, words);
+    out.shown(&place);
 }

@@ -1,58 +1,68 @@
-use super::no_answer::NoAnswer;
-use super::words::{items_of, separate};
 use meta_unique::UniqueTable;
-use std::alloc::Global;
+use rows_words::{Case, Trouble, items_of};
+use std::alloc::{AllocError, Global};
 
 /// The index of each name, how many entries there are, and the entries.
-pub(crate) fn names(alloc: Global, out: &mut String, list: &str) -> Result<(), NoAnswer> {
-    let names = items_of(alloc, list)?;
-    intern(alloc, out, names.as_slice())
+pub(crate) fn names(alloc: Global, out: &mut Case<'_>, list: &str) {
+    match items_of(alloc, list, "") {
+        Ok(names) => write_interned(alloc, out, names.as_slice()),
+        Err(trouble) => out.refuse(trouble),
+    }
 }
 
 /// Writes the index of each name, how many entries there are, and the entries.
-fn intern(alloc: Global, out: &mut String, names: &[&str]) -> Result<(), NoAnswer> {
+fn write_interned(alloc: Global, out: &mut Case<'_>, names: &[&str]) {
     let mut table = UniqueTable::new(alloc);
     for name in names {
-        let index = table.add(name)?;
-        separate(out, ',')?;
-        write!(out, "{index}")?;
+        out.separate(',');
+        match table.add(name) {
+            Ok(index) => out.shown(&index),
+            Err(_) => out.refuse(Trouble::OutOfMemory),
+        }
     }
-    write_entries(out, &table)
+    out.letter('|');
+    out.shown(&table.len());
+    write_entries(out, &table);
 }
 
-/// Writes how many entries there are, and the entries.
-fn write_entries(out: &mut String, table: &UniqueTable<'_, &str>) -> Result<(), NoAnswer> {
-    write!(out, "|{}", table.len())?;
+/// Writes the entries.
+fn write_entries(out: &mut Case<'_>, table: &UniqueTable<'_, &str>) {
     let mut between = '|';
     for entry in table.iter() {
-        write!(out, "{between}{entry}")?;
+        out.letter(between);
+        out.text(entry);
         between = ',';
     }
-    Ok(())
 }
 
 /// How many entries there are after so many different numbers were added, and after they were added again.
-pub(crate) fn numbers(alloc: Global, out: &mut String, count: &str) -> Result<(), NoAnswer> {
-    let count: u32 = count.parse()?;
-    let mut numbers = Vec::new(alloc);
-    for number in 0..count {
-        // An odd factor takes different numbers to different ones.
-        numbers.push(number.wrapping_mul(0x9e37_79b1))?;
+pub(crate) fn numbers(alloc: Global, out: &mut Case<'_>, count: &str) {
+    match numbers_of(alloc, out.number_of(count)) {
+        Ok(numbers) => intern_twice(alloc, out, numbers.as_slice()),
+        Err(_) => out.refuse(Trouble::OutOfMemory),
     }
-    intern_twice(alloc, out, numbers.as_slice())
 }
 
-/// Writes how many entries there are after different numbers were added, and after they were added again.
-fn intern_twice(alloc: Global, out: &mut String, numbers: &[u32]) -> Result<(), NoAnswer> {
+/// So many different numbers. An odd factor takes different numbers to different ones.
+fn numbers_of(alloc: Global, count: u32) -> Result<Vec<u32>, AllocError> {
+    (0..count)
+        .map(|number| number.wrapping_mul(0x9e37_79b1))
+        .collect(alloc)
+}
+
+/// Writes how many entries there are after different numbers were added, and after they were added again. Each has to have its
+/// place as its index.
+fn intern_twice(alloc: Global, out: &mut Case<'_>, numbers: &[u32]) {
     let mut table = UniqueTable::new(alloc);
     for _round in 0..2 {
         for (index, number) in numbers.iter().enumerate() {
-            if table.add(number)? != index {
-                return Err(NoAnswer::Differ);
+            match table.add(number) {
+                Ok(found) if found == index => {}
+                Ok(_) => out.refuse(Trouble::Differ),
+                Err(_) => out.refuse(Trouble::OutOfMemory),
             }
         }
-        separate(out, ' ')?;
-        write!(out, "{}", table.len())?;
+        out.separate(' ');
+        out.shown(&table.len());
     }
-    Ok(())
 }

@@ -1,6 +1,5 @@
-use super::no_answer::NoAnswer;
-use super::words::{items_of, separate};
 use meta_unique::UniqueSeqTable;
+use rows_words::{Case, Trouble, items_of, number};
 use std::alloc::Global;
 
 /// What is neither a number nor a text.
@@ -18,6 +17,14 @@ pub(crate) struct Lists<'a> {
     elements: UniqueSeqTable<Element>,
 }
 
+/// Adds the numbers that the items are.
+fn push_numbers(numbers: &mut Vec<u16>, items: &[&str]) -> Result<(), Trouble> {
+    for item in items {
+        numbers.push(number(item)?)?;
+    }
+    Ok(())
+}
+
 impl<'a> Lists<'a> {
     /// Tables without a list.
     pub(crate) fn new(alloc: Global) -> Lists<'a> {
@@ -29,73 +36,71 @@ impl<'a> Lists<'a> {
     }
 
     /// Begins tables anew: how many elements there are then.
-    pub(crate) fn clear(&mut self, alloc: Global, out: &mut String) -> Result<(), NoAnswer> {
+    pub(crate) fn clear(&mut self, alloc: Global, out: &mut Case<'_>) {
         *self = Lists::new(alloc);
-        Ok(write!(out, "{}", self.numbers.len())?)
+        out.shown(&self.numbers.len());
     }
 
     /// Adds a list: where it stands, and how many elements there are then.
-    pub(crate) fn add(
-        &mut self,
-        alloc: Global,
-        out: &mut String,
-        list: &'a str,
-    ) -> Result<(), NoAnswer> {
-        let items = items_of(alloc, list)?;
-        self.add_items(alloc, out, items.as_slice())
+    pub(crate) fn add(&mut self, alloc: Global, out: &mut Case<'_>, list: &'a str) {
+        match items_of(alloc, list, "") {
+            Ok(items) => {
+                let place = self.add_items(alloc, items.as_slice());
+                self.write_added(out, place);
+            }
+            Err(trouble) => out.refuse(trouble),
+        }
     }
 
-    /// Adds the items of a list: writes where it stands, and how many elements there are then.
-    fn add_items(
-        &mut self,
-        alloc: Global,
-        out: &mut String,
-        items: &[&'a str],
-    ) -> Result<(), NoAnswer> {
+    /// Writes where a list stands, and how many elements there are then.
+    fn write_added(&self, out: &mut Case<'_>, place: Result<usize, Trouble>) {
+        match place {
+            Ok(place) => {
+                out.shown(&place);
+                out.letter(' ');
+                out.shown(&self.texts.len());
+            }
+            Err(trouble) => out.refuse(trouble),
+        }
+    }
+
+    /// Adds the items of a list: where it stands, in all three tables.
+    fn add_items(&mut self, alloc: Global, items: &[&'a str]) -> Result<usize, Trouble> {
         let place = self.texts.add(items)?;
-        let as_numbers = self.add_numbers(alloc, items)?;
-        let as_elements = self.add_elements(alloc, items)?;
-        let len = self.texts.len();
-        if as_numbers != place
-            || as_elements != place
-            || self.numbers.len() != len
-            || self.elements.len() != len
-        {
-            return Err(NoAnswer::Differ);
-        }
-        Ok(write!(out, "{place} {len}")?)
-    }
-
-    /// Adds a list as numbers: where it stands.
-    fn add_numbers(&mut self, alloc: Global, items: &[&str]) -> Result<usize, NoAnswer> {
         let mut numbers = Vec::new(alloc);
-        for item in items {
-            numbers.push(item.parse()?)?;
-        }
-        Ok(self.numbers.add(numbers.as_slice())?)
+        push_numbers(&mut numbers, items)?;
+        self.add_numbers(alloc, place, numbers.as_slice())?;
+        Ok(place)
     }
 
-    /// Adds a list as elements: where it stands.
-    fn add_elements(&mut self, alloc: Global, items: &[&str]) -> Result<usize, NoAnswer> {
-        let mut elements = Vec::new(alloc);
-        for item in items {
-            let number = item.parse()?;
-            elements.push(Element { number })?;
+    /// Adds a list as numbers and as elements, which has to stand where it does as texts.
+    fn add_numbers(&mut self, alloc: Global, place: usize, numbers: &[u16]) -> Result<(), Trouble> {
+        let elements: Vec<Element> = numbers
+            .iter()
+            .map(|number| Element { number: *number })
+            .collect(alloc)?;
+        let places = (
+            self.numbers.add(numbers)?,
+            self.elements.add(elements.as_slice())?,
+        );
+        let len = self.texts.len();
+        if places == (place, place) && self.numbers.len() == len && self.elements.len() == len {
+            Ok(())
+        } else {
+            Err(Trouble::Differ)
         }
-        Ok(self.elements.add(elements.as_slice())?)
     }
 
     /// All that the table holds.
-    pub(crate) fn all(&self, out: &mut String) -> Result<(), NoAnswer> {
+    pub(crate) fn all(&self, out: &mut Case<'_>) {
         let others = self.texts.iter().zip(self.elements.iter());
-        for (number, (text, element)) in self.numbers.iter().zip(others) {
-            let text: u16 = text.parse()?;
-            if text != *number || element.number != *number {
-                return Err(NoAnswer::Differ);
+        for (as_number, (text, element)) in self.numbers.iter().zip(others) {
+            let number: u16 = out.number_of(text);
+            if number != *as_number || element.number != *as_number {
+                out.refuse(Trouble::Differ);
             }
-            separate(out, ',')?;
-            write!(out, "{number}")?;
+            out.separate(',');
+            out.shown(as_number);
         }
-        Ok(())
     }
 }

@@ -10,12 +10,10 @@ mod interning;
 mod lanes;
 mod lists;
 mod lookups;
-mod no_answer;
 mod slots;
 mod texts;
 mod types;
 mod vectors;
-mod words;
 
 use case::answers_to;
 use std::io;

@@ -1,6 +1,5 @@
-use super::no_answer::NoAnswer;
-use super::words::{items_of, separate, write_number};
 use meta_unique::{generate_table, simple_hash};
+use rows_words::{Case, Trouble, items_of, number};
 use std::alloc::Global;
 
 /// An item of a table of slots.
@@ -13,17 +12,17 @@ pub(crate) struct Item {
 }
 
 /// Adds an item of this hash.
-fn add_item(items: &mut Vec<Item>, hash: usize) -> Result<(), NoAnswer> {
+fn add_item(items: &mut Vec<Item>, hash: usize) -> Result<(), Trouble> {
     match u16::try_from(items.len()) {
         Ok(place) => Ok(items.push(Item { place, hash })?),
-        Err(_) => Err(NoAnswer::NoCase),
+        Err(_) => Err(Trouble::NoCase),
     }
 }
 
 /// The slots of the items, in which each is named by its place.
-fn slots_of(alloc: Global, items: &[Item]) -> Result<Vec<Option<u16>>, NoAnswer> {
+fn slots_of(alloc: Global, items: &[Item]) -> Result<Vec<Option<u16>>, Trouble> {
     if items.len() > 65535 {
-        return Err(NoAnswer::NoCase);
+        return Err(Trouble::NoCase);
     }
     let table = generate_table(alloc, items, |item| item.hash)?;
     let slots = table
@@ -34,7 +33,7 @@ fn slots_of(alloc: Global, items: &[Item]) -> Result<Vec<Option<u16>>, NoAnswer>
 }
 
 /// The slots of names.
-pub(crate) fn slots_of_names(alloc: Global, names: &[&str]) -> Result<Vec<Option<u16>>, NoAnswer> {
+pub(crate) fn slots_of_names(alloc: Global, names: &[&str]) -> Result<Vec<Option<u16>>, Trouble> {
     let mut items = Vec::new(alloc);
     for name in names {
         add_item(&mut items, simple_hash(name.as_bytes()))?;
@@ -47,7 +46,7 @@ pub(crate) fn slots_of_count(
     alloc: Global,
     count: u16,
     factor: u16,
-) -> Result<Vec<Option<u16>>, NoAnswer> {
+) -> Result<Vec<Option<u16>>, Trouble> {
     let mut items = Vec::new(alloc);
     for number in 0..count {
         add_item(&mut items, usize::from(number.wrapping_mul(factor)))?;
@@ -56,38 +55,55 @@ pub(crate) fn slots_of_count(
 }
 
 /// Writes the items in the slots, `-` in a vacant one.
-fn write_slots(out: &mut String, slots: &[Option<u16>]) -> Result<(), NoAnswer> {
+fn write_slots(out: &mut Case<'_>, slots: &[Option<u16>]) {
     for slot in slots {
-        separate(out, ',')?;
-        write_number(out, *slot)?;
+        out.separate(',');
+        out.number_or_dash(*slot);
+    }
+}
+
+/// Writes the slots of a table, if it could be made.
+fn write_made(out: &mut Case<'_>, slots: Result<Vec<Option<u16>>, Trouble>) {
+    match slots {
+        Ok(slots) => write_slots(out, slots.as_slice()),
+        Err(trouble) => out.refuse(trouble),
+    }
+}
+
+/// The hash of a name.
+pub(crate) fn hash(out: &mut Case<'_>, name: &str) {
+    out.shown(&simple_hash(name.as_bytes()));
+}
+
+/// The slots of the names of a list.
+pub(crate) fn named(alloc: Global, out: &mut Case<'_>, list: &str) {
+    match items_of(alloc, list, "") {
+        Ok(names) => write_made(out, slots_of_names(alloc, names.as_slice())),
+        Err(trouble) => out.refuse(trouble),
+    }
+}
+
+/// Adds items of these hashes.
+fn add_items(items: &mut Vec<Item>, hashes: &str) -> Result<(), Trouble> {
+    for hash in hashes.split(',') {
+        add_item(items, number(hash)?)?;
     }
     Ok(())
 }
 
-/// The hash of a name.
-pub(crate) fn hash(out: &mut String, name: &str) -> Result<(), NoAnswer> {
-    Ok(write!(out, "{}", simple_hash(name.as_bytes()))?)
-}
-
-/// The slots of the names of a list.
-pub(crate) fn named(alloc: Global, out: &mut String, list: &str) -> Result<(), NoAnswer> {
-    let names = items_of(alloc, list)?;
-    let slots = slots_of_names(alloc, names.as_slice())?;
-    write_slots(out, slots.as_slice())
-}
-
 /// The slots of items of these hashes.
-pub(crate) fn fill(alloc: Global, out: &mut String, list: &str) -> Result<(), NoAnswer> {
+pub(crate) fn fill(alloc: Global, out: &mut Case<'_>, hashes: &str) {
     let mut items = Vec::new(alloc);
-    for hash in list.split(',') {
-        add_item(&mut items, hash.parse()?)?;
+    match add_items(&mut items, hashes) {
+        Ok(()) => write_made(out, slots_of(alloc, items.as_slice())),
+        Err(trouble) => out.refuse(trouble),
     }
-    let slots = slots_of(alloc, items.as_slice())?;
-    write_slots(out, slots.as_slice())
 }
 
 /// How many slots there are for so many items.
-pub(crate) fn size(alloc: Global, out: &mut String, count: &str) -> Result<(), NoAnswer> {
-    let slots = slots_of_count(alloc, count.parse()?, 1)?;
-    Ok(write!(out, "{}", slots.len())?)
+pub(crate) fn size(alloc: Global, out: &mut Case<'_>, count: &str) {
+    match slots_of_count(alloc, out.number_of(count), 1) {
+        Ok(slots) => out.shown(&slots.len()),
+        Err(trouble) => out.refuse(trouble),
+    }
 }

@@ -1,5 +1,5 @@
-use super::trouble::Trouble;
-use std::alloc::{AllocError, Global};
+use rows_words::{Case, Trouble, number, pair_of};
+use std::alloc::Global;
 
 /// The byte that a name of one stands for: `n` is LF, `r` CR, `t` a tab, `s` a space, and `0` the byte 0. All else is itself.
 fn named(byte: u8) -> u8 {
@@ -22,47 +22,52 @@ fn digit(byte: u8) -> Result<u8, Trouble> {
     }
 }
 
+/// Adds a byte so many times.
+fn push_times(out: &mut Vec<u8>, count: usize, byte: u8) -> Result<(), Trouble> {
+    for _ in 0..count {
+        out.push(byte)?;
+    }
+    Ok(())
+}
+
 /// Adds the bytes of `COUNT BYTE`, and answers what stands behind the `}`.
 fn push_repeated<'t>(out: &mut Vec<u8>, text: &'t str) -> Result<&'t str, Trouble> {
-    let (inside, rest) = text.split_once('}').ok_or(Trouble::NoCase)?;
-    let (count, byte) = inside.split_once(' ').ok_or(Trouble::NoCase)?;
-    let count = count.parse::<usize>().map_err(|_| Trouble::NoCase)?;
-    let byte = byte.as_bytes().first().copied().ok_or(Trouble::NoCase)?;
-    for _ in 0..count {
-        out.push(named(byte))?;
+    let (inside, rest) = pair_of(text, '}')?;
+    let (count, byte) = pair_of(inside, ' ')?;
+    match byte.as_bytes() {
+        [byte, ..] => push_times(out, number(count)?, named(*byte))?,
+        [] => return Err(Trouble::NoCase),
     }
     Ok(rest)
 }
 
-/// Adds what an escape stands for, and what follows it: `{COUNT BYTE}`, `xHH`, or the name of a byte.
-fn push_escape(out: &mut Vec<u8>, text: &str) -> Result<(), Trouble> {
+/// Adds what an escape stands for, `{COUNT BYTE}`, `xHH`, or the name of a byte, and answers what follows it.
+fn push_escape<'t>(out: &mut Vec<u8>, text: &'t str) -> Result<&'t [u8], Trouble> {
     if let Some(inside) = text.strip_prefix('{') {
-        let rest = push_repeated(out, inside)?;
-        out.extend_from_slice(rest.as_bytes())?;
-        return Ok(());
+        return Ok(push_repeated(out, inside)?.as_bytes());
     }
     match text.as_bytes() {
         [b'x', high, low, rest @ ..] => {
             out.push(digit(*high)? << 4 | digit(*low)?)?;
-            out.extend_from_slice(rest)?;
+            Ok(rest)
         }
         [byte, rest @ ..] => {
             out.push(named(*byte))?;
-            out.extend_from_slice(rest)?;
+            Ok(rest)
         }
-        [] => return Err(Trouble::NoCase),
+        [] => Err(Trouble::NoCase),
     }
-    Ok(())
 }
 
 /// Adds the bytes that a text with escapes stands for.
 fn push_decoded(out: &mut Vec<u8>, text: &str) -> Result<(), Trouble> {
     for (place, piece) in text.split('\\').enumerate() {
-        if place == 0 {
-            out.extend_from_slice(piece.as_bytes())?;
+        let plain = if place == 0 {
+            piece.as_bytes()
         } else {
-            push_escape(out, piece)?;
-        }
+            push_escape(out, piece)?
+        };
+        out.extend_from_slice(plain)?;
     }
     Ok(())
 }
@@ -74,20 +79,17 @@ pub(crate) fn decoded(alloc: Global, text: &str) -> Result<Vec<u8>, Trouble> {
     Ok(out)
 }
 
-/// Adds a byte, with an escape where it is no printable letter.
-fn push_encoded(out: &mut String, byte: u8) -> Result<(), AllocError> {
-    match byte {
-        b'\n' => out.push_str("\\n"),
-        b'\r' => out.push_str("\\r"),
-        0x20..=0x7e => out.push(char::from(byte)),
-        _ => write!(out, "\\x{byte:02x}"),
-    }
-}
-
-/// Writes the bytes as a text with escapes.
-pub(crate) fn push_bytes(out: &mut String, bytes: &[u8]) -> Result<(), AllocError> {
+/// Writes the bytes as a text, with an escape for each that is no printable letter.
+pub(crate) fn write_bytes(case: &mut Case<'_>, bytes: &[u8]) {
     for byte in bytes {
-        push_encoded(out, *byte)?;
+        match byte {
+            b'\n' => case.text("\\n"),
+            b'\r' => case.text("\\r"),
+            0x20..=0x7e => case.letter(char::from(*byte)),
+            _ => {
+                case.text("\\x");
+                case.hexadecimal(*byte);
+            }
+        }
     }
-    Ok(())
 }

@@ -1,102 +1,93 @@
 ghost use Rattle.std.specs.Prelude.{◌≡◌};
 
-use super::opcode_answers::{push_found, slots};
-use super::trouble::Trouble;
+use super::opcode_answers::{write_found, write_slots};
 use super::words::numbers;
 use meta_gen::{Descriptor, Detail, Tables};
 use meta_types::Text;
 use meta_unique::Steps;
-use std::alloc::{AllocError, Global};
+use rows_words::Case;
+use std::alloc::Global;
 use std::marker::Brand;
 use std::sync::ledger::{Blank, Ledger};
 
 /// Writes the texts, parted by commas, `-` for none.
-fn push_texts(texts: &[Text], out: &mut String) -> Result<(), AllocError> {
-    if texts.is_empty() {
-        return out.push('-');
+fn write_texts(texts: &[Text], case: &mut Case<'_>) {
+    let start = case.written();
+    for text in texts {
+        case.item(start, text.as_str());
     }
-    for (place, text) in texts.iter().enumerate() {
-        if place > 0 {
-            out.push(',')?;
-        }
-        out.push_str(text.as_str())?;
-    }
-    Ok(())
+    case.end_list(start);
 }
 
 /// Writes what the tables hold of a group beside its entries, or `none`.
-pub(crate) fn group(tables: &Tables, group: usize, out: &mut String) -> Result<(), AllocError> {
+pub(crate) fn write_group(tables: &Tables, group: usize, case: &mut Case<'_>) {
     let Some(name) = tables.group_name(group) else {
-        return out.push_str("none");
+        return case.text("none");
     };
-    let size = tables.settings_size(group).unwrap_or(0);
-    write!(out, "{}: size {size}", name.as_str())?;
-    push_bytes_of(tables, group, out)?;
-    push_texts(tables.enumerators(group).unwrap_or(&[]), out)?;
-    let slots = tables.setting_slots(group).unwrap_or(&[]).len();
-    write!(out, ", slots {slots}")
-}
-
-/// Writes the default bytes and the masks of a group.
-fn push_bytes_of(tables: &Tables, group: usize, out: &mut String) -> Result<(), AllocError> {
-    let defaults = tables.defaults(group).unwrap_or(&[]);
-    let masks = tables.preset_masks(group).unwrap_or(&[]);
-    write!(out, ", defaults {defaults:?}, masks {masks:?}, values ")
+    case.text(name.as_str());
+    case.text(": size ");
+    case.shown(&tables.settings_size(group).unwrap_or(0));
+    case.text(", defaults ");
+    case.debugged(&tables.defaults(group).unwrap_or(&[]));
+    case.text(", masks ");
+    case.debugged(&tables.preset_masks(group).unwrap_or(&[]));
+    case.text(", values ");
+    write_texts(tables.enumerators(group).unwrap_or(&[]), case);
+    case.text(", slots ");
+    case.shown(&tables.setting_slots(group).unwrap_or(&[]).len());
 }
 
 /// Writes the slots of a group's names, or `none`.
-pub(crate) fn setting_slots(
-    tables: &Tables,
-    group: usize,
-    out: &mut String,
-) -> Result<(), AllocError> {
+pub(crate) fn write_setting_slots(tables: &Tables, group: usize, case: &mut Case<'_>) {
     match tables.setting_slots(group) {
-        Some(all) => slots(all, out),
-        None => out.push_str("none"),
+        Some(all) => write_slots(all, case),
+        None => case.text("none"),
     }
 }
 
 /// Writes where an entry stands, and what it is.
-fn detail(entry: &Descriptor, out: &mut String) -> Result<(), AllocError> {
-    write!(out, "{} {} ", entry.name.as_str(), entry.offset)?;
+fn write_detail(entry: &Descriptor, case: &mut Case<'_>) {
+    case.text(entry.name.as_str());
+    case.letter(' ');
+    case.shown(&entry.offset);
     match entry.detail {
-        Detail::Bool { bit } => write!(out, "bool {bit}"),
-        Detail::Enum { last, enumerators } => write!(out, "enum {last} {enumerators}"),
-        Detail::Num => out.push_str("num"),
-        Detail::Preset => out.push_str("preset"),
+        Detail::Bool { bit } => {
+            case.text(" bool ");
+            case.shown(&bit);
+        }
+        Detail::Enum { last, enumerators } => {
+            case.text(" enum ");
+            case.shown(&last);
+            case.letter(' ');
+            case.shown(&enumerators);
+        }
+        Detail::Num => case.text(" num"),
+        Detail::Preset => case.text(" preset"),
     }
 }
 
 /// Writes an entry with its default, or `none`.
-pub(crate) fn entry(
-    tables: &Tables,
-    group: usize,
-    index: u16,
-    out: &mut String,
-) -> Result<(), AllocError> {
-    let default = tables.default_value(group, index);
-    match (tables.descriptor(group, index), default) {
-        (Some(entry), Some(value)) => {
-            detail(entry, out)?;
-            write!(out, " default {value}")
-        }
-        (Some(entry), None) => detail(entry, out),
-        (None, Some(value)) => write!(out, "no entry with the default {value}"),
-        (None, None) => out.push_str("none"),
+pub(crate) fn write_entry(tables: &Tables, group: usize, index: u16, case: &mut Case<'_>) {
+    match tables.descriptor(group, index) {
+        Some(entry) => write_detail(entry, case),
+        None => case.text("none"),
+    }
+    if let Some(value) = tables.default_value(group, index) {
+        case.text(" default ");
+        case.shown(&value);
     }
 }
 
 /// Writes all entries of a group, a line each.
-pub(crate) fn entries(tables: &Tables, group: usize, out: &mut String) -> Result<(), AllocError> {
-    out.push_str("entries:")?;
+pub(crate) fn write_entries(tables: &Tables, group: usize, case: &mut Case<'_>) {
+    case.text("entries:");
     for index in 0..=u16::MAX {
         if tables.descriptor(group, index).is_none() {
             break;
         }
-        out.push('\n')?;
-        entry(tables, group, index, out)?;
+        case.letter('\n');
+        write_entry(tables, group, index, case);
     }
-    Ok(())
 }
 
 /// What a look-up of the name finds, counted in this ledger.
@@ -134,37 +125,27 @@ fn found_count(tables: &Tables, group: usize) -> u32 {
 }
 
 /// Writes how many entries of a group are found by their own names, by both look-ups.
-pub(crate) fn found(tables: &Tables, group: usize, out: &mut String) -> Result<(), AllocError> {
-    write!(out, "{} found", found_count(tables, group))
+pub(crate) fn write_found_count(tables: &Tables, group: usize, case: &mut Case<'_>) {
+    case.shown(&found_count(tables, group));
+    case.text(" found");
 }
 
 /// Writes the entry that has the name, `none`, or `differ` where the counted look-up found another.
-pub(crate) fn setting(
-    tables: &Tables,
-    group: usize,
-    name: &str,
-    out: &mut String,
-) -> Result<(), AllocError> {
+pub(crate) fn write_setting(tables: &Tables, group: usize, name: &str, case: &mut Case<'_>) {
     let name = name.as_bytes();
     let counted = counted(tables, group, name);
-    push_found(tables.find_setting(group, name), counted, out)
-}
-
-/// Writes whether a preset applied, and the bytes.
-fn push_applied(applied: bool, bytes: &[u8], out: &mut String) -> Result<(), AllocError> {
-    write!(out, "{applied} {bytes:?}")
+    write_found(tables.find_setting(group, name), counted, case);
 }
 
 /// Writes whether the entry is a preset of the group that applies to these bytes, and the bytes after it.
-pub(crate) fn apply(
-    alloc: Global,
-    tables: &Tables,
-    group: usize,
-    preset: u16,
-    words: &str,
-    out: &mut String,
-) -> Result<(), Trouble> {
-    let mut bytes = numbers(alloc, words)?;
-    let applied = tables.apply_preset(group, preset, &mut bytes);
-    Ok(push_applied(applied, &bytes, out)?)
+pub(crate) fn write_applied(alloc: Global, tables: &Tables, group: usize, case: &mut Case<'_>) {
+    let preset = case.number();
+    match numbers(alloc, case.word()) {
+        Ok(mut bytes) => {
+            case.shown(&tables.apply_preset(group, preset, &mut bytes));
+            case.letter(' ');
+            case.debugged(&bytes);
+        }
+        Err(trouble) => case.refuse(trouble),
+    }
 }

@@ -1,222 +1,203 @@
-use super::trouble::Trouble;
-use super::words::{list, number, texts};
+use super::asked::Sort;
 use meta_settings::{BoolSettingIndex, PresetIndex, PresetType, SettingGroupBuilder};
 use meta_types::Text;
-use std::alloc::Global;
+use rows_words::{Case, Trouble, named, number, texts_of};
+use std::alloc::{AllocError, Global};
 
-/// The groups of settings of a case, and the booleans and presets of all of them by name.
+/// What an entry is declared as.
 #[derive(Drop)]
-pub(crate) struct Groups {
+enum Kind {
+    Bool(bool),
+    Num(u8),
+    Enum(Vec<Text>),
+    Preset(Vec<PresetType>),
+}
+
+/// What a declaration answered: the number of a boolean or of a preset, which a preset may name, or none.
+#[derive(Clone, Copy)]
+enum Added {
+    Boolean(BoolSettingIndex),
+    Preset(PresetIndex),
+    Other,
+}
+
+/// The groups of settings of a case, and the entries of all of them by name.
+#[derive(Drop)]
+pub(crate) struct Groups<'l> {
     all: Vec<SettingGroupBuilder>,
-    booleans: Vec<(Text, BoolSettingIndex)>,
-    presets: Vec<(Text, PresetIndex)>,
+    named: Vec<(&'l str, Added)>,
 }
 
-/// What is said of an entry.
-fn about(alloc: Global) -> Result<Text, Trouble> {
-    Ok(Text::new(alloc, "an entry")?)
-}
-
-/// Adds a boolean to the group.
-fn add_bool(
+/// Adds an entry to the group.
+fn add(
     alloc: Global,
     group: &mut SettingGroupBuilder,
     name: &str,
-    default: bool,
-) -> Result<BoolSettingIndex, Trouble> {
+    kind: Kind,
+) -> Result<Added, Trouble> {
     if !group.has_room() {
         return Err(Trouble::NoCase);
     }
-    let (name, comment) = (Text::new(alloc, name)?, Text::new(alloc, "")?);
-    Ok(group.add_bool(name, about(alloc)?, comment, default)?)
-}
-
-/// Adds a number to the group.
-fn add_num(
-    alloc: Global,
-    group: &mut SettingGroupBuilder,
-    name: &str,
-    default: u8,
-) -> Result<(), Trouble> {
-    if !group.has_room() {
-        return Err(Trouble::NoCase);
-    }
-    let (name, comment) = (Text::new(alloc, name)?, Text::new(alloc, "")?);
-    Ok(group.add_num(name, about(alloc)?, comment, default)?)
-}
-
-/// Adds an enum to the group.
-fn add_enum(
-    alloc: Global,
-    group: &mut SettingGroupBuilder,
-    name: &str,
-    values: Vec<Text>,
-) -> Result<(), Trouble> {
-    if !group.has_room() {
-        return Err(Trouble::NoCase);
-    }
-    let (name, comment) = (Text::new(alloc, name)?, Text::new(alloc, "")?);
-    Ok(group.add_enum(name, about(alloc)?, comment, values)?)
-}
-
-/// Adds a preset to the group.
-fn add_preset(
-    alloc: Global,
-    group: &mut SettingGroupBuilder,
-    name: &str,
-    args: Vec<PresetType>,
-) -> Result<PresetIndex, Trouble> {
-    if !group.has_room() {
-        return Err(Trouble::NoCase);
-    }
-    Ok(group.add_preset(Text::new(alloc, name)?, about(alloc)?, args)?)
-}
-
-/// Adds an entry with this name to the group: `bools` a boolean, `nums` a number, and else a preset.
-fn add_named(
-    alloc: Global,
-    group: &mut SettingGroupBuilder,
-    kind: &str,
-    name: &str,
-) -> Result<(), Trouble> {
+    let name = Text::new(alloc, name)?;
+    let about = Text::new(alloc, "an entry")?;
+    let comment = Text::new(alloc, "")?;
     match kind {
-        "bools" => {
-            add_bool(alloc, group, name, false)?;
-            Ok(())
+        Kind::Bool(default) => {
+            let index = group.add_bool(name, about, comment, default)?;
+            return Ok(Added::Boolean(index));
         }
-        "nums" => add_num(alloc, group, name, 0),
-        _ => {
-            add_preset(alloc, group, name, Vec::new(alloc))?;
-            Ok(())
+        Kind::Num(default) => group.add_num(name, about, comment, default)?,
+        Kind::Enum(values) => group.add_enum(name, about, comment, values)?,
+        Kind::Preset(args) => {
+            let index = group.add_preset(name, about, args)?;
+            return Ok(Added::Preset(index));
         }
     }
+    Ok(Added::Other)
 }
 
-/// Adds an entry to the group that is named by the first letter of what it is, and a number.
+/// Adds an entry to the group that is named by the first letter of what it is, and a number, and gives and names nothing.
 fn add_numbered(
     alloc: Global,
     group: &mut SettingGroupBuilder,
-    kind: &str,
+    sort: Sort,
     number: u32,
 ) -> Result<(), Trouble> {
-    let letter = match kind {
-        "bools" => 'b',
-        "nums" => 'n',
-        _ => 'p',
+    let (letter, kind) = match sort {
+        Sort::Bool => ('b', Kind::Bool(false)),
+        Sort::Num => ('n', Kind::Num(0)),
+        Sort::Enum => ('e', Kind::Enum(Vec::new(alloc))),
+        Sort::Preset => ('p', Kind::Preset(Vec::new(alloc))),
     };
     let name = format!(in alloc; "{letter}{number}")?;
-    add_named(alloc, group, kind, name.as_str())
+    add(alloc, group, name.as_str(), kind)?;
+    Ok(())
 }
 
-/// `v0`, `v1` and so on.
-fn numbered_values(alloc: Global, count: u16) -> Result<Vec<Text>, Trouble> {
-    let mut values = Vec::new(alloc);
+/// Adds `v0`, `v1` and so on.
+fn add_values(alloc: Global, values: &mut Vec<Text>, count: u32) -> Result<(), AllocError> {
     for number in 0..count {
-        values.push(Text::new(alloc, format!(in alloc; "v{number}")?.as_str())?)?;
+        let value = format!(in alloc; "v{number}")?;
+        values.push(Text::new(alloc, value.as_str())?)?;
     }
-    Ok(values)
+    Ok(())
 }
 
-impl Groups {
+/// Adds many entries to the group, or an enum `e` of so many values.
+fn add_many(
+    alloc: Global,
+    group: &mut SettingGroupBuilder,
+    sort: Sort,
+    count: u32,
+) -> Result<(), Trouble> {
+    if let Sort::Enum = sort {
+        let mut values = Vec::new(alloc);
+        add_values(alloc, &mut values, count)?;
+        add(alloc, group, "e", Kind::Enum(values))?;
+        return Ok(());
+    }
+    for number in 0..count {
+        add_numbered(alloc, group, sort, number)?;
+    }
+    Ok(())
+}
+
+impl<'l> Groups<'l> {
     pub(crate) fn new(alloc: Global) -> Self {
         Groups {
             all: Vec::new(alloc),
-            booleans: Vec::new(alloc),
-            presets: Vec::new(alloc),
+            named: Vec::new(alloc),
         }
     }
 
     /// The groups, without the names of what they have.
     pub(crate) fn into_all(self) -> Vec<SettingGroupBuilder> {
-        let Groups {
-            all,
-            booleans: _,
-            presets: _,
-        } = self;
+        let Groups { all, named: _ } = self;
         all
     }
 
-    /// `aside`: takes the last group away, and keeps the names of its booleans and presets.
+    /// Takes the last group away, and keeps the names of its entries.
     pub(crate) fn set_aside(&mut self) {
         let _group = self.all.pop();
     }
 
-    /// `group NAME`: begins a group.
-    pub(crate) fn group(&mut self, alloc: Global, name: &str) -> Result<(), Trouble> {
-        let group = SettingGroupBuilder::new(alloc, Text::new(alloc, name)?);
-        self.all.push(group)?;
-        Ok(())
+    /// Begins a group.
+    pub(crate) fn group(&mut self, alloc: Global, case: &mut Case<'l>) {
+        let begun = match Text::new(alloc, case.word()) {
+            Ok(name) => self.all.push(SettingGroupBuilder::new(alloc, name)).is_ok(),
+            Err(_) => false,
+        };
+        if !begun {
+            case.refuse(Trouble::OutOfMemory);
+        }
     }
 
-    /// What a preset names by this word: the last preset of the name, or else the last boolean.
-    fn named(&self, name: &str) -> Result<PresetType, Trouble> {
-        for (known, index) in self.presets.iter().rev() {
-            if known.as_str() == name {
-                return Ok(PresetType::from(*index));
+    /// What a preset names by this word: the last boolean or preset of the name.
+    fn meant(&self, name: &str) -> Result<PresetType, Trouble> {
+        match named(self.named.as_slice(), name) {
+            Ok(Added::Boolean(index)) => Ok(PresetType::from(*index)),
+            Ok(Added::Preset(index)) => Ok(PresetType::from(*index)),
+            Ok(Added::Other) => Err(Trouble::NoCase),
+            Err(trouble) => Err(trouble),
+        }
+    }
+
+    /// What a preset names by these words, nothing for `-`.
+    fn all_meant(&self, alloc: Global, words: &str) -> Result<Vec<PresetType>, Trouble> {
+        let mut all = Vec::new(alloc);
+        if words != "-" {
+            for name in words.split(',') {
+                all.push(self.meant(name)?)?;
             }
         }
-        for (known, index) in self.booleans.iter().rev() {
-            if known.as_str() == name {
-                return Ok(PresetType::from(*index));
+        Ok(all)
+    }
+
+    /// What a word declares of an entry of this sort: its default, its values, or what it names.
+    fn kind(&self, alloc: Global, sort: Sort, word: &str) -> Result<Kind, Trouble> {
+        match sort {
+            Sort::Bool => Ok(Kind::Bool(word == "true")),
+            Sort::Num => Ok(Kind::Num(number(word)?)),
+            Sort::Enum => Ok(Kind::Enum(texts_of(alloc, word, "-")?)),
+            Sort::Preset => Ok(Kind::Preset(self.all_meant(alloc, word)?)),
+        }
+    }
+
+    /// Adds an entry to the last group.
+    fn add(&mut self, alloc: Global, name: &str, kind: Kind) -> Result<Added, Trouble> {
+        match self.all.last_mut() {
+            Some(group) => add(alloc, group, name, kind),
+            None => Err(Trouble::NoCase),
+        }
+    }
+
+    /// Adds an entry to the last group, under its name.
+    pub(crate) fn entry(&mut self, alloc: Global, sort: Sort, case: &mut Case<'l>) {
+        let (name, word) = (case.word(), case.word());
+        let added = match self.kind(alloc, sort, word) {
+            Ok(kind) => self.add(alloc, name, kind),
+            Err(trouble) => Err(trouble),
+        };
+        match added {
+            Ok(added) => {
+                if self.named.push((name, added)).is_err() {
+                    case.refuse(Trouble::OutOfMemory);
+                }
             }
-        }
-        Err(Trouble::NoCase)
-    }
-
-    /// What a preset names by these words.
-    fn all_named(&self, alloc: Global, words: &str) -> Result<Vec<PresetType>, Trouble> {
-        let mut named = Vec::new(alloc);
-        for name in list(alloc, words)? {
-            named.push(self.named(name)?)?;
-        }
-        Ok(named)
-    }
-
-    /// The last group.
-    fn last(&mut self) -> Result<&mut SettingGroupBuilder, Trouble> {
-        self.all.last_mut().ok_or(Trouble::NoCase)
-    }
-
-    /// Adds a boolean to the last group.
-    fn add_bool(&mut self, alloc: Global, name: &str, default: bool) -> Result<(), Trouble> {
-        let index = add_bool(alloc, self.last()?, name, default)?;
-        Ok(self.booleans.push((Text::new(alloc, name)?, index))?)
-    }
-
-    /// Adds a preset to the last group.
-    fn add_preset(&mut self, alloc: Global, name: &str, names: &str) -> Result<(), Trouble> {
-        let args = self.all_named(alloc, names)?;
-        let index = add_preset(alloc, self.last()?, name, args)?;
-        Ok(self.presets.push((Text::new(alloc, name)?, index))?)
-    }
-
-    /// An entry of the last group: `bool NAME DEFAULT`, `num NAME DEFAULT`, `enum NAME VALUES` or `preset NAME NAMES`.
-    pub(crate) fn entry(
-        &mut self,
-        alloc: Global,
-        kind: &str,
-        name: &str,
-        word: &str,
-    ) -> Result<(), Trouble> {
-        match kind {
-            "bool" => self.add_bool(alloc, name, word == "true"),
-            "num" => add_num(alloc, self.last()?, name, number::<u8>(word)?),
-            "enum" => add_enum(alloc, self.last()?, name, texts(alloc, word)?),
-            _ => self.add_preset(alloc, name, word),
+            Err(trouble) => case.refuse(trouble),
         }
     }
 
-    /// Many entries of the last group: `bools COUNT`, `nums COUNT`, `presets COUNT`, named `b0`, `n0`, `p0` and so on, or `values
-    /// COUNT`, an enum `e` of so many values.
-    pub(crate) fn many(&mut self, alloc: Global, kind: &str, count: u32) -> Result<(), Trouble> {
-        let group = self.last()?;
-        if kind == "values" {
-            let count = u16::try_from(count).map_err(|_| Trouble::NoCase)?;
-            return add_enum(alloc, group, "e", numbered_values(alloc, count)?);
+    /// Adds many entries to the last group.
+    pub(crate) fn entries(&mut self, alloc: Global, sort: Sort, case: &mut Case<'l>) {
+        let count = case.number();
+        match self.all.last_mut() {
+            Some(group) => {
+                if let Err(trouble) = add_many(alloc, group, sort, count) {
+                    case.refuse(trouble);
+                }
+            }
+            None => case.no_case(),
         }
-        for number in 0..count {
-            add_numbered(alloc, group, kind, number)?;
-        }
-        Ok(())
     }
 }

@@ -1,21 +1,20 @@
 ghost use Rattle.std.specs.Prelude.{◌≡◌, IfOk, None};
 
-use super::trouble::Trouble;
 use super::variables::Variables;
-use super::words::list;
 use meta_inst::{AllInstructions, InstructionBuilder, InstructionGroupBuilder};
 use meta_operands::{
     FormatId, FormatTable, InstructionFormatBuilder, Operand, OperandKind, OperandKindFields,
 };
 use meta_types::Text;
 use meta_typevar::TypeVar;
+use rows_words::{Case, Trouble, named};
 use std::alloc::{AllocError, Global};
 
 /// The formats and the instructions of a case.
 #[derive(Drop)]
-pub(crate) struct Instructions {
+pub(crate) struct Instructions<'l> {
     formats: FormatTable,
-    named: Vec<(Text, FormatId)>,
+    named: Vec<(&'l str, FormatId)>,
     all: AllInstructions,
 }
 
@@ -26,30 +25,61 @@ fn kind(
     rust_type: &str,
     fields: OperandKindFields,
 ) -> Result<OperandKind, AllocError> {
-    let (name, rust_type) = (Text::new(alloc, name)?, Text::new(alloc, rust_type)?);
-    Ok(OperandKind::new(name, rust_type, fields, Text::new(alloc, "")?))
+    match (
+        Text::new(alloc, name),
+        Text::new(alloc, rust_type),
+        Text::new(alloc, ""),
+    ) {
+        (Ok(name), Ok(rust_type), Ok(doc)) => Ok(OperandKind::new(name, rust_type, fields, doc)),
+        _ => Err(AllocError),
+    }
 }
 
 /// The kind of the operand of this word: a variable's name, `block`, `raw`, `varargs`, or else an immediate with this field name.
-fn kind_of(alloc: Global, variables: &Variables, word: &str) -> Result<OperandKind, Trouble> {
+fn kind_of(
+    alloc: Global,
+    variables: &Variables<'_>,
+    word: &str,
+) -> Result<OperandKind, AllocError> {
     if let Ok(tv) = variables.find(word) {
-        return Ok(OperandKind::of(alloc, tv)?);
+        return OperandKind::of(alloc, tv);
     }
-    let block = OperandKindFields::EntityRef;
-    Ok(match word {
-        "block" => kind(alloc, "block", "ir::BlockCall", block)?,
-        "raw" => kind(alloc, "block", "ir::Block", block)?,
-        "varargs" => kind(alloc, "args", "&[Value]", OperandKindFields::VariableArgs)?,
-        _ => kind(alloc, word, "i64", OperandKindFields::ImmValue)?,
-    })
+    match word {
+        "block" => kind(
+            alloc,
+            "block",
+            "ir::BlockCall",
+            OperandKindFields::EntityRef,
+        ),
+        "raw" => kind(alloc, "block", "ir::Block", OperandKindFields::EntityRef),
+        "varargs" => kind(alloc, "args", "&[Value]", OperandKindFields::VariableArgs),
+        _ => kind(alloc, word, "i64", OperandKindFields::ImmValue),
+    }
 }
 
-/// The operands of a list of words.
-fn operands(alloc: Global, variables: &Variables, words: &str) -> Result<Vec<Operand>, Trouble> {
-    let mut all = Vec::new(alloc);
-    for word in list(alloc, words)? {
-        all.push(operand(alloc, kind_of(alloc, variables, word)?)?)?;
+/// Adds the operands of a list of words, none for `-`.
+fn add_operands(
+    alloc: Global,
+    variables: &Variables<'_>,
+    words: &str,
+    operands: &mut Vec<Operand>,
+) -> Result<(), AllocError> {
+    if words != "-" {
+        for word in words.split(',') {
+            operands.push(operand(alloc, kind_of(alloc, variables, word)?)?)?;
+        }
     }
+    Ok(())
+}
+
+/// The operands of a list of words, none for `-`.
+fn operands(
+    alloc: Global,
+    variables: &Variables<'_>,
+    words: &str,
+) -> Result<Vec<Operand>, AllocError> {
+    let mut all = Vec::new(alloc);
+    add_operands(alloc, variables, words, &mut all)?;
     Ok(all)
 }
 
@@ -106,6 +136,30 @@ fn instruction(
     Ok(InstructionBuilder::new(alloc, name, doc, format))
 }
 
+/// The instruction that is named by a letter and a number, without operands.
+fn numbered(
+    alloc: Global,
+    letter: char,
+    number: u32,
+    format: FormatId,
+) -> Result<InstructionBuilder, AllocError>
+    ensures { IfOk result (λ b. b.operands_in ≡ None) }
+{
+    let name = format!(in alloc; "{letter}{number}")?;
+    instruction(alloc, name.as_str(), format)
+}
+
+/// The instruction that is named by a number, of one value.
+fn of_value(
+    alloc: Global,
+    number: u16,
+    format: FormatId,
+    tv: TypeVar,
+) -> Result<InstructionBuilder, AllocError> {
+    let builder = numbered(alloc, 's', number.into(), format)?;
+    Ok(builder.operands_in(one_value(alloc, tv)?))
+}
+
 /// An operand `x` of the values of a variable.
 fn one_value(alloc: Global, tv: TypeVar) -> Result<Vec<Operand>, AllocError> {
     let mut operands = Vec::new(alloc);
@@ -130,7 +184,25 @@ fn designating(
     }
 }
 
-impl Instructions {
+/// Takes the second control, where the next word says that one is named.
+fn next_second(variables: &Variables<'_>, case: &mut Case<'_>) -> Option<TypeVar> {
+    if case.rest().first().is_none_or(|word| *word != "second") {
+        return None;
+    }
+    case.expect("second");
+    let name = case.word();
+    case.kept(variables.find(name))
+}
+
+/// The instruction with this second control, if there is one.
+fn with_second(builder: InstructionBuilder, second: Option<TypeVar>) -> InstructionBuilder {
+    match second {
+        Some(tv) if !builder.has_second_control() => builder.second_control(tv),
+        _ => builder,
+    }
+}
+
+impl<'l> Instructions<'l> {
     pub(crate) fn new(alloc: Global) -> Self {
         Instructions {
             formats: FormatTable::new(alloc),
@@ -151,102 +223,98 @@ impl Instructions {
 
     /// The last format of this key.
     fn find(&self, name: &str) -> Result<FormatId, Trouble> {
-        for (known, id) in self.named.iter().rev() {
-            if known.as_str() == name {
-                return Ok(*id);
-            }
+        match named(self.named.as_slice(), name) {
+            Ok(id) => Ok(*id),
+            Err(trouble) => Err(trouble),
         }
-        Err(Trouble::NoCase)
     }
 
-    /// `format KEY NAME OPERANDS`: adds a format of this name, which instructions name by its key. No operands are `-`.
-    pub(crate) fn format(
+    /// Adds the format of this name and these operands.
+    fn add_format(
         &mut self,
         alloc: Global,
-        key: &str,
         name: &str,
         operands: &str,
-    ) -> Result<(), Trouble> {
+    ) -> Result<FormatId, Trouble> {
         let format = format_of(alloc, name, operands)?;
         if !self.formats.has_room() {
             return Err(Trouble::NoCase);
         }
-        let id = format.build(&mut self.formats)?;
-        Ok(self.named.push((Text::new(alloc, key)?, id))?)
+        Ok(format.build(&mut self.formats)?)
     }
 
-    /// Adds an instruction.
-    fn push(&mut self, builder: InstructionBuilder) -> Result<(), AllocError> {
-        InstructionGroupBuilder::new(&mut self.all).push(builder)
+    /// Adds a format, which instructions name by its key. No operands are `-`.
+    pub(crate) fn format(&mut self, alloc: Global, case: &mut Case<'l>) {
+        let (key, name) = (case.word(), case.word());
+        match self.add_format(alloc, name, case.word()) {
+            Ok(id) => {
+                if self.named.push((key, id)).is_err() {
+                    case.refuse(Trouble::OutOfMemory);
+                }
+            }
+            Err(trouble) => case.refuse(trouble),
+        }
     }
 
-    /// `inst NAME FORMAT INPUTS OUTPUTS`, with `method` behind it where the immediate method is asked for.
-    pub(crate) fn inst(
-        &mut self,
-        alloc: Global,
-        variables: &Variables,
-        words: &[&str],
-        method: bool,
-    ) -> Result<(), Trouble> {
-        let [name, format, inputs, outputs] = words else {
-            return Err(Trouble::NoCase);
+    /// Adds an instruction, if it could be made.
+    fn push(&mut self, builder: Result<InstructionBuilder, AllocError>, case: &mut Case<'l>) {
+        match builder {
+            Ok(builder) => case.note(InstructionGroupBuilder::new(&mut self.all).push(builder)),
+            Err(_) => case.refuse(Trouble::OutOfMemory),
+        }
+    }
+
+    /// Adds an instruction, with `second VARIABLE` behind it where this is the second control, and then `method` where the immediate
+    /// method is asked for.
+    pub(crate) fn inst(&mut self, alloc: Global, variables: &Variables<'l>, case: &mut Case<'l>) {
+        let (name, format) = (case.word(), case.word());
+        let inputs = operands(alloc, variables, case.word());
+        let outputs = operands(alloc, variables, case.word());
+        let second = next_second(variables, case);
+        let method = case.rest().first().is_some_and(|word| *word == "method");
+        let Ok(format) = self.find(format) else {
+            return case.no_case();
         };
-        let (inputs, outputs) = (
-            operands(alloc, variables, inputs)?,
-            operands(alloc, variables, outputs)?,
-        );
-        let builder = instruction(alloc, name, self.find(format)?)?
-            .operands_in(inputs)
-            .operands_out(outputs)
-            .inst_builder_imm_method(method);
-        Ok(self.push(builder)?)
+        match (inputs, outputs, instruction(alloc, name, format)) {
+            (Ok(inputs), Ok(outputs), Ok(builder)) => {
+                let builder = builder.operands_in(inputs).operands_out(outputs);
+                let builder = with_second(builder.inst_builder_imm_method(method), second);
+                self.push(Ok(builder), case);
+            }
+            _ => case.refuse(Trouble::OutOfMemory),
+        }
     }
 
-    /// `many COUNT FIRST FORMAT`: adds instructions without operands, the first of this name, and then `f1`, `f2` and so on.
-    pub(crate) fn many(
-        &mut self,
-        alloc: Global,
-        count: u32,
-        first: &str,
-        format: &str,
-    ) -> Result<(), Trouble> {
-        let id = self.find(format)?;
+    /// Adds instructions without operands, the first of this name, and then `f1`, `f2` and so on.
+    pub(crate) fn many(&mut self, alloc: Global, case: &mut Case<'l>) {
+        let (count, first): (u32, _) = (case.number(), case.word());
+        let Ok(id) = self.find(case.word()) else {
+            return case.no_case();
+        };
         if count > 0 {
-            self.push(instruction(alloc, first, id)?)?;
+            self.push(instruction(alloc, first, id), case);
         }
         for number in 1..count {
-            let name = format!(in alloc; "f{number}")?;
-            self.push(instruction(alloc, name.as_str(), id)?)?;
+            self.push(numbered(alloc, 'f', number, id), case);
         }
-        Ok(())
     }
 
-    /// Adds an instruction that is named by a number, of one value.
-    fn push_of_set(
-        &mut self,
-        alloc: Global,
-        id: FormatId,
-        number: u16,
-        tv: TypeVar,
-    ) -> Result<(), AllocError> {
-        let name = format!(in alloc; "s{number}")?;
-        let builder = instruction(alloc, name.as_str(), id)?;
-        self.push(builder.operands_in(one_value(alloc, tv)?))
-    }
-
-    /// `sets COUNT FORMAT`: adds instructions `s0`, `s1` and so on, each of one value, whose set no other has.
+    /// Adds instructions `s0`, `s1` and so on, each of one value, whose set no other has.
     pub(crate) fn sets(
         &mut self,
         alloc: Global,
-        variables: &mut Variables,
-        count: u16,
-        format: &str,
-    ) -> Result<(), Trouble> {
-        let id = self.find(format)?;
+        variables: &mut Variables<'l>,
+        case: &mut Case<'l>,
+    ) {
+        let count: u16 = case.number();
+        let Ok(id) = self.find(case.word()) else {
+            return case.no_case();
+        };
         for number in 0..count {
-            let tv = variables.numbered(alloc, number)?;
-            self.push_of_set(alloc, id, number, tv)?;
+            match variables.numbered(alloc, number) {
+                Ok(tv) => self.push(of_value(alloc, number, id, tv), case),
+                Err(trouble) => case.refuse(trouble),
+            }
         }
-        Ok(())
     }
 }

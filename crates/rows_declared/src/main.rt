@@ -1,12 +1,13 @@
 //! Reads declarations and what is asked of them from standard input, case by case, and writes the answers: the first fault, what
 //! the tables hold, and what a run of the program writes and leaves.
 //!
-//! A line that begins with `#` goes through unchanged. `new` begins a case. `case` has the words that declare, and `session` those
-//! that ask.
+//! A line that begins with `#` goes through unchanged. `new` begins a case. `asked` has the words that a line begins with.
 #![tactic(auto)]
 
-mod case;
+mod asked;
+mod declared;
 mod escapes;
+mod generated;
 mod group_answers;
 mod groups;
 mod instructions;
@@ -14,38 +15,37 @@ mod opcode_answers;
 mod outside;
 mod questions;
 mod session;
-mod trouble;
 mod variables;
 mod words;
 
 use session::Session;
-use std::alloc::Global;
-use std::io::{self, BufWriter, Read, Write};
-use trouble::Trouble;
+use std::alloc::{AllocError, Global};
+use std::io::{self, Write};
 
-/// The answer of a line, with its LF, and nothing for a line that only declares.
-fn answer(session: &mut Session, line: &str, alloc: Global) -> io::Result<String> {
-    if line.starts_with('#') {
-        return Ok(format!(in alloc; "{line}\n")?);
+/// Adds the answers to the lines.
+fn add_answers<'l>(
+    session: &mut Session<'l>,
+    input: &'l str,
+    answers: &mut String,
+) -> Result<(), AllocError> {
+    for line in input.lines() {
+        session.answer_line(line, answers)?;
     }
-    let mut text = String::new(alloc);
-    match session.answer(line, &mut text) {
-        Ok(true) => Ok(format!(in alloc; "{text}\n")?),
-        Ok(false) => Ok(String::new(alloc)),
-        Err(Trouble::NoCase) => Ok(format!(in alloc; "no case: {line}\n")?),
-        Err(Trouble::OutOfMemory) => Err(io::Error::from(io::ErrorKind::OutOfMemory)),
-    }
+    Ok(())
 }
 
+/// The answers to the lines.
+fn answers(alloc: Global, input: &str) -> Result<String, AllocError> {
+    let mut answers = String::new(alloc);
+    let mut session = Session::new(alloc);
+    add_answers(&mut session, input, &mut answers)?;
+    Ok(answers)
+}
+
+/// Answers the lines of the standard input on the standard output.
 fn main(rt: HostRuntime) -> io::Result<()> {
     let alloc = rt.alloc();
-    let mut input = String::new(alloc);
-    rt.reader().read_to_string(&mut input)?;
-    let mut out = BufWriter::new(alloc, io::writer(&rt))?;
-    let mut session = Session::new(alloc);
-    for line in input.as_str().lines() {
-        let text = answer(&mut session, line, alloc)?;
-        out.write_all(text.as_bytes())?;
-    }
-    out.flush()
+    let input = io::read_to_string(alloc, rt.reader())?;
+    let text = answers(alloc, input.as_str())?;
+    io::writer(&rt).write_all(text.as_bytes())
 }

@@ -1,76 +1,82 @@
 ghost use Rattle.std.specs.Prelude.{◌≡◌};
 
-use super::trouble::Trouble;
-use super::words::{list, number, numbers};
+use super::words::numbers;
 use meta_gen::Tables;
 use meta_unique::Steps;
-use std::alloc::{AllocError, Global};
+use rows_words::{Case, Trouble, number};
+use std::alloc::Global;
 use std::marker::Brand;
 use std::sync::ledger::{Blank, Ledger};
 
-/// Writes `NUMBER NAME FORMAT FLAGS SET CONSTRAINT`, or `none`.
-pub(crate) fn opcode(tables: &Tables, opcode: u16, out: &mut String) -> Result<(), AllocError> {
+/// Writes `NUMBER NAME FORMAT FLAGS SET SECOND CONSTRAINT`, or `none`.
+pub(crate) fn write_opcode(tables: &Tables, opcode: u16, case: &mut Case<'_>) {
     let parts = (
         tables.opcode_name(opcode),
         tables.opcode_format(opcode),
         tables.constraints(opcode),
     );
     let (Some(name), Some(format), Some(entry)) = parts else {
-        return out.push_str("none");
+        return case.text("none");
     };
-    write!(out, "{opcode} {} {} ", name.as_str(), format.as_str())?;
-    let (set, place) = (entry.typeset_offset, entry.constraint_offset);
-    write!(out, "{:02x} {set} {place}", entry.flags)
+    case.shown(&opcode);
+    case.letter(' ');
+    case.text(name.as_str());
+    case.letter(' ');
+    case.text(format.as_str());
+    case.letter(' ');
+    case.hexadecimal(entry.flags);
+    case.letter(' ');
+    case.shown(&entry.typeset_offset);
+    case.letter(' ');
+    case.shown(&entry.second_offset);
+    case.letter(' ');
+    case.shown(&entry.constraint_offset);
 }
 
 /// Writes all opcodes, a line each.
-pub(crate) fn opcodes(tables: &Tables, out: &mut String) -> Result<(), AllocError> {
-    write!(out, "{} opcodes", tables.opcode_count())?;
+pub(crate) fn write_opcodes(tables: &Tables, case: &mut Case<'_>) {
+    case.shown(&tables.opcode_count());
+    case.text(" opcodes");
     for number in 1..=tables.opcode_count() {
-        out.push('\n')?;
-        opcode(tables, number, out)?;
+        case.letter('\n');
+        write_opcode(tables, number, case);
     }
-    Ok(())
 }
 
 /// Writes the masks of the type sets, a line each.
-pub(crate) fn sets(tables: &Tables, out: &mut String) -> Result<(), AllocError> {
-    write!(out, "{} sets", tables.type_sets().len())?;
+pub(crate) fn write_sets(tables: &Tables, case: &mut Case<'_>) {
+    case.shown(&tables.type_sets().len());
+    case.text(" sets");
     for masks in tables.type_sets() {
-        let (lanes, dynamic_lanes) = (masks.lanes, masks.dynamic_lanes);
-        let (ints, floats) = (masks.ints, masks.floats);
-        write!(out, "\n{lanes} {dynamic_lanes} {ints} {floats}")?;
+        case.letter('\n');
+        case.shown(&masks.lanes);
+        case.letter(' ');
+        case.shown(&masks.dynamic_lanes);
+        case.letter(' ');
+        case.shown(&masks.ints);
+        case.letter(' ');
+        case.shown(&masks.floats);
     }
-    Ok(())
 }
 
 /// Writes the list of operand constraints.
-pub(crate) fn constraints(tables: &Tables, out: &mut String) -> Result<(), AllocError> {
+pub(crate) fn write_constraints(tables: &Tables, case: &mut Case<'_>) {
     let all = tables.operand_constraints();
-    write!(out, "{} constraints:", all.len())?;
+    case.shown(&all.len());
+    case.text(" constraints:");
     for constraint in all {
-        write!(out, " {constraint:?}")?;
-    }
-    Ok(())
-}
-
-/// Writes a slot, `-` where it is vacant.
-fn slot(number: Option<u16>, out: &mut String) -> Result<(), AllocError> {
-    match number {
-        Some(number) => write!(out, "{number}"),
-        None => out.push('-'),
+        case.letter(' ');
+        case.debugged(constraint);
     }
 }
 
-/// Writes slots, parted by commas.
-pub(crate) fn slots(slots: &[Option<u16>], out: &mut String) -> Result<(), AllocError> {
-    for (place, number) in slots.iter().enumerate() {
-        if place > 0 {
-            out.push(',')?;
-        }
-        slot(*number, out)?;
+/// Writes slots, parted by commas, `-` for one that is vacant.
+pub(crate) fn write_slots(slots: &[Option<u16>], case: &mut Case<'_>) {
+    let start = case.written();
+    for slot in slots {
+        case.separate_from(start, ',');
+        case.number_or_dash(*slot);
     }
-    Ok(())
 }
 
 /// What a look-up of the name finds, counted in this ledger.
@@ -89,43 +95,26 @@ fn counted(tables: &Tables, name: &[u8]) -> Option<u16> {
 }
 
 /// Writes the number that was found, `none`, or `differ` where the counted look-up found another.
-pub(crate) fn push_found(
-    plain: Option<u16>,
-    counted: Option<u16>,
-    out: &mut String,
-) -> Result<(), AllocError> {
+pub(crate) fn write_found(plain: Option<u16>, counted: Option<u16>, case: &mut Case<'_>) {
     match plain {
-        _ if plain != counted => out.push_str("differ"),
-        Some(number) => write!(out, "{number}"),
-        None => out.push_str("none"),
+        _ if plain != counted => case.text("differ"),
+        Some(number) => case.shown(&number),
+        None => case.text("none"),
     }
-}
-
-/// Writes what is found by each of these names.
-fn find_all(tables: &Tables, names: &[&str], out: &mut String) -> Result<(), AllocError> {
-    for (place, name) in names.iter().enumerate() {
-        if place > 0 {
-            out.push(',')?;
-        }
-        let name = name.as_bytes();
-        push_found(tables.find_opcode(name), counted(tables, name), out)?;
-    }
-    Ok(())
 }
 
 /// Writes what is found by each name of a list.
-pub(crate) fn find(
-    alloc: Global,
-    tables: &Tables,
-    names: &str,
-    out: &mut String,
-) -> Result<(), Trouble> {
-    Ok(find_all(tables, &list(alloc, names)?, out)?)
+pub(crate) fn write_finds(tables: &Tables, names: &str, case: &mut Case<'_>) {
+    for name in names.split(',') {
+        let name = name.as_bytes();
+        case.separate(',');
+        write_found(tables.find_opcode(name), counted(tables, name), case);
+    }
 }
 
 /// How many opcodes are found by their own names, by both look-ups.
-pub(crate) fn found_count(tables: &Tables) -> u32 {
-    let mut count: u32 = 0;
+pub(crate) fn found_count(tables: &Tables) -> usize {
+    let mut count = 0usize;
     for opcode in 1..=tables.opcode_count() {
         if let Some(name) = tables.opcode_name(opcode) {
             let name = name.as_bytes();
@@ -138,26 +127,102 @@ pub(crate) fn found_count(tables: &Tables) -> u32 {
     count
 }
 
+/// The numbers of the controls, each where there is one.
+#[derive(Clone, Copy)]
+struct Controls {
+    ctrl: Option<u16>,
+    second: Option<u16>,
+}
+
 /// The number of a control, where `-` is none.
-fn control_number(word: &str) -> Result<Option<u16>, Trouble> {
+fn control_of(word: &str) -> Result<Option<u16>, Trouble> {
     match word {
         "-" => Ok(None),
         digits => Ok(Some(number::<u16>(digits)?)),
     }
 }
 
-/// Writes whether the opcode accepts these numbers, where `-` is no control and an empty list.
-pub(crate) fn accepts(
-    alloc: Global,
+/// Takes the number of the control and, behind `/`, that of the second control, where `-` is none.
+fn next_controls(case: &mut Case<'_>) -> Result<Controls, Trouble> {
+    let word = case.word();
+    let (ctrl, second) = word.split_once('/').unwrap_or((word, "-"));
+    Ok(Controls {
+        ctrl: control_of(ctrl)?,
+        second: control_of(second)?,
+    })
+}
+
+/// Writes whether the opcode accepts these numbers. Without a second control both calls have to agree.
+fn write_whether_accepts(
     tables: &Tables,
-    words: &[&str],
-    out: &mut String,
-) -> Result<(), Trouble> {
-    let [opcode, control, results, values] = words else {
-        return Err(Trouble::NoCase);
+    opcode: u16,
+    controls: Controls,
+    results: &[u16],
+    values: &[u16],
+    case: &mut Case<'_>,
+) {
+    let Controls { ctrl, second } = controls;
+    let accepts = tables.accepts2(opcode, ctrl, second, results, values);
+    if second.is_none() && tables.accepts(opcode, ctrl, results, values) != accepts {
+        case.refuse(Trouble::Differ);
+    }
+    case.text(if accepts { "accept" } else { "refuse" });
+}
+
+/// Writes whether the opcode accepts these numbers, where `-` is no control and an empty list.
+pub(crate) fn write_accepts(alloc: Global, tables: &Tables, case: &mut Case<'_>) {
+    let (opcode, controls) = (case.number(), next_controls(case));
+    let results = numbers(alloc, case.word());
+    match (controls, results, numbers(alloc, case.word())) {
+        (Ok(controls), Ok(results), Ok(values)) => {
+            write_whether_accepts(tables, opcode, controls, &results, &values, case);
+        }
+        (Err(trouble), _, _) | (_, Err(trouble), _) | (_, _, Err(trouble)) => case.refuse(trouble),
+    }
+}
+
+/// What stands in the places of the results before they are inferred.
+const PLACES: [u16; 7] = [9; 7];
+
+/// Infers the results without a second control, and keeps where this isn't what both calls have to agree on.
+fn hold_against(
+    tables: &Tables,
+    opcode: u16,
+    ctrl: Option<u16>,
+    inferred: (Option<usize>, [u16; 7]),
+    case: &mut Case<'_>,
+) {
+    let mut numbers = PLACES;
+    let count = tables.infer_results(opcode, ctrl, &mut numbers);
+    if (count, numbers) != inferred {
+        case.refuse(Trouble::Differ);
+    }
+}
+
+/// Writes how many results the opcode infers, or `none`, and then all seven places.
+pub(crate) fn write_inferred(tables: &Tables, case: &mut Case<'_>) {
+    let (opcode, controls) = (case.number(), next_controls(case));
+    let Some(Controls { ctrl, second }) = case.kept(controls) else {
+        return;
     };
-    let (opcode, control) = (number(opcode)?, control_number(control)?);
-    let (results, values) = (numbers(alloc, results)?, numbers(alloc, values)?);
-    let accepts = tables.accepts(opcode, control, &results, &values);
-    Ok(out.push_str(if accepts { "accept" } else { "refuse" })?)
+    let mut numbers = PLACES;
+    let count = tables.infer_results2(opcode, ctrl, second, &mut numbers);
+    if second.is_none() {
+        hold_against(tables, opcode, ctrl, (count, numbers), case);
+    }
+    match count {
+        Some(count) => case.shown(&count),
+        None => case.text("none"),
+    }
+    case.letter(':');
+    for number in numbers {
+        case.letter(' ');
+        case.shown(&number);
+    }
+}
+
+/// Writes the controlling number that the opcode has where the designated value has this number, `-` for none.
+pub(crate) fn write_control(tables: &Tables, case: &mut Case<'_>) {
+    let (opcode, number) = (case.number(), case.number());
+    case.number_or_dash(tables.infer_control(opcode, number));
 }

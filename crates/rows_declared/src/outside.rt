@@ -1,9 +1,9 @@
-use super::escapes::push_bytes;
-use super::trouble::Trouble;
+use super::escapes::write_bytes;
 use meta_gen::{Declarations, Tables};
 use meta_query::{Lines, Status, answer_line, run};
 use meta_text::{MemorySink, MemorySource, ReadOutcome, Source};
 use meta_types::Text;
+use rows_words::{Case, Trouble};
 use std::alloc::{AllocError, Global};
 
 /// How the source and the sink of a run behave: the bytes that each call may give or take, the call that fails, 0 for none, and
@@ -132,12 +132,6 @@ fn answers_of(alloc: Global, tables: &Tables, input: &[u8]) -> Result<Vec<u8>, A
     Ok(out)
 }
 
-/// Writes the next byte.
-fn push_next(out: &mut String, byte: u8) -> Result<(), AllocError> {
-    out.push_str(" next ")?;
-    push_bytes(out, &[byte])
-}
-
 /// Adds the answer to a line, by the tables.
 fn push_answer(
     out: &mut Vec<u8>,
@@ -154,15 +148,15 @@ fn push_answer(
 
 impl Ran {
     /// Writes the status, what was written, `-` for nothing, and the next byte where one was left.
-    pub(crate) fn push(&self, out: &mut String) -> Result<(), AllocError> {
-        write!(out, "{} ", self.status.code())?;
-        match self.taken.as_slice() {
-            [] => out.push('-')?,
-            bytes => push_bytes(out, bytes)?,
-        }
-        match self.next {
-            Some(byte) => push_next(out, byte),
-            None => Ok(()),
+    pub(crate) fn write(&self, case: &mut Case<'_>) {
+        case.shown(&self.status.code());
+        case.letter(' ');
+        let start = case.written();
+        write_bytes(case, self.taken.as_slice());
+        case.end_list(start);
+        if let Some(byte) = self.next {
+            case.text(" next ");
+            write_bytes(case, &[byte]);
         }
     }
 

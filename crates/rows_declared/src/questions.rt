@@ -1,55 +1,70 @@
-use super::escapes::push_bytes;
+use super::escapes::write_bytes;
 use meta_query::{Lines, Question, Reply, Status};
+use rows_words::{Case, Trouble};
 use std::alloc::{AllocError, Global};
 
 /// Writes the lines of an input, each with an LF behind it.
-pub(crate) fn lines(input: &[u8], out: &mut String) -> Result<(), AllocError> {
+pub(crate) fn write_lines(input: &[u8], case: &mut Case<'_>) {
     for line in Lines::new(input) {
-        push_bytes(out, line)?;
-        push_bytes(out, b"\n")?;
+        write_bytes(case, line);
+        case.text("\\n");
     }
-    Ok(())
 }
 
 /// Writes how many lines the input has.
-pub(crate) fn line_count(input: &[u8], out: &mut String) -> Result<(), AllocError> {
+pub(crate) fn write_count(input: &[u8], case: &mut Case<'_>) {
     let mut count: u32 = 0;
     for _ in Lines::new(input) {
         count = count.saturating_add(1);
     }
-    write!(out, "{count} lines")
+    case.shown(&count);
+    case.text(" lines");
 }
 
 /// Writes a name, or the length of a long one.
-fn push_name(out: &mut String, name: &[u8]) -> Result<(), AllocError> {
+fn write_name(case: &mut Case<'_>, name: &[u8]) {
     if name.len() > 100 {
-        write!(out, "{} bytes", name.len())
+        case.shown(&name.len());
+        case.text(" bytes");
     } else {
-        push_bytes(out, name)
+        write_bytes(case, name);
     }
 }
 
-/// Writes what a line asks of an instruction: its name, or the length of a long one, the controlling number, and the numbers of the
-/// results and of the values; or `none`.
-pub(crate) fn question(alloc: Global, line: &[u8], out: &mut String) -> Result<(), AllocError> {
-    match Question::parse(alloc, line)? {
-        Some(question) => push_question(alloc, &question, out),
-        None => out.push_str("none"),
+/// Writes what a line asks of an instruction: its name, or the length of a long one, the controlling number, that of the second
+/// control behind `/` where there is one, and the numbers of the results and of the values; or `none`.
+pub(crate) fn write_question(alloc: Global, line: &[u8], case: &mut Case<'_>) {
+    match Question::parse(alloc, line) {
+        Ok(Some(question)) => {
+            let written = write_parts(alloc, &question, case);
+            case.note(written);
+        }
+        Ok(None) => case.text("none"),
+        Err(_) => case.refuse(Trouble::OutOfMemory),
     }
 }
 
 /// Writes the parts of a question.
-fn push_question(alloc: Global, question: &Question, out: &mut String) -> Result<(), AllocError> {
-    push_name(out, question.name())?;
-    write!(out, " {:?}", question.control_number())?;
-    write!(out, " {:?}", question.result_numbers(alloc)?)?;
-    write!(out, " {:?}", question.value_numbers(alloc)?)
+fn write_parts(alloc: Global, question: &Question, case: &mut Case<'_>) -> Result<(), AllocError> {
+    write_name(case, question.name());
+    case.letter(' ');
+    case.debugged(&question.control_number());
+    if let Some(second) = question.second_number() {
+        case.letter('/');
+        case.shown(&second);
+    }
+    case.letter(' ');
+    case.debugged(&question.result_numbers(alloc)?);
+    case.letter(' ');
+    case.debugged(&question.value_numbers(alloc)?);
+    Ok(())
 }
 
 /// Writes the texts of the replies, and the codes of all statuses.
-pub(crate) fn codes(out: &mut String) -> Result<(), AllocError> {
+pub(crate) fn write_codes(case: &mut Case<'_>) {
     for reply in [Reply::Accept, Reply::Refuse, Reply::Unknown, Reply::Bad] {
-        write!(out, "{} ", reply.text())?;
+        case.text(reply.text());
+        case.letter(' ');
     }
     for status in [
         Status::Done,
@@ -60,7 +75,6 @@ pub(crate) fn codes(out: &mut String) -> Result<(), AllocError> {
         Status::OutOfMemory,
         Status::TooLong,
     ] {
-        write!(out, "{}", status.code())?;
+        case.shown(&status.code());
     }
-    Ok(())
 }

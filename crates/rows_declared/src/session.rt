@@ -1,165 +1,50 @@
-use super::case::Case;
+use super::asked::{ASKED, Asked, Declares, Of};
+use super::declared::Declared;
 use super::escapes::decoded;
-use super::outside::{Fails, Outside, Ran, run_over};
-use super::trouble::Trouble;
-use super::words::number;
-use super::{group_answers, opcode_answers, questions};
-use meta_gen::{Declarations, Tables, generate};
-use meta_types::{DefinitionError, Text};
+use super::generated::Generated;
+use super::outside::{Fails, Outside};
+use super::questions::{write_codes, write_count, write_lines, write_question};
+use meta_gen::Tables;
+use meta_types::Text;
+use rows_words::{Case, Trouble, named};
 use std::alloc::{AllocError, Global};
 use std::mem;
 
-/// Declarations, and what `generate` makes of them.
-#[derive(Drop)]
-struct Asked {
-    declarations: Declarations,
-    tables: Result<Tables, DefinitionError>,
-}
-
 /// The cases that are read: what is declared, what is asked of it once something is, and tables that are kept for a comparison.
 #[derive(Drop)]
-pub(crate) struct Session {
+pub(crate) struct Session<'l> {
     alloc: Global,
-    case: Case,
-    asked: Option<Asked>,
+    declared: Declared<'l>,
+    generated: Option<Generated>,
     kept: Option<Tables>,
     outside: Outside,
 }
 
-impl Asked {
-    /// What `generate` makes of a case.
-    fn of(alloc: Global, case: Case) -> Result<Asked, Trouble> {
-        let declarations = case.declarations()?;
-        let tables = generate(alloc, &declarations);
-        if let Err(fault) = &tables {
-            Trouble::unless_memory(fault)?;
-        }
-        Ok(Asked {
-            declarations,
-            tables,
-        })
-    }
-
-    /// The tables, which there have to be.
-    fn tables(&self) -> Result<&Tables, Trouble> {
-        match &self.tables {
-            Ok(tables) => Ok(tables),
-            Err(_) => Err(Trouble::NoCase),
-        }
-    }
-
-    /// Writes `ok`, or the line of the fault.
-    fn outcome(&self, alloc: Global, out: &mut String) -> Result<(), AllocError> {
-        match &self.tables {
-            Ok(_) => out.push_str("ok"),
-            Err(fault) => out.push_str(fault.line(alloc)?.as_str()),
-        }
-    }
-
-    /// Writes what the words ask of the opcodes, or else of a group.
-    fn answer(&self, alloc: Global, words: &[&str], out: &mut String) -> Result<(), Trouble> {
-        let tables = self.tables()?;
-        match words {
-            ["opcodes"] => Ok(opcode_answers::opcodes(tables, out)?),
-            ["opcode", k] => Ok(opcode_answers::opcode(tables, number(k)?, out)?),
-            ["sets"] => Ok(opcode_answers::sets(tables, out)?),
-            ["constraints"] => Ok(opcode_answers::constraints(tables, out)?),
-            ["slots"] => Ok(opcode_answers::slots(tables.opcode_slots(), out)?),
-            ["size"] => Ok(write!(out, "{} slots", tables.opcode_slots().len())?),
-            ["find", names] => opcode_answers::find(alloc, tables, names, out),
-            ["found"] => Ok(write!(out, "{} found", opcode_answers::found_count(tables))?),
-            ["accepts", rest @ ..] => opcode_answers::accepts(alloc, tables, rest, out),
-            _ => group_answer(alloc, tables, words, out),
-        }
-    }
-
-    /// Whether a run that is done wrote something else than the tables answer to each line of the input.
-    fn differs(&self, alloc: Global, ran: &Ran, input: &[u8]) -> Result<bool, AllocError> {
-        match &self.tables {
-            Ok(tables) => Ok(!ran.is_by(alloc, tables, input)?),
-            Err(_) => Ok(false),
-        }
-    }
-
-    /// Writes how a run of these words over the input ends. Where it is done, its answers are held against those of the tables.
-    fn run(
-        &self,
-        alloc: Global,
-        outside: Outside,
-        words: &[Text],
-        input: &[u8],
-        out: &mut String,
-    ) -> Result<(), Trouble> {
-        let ran = run_over(alloc, outside, &self.declarations, words, input)?;
-        if self.differs(alloc, &ran, input)? {
-            return Ok(out.push_str("not by the tables")?);
-        }
-        Ok(ran.push(out)?)
-    }
-
-    /// Writes how runs end of which the read, or the write, with each number in turn fails, from 0, which is none; the last has no
-    /// such read or write.
-    fn each_failing(
-        &self,
-        alloc: Global,
-        outside: Outside,
-        fails: Fails,
-        count: u64,
-        input: &[u8],
-        out: &mut String,
-    ) -> Result<(), Trouble> {
-        let query = run_words(alloc, &["query"])?;
-        for failing in 0..count {
-            if failing > 0 {
-                out.push_str("; ")?;
-            }
-            self.run(alloc, outside.failing(fails, failing), &query, input, out)?;
-        }
-        Ok(())
-    }
-}
-
-/// Writes what the words ask of a group.
-fn group_answer(
-    alloc: Global,
-    tables: &Tables,
-    words: &[&str],
-    out: &mut String,
-) -> Result<(), Trouble> {
-    match words {
-        ["groups"] => Ok(write!(out, "{} groups", tables.group_count())?),
-        ["holds", k] => Ok(group_answers::group(tables, number(k)?, out)?),
-        ["entries", k] => Ok(group_answers::entries(tables, number(k)?, out)?),
-        ["entry", k, index] => {
-            Ok(group_answers::entry(tables, number(k)?, number(index)?, out)?)
-        }
-        ["setting", k, name] => Ok(group_answers::setting(tables, number(k)?, name, out)?),
-        ["setting_slots", k] => Ok(group_answers::setting_slots(tables, number(k)?, out)?),
-        ["settings_found", k] => Ok(group_answers::found(tables, number(k)?, out)?),
-        ["apply", k, preset, bytes] => {
-            group_answers::apply(alloc, tables, number(k)?, number(preset)?, bytes, out)
-        }
-        _ => Err(Trouble::NoCase),
-    }
-}
-
-/// The words of a run, a text each: they are parted by spaces, and one word of no letters is none.
-fn run_words(alloc: Global, words: &[&str]) -> Result<Vec<Text>, Trouble> {
-    let mut all = Vec::new(alloc);
+/// Adds the words of a run, a text each. One word of no letters is one.
+fn push_run_words(alloc: Global, all: &mut Vec<Text>, words: &[&str]) -> Result<(), Trouble> {
     for word in words {
         let bytes = decoded(alloc, word)?;
-        let text = std::str::from_utf8(&bytes).map_err(|_| Trouble::NoCase)?;
+        let Ok(text) = std::str::from_utf8(&bytes) else {
+            return Err(Trouble::NoCase);
+        };
         all.push(Text::new(alloc, text)?)?;
     }
+    Ok(())
+}
+
+/// The words of a run, a text each.
+fn run_words(alloc: Global, words: &[&str]) -> Result<Vec<Text>, Trouble> {
+    let mut all = Vec::new(alloc);
+    push_run_words(alloc, &mut all, words)?;
     Ok(all)
 }
 
-impl Session {
+impl<'l> Session<'l> {
     pub(crate) fn new(alloc: Global) -> Self {
         Session {
             alloc,
-            case: Case::new(alloc),
-            asked: None,
+            declared: Declared::new(alloc),
+            generated: None,
             kept: None,
             outside: Outside::well(),
         }
@@ -167,42 +52,43 @@ impl Session {
 
     /// Begins a case.
     fn begin(&mut self) {
-        self.case = Case::new(self.alloc);
-        self.asked = None;
+        self.declared = Declared::new(self.alloc);
+        self.generated = None;
         self.outside = Outside::well();
     }
 
-    /// What is asked of this case, which is declared from here on.
-    fn asked(&mut self) -> Result<&mut Asked, Trouble> {
+    /// What is generated of this case, which is declared from here on.
+    fn generated(&mut self) -> Result<&mut Generated, Trouble> {
         let alloc = self.alloc;
-        let asked = match self.asked.take() {
-            Some(asked) => asked,
-            None => Asked::of(alloc, mem::replace(&mut self.case, Case::new(alloc)))?,
+        let generated = match self.generated.take() {
+            Some(generated) => generated,
+            None => {
+                let declared = mem::replace(&mut self.declared, Declared::new(alloc));
+                Generated::of(alloc, declared.declarations()?)?
+            }
         };
-        Ok(self.asked.insert(asked))
+        Ok(self.generated.insert(generated))
     }
 
-    /// `source STEP FAIL` and `sink ROOM STEP FAIL`: how the outside of this case behaves; `false` where the words don't say.
-    fn set_outside(&mut self, words: &[&str]) -> Result<bool, Trouble> {
-        match words {
-            ["source", step, fail] => {
-                self.outside.source_step = number(step)?;
-                self.outside.failing_read = number(fail)?;
-            }
-            ["sink", room, step, fail] => {
-                self.outside.room = number(room)?;
-                self.outside.sink_step = number(step)?;
-                self.outside.failing_write = number(fail)?;
-            }
-            _ => return Ok(false),
-        }
-        Ok(true)
+    /// Takes how the source of this case behaves.
+    fn set_source(&mut self, case: &mut Case<'l>) {
+        self.outside.source_step = case.number();
+        self.outside.failing_read = case.number();
+    }
+
+    /// Takes how the sink of this case behaves.
+    fn set_sink(&mut self, case: &mut Case<'l>) {
+        self.outside.room = case.number();
+        self.outside.sink_step = case.number();
+        self.outside.failing_write = case.number();
     }
 
     /// Whether the tables of the case are the same as those that were kept, either way round.
     fn compare(&mut self) -> Result<&'static str, Trouble> {
-        let kept = self.kept.take().ok_or(Trouble::NoCase)?;
-        let tables = self.asked()?.tables()?;
+        let Some(kept) = self.kept.take() else {
+            return Err(Trouble::NoCase);
+        };
+        let tables = self.generated()?.tables()?;
         let both = (kept.same(tables), tables.same(&kept));
         let own = tables.same(tables) && kept.same(&kept);
         self.kept = Some(kept);
@@ -215,81 +101,128 @@ impl Session {
 
     /// Keeps the tables of the case for a comparison.
     fn keep(&mut self) -> Result<(), Trouble> {
-        let asked = self.asked()?;
-        let nothing = Err(DefinitionError::OutOfMemory);
-        match mem::replace(&mut asked.tables, nothing) {
-            Ok(tables) => self.kept = Some(tables),
-            Err(_) => return Err(Trouble::NoCase),
+        let tables = self.generated()?.take_tables()?;
+        self.kept = Some(tables);
+        Ok(())
+    }
+
+    /// Writes how a run ends, or runs that fail.
+    fn run(&mut self, asked: Asked, input: &str, case: &mut Case<'l>) -> Result<(), Trouble> {
+        let (alloc, outside) = (self.alloc, self.outside);
+        let input = decoded(alloc, input)?;
+        let words = match asked {
+            Asked::Run => run_words(alloc, case.rest())?,
+            _ => run_words(alloc, &["query"])?,
+        };
+        let generated = self.generated()?;
+        match asked {
+            Asked::Reads => {
+                generated.run_failing(alloc, outside, Fails::Read, &words, &input, case)
+            }
+            Asked::Writes => {
+                generated.run_failing(alloc, outside, Fails::Write, &words, &input, case)
+            }
+            _ => generated.run(alloc, outside, &words, &input, case),
+        }
+    }
+
+    /// Writes what is asked of an input.
+    fn write_over(&self, asked: Asked, input: &str, case: &mut Case<'l>) -> Result<(), Trouble> {
+        let input = decoded(self.alloc, input)?;
+        match asked {
+            Asked::Lines => write_lines(&input, case),
+            Asked::Count => write_count(&input, case),
+            _ => write_question(self.alloc, &input, case),
         }
         Ok(())
     }
 
-    /// Writes what is asked by a line whose part before the first `<` has these words, with the input behind it.
-    fn ask_over(&mut self, words: &[&str], input: &[u8], out: &mut String) -> Result<(), Trouble> {
-        match words {
-            ["lines"] => Ok(questions::lines(input, out)?),
-            ["count"] => Ok(questions::line_count(input, out)?),
-            ["question"] => Ok(questions::question(self.alloc, input, out)?),
-            _ => self.run(words, input, out),
-        }
-    }
-
-    /// Writes how a run ends, or runs that fail.
-    fn run(&mut self, words: &[&str], input: &[u8], out: &mut String) -> Result<(), Trouble> {
-        let (alloc, outside) = (self.alloc, self.outside);
-        let asked = self.asked()?;
-        match words {
-            ["run", rest @ ..] => asked.run(alloc, outside, &run_words(alloc, rest)?, input, out),
-            ["reads", count] => {
-                asked.each_failing(alloc, outside, Fails::Read, number(count)?, input, out)
-            }
-            ["writes", count] => {
-                asked.each_failing(alloc, outside, Fails::Write, number(count)?, input, out)
-            }
-            _ => Err(Trouble::NoCase),
-        }
-    }
-
-    /// Writes what the words ask of the case.
-    fn ask(&mut self, words: &[&str], out: &mut String) -> Result<(), Trouble> {
+    /// Writes what is asked of the tables of the case.
+    fn write_of_tables(&mut self, of: Of, case: &mut Case<'l>) -> Result<(), Trouble> {
         let alloc = self.alloc;
-        match words {
-            ["same"] => Ok(out.push_str(self.compare()?)?),
-            ["generate"] => Ok(self.asked()?.outcome(alloc, out)?),
-            ["codes"] => Ok(questions::codes(out)?),
-            _ => self.asked()?.answer(alloc, words, out),
-        }
+        self.generated()?.write_of_tables(alloc, of, case);
+        Ok(())
     }
 
-    /// Declares what the words say, or writes what they ask; `false` where they declare.
-    fn declare_or_ask(&mut self, words: &[&str], out: &mut String) -> Result<bool, Trouble> {
-        if self.set_outside(words)? || self.case.declare(words)? {
-            return Ok(false);
-        }
-        self.ask(words, out)?;
-        Ok(true)
-    }
-
-    /// The same of the words that begin and keep a case, and of an empty line.
-    fn take(&mut self, words: &[&str], out: &mut String) -> Result<bool, Trouble> {
-        match words {
-            [""] => return Ok(true),
-            ["new"] => self.begin(),
-            ["keep"] => self.keep()?,
-            _ => return self.declare_or_ask(words, out),
-        }
-        Ok(false)
-    }
-
-    /// Writes the answer of a line, if it asks; `false` where it doesn't.
-    pub(crate) fn answer(&mut self, line: &str, out: &mut String) -> Result<bool, Trouble> {
+    /// Writes `ok`, or the line of the fault.
+    fn write_outcome(&mut self, case: &mut Case<'l>) -> Result<(), Trouble> {
         let alloc = self.alloc;
-        let Some((front, input)) = line.split_once(" < ") else {
-            let words: Vec<&str> = line.split(' ').collect(alloc)?;
-            return self.take(&words, out);
+        self.generated()?.write_outcome(alloc, case);
+        Ok(())
+    }
+
+    /// Does what a line says that has no answer.
+    fn take(&mut self, asked: Asked, case: &mut Case<'l>) -> Result<(), Trouble> {
+        match asked {
+            Asked::New => self.begin(),
+            Asked::Keep => self.keep()?,
+            Asked::Source => self.set_source(case),
+            Asked::Sink => self.set_sink(case),
+            Asked::Declares(declares) => self.declared.declare(self.alloc, declares, case),
+            _ => return Err(Trouble::NoCase),
+        }
+        Ok(())
+    }
+
+    /// Writes the answer of a line that asks.
+    fn ask(&mut self, asked: Asked, input: &str, case: &mut Case<'l>) -> Result<(), Trouble> {
+        match asked {
+            Asked::Nothing => Ok(()),
+            Asked::Of(of) => self.write_of_tables(of, case),
+            Asked::Same => {
+                case.text(self.compare()?);
+                Ok(())
+            }
+            Asked::Generate => self.write_outcome(case),
+            Asked::Codes => {
+                write_codes(case);
+                Ok(())
+            }
+            Asked::Lines | Asked::Count | Asked::Question => self.write_over(asked, input, case),
+            _ => self.run(asked, input, case),
+        }
+    }
+
+    /// Does what a line says, or writes what it asks; `false` where it has no answer.
+    fn answer(&mut self, input: &str, case: &mut Case<'l>) -> Result<bool, Trouble> {
+        let asked = match *named(&ASKED, case.word())? {
+            Asked::Sets if case.rest().is_empty() => Asked::Of(Of::Sets),
+            Asked::Sets => Asked::Declares(Declares::Sets),
+            asked => asked,
         };
-        let words: Vec<&str> = front.split(' ').collect(alloc)?;
-        self.ask_over(&words, &decoded(alloc, input)?, out)?;
-        Ok(true)
+        match asked {
+            Asked::New | Asked::Keep | Asked::Source | Asked::Sink | Asked::Declares(_) => {
+                self.take(asked, case)?;
+                Ok(false)
+            }
+            _ => {
+                self.ask(asked, input, case)?;
+                Ok(true)
+            }
+        }
+    }
+
+    /// Adds the answer to a line, if it asks, or the line where it is a comment. An input stands behind ` < `.
+    pub(crate) fn answer_line(
+        &mut self,
+        line: &'l str,
+        answers: &mut String,
+    ) -> Result<(), AllocError> {
+        if line.starts_with('#') {
+            return writeln!(answers, "{line}");
+        }
+        let (words, input) = line.split_once(" < ").unwrap_or((line, ""));
+        let mut case = Case::of(self.alloc, words)?;
+        let asks = match self.answer(input, &mut case) {
+            Ok(asks) => asks,
+            Err(trouble) => {
+                case.refuse(trouble);
+                true
+            }
+        };
+        if asks || case.trouble().is_some() {
+            return case.end(answers);
+        }
+        Ok(())
     }
 }

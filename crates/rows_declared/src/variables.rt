@@ -1,57 +1,50 @@
-use super::trouble::Trouble;
-use super::words::{interval, value_type};
+use super::words::interval;
 use meta_types::{DerivedFunc, Text};
 use meta_typevar::{Interval, Part, TypeSet, TypeSetBuilder, TypeVar, TypeVars};
+use rows_words::{Case, Trouble, function_of, named, type_of};
 use std::alloc::Global;
 
 /// The variables of a case, with their names.
 #[derive(Drop)]
-pub(crate) struct Variables {
+pub(crate) struct Variables<'l> {
     vars: TypeVars,
-    named: Vec<(Text, TypeVar)>,
+    named: Vec<(&'l str, TypeVar)>,
 }
 
-/// The derived function of this name.
-fn derived_func(name: &str) -> Result<DerivedFunc, Trouble> {
-    match name {
-        "lane_of" => Ok(DerivedFunc::LaneOf),
-        "as_truthy" => Ok(DerivedFunc::AsTruthy),
-        "half_width" => Ok(DerivedFunc::HalfWidth),
-        "double_width" => Ok(DerivedFunc::DoubleWidth),
-        "split_lanes" => Ok(DerivedFunc::SplitLanes),
-        "merge_lanes" => Ok(DerivedFunc::MergeLanes),
-        "dynamic_to_vector" => Ok(DerivedFunc::DynamicToVector),
-        "narrower" => Ok(DerivedFunc::Narrower),
-        "wider" => Ok(DerivedFunc::Wider),
-        _ => Err(Trouble::NoCase),
-    }
-}
+/// The parts of a builder by their words.
+const PARTS: [(&str, Part); 4] = [
+    ("ints", Part::Ints),
+    ("floats", Part::Floats),
+    ("lanes", Part::SimdLanes),
+    ("dynamic", Part::DynamicSimdLanes),
+];
 
-/// The builder with one more part.
+/// The builder with one more part, which wasn't set before.
 fn with_part(
     builder: TypeSetBuilder,
-    part: &str,
+    name: &str,
     interval: Interval,
 ) -> Result<TypeSetBuilder, Trouble> {
-    match part {
-        "ints" if !builder.is_set(Part::Ints) => Ok(builder.ints(interval)),
-        "floats" if !builder.is_set(Part::Floats) => Ok(builder.floats(interval)),
-        "lanes" if !builder.is_set(Part::SimdLanes) => Ok(builder.simd_lanes(interval)),
-        "dynamic" if !builder.is_set(Part::DynamicSimdLanes) => {
-            Ok(builder.dynamic_simd_lanes(interval))
-        }
-        _ => Err(Trouble::NoCase),
+    let part = *named(&PARTS, name)?;
+    if builder.is_set(part) {
+        return Err(Trouble::NoCase);
     }
+    Ok(match part {
+        Part::Ints => builder.ints(interval),
+        Part::Floats => builder.floats(interval),
+        Part::SimdLanes => builder.simd_lanes(interval),
+        Part::DynamicSimdLanes => builder.dynamic_simd_lanes(interval),
+    })
 }
 
 /// The set of these parts, each a word and its interval.
 fn type_set(alloc: Global, parts: &[&str]) -> Result<TypeSet, Trouble> {
     let mut builder = TypeSetBuilder::new();
     for part in parts.chunks(2) {
-        builder = match part {
-            [name, word] => with_part(builder, name, interval(word)?)?,
-            _ => return Err(Trouble::NoCase),
+        let [name, word] = part else {
+            return Err(Trouble::NoCase);
         };
+        builder = with_part(builder, name, interval(word)?)?;
     }
     if builder.can_build() {
         Ok(builder.build(alloc)?)
@@ -60,15 +53,17 @@ fn type_set(alloc: Global, parts: &[&str]) -> Result<TypeSet, Trouble> {
     }
 }
 
-/// The builder of the set with this number: ints, of so many lanes and of at least so many.
+/// The builder of the set with this number: ints and floats, of so many lanes and of at least so many.
 fn numbered_set(number: u16) -> TypeSetBuilder {
     let lanes = Interval::Range(1 << (number / 64 % 4)..16 << (number / 16 % 4));
     let dynamic_lanes = Interval::Range(2 << (number / 4 % 4)..32 << (number % 4));
-    let builder = TypeSetBuilder::new().ints(Interval::All);
+    let ints = Interval::Range(8 << (number / 256 % 2)..64 << (number / 512 % 2));
+    let floats = Interval::Range(16 << (number / 1024 % 2)..64 << (number / 2048 % 2));
+    let builder = TypeSetBuilder::new().ints(ints).floats(floats);
     builder.simd_lanes(lanes).dynamic_simd_lanes(dynamic_lanes)
 }
 
-impl Variables {
+impl<'l> Variables<'l> {
     pub(crate) fn new(alloc: Global) -> Self {
         Variables {
             vars: TypeVars::new(alloc),
@@ -84,12 +79,10 @@ impl Variables {
 
     /// The variable of this name.
     pub(crate) fn find(&self, name: &str) -> Result<TypeVar, Trouble> {
-        for (known, tv) in &self.named {
-            if known.as_str() == name {
-                return Ok(*tv);
-            }
+        match named(self.named.as_slice(), name) {
+            Ok(tv) => Ok(*tv),
+            Err(trouble) => Err(trouble),
         }
-        Err(Trouble::NoCase)
     }
 
     /// Adds a root of a set.
@@ -97,44 +90,61 @@ impl Variables {
         if !self.vars.has_room() {
             return Err(Trouble::NoCase);
         }
-        let (name, doc) = (Text::new(alloc, name)?, Text::new(alloc, "")?);
-        Ok(TypeVar::new(&mut self.vars, name, doc, set)?)
+        match (Text::new(alloc, name), Text::new(alloc, "")) {
+            (Ok(name), Ok(doc)) => Ok(TypeVar::new(&mut self.vars, name, doc, set)?),
+            _ => Err(Trouble::OutOfMemory),
+        }
     }
 
-    /// Names a variable.
-    fn keep(&mut self, alloc: Global, name: &str, tv: TypeVar) -> Result<(), Trouble> {
-        Ok(self.named.push((Text::new(alloc, name)?, tv))?)
+    /// Names a variable, if it could be added.
+    fn keep(&mut self, name: &'l str, added: Result<TypeVar, Trouble>, case: &mut Case<'l>) {
+        match added {
+            Ok(tv) => {
+                if self.named.push((name, tv)).is_err() {
+                    case.refuse(Trouble::OutOfMemory);
+                }
+            }
+            Err(trouble) => case.refuse(trouble),
+        }
     }
 
-    /// `var NAME PART INTERVAL ..`: adds a root of this set.
-    pub(crate) fn var(&mut self, alloc: Global, name: &str, parts: &[&str]) -> Result<(), Trouble> {
-        let set = type_set(alloc, parts)?;
-        let tv = self.add_root(alloc, name, set)?;
-        self.keep(alloc, name, tv)
+    /// Adds a root of a set.
+    pub(crate) fn var(&mut self, alloc: Global, case: &mut Case<'l>) {
+        let name = case.word();
+        match type_set(alloc, case.rest()) {
+            Ok(set) => {
+                let root = self.add_root(alloc, name, set);
+                self.keep(name, root, case);
+            }
+            Err(trouble) => case.refuse(trouble),
+        }
     }
 
-    /// `one NAME TYPE`: adds a root of one type.
-    pub(crate) fn one(&mut self, alloc: Global, name: &str, word: &str) -> Result<(), Trouble> {
-        let only = value_type(word)?;
+    /// Adds a root of one type.
+    pub(crate) fn one(&mut self, case: &mut Case<'l>) {
+        let name = case.word();
+        let root = self.add_one(case.word());
+        self.keep(name, root, case);
+    }
+
+    /// Adds a root of the type of this name.
+    fn add_one(&mut self, word: &str) -> Result<TypeVar, Trouble> {
+        let only = type_of(word)?;
         if !self.vars.has_room() {
             return Err(Trouble::NoCase);
         }
-        let tv = TypeVar::new_singleton(&mut self.vars, only)?;
-        self.keep(alloc, name, tv)
+        Ok(TypeVar::new_singleton(&mut self.vars, only)?)
     }
 
-    /// `derive NAME FUNCTION PARENT`: the variable that is derived from this one.
-    pub(crate) fn derive(
-        &mut self,
-        alloc: Global,
-        name: &str,
-        function: &str,
-        parent: &str,
-    ) -> Result<(), Trouble> {
-        let derived_func = derived_func(function)?;
-        let parent = self.find(parent)?;
-        let tv = self.derived(alloc, parent, derived_func)?;
-        self.keep(alloc, name, tv)
+    /// Adds the variable that is derived from one.
+    pub(crate) fn derive(&mut self, alloc: Global, case: &mut Case<'l>) {
+        let name = case.word();
+        let (function, parent) = (function_of(case.word()), self.find(case.word()));
+        let (Ok(function), Ok(parent)) = (function, parent) else {
+            return case.no_case();
+        };
+        let derived = self.derived(alloc, parent, function);
+        self.keep(name, derived, case);
     }
 
     /// The variable that is derived from one by a function.
@@ -142,18 +152,16 @@ impl Variables {
         &mut self,
         alloc: Global,
         parent: TypeVar,
-        derived_func: DerivedFunc,
+        function: DerivedFunc,
     ) -> Result<TypeVar, Trouble> {
-        if !self.vars.has_room() || !self.vars.is_of(parent) {
+        let vars = &mut self.vars;
+        if !vars.has_room() || !vars.is_of(parent) || !parent.can_derive(alloc, vars, function)? {
             return Err(Trouble::NoCase);
         }
-        if !parent.can_derive(alloc, &self.vars, derived_func)? {
-            return Err(Trouble::NoCase);
-        }
-        Ok(parent.derived(&mut self.vars, derived_func)?)
+        Ok(parent.derived(vars, function)?)
     }
 
-    /// Adds a root of set K of 256, as `S K` is named by its number: ints, of so many lanes and of at least so many.
+    /// Adds a root of the set with this number of 4,096.
     pub(crate) fn numbered(&mut self, alloc: Global, number: u16) -> Result<TypeVar, Trouble> {
         let builder = numbered_set(number);
         if !builder.can_build() {

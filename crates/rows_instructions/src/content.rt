@@ -1,80 +1,101 @@
 use crate::session::Session;
-use crate::trouble::Trouble;
-use crate::words::{end_list, push_item, push_prose};
+use crate::words::write_prose;
 use meta_inst::InstructionContent;
-use std::alloc::AllocError;
+use rows_words::Case;
 
 /// Writes the numbers behind a word, with commas between them, or `-` for none.
-fn push_numbers(out: &mut String, word: &str, numbers: &[usize]) -> Result<(), AllocError> {
-    write!(out, " {word} ")?;
-    let start = out.len();
+fn write_numbers(case: &mut Case<'_>, word: &str, numbers: &[usize]) {
+    case.text(word);
+    let start = case.written();
     for number in numbers {
-        push_item(out, start, "")?;
-        write!(out, "{number}")?;
+        case.separate_from(start, ',');
+        case.shown(number);
     }
-    end_list(out, start)
+    case.end_list(start);
 }
 
 /// Writes the letter of a mark that is set.
-fn push_mark(out: &mut String, is_set: bool, letter: char) -> Result<(), AllocError> {
+fn write_mark(case: &mut Case<'_>, is_set: bool, letter: char) {
     if is_set {
-        out.push(letter)?;
+        case.letter(letter);
     }
-    Ok(())
+}
+
+/// Writes its names: as it is declared, in camel case and in the code that is written; and its documentation.
+fn write_names(content: &InstructionContent, case: &mut Case<'_>) {
+    case.text(content.name().as_str());
+    case.letter(' ');
+    case.text(content.camel_name().as_str());
+    case.letter(' ');
+    case.text(content.snake_name());
+    write_prose(case, content.doc().as_str());
+}
+
+/// Writes its format's number, how many operands it has, and the places of values, immediates and results.
+fn write_places(content: &InstructionContent, case: &mut Case<'_>) {
+    case.text("format ");
+    case.shown(&content.format().number());
+    case.text(" inputs ");
+    case.shown(&content.operands_in().len());
+    case.text(" outputs ");
+    case.shown(&content.operands_out().len());
+    write_numbers(case, " values ", content.value_opnums());
+    write_numbers(case, " immediates ", content.imm_opnums());
+    write_numbers(case, " results ", content.value_results());
+}
+
+/// Writes the marks that are set, each by its letter, or `-` for none.
+fn write_marks(content: &InstructionContent, case: &mut Case<'_>) {
+    write_mark(case, content.is_terminator(), 't');
+    write_mark(case, content.is_branch(), 'b');
+    write_mark(case, content.is_call(), 'c');
+    write_mark(case, content.is_return(), 'r');
+    write_mark(case, content.can_load(), 'l');
+    write_mark(case, content.can_store(), 's');
+    write_mark(case, content.can_trap(), 'p');
+    write_mark(case, content.other_side_effects(), 'o');
+    write_mark(case, content.side_effects_idempotent(), 'i');
+    write_mark(case, content.inst_builder_imm_method(), 'm');
+    case.end_list(0);
+}
+
+/// What is asked of the instruction that was built last.
+#[derive(Clone, Copy)]
+pub(crate) enum Shown {
+    /// Its names and its documentation.
+    Names,
+    /// Its format's number, how many operands it has, and the places of values, immediates and results.
+    Places,
+    /// The marks that are set.
+    Marks,
+    /// The variable that controls, and whether it is that of the designated operand.
+    Control,
 }
 
 impl<'l> Session<'l> {
-    /// The instruction that was built last.
-    pub(crate) fn built(&self) -> Result<&InstructionContent, Trouble> {
-        self.content.as_ref().ok_or(Trouble::NoCase)
-    }
-
-    /// `names`: the names of the instruction: as it is declared, in camel case and in the code that is written; and its
-    /// documentation.
-    pub(crate) fn names(&self, out: &mut String) -> Result<(), Trouble> {
-        let content = self.built()?;
-        let (name, camel) = (content.name().as_str(), content.camel_name().as_str());
-        write!(out, "{name} {camel} {}", content.snake_name())?;
-        Ok(push_prose(out, content.doc().as_str())?)
-    }
-
-    /// `places`: its format's number, how many operands it has, and the places of values, immediates and results.
-    pub(crate) fn places(&self, out: &mut String) -> Result<(), Trouble> {
-        let content = self.built()?;
-        let (inputs, outputs) = (content.operands_in().len(), content.operands_out().len());
-        let format = content.format().number();
-        write!(out, "format {format} inputs {inputs} outputs {outputs}")?;
-        push_numbers(out, "values", content.value_opnums())?;
-        push_numbers(out, "immediates", content.imm_opnums())?;
-        Ok(push_numbers(out, "results", content.value_results())?)
-    }
-
-    /// `marks`: the marks that are set, each by its letter, or `-` for none.
-    pub(crate) fn marks(&self, out: &mut String) -> Result<(), Trouble> {
-        let content = self.built()?;
-        push_mark(out, content.is_terminator(), 't')?;
-        push_mark(out, content.is_branch(), 'b')?;
-        push_mark(out, content.is_call(), 'c')?;
-        push_mark(out, content.is_return(), 'r')?;
-        push_mark(out, content.can_load(), 'l')?;
-        push_mark(out, content.can_store(), 's')?;
-        push_mark(out, content.can_trap(), 'p')?;
-        push_mark(out, content.other_side_effects(), 'o')?;
-        push_mark(out, content.side_effects_idempotent(), 'i')?;
-        push_mark(out, content.inst_builder_imm_method(), 'm')?;
-        Ok(end_list(out, 0)?)
-    }
-
-    /// `control`: the variable that controls, and whether it is that of the designated operand; `none` where the instruction isn't
-    /// polymorphic.
-    pub(crate) fn control(&self, out: &mut String) -> Result<(), Trouble> {
-        match self.built()?.polymorphic_info() {
-            Some(info) => {
-                let name = self.name(info.ctrl_typevar);
-                write!(out, "{name} designated {}", info.use_typevar_operand)?;
-            }
-            None => out.push_str("none")?,
+    /// `names`, `places`, `marks` or `control`: a part of what is known of the instruction that was built last.
+    pub(crate) fn show_built(&self, shown: Shown, case: &mut Case<'l>) {
+        let Some(content) = &self.content else {
+            return case.no_case();
+        };
+        match shown {
+            Shown::Names => write_names(content, case),
+            Shown::Places => write_places(content, case),
+            Shown::Marks => write_marks(content, case),
+            Shown::Control => self.write_control(content, case),
         }
-        Ok(())
+    }
+
+    /// Writes the variable that controls, and whether it is that of the designated operand; `none` where the instruction isn't
+    /// polymorphic.
+    fn write_control(&self, content: &InstructionContent, case: &mut Case<'l>) {
+        match content.polymorphic_info() {
+            Some(info) => {
+                case.text(self.name(info.ctrl_typevar));
+                case.text(" designated ");
+                case.shown(&info.use_typevar_operand);
+            }
+            None => case.text("none"),
+        }
     }
 }

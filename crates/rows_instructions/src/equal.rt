@@ -1,72 +1,74 @@
 use crate::session::Session;
 use crate::sets::set_of;
-use crate::trouble::Trouble;
-use crate::words::function_of;
 use meta_typevar::{TypeSet, TypeVar, TypeVarParent};
-use std::alloc::{AllocError, Global};
-use std::hash::{DefaultHasher, Hash, Hasher};
-
-/// What a value hashes to.
-fn hash_of<T: Hash>(value: &T) -> u64 {
-    let mut state = DefaultHasher::new();
-    value.hash(&mut state);
-    state.finish()
-}
+use rows_words::{Case, Trouble, function_of, hash_of};
+use std::alloc::Global;
 
 /// Writes whether two sets are equal, and their masks; of equal ones whether they hash equally.
-fn push_equal(set: &TypeSet, other: &TypeSet, out: &mut String) -> Result<(), AllocError> {
-    let (is_equal, has_equal_masks) = (*set == *other, set.masks() == other.masks());
-    write!(out, "sets {is_equal} masks {has_equal_masks}")?;
-    if !is_equal {
-        return Ok(());
+fn write_equal(set: &TypeSet, other: &TypeSet, case: &mut Case<'_>) {
+    let is_equal = *set == *other;
+    case.text("sets ");
+    case.shown(&is_equal);
+    case.text(" masks ");
+    case.shown(&(set.masks() == other.masks()));
+    if is_equal {
+        case.text(" hashes ");
+        case.shown(&(hash_of(set) == hash_of(other)));
     }
-    write!(out, " hashes {}", hash_of(set) == hash_of(other))
+}
+
+/// The set of a documentation.
+fn set_of_doc(alloc: Global, doc: &str) -> Result<TypeSet, Trouble> {
+    let words: Vec<&str> = doc.split(' ').collect(alloc)?;
+    set_of(alloc, words.as_slice())
 }
 
 /// `equal_sets SET | SET`: whether two sets are equal, and their masks; of equal ones whether they hash equally.
-pub(crate) fn equal_sets(
-    alloc: Global,
-    words: &[&str],
-    other: &str,
-    out: &mut String,
-) -> Result<(), Trouble> {
-    let other: Vec<&str> = other.split(' ').collect(alloc)?;
-    let (set, other) = (set_of(alloc, words)?, set_of(alloc, other.as_slice())?);
-    Ok(push_equal(&set, &other, out)?)
+pub(crate) fn equal_sets(alloc: Global, case: &mut Case<'_>) {
+    match (set_of(alloc, case.rest()), set_of_doc(alloc, case.doc())) {
+        (Ok(set), Ok(other)) => write_equal(&set, &other, case),
+        (Err(trouble), _) | (_, Err(trouble)) => case.refuse(trouble),
+    }
 }
 
 impl<'l> Session<'l> {
     /// `equal_variables X Y`: whether two variables are equal; of equal ones whether the first is equal to the other had by
     /// reference, and whether they hash equally.
-    pub(crate) fn equal_variables(&self, words: &[&str], out: &mut String) -> Result<(), Trouble> {
-        let [one, other] = words else {
-            return Err(Trouble::BadLine);
+    pub(crate) fn equal_variables(&self, case: &mut Case<'l>) {
+        let (Some(one), Some(other)) = (self.next_variable(case), self.next_variable(case)) else {
+            return;
         };
-        let (one, other) = (self.variable(one)?, self.variable(other)?);
         let referred = TypeVar::from(&other);
-        write!(out, "equal {}", one == other)?;
+        case.text("equal ");
+        case.shown(&(one == other));
         if one == other {
-            let hashes = hash_of(&one) == hash_of(&other) && hash_of(&one) == hash_of(&referred);
-            write!(out, " referred {} hashes {hashes}", one == referred)?;
+            case.text(" referred ");
+            case.shown(&(one == referred));
+            let hash = hash_of(&one);
+            case.text(" hashes ");
+            case.shown(&(hash == hash_of(&other) && hash == hash_of(&referred)));
         }
-        Ok(())
     }
 
     /// `parent X FUNCTION Y`: whether the parent of a variable is Y by the function, and whether it hashes as that does.
-    pub(crate) fn parent(&self, words: &[&str], out: &mut String) -> Result<(), Trouble> {
-        let [derived, function, parent] = words else {
-            return Err(Trouble::BadLine);
+    pub(crate) fn parent(&self, case: &mut Case<'l>) {
+        let derived = self.next_variable(case);
+        let function = function_of(case.word());
+        let parent = self.next_variable(case);
+        let (Some(derived), Ok(derived_func), Some(type_var)) = (derived, function, parent) else {
+            return case.refuse(Trouble::BadLine);
         };
-        let derived = self.variable(derived)?;
         if !self.vars.is_of(derived) {
-            return Err(Trouble::NoCase);
+            return case.no_case();
         }
         let expected = Some(TypeVarParent {
-            type_var: self.variable(parent)?,
-            derived_func: function_of(function)?,
+            type_var,
+            derived_func,
         });
         let base = &self.vars.content(derived).base;
-        let hashes = hash_of(base) == hash_of(&expected);
-        Ok(write!(out, "equal {} hashes {hashes}", *base == expected)?)
+        case.text("equal ");
+        case.shown(&(*base == expected));
+        case.text(" hashes ");
+        case.shown(&(hash_of(base) == hash_of(&expected)));
     }
 }

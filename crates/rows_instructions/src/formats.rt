@@ -1,23 +1,11 @@
 use crate::session::Session;
-use crate::trouble::Trouble;
-use crate::words::{define, end_list, named, number_of, push_item, yes_or_no};
+use crate::words::define;
 use meta_operands::{
-    FormatField, FormatId, FormatStructure, FormatTable, InstructionFormat,
-    InstructionFormatBuilder, OperandKind,
+    FormatField, FormatFields, FormatId, FormatStructure, FormatTable, InstructionFormat,
+    InstructionFormatBuilder,
 };
 use meta_types::Text;
-use std::alloc::AllocError;
-
-/// A part of a format.
-#[derive(Drop)]
-enum Part {
-    Value,
-    Block,
-    RawBlock,
-    VariableArgs,
-    Immediate(OperandKind),
-    Designated(usize),
-}
+use rows_words::{Case, Trouble, named, number, yes_or_no};
 
 /// The format whose value input at this place is designated.
 fn designating(
@@ -31,95 +19,87 @@ fn designating(
     }
 }
 
-/// The format with one more part.
-fn with_part(
-    builder: InstructionFormatBuilder,
-    part: &Part,
-) -> Result<InstructionFormatBuilder, Trouble> {
-    if !builder.has_room() {
-        return Err(Trouble::NoCase);
-    }
-    match part {
-        Part::Value => Ok(builder.value()),
-        Part::Block => Ok(builder.block()),
-        Part::RawBlock => Ok(builder.raw_block()),
-        Part::VariableArgs => Ok(builder.varargs()),
-        Part::Immediate(kind) => Ok(builder.imm(kind)?),
-        Part::Designated(place) => designating(builder, *place),
-    }
-}
-
 /// Writes, with commas between them, whether the value inputs at these places can be designated.
-fn push_can(
-    builder: &InstructionFormatBuilder,
-    places: &str,
-    out: &mut String,
-) -> Result<(), Trouble> {
-    let start = out.len();
-    for place in places.split(',') {
-        let can = builder.can_designate(number_of(place)?);
-        push_item(out, start, yes_or_no(can))?;
+fn write_can(builder: &InstructionFormatBuilder, places: &str, case: &mut Case<'_>) {
+    let start = case.written();
+    for word in places.split(',') {
+        let place = case.number_of(word);
+        case.item(start, yes_or_no(builder.can_designate(place)));
     }
-    Ok(())
 }
 
 /// Writes the number of a format, its text, whether it has a value list, and what it designates.
-fn push_format(
-    id: FormatId,
-    format: &InstructionFormat,
-    out: &mut String,
-) -> Result<(), AllocError> {
-    let (number, list) = (id.number(), format.has_value_list);
-    write!(out, "{number} {format} list {list} designated ")?;
+fn write_format(id: FormatId, format: &InstructionFormat, case: &mut Case<'_>) {
+    case.shown(&id.number());
+    case.letter(' ');
+    case.shown(format);
+    case.text(" list ");
+    case.shown(&format.has_value_list);
+    case.text(" designated ");
     match format.typevar_operand {
-        Some(place) => write!(out, "{place}"),
-        None => out.push('-'),
+        Some(place) => case.shown(&place),
+        None => case.letter('-'),
     }
 }
 
 /// Writes the names and types of immediate fields.
-fn push_field_names(names: &[(Text, Text)], out: &mut String) -> Result<(), AllocError> {
-    let start = out.len();
+fn write_field_names(names: &[(Text, Text)], case: &mut Case<'_>) {
+    let start = case.written();
     for (field_name, rust_type) in names {
-        push_item(out, start, field_name.as_str())?;
-        write!(out, "={}", rust_type.as_str())?;
+        case.item(start, field_name.as_str());
+        case.letter('=');
+        case.text(rust_type.as_str());
     }
-    end_list(out, start)
+    case.end_list(start);
 }
 
 /// Writes what the structure of a format shows.
-fn push_structure(structure: &FormatStructure, out: &mut String) -> Result<(), AllocError> {
-    let (values, has_list) = (structure.num_value_operands, structure.has_value_list);
-    let (blocks, raw_blocks) = (
-        structure.num_block_operands,
-        structure.num_raw_block_operands,
-    );
-    write!(out, "vals={values} list={has_list} ")?;
-    write!(out, "blocks={blocks} raw_blocks={raw_blocks} fields ")?;
-    push_field_names(structure.imm_field_names.as_slice(), out)
+fn write_structure(structure: &FormatStructure, case: &mut Case<'_>) {
+    case.text("vals=");
+    case.shown(&structure.num_value_operands);
+    case.text(" list=");
+    case.shown(&structure.has_value_list);
+    case.text(" blocks=");
+    case.shown(&structure.num_block_operands);
+    case.text(" raw_blocks=");
+    case.shown(&structure.num_raw_block_operands);
+    case.text(" fields ");
+    write_field_names(structure.imm_field_names.as_slice(), case);
 }
 
 impl<'l> Session<'l> {
-    /// The part of a format that has a word behind it.
-    fn part_with_word(&self, part: &str, word: &str) -> Result<Part, Trouble> {
+    /// The format with one more part, which has a word behind it.
+    fn with_part_of(
+        &self,
+        builder: InstructionFormatBuilder,
+        part: &str,
+        word: &str,
+    ) -> Result<InstructionFormatBuilder, Trouble> {
         match part {
-            "imm" => Ok(Part::Immediate(self.kind_named(word)?)),
-            "designate" => Ok(Part::Designated(number_of(word)?)),
+            "imm" if builder.has_room() => Ok(builder.imm(&self.kind_named(word)?)?),
+            "designate" => designating(builder, number(word)?),
             _ => Err(Trouble::NoCase),
         }
     }
 
-    /// The part of a format for which the word stands.
-    fn part_of(&self, part: &str) -> Result<Part, Trouble> {
+    /// The format with one more part, for which the word stands.
+    fn with_part(
+        &self,
+        builder: InstructionFormatBuilder,
+        part: &str,
+    ) -> Result<InstructionFormatBuilder, Trouble> {
+        if let Some((part, word)) = part.split_once(':') {
+            return self.with_part_of(builder, part, word);
+        }
+        if !builder.has_room() {
+            return Err(Trouble::NoCase);
+        }
         match part {
-            "value" => Ok(Part::Value),
-            "block" => Ok(Part::Block),
-            "raw_block" => Ok(Part::RawBlock),
-            "varargs" => Ok(Part::VariableArgs),
-            _ => {
-                let (part, word) = part.split_once(':').ok_or(Trouble::NoCase)?;
-                self.part_with_word(part, word)
-            }
+            "value" => Ok(builder.value()),
+            "block" => Ok(builder.block()),
+            "raw_block" => Ok(builder.raw_block()),
+            "varargs" => Ok(builder.varargs()),
+            _ => Err(Trouble::NoCase),
         }
     }
 
@@ -128,21 +108,23 @@ impl<'l> Session<'l> {
         let name = Text::new(self.alloc, name)?;
         let mut builder = InstructionFormatBuilder::new(self.alloc, name);
         for part in parts {
-            builder = with_part(builder, &self.part_of(part)?)?;
+            builder = self.with_part(builder, part)?;
         }
         Ok(builder)
     }
 
     /// `can PLACES PARTS`: whether the value inputs at these places can be designated behind the parts.
-    pub(crate) fn can_designate(&self, words: &[&str], out: &mut String) -> Result<(), Trouble> {
-        let [places, parts @ ..] = words else {
-            return Err(Trouble::NoCase);
-        };
-        push_can(&self.format_of("F", parts)?, places, out)
+    pub(crate) fn can_designate(&self, case: &mut Case<'l>) {
+        let places = case.word();
+        match self.format_of("F", case.rest()) {
+            Ok(builder) => write_can(&builder, places, case),
+            Err(trouble) => case.refuse(trouble),
+        }
     }
 
-    /// Adds a format to the table.
-    fn add_format(&mut self, builder: InstructionFormatBuilder) -> Result<FormatId, Trouble> {
+    /// Adds the format of this name with these parts to the table.
+    fn add_format(&mut self, name: &str, parts: &[&str]) -> Result<FormatId, Trouble> {
+        let builder = self.format_of(name, parts)?;
         if !self.formats.has_room() {
             return Err(Trouble::NoCase);
         }
@@ -150,108 +132,126 @@ impl<'l> Session<'l> {
     }
 
     /// `format NAME PARTS`: adds a format to the table: its number, its text, whether it has a value list, and what it designates.
-    pub(crate) fn format(&mut self, words: &[&'l str], out: &mut String) -> Result<(), Trouble> {
-        let [name, parts @ ..] = words else {
-            return Err(Trouble::NoCase);
-        };
-        let builder = self.format_of(name, parts)?;
-        let id = self.add_format(builder)?;
-        define(&mut self.ids, name, id)?;
-        Ok(push_format(id, self.format_named(name)?, out)?)
+    pub(crate) fn format(&mut self, case: &mut Case<'l>) {
+        let name = case.word();
+        match self.add_format(name, case.rest()) {
+            Ok(id) => {
+                define(&mut self.ids, name, id, case);
+                if self.formats.is_of(id) {
+                    write_format(id, self.formats.get(id), case);
+                }
+            }
+            Err(trouble) => case.refuse(trouble),
+        }
     }
 
     /// The number of the format for whose name the word stands.
     pub(crate) fn id(&self, word: &str) -> Result<FormatId, Trouble> {
-        Ok(*named(self.ids.as_slice(), word)?)
+        match named(self.ids.as_slice(), word) {
+            Ok(id) => Ok(*id),
+            Err(trouble) => Err(trouble),
+        }
     }
 
     /// The format for whose name the word stands.
     fn format_named(&self, word: &str) -> Result<&InstructionFormat, Trouble> {
-        let id = self.id(word)?;
-        if !self.formats.is_of(id) {
-            return Err(Trouble::NoCase);
+        match self.id(word) {
+            Ok(id) if self.formats.is_of(id) => Ok(self.formats.get(id)),
+            _ => Err(Trouble::NoCase),
         }
-        Ok(self.formats.get(id))
     }
 
     /// Writes a line with a field's member, its text, and its kind.
-    fn push_field(&self, field: &FormatField, out: &mut String) -> Result<(), AllocError> {
-        write!(out, "\nmember {} text {field} kind ", field.member.as_str())?;
-        self.push_kind(&field.kind, out)
+    fn write_field(&self, field: &FormatField, case: &mut Case<'l>) {
+        case.text("\nmember ");
+        case.text(field.member.as_str());
+        case.text(" text ");
+        case.shown(field);
+        case.text(" kind ");
+        self.write_kind(&field.kind, case);
     }
 
     /// `fields NAME`: how many fields a format has, and all as they are written; and a line for each with its member, the text of
     /// the field, and its kind.
-    pub(crate) fn fields(&self, words: &[&str], out: &mut String) -> Result<(), Trouble> {
-        let [name] = words else {
-            return Err(Trouble::NoCase);
-        };
-        let fields = &self.format_named(name)?.imm_fields;
-        write!(out, "{} ({fields})", fields.len())?;
-        for place in 0..fields.len() {
-            self.push_field(fields.get(place), out)?;
+    pub(crate) fn fields(&self, case: &mut Case<'l>) {
+        match self.format_named(case.word()) {
+            Ok(format) => self.write_fields(&format.imm_fields, case),
+            Err(trouble) => case.refuse(trouble),
         }
-        Ok(())
     }
 
-    /// The structure of the format for whose name the word stands.
-    fn structure_of(&self, word: &str) -> Result<FormatStructure, Trouble> {
-        Ok(self.format_named(word)?.structure(self.alloc)?)
+    /// Writes how many fields there are, all as they are written, and a line for each.
+    fn write_fields(&self, fields: &FormatFields, case: &mut Case<'l>) {
+        case.shown(&fields.len());
+        case.text(" (");
+        case.shown(fields);
+        case.letter(')');
+        for place in 0..fields.len() {
+            self.write_field(fields.get(place), case);
+        }
+    }
+
+    /// The structure of the format for whose name the next word stands.
+    fn next_structure(&self, case: &mut Case<'l>) -> Result<FormatStructure, Trouble> {
+        Ok(self.format_named(case.word())?.structure(self.alloc)?)
     }
 
     /// `structure NAME`: what the structure of a format shows.
-    pub(crate) fn structure(&self, words: &[&str], out: &mut String) -> Result<(), Trouble> {
-        let [name] = words else {
-            return Err(Trouble::NoCase);
-        };
-        let structure = self.structure_of(name)?;
-        Ok(push_structure(&structure, out)?)
+    pub(crate) fn structure(&self, case: &mut Case<'l>) {
+        match self.next_structure(case) {
+            Ok(structure) => write_structure(&structure, case),
+            Err(trouble) => case.refuse(trouble),
+        }
     }
 
     /// `alike ONE OTHER`: whether two formats have one structure.
-    pub(crate) fn alike(&self, words: &[&str], out: &mut String) -> Result<(), Trouble> {
-        let [one, other] = words else {
-            return Err(Trouble::NoCase);
-        };
-        let (one, other) = (self.structure_of(one)?, self.structure_of(other)?);
-        Ok(write!(out, "{}", one == other)?)
+    pub(crate) fn alike(&self, case: &mut Case<'l>) {
+        match (self.next_structure(case), self.next_structure(case)) {
+            (Ok(one), Ok(other)) => case.shown(&(one == other)),
+            (Err(trouble), _) | (_, Err(trouble)) => case.refuse(trouble),
+        }
     }
 
     /// `insert_structure NAME`: whether the structure of a format is new among those that were inserted, or known.
-    pub(crate) fn insert_structure(
-        &mut self,
-        words: &[&str],
-        out: &mut String,
-    ) -> Result<(), Trouble> {
-        let [name] = words else {
-            return Err(Trouble::BadLine);
-        };
-        let structure = self.structure_of(name)?;
-        let is_new = self.structures.insert(structure)?;
-        Ok(out.push_str(if is_new { "new" } else { "known" })?)
+    pub(crate) fn insert_structure(&mut self, case: &mut Case<'l>) {
+        match self.next_structure(case) {
+            Ok(structure) => match self.structures.insert(structure) {
+                Ok(is_new) => case.text(if is_new { "new" } else { "known" }),
+                Err(_) => case.refuse(Trouble::OutOfMemory),
+            },
+            Err(trouble) => case.refuse(trouble),
+        }
     }
 
     /// `formats`: another table without a format, and how many it has.
-    pub(crate) fn start_formats(&mut self, out: &mut String) -> Result<(), Trouble> {
+    pub(crate) fn start_formats(&mut self, case: &mut Case<'l>) {
         self.formats = FormatTable::new(self.alloc);
-        Ok(write!(out, "formats {}", self.formats.len())?)
+        case.text("formats ");
+        case.shown(&self.formats.len());
     }
 
     /// `order ONE OTHER`: whether the number of a format is less than another, and whether it is equal.
-    pub(crate) fn order(&self, words: &[&str], out: &mut String) -> Result<(), Trouble> {
-        let [one, other] = words else {
-            return Err(Trouble::BadLine);
-        };
-        let (one, other) = (self.id(one)?, self.id(other)?);
-        Ok(write!(out, "less {} equal {}", one < other, one == other)?)
+    pub(crate) fn order(&self, case: &mut Case<'l>) {
+        match (self.id(case.word()), self.id(case.word())) {
+            (Ok(one), Ok(other)) => {
+                case.text("less ");
+                case.shown(&(one < other));
+                case.text(" equal ");
+                case.shown(&(one == other));
+            }
+            _ => case.no_case(),
+        }
     }
 
     /// `has NAME`: how many formats the table has, and whether the number is that of one.
-    pub(crate) fn has(&self, words: &[&str], out: &mut String) -> Result<(), Trouble> {
-        let [name] = words else {
-            return Err(Trouble::BadLine);
-        };
-        let has = self.formats.is_of(self.id(name)?);
-        Ok(write!(out, "{} {}", self.formats.len(), yes_or_no(has))?)
+    pub(crate) fn has(&self, case: &mut Case<'l>) {
+        match self.id(case.word()) {
+            Ok(id) => {
+                case.shown(&self.formats.len());
+                case.letter(' ');
+                case.yes_or_no(self.formats.is_of(id));
+            }
+            Err(trouble) => case.refuse(trouble),
+        }
     }
 }

@@ -1,9 +1,9 @@
 use crate::session::Session;
-use crate::trouble::Trouble;
-use crate::words::{named, text_of, yes_or_no};
-use meta_inst::{InstructionBuilder, InstructionContent, InstructionGroupBuilder, Operands};
+use crate::words::text_of;
+use meta_inst::{InstructionBuilder, InstructionGroupBuilder, Operands};
 use meta_operands::{FormatId, Operand};
-use meta_types::{DefinitionError, Text};
+use meta_types::Text;
+use rows_words::{Case, Trouble, named};
 use std::alloc::{AllocError, Global};
 
 /// The names of inputs by their places; `o` from there on.
@@ -65,7 +65,7 @@ fn with_calls(builder: InstructionBuilder, calls: &str) -> Result<InstructionBui
     let mut builder = builder;
     if calls != "-" {
         for call in calls.split(',') {
-            builder = called(builder, *named(CALLS.as_slice(), call)?);
+            builder = called(builder, *named(&CALLS, call)?);
         }
     }
     Ok(builder)
@@ -77,32 +77,31 @@ fn instruction(
     name: &str,
     doc: &str,
     format: FormatId,
-) -> Result<InstructionBuilder, AllocError> {
-    let (name, doc) = (Text::new(alloc, name)?, Text::new(alloc, doc)?);
-    Ok(InstructionBuilder::new(alloc, name, doc, format))
-}
-
-/// Writes how many operands were set, or that they weren't.
-fn push_count(out: &mut String, is_set: bool, operands: &[Operand]) -> Result<(), AllocError> {
-    if is_set {
-        write!(out, "{}", operands.len())
-    } else {
-        out.push_str("unset")
+) -> Result<InstructionBuilder, Trouble> {
+    match (Text::new(alloc, name), Text::new(alloc, doc)) {
+        (Ok(name), Ok(doc)) => Ok(InstructionBuilder::new(alloc, name, doc, format)),
+        _ => Err(Trouble::OutOfMemory),
     }
 }
 
-/// Writes the line of a fault.
-fn push_fault(alloc: Global, fault: &DefinitionError, out: &mut String) -> Result<(), AllocError> {
-    out.push_str(fault.line(alloc)?.as_str())
+/// Writes how many operands were set, or that they weren't.
+fn write_count(case: &mut Case<'_>, is_set: bool, operands: &[Operand]) {
+    if is_set {
+        case.shown(&operands.len());
+    } else {
+        case.text("unset");
+    }
 }
 
 /// Writes what the builder of an instruction keeps.
-fn push_builder(builder: &InstructionBuilder, out: &mut String) -> Result<(), AllocError> {
-    let (name, format) = (builder.name().as_str(), builder.format().number());
-    write!(out, "{name} format {format} inputs ")?;
-    push_count(out, builder.has_operands_in(), builder.inputs())?;
-    out.push_str(" outputs ")?;
-    push_count(out, builder.has_operands_out(), builder.outputs())
+fn write_builder(builder: &InstructionBuilder, case: &mut Case<'_>) {
+    case.text(builder.name().as_str());
+    case.text(" format ");
+    case.shown(&builder.format().number());
+    case.text(" inputs ");
+    write_count(case, builder.has_operands_in(), builder.inputs());
+    case.text(" outputs ");
+    write_count(case, builder.has_operands_out(), builder.outputs());
 }
 
 impl<'l> Session<'l> {
@@ -110,12 +109,23 @@ impl<'l> Session<'l> {
     fn operands_of(&self, words: &str, names: &[&str]) -> Result<Vec<Operand>, Trouble> {
         let mut operands = Vec::new(self.alloc);
         if words != "''" {
-            for word in words.split(',') {
-                let name = names.get(operands.len()).copied().unwrap_or("o");
-                operands.push(self.operand_of(name, word)?)?;
-            }
+            self.add_operands(&mut operands, words, names)?;
         }
         Ok(operands)
+    }
+
+    /// Adds the operands, named by their places.
+    fn add_operands(
+        &self,
+        operands: &mut Vec<Operand>,
+        words: &str,
+        names: &[&str],
+    ) -> Result<(), Trouble> {
+        for word in words.split(',') {
+            let name = names.get(operands.len()).copied().unwrap_or("o");
+            operands.push(self.operand_of(name, word)?)?;
+        }
+        Ok(())
     }
 
     /// The instruction with its inputs, where they are set.
@@ -142,50 +152,44 @@ impl<'l> Session<'l> {
         Ok(builder.operands_out(self.operands_of(words, OUTPUTS.as_slice())?))
     }
 
-    /// The builder of an instruction by its words: its name, the name of its format, its inputs and outputs, as words with commas
-    /// between them, or `-` where they aren't set, and the calls of its builder, with commas between them, or `-` for none.
-    fn builder_of(&self, words: &[&str], doc: &str) -> Result<InstructionBuilder, Trouble> {
-        let [name, format, inputs, outputs, calls] = words else {
-            return Err(Trouble::NoCase);
-        };
-        let builder = instruction(self.alloc, text_of(name), doc, self.id(format)?)?;
-        let builder = self.with_inputs(builder, inputs)?;
-        with_calls(self.with_outputs(builder, outputs)?, calls)
-    }
-
-    /// What is built of an instruction, as the first.
-    fn built_of(
-        &self,
-        words: &[&str],
-        doc: &str,
-    ) -> Result<Result<InstructionContent, DefinitionError>, Trouble> {
-        let builder = self.builder_of(words, doc)?;
-        if !builder.fits(&self.vars, &self.formats) {
-            return Err(Trouble::NoCase);
-        }
-        Ok(builder.build(self.alloc, &self.vars, &self.formats, 1))
+    /// The builder of an instruction by the next words: its name, the name of its format, its inputs and outputs, as words with
+    /// commas between them, or `-` where they aren't set, and the calls of its builder, with commas between them, or `-` for none.
+    fn next_builder(&self, case: &mut Case<'l>) -> Result<InstructionBuilder, Trouble> {
+        let (name, format) = (text_of(case.word()), self.id(case.word())?);
+        let builder = instruction(self.alloc, name, case.doc(), format)?;
+        let builder = self.with_inputs(builder, case.word())?;
+        let builder = self.with_outputs(builder, case.word())?;
+        with_calls(builder, case.word())
     }
 
     /// `build INSTRUCTION | DOC`: builds an instruction, as the first: its text, or the line of its first fault.
-    pub(crate) fn build(
-        &mut self,
-        words: &[&str],
-        doc: &str,
-        out: &mut String,
-    ) -> Result<(), Trouble> {
-        match self.built_of(words, doc)? {
+    pub(crate) fn build(&mut self, case: &mut Case<'l>) {
+        match self.next_builder(case) {
+            Ok(builder) => self.build_of(&builder, case),
+            Err(trouble) => case.refuse(trouble),
+        }
+    }
+
+    /// Writes the text of what is built of an instruction, as the first, or the line of its first fault.
+    fn build_of(&mut self, builder: &InstructionBuilder, case: &mut Case<'l>) {
+        if !builder.fits(&self.vars, &self.formats) {
+            return case.no_case();
+        }
+        match builder.build(self.alloc, &self.vars, &self.formats, 1) {
             Ok(content) => {
+                case.shown(&content);
                 self.content = Some(content);
-                Ok(write!(out, "{}", self.built()?)?)
             }
-            Err(fault) => Ok(push_fault(self.alloc, &fault, out)?),
+            Err(fault) => case.made(fault.line(self.alloc)),
         }
     }
 
     /// `fits INSTRUCTION`: whether the format is of the table, and the variables of the registry.
-    pub(crate) fn fits(&self, words: &[&str], out: &mut String) -> Result<(), Trouble> {
-        let fits = self.builder_of(words, "")?.fits(&self.vars, &self.formats);
-        Ok(out.push_str(yes_or_no(fits))?)
+    pub(crate) fn fits(&self, case: &mut Case<'l>) {
+        match self.next_builder(case) {
+            Ok(builder) => case.yes_or_no(builder.fits(&self.vars, &self.formats)),
+            Err(trouble) => case.refuse(trouble),
+        }
     }
 
     /// Adds an instruction to the list, and answers its place.
@@ -196,37 +200,44 @@ impl<'l> Session<'l> {
     }
 
     /// `given INSTRUCTION | DOC`: adds an instruction to a list: how many are in the list, and what it keeps of this one.
-    pub(crate) fn given(
-        &mut self,
-        words: &[&str],
-        doc: &str,
-        out: &mut String,
-    ) -> Result<(), Trouble> {
-        let builder = self.builder_of(words, doc)?;
-        let place = self.give(builder)?;
-        if place >= self.all.len() {
-            return Err(Trouble::NoCase);
+    pub(crate) fn given(&mut self, case: &mut Case<'l>) {
+        match self.next_builder(case) {
+            Ok(builder) => match self.give(builder) {
+                Ok(place) => self.write_given(place, case),
+                Err(_) => case.refuse(Trouble::OutOfMemory),
+            },
+            Err(trouble) => case.refuse(trouble),
         }
-        write!(out, "{} ", self.all.len())?;
-        self.push_given(self.all.get(place), out)
+    }
+
+    /// Writes how many instructions are in the list, what the builder at this place keeps, and the value operands that are found of
+    /// it.
+    fn write_given(&self, place: usize, case: &mut Case<'l>) {
+        if place >= self.all.len() {
+            return case.no_case();
+        }
+        let builder = self.all.get(place);
+        if !self.formats.is_of(builder.format()) {
+            return case.no_case();
+        }
+        case.shown(&self.all.len());
+        case.letter(' ');
+        write_builder(builder, case);
+        match Operands::of(self.alloc, builder, &self.formats) {
+            Ok(operands) => self.write_operands(&operands, case),
+            Err(_) => case.refuse(Trouble::OutOfMemory),
+        }
     }
 
     /// Writes the value operands of an instruction.
-    fn push_operands(&self, operands: &Operands, out: &mut String) -> Result<(), AllocError> {
-        write!(out, " results {} variables ", operands.result_count())?;
-        self.push_names(operands.variables(), out)?;
-        let designated = self.name_or_dash(operands.designated());
-        let first = self.name_or_dash(operands.first_result());
-        write!(out, " designated {designated} first {first}")
-    }
-
-    /// Writes what the builder of an instruction keeps, and the value operands that are found of it.
-    fn push_given(&self, builder: &InstructionBuilder, out: &mut String) -> Result<(), Trouble> {
-        if !self.formats.is_of(builder.format()) {
-            return Err(Trouble::NoCase);
-        }
-        push_builder(builder, out)?;
-        let operands = Operands::of(self.alloc, builder, &self.formats)?;
-        Ok(self.push_operands(&operands, out)?)
+    fn write_operands(&self, operands: &Operands, case: &mut Case<'l>) {
+        case.text(" results ");
+        case.shown(&operands.result_count());
+        case.text(" variables ");
+        self.write_names(operands.variables(), case);
+        case.text(" designated ");
+        case.text(self.name_or_dash(operands.designated()));
+        case.text(" first ");
+        case.text(self.name_or_dash(operands.first_result()));
     }
 }

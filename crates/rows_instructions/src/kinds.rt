@@ -1,13 +1,13 @@
 use crate::session::Session;
-use crate::trouble::Trouble;
-use crate::words::{define, end_list, named, push_item, push_prose, text_of};
+use crate::words::{define, text_of, write_prose};
 use meta_operands::{EnumValues, Operand, OperandKind, OperandKindFields};
 use meta_types::Text;
+use rows_words::{Case, Trouble, named, pair_of};
 use std::alloc::{AllocError, Global};
 
 /// Lets a name stand for a variant, written `NAME=VARIANT`, and answers what it stood for before.
 fn add_value(alloc: Global, values: &mut EnumValues, value: &str) -> Result<Option<Text>, Trouble> {
-    let (name, variant) = value.split_once('=').ok_or(Trouble::NoCase)?;
+    let (name, variant) = pair_of(value, '=')?;
     let name = Text::new(alloc, name)?;
     Ok(values.insert(name, Text::new(alloc, variant)?)?)
 }
@@ -31,90 +31,87 @@ fn values_of(alloc: Global, list: &str) -> Result<EnumValues, Trouble> {
 }
 
 /// Writes the values in their order, each as `NAME=VARIANT`, or `-` for none.
-fn push_values(values: &EnumValues, out: &mut String) -> Result<(), AllocError> {
-    let start = out.len();
+fn write_values(values: &EnumValues, case: &mut Case<'_>) {
+    let start = case.written();
     for (name, variant) in values.iter() {
-        push_item(out, start, name.as_str())?;
-        out.push('=')?;
-        out.push_str(variant.as_str())?;
+        case.item(start, name.as_str());
+        case.letter('=');
+        case.text(variant.as_str());
     }
-    end_list(out, start)
+    case.end_list(start);
 }
 
-/// Writes how many values there are and the values in their order, and for what a name stood before.
-fn push_inserted(
-    values: &EnumValues,
-    before: &Option<Text>,
-    out: &mut String,
-) -> Result<(), AllocError> {
-    write!(out, "{} ", values.len())?;
-    push_values(values, out)?;
-    match before {
-        Some(variant) => write!(out, " before {}", variant.as_str()),
-        None => out.push_str(" before -"),
-    }
-}
-
-/// Writes what a name stands for, or `-`.
-fn push_found(found: Option<&Text>, out: &mut String) -> Result<(), AllocError> {
+/// Writes a text that was found behind a word, or `-` for none.
+fn write_found(word: &str, found: Option<&Text>, case: &mut Case<'_>) {
+    case.text(word);
     match found {
-        Some(variant) => out.push_str(variant.as_str()),
-        None => out.push('-'),
+        Some(variant) => case.text(variant.as_str()),
+        None => case.letter('-'),
     }
 }
 
 /// Writes the name of a test that holds.
-fn push_test(out: &mut String, start: usize, holds: bool, name: &str) -> Result<(), AllocError> {
+fn write_test(case: &mut Case<'_>, start: usize, holds: bool, name: &str) {
     if holds {
-        push_item(out, start, name)?;
+        case.item(start, name);
     }
-    Ok(())
 }
 
 /// Writes the tests that hold of an operand and its kind, or `-` for none, behind ` is `.
-fn push_tests(operand: &Operand, out: &mut String) -> Result<(), AllocError> {
-    out.push_str(" is ")?;
-    let (kind, start) = (&operand.kind, out.len());
-    push_test(out, start, kind.is_block(), "block")?;
-    push_test(out, start, kind.is_raw_block(), "raw_block")?;
-    push_test(out, start, operand.is_value(), "value")?;
-    push_test(out, start, operand.is_varargs(), "varargs")?;
-    push_test(out, start, operand.is_immediate(), "immediate")?;
+fn write_tests(operand: &Operand, case: &mut Case<'_>) {
+    case.text(" is ");
+    let (kind, start) = (&operand.kind, case.written());
+    write_test(case, start, kind.is_block(), "block");
+    write_test(case, start, kind.is_raw_block(), "raw_block");
+    write_test(case, start, operand.is_value(), "value");
+    write_test(case, start, operand.is_varargs(), "varargs");
+    write_test(case, start, operand.is_immediate(), "immediate");
     let holds = operand.is_immediate_or_entityref();
-    push_test(out, start, holds, "immediate_or_entityref")?;
-    end_list(out, start)
+    write_test(case, start, holds, "immediate_or_entityref");
+    case.end_list(start);
 }
 
 impl<'l> Session<'l> {
     /// `insert LIST VALUE`: how many values there are when one is added to a list, the values in order, and for what the name
     /// stood before.
-    pub(crate) fn insert(&self, words: &[&str], out: &mut String) -> Result<(), Trouble> {
-        let [list, last] = words else {
-            return Err(Trouble::NoCase);
-        };
-        let mut values = values_of(self.alloc, list)?;
-        let before = add_value(self.alloc, &mut values, last)?;
-        Ok(push_inserted(&values, &before, out)?)
+    pub(crate) fn insert(&self, case: &mut Case<'l>) {
+        match values_of(self.alloc, case.word()) {
+            Ok(mut values) => self.insert_into(&mut values, case),
+            Err(trouble) => case.refuse(trouble),
+        }
+    }
+
+    /// Adds a value to a list, and writes how many there are then, the values in order, and for what the name stood before.
+    fn insert_into(&self, values: &mut EnumValues, case: &mut Case<'l>) {
+        match add_value(self.alloc, values, case.word()) {
+            Ok(before) => {
+                case.shown(&values.len());
+                case.letter(' ');
+                write_values(values, case);
+                write_found(" before ", before.as_ref(), case);
+            }
+            Err(trouble) => case.refuse(trouble),
+        }
     }
 
     /// `find LIST NAME`: what the name stands for among the values, or `-`.
-    pub(crate) fn find(&self, words: &[&str], out: &mut String) -> Result<(), Trouble> {
-        let [list, name] = words else {
-            return Err(Trouble::NoCase);
-        };
-        let values = values_of(self.alloc, list)?;
-        let name = Text::new(self.alloc, name)?;
-        Ok(push_found(values.get(&name), out)?)
+    pub(crate) fn find(&self, case: &mut Case<'l>) {
+        let values = values_of(self.alloc, case.word());
+        match (values, Text::new(self.alloc, case.word())) {
+            (Ok(values), Ok(name)) => write_found("", values.get(&name), case),
+            (Err(trouble), _) => case.refuse(trouble),
+            (_, Err(_)) => case.refuse(Trouble::OutOfMemory),
+        }
     }
 
-    /// What operands are, by a word, and for an enum or a value by one more.
-    fn kind_fields(&self, words: &[&str]) -> Result<OperandKindFields, Trouble> {
-        match words {
-            ["entity"] => Ok(OperandKindFields::EntityRef),
-            ["varargs"] => Ok(OperandKindFields::VariableArgs),
-            ["imm"] => Ok(OperandKindFields::ImmValue),
-            ["enum", values] => Ok(OperandKindFields::ImmEnum(values_of(self.alloc, values)?)),
-            ["value", word] => Ok(OperandKindFields::TypeVar(self.variable(word)?)),
+    /// What operands are, by the next word, and for an enum or a value by one more.
+    fn kind_fields(&self, case: &mut Case<'l>) -> Result<OperandKindFields, Trouble> {
+        match case.word() {
+            "entity" => Ok(OperandKindFields::EntityRef),
+            "varargs" => Ok(OperandKindFields::VariableArgs),
+            "imm" => Ok(OperandKindFields::ImmValue),
+            "enum" => Ok(OperandKindFields::ImmEnum(values_of(self.alloc, case.word())?)),
+            "value" => Ok(OperandKindFields::TypeVar(self.variable(case.word())?)),
             _ => Err(Trouble::NoCase),
         }
     }
@@ -124,46 +121,54 @@ impl<'l> Session<'l> {
         &self,
         [field_name, rust_type, doc]: [&str; 3],
         fields: OperandKindFields,
-    ) -> Result<OperandKind, AllocError> {
-        let field_name = Text::new(self.alloc, field_name)?;
-        let rust_type = Text::new(self.alloc, rust_type)?;
-        let doc = Text::new(self.alloc, doc)?;
-        Ok(OperandKind::new(field_name, rust_type, fields, doc))
+    ) -> Result<OperandKind, Trouble> {
+        let field_name = Text::new(self.alloc, field_name);
+        let rust_type = Text::new(self.alloc, rust_type);
+        match (field_name, rust_type, Text::new(self.alloc, doc)) {
+            (Ok(field_name), Ok(rust_type), Ok(doc)) => {
+                Ok(OperandKind::new(field_name, rust_type, fields, doc))
+            }
+            _ => Err(Trouble::OutOfMemory),
+        }
+    }
+
+    /// The kind of the next words: its field name, its Rust type and what it is.
+    fn next_kind(&self, case: &mut Case<'l>) -> Result<OperandKind, Trouble> {
+        let (field_name, rust_type) = (case.word(), case.word());
+        let fields = self.kind_fields(case)?;
+        self.kind_of([text_of(field_name), rust_type, case.doc()], fields)
     }
 
     /// `kind WORD FIELD_NAME RUST_TYPE FIELDS | DOC`: a kind, and what it shows.
-    pub(crate) fn kind(
-        &mut self,
-        words: &[&'l str],
-        doc: &str,
-        out: &mut String,
-    ) -> Result<(), Trouble> {
-        let [word, field_name, rust_type, fields @ ..] = words else {
-            return Err(Trouble::NoCase);
-        };
-        let texts = [text_of(field_name), *rust_type, doc];
-        let kind = self.kind_of(texts, self.kind_fields(fields)?)?;
-        self.push_kind(&kind, out)?;
-        define(&mut self.kinds, word, kind)
+    pub(crate) fn kind(&mut self, case: &mut Case<'l>) {
+        let word = case.word();
+        match self.next_kind(case) {
+            Ok(kind) => {
+                self.write_kind(&kind, case);
+                define(&mut self.kinds, word, kind, case);
+            }
+            Err(trouble) => case.refuse(trouble),
+        }
     }
 
     /// Writes what a kind shows: its field name and Rust type, and what it is, with an enum's values or the variable of a value.
-    pub(crate) fn push_kind(&self, kind: &OperandKind, out: &mut String) -> Result<(), AllocError> {
-        let (field_name, rust_type) = (kind.rust_field_name.as_str(), kind.rust_type.as_str());
-        write!(out, "{field_name}: {rust_type} ")?;
-        if let Some(values) = kind.fields.enum_values() {
-            out.push_str("enum ")?;
-            return push_values(values, out);
-        }
-        out.push_str(match kind.fields {
-            OperandKindFields::EntityRef => "entity",
-            OperandKindFields::VariableArgs => "varargs",
-            OperandKindFields::ImmValue => "imm",
-            OperandKindFields::ImmEnum(_) => "?",
-            OperandKindFields::TypeVar(tv) => {
-                return write!(out, "value {}", self.name(tv));
+    pub(crate) fn write_kind(&self, kind: &OperandKind, case: &mut Case<'_>) {
+        case.text(kind.rust_field_name.as_str());
+        case.text(": ");
+        case.text(kind.rust_type.as_str());
+        match &kind.fields {
+            OperandKindFields::EntityRef => case.text(" entity"),
+            OperandKindFields::VariableArgs => case.text(" varargs"),
+            OperandKindFields::ImmValue => case.text(" imm"),
+            OperandKindFields::ImmEnum(values) => {
+                case.text(" enum ");
+                write_values(values, case);
             }
-        })
+            OperandKindFields::TypeVar(tv) => {
+                case.text(" value ");
+                case.text(self.name(*tv));
+            }
+        }
     }
 
     /// The kind for which the word stands: that of the values of a variable, or one that is declared.
@@ -177,54 +182,55 @@ impl<'l> Session<'l> {
     /// The operand of this name and kind.
     pub(crate) fn operand_of(&self, name: &str, kind: &str) -> Result<Operand, Trouble> {
         let kind = self.kind_named(kind)?;
-        Ok(Operand::new(Text::new(self.alloc, name)?, kind))
-    }
-
-    /// The operand with a documentation of its own.
-    fn documented(&self, operand: Operand, doc: &str) -> Result<Operand, AllocError> {
-        Ok(operand.with_doc(Text::new(self.alloc, doc)?))
+        match Text::new(self.alloc, name) {
+            Ok(name) => Ok(Operand::new(name, kind)),
+            Err(_) => Err(Trouble::OutOfMemory),
+        }
     }
 
     /// The operand of this name and kind, with its own documentation where one is given.
     fn operand_with(&self, name: &str, kind: &str, doc: &str) -> Result<Operand, Trouble> {
         let operand = self.operand_of(name, kind)?;
         if doc.is_empty() {
-            Ok(operand)
-        } else {
-            Ok(self.documented(operand, doc)?)
+            return Ok(operand);
         }
-    }
-
-    /// What an operand shows.
-    fn shown(&self, operand: &Operand) -> Result<String, AllocError> {
-        let mut shown = String::new(self.alloc);
-        self.push_operand(operand, &mut shown)?;
-        Ok(shown)
-    }
-
-    /// Writes what the copy of an operand shows, where that is something else.
-    fn push_copied(&self, operand: &Operand, out: &mut String) -> Result<(), AllocError> {
-        let copied = self.shown(&operand.copy(self.alloc)?)?;
-        if *out == copied {
-            return Ok(());
+        match Text::new(self.alloc, doc) {
+            Ok(doc) => Ok(operand.with_doc(doc)),
+            Err(_) => Err(Trouble::OutOfMemory),
         }
-        write!(out, " copied {copied}")
     }
 
     /// `operand NAME KIND | DOC`: what an operand shows, with its own documentation where one is given, and its copy where that
     /// shows something else.
-    pub(crate) fn operand(
-        &self,
-        words: &[&str],
-        doc: &str,
-        out: &mut String,
-    ) -> Result<(), Trouble> {
-        let [name, kind] = words else {
-            return Err(Trouble::NoCase);
-        };
-        let operand = self.operand_with(name, kind, doc)?;
-        self.push_operand(&operand, out)?;
-        Ok(self.push_copied(&operand, out)?)
+    pub(crate) fn operand(&self, case: &mut Case<'l>) {
+        let (name, kind) = (case.word(), case.word());
+        match self.operand_with(name, kind, case.doc()) {
+            Ok(operand) => self.write_both(&operand, case),
+            Err(trouble) => case.refuse(trouble),
+        }
+    }
+
+    /// Writes what an operand shows, and its copy where that shows something else.
+    fn write_both(&self, operand: &Operand, case: &mut Case<'l>) {
+        self.write_operand(operand, case);
+        match operand.copy(self.alloc) {
+            Ok(copy) => self.write_copy(&copy, case),
+            Err(_) => case.refuse(Trouble::OutOfMemory),
+        }
+    }
+
+    /// Writes what the copy of an operand shows, where that is something else than what is written.
+    fn write_copy(&self, copy: &Operand, case: &mut Case<'l>) {
+        match Case::of(self.alloc, "") {
+            Ok(mut copied) => {
+                self.write_operand(copy, &mut copied);
+                if case.as_str() != copied.as_str() {
+                    case.text(" copied ");
+                    case.text(copied.as_str());
+                }
+            }
+            Err(_) => case.refuse(Trouble::OutOfMemory),
+        }
     }
 
     /// The documentation of an operand, and none where its variable is of another registry.
@@ -236,11 +242,13 @@ impl<'l> Session<'l> {
     }
 
     /// Writes what an operand shows: its name, its kind, the tests that hold, its variable and its documentation.
-    fn push_operand(&self, operand: &Operand, out: &mut String) -> Result<(), AllocError> {
-        write!(out, "{} of ", operand.name.as_str())?;
-        self.push_kind(&operand.kind, out)?;
-        push_tests(operand, out)?;
-        write!(out, " variable {}", self.name_or_dash(operand.type_var()))?;
-        push_prose(out, self.doc(operand))
+    fn write_operand(&self, operand: &Operand, case: &mut Case<'_>) {
+        case.text(operand.name.as_str());
+        case.text(" of ");
+        self.write_kind(&operand.kind, case);
+        write_tests(operand, case);
+        case.text(" variable ");
+        case.text(self.name_or_dash(operand.type_var()));
+        write_prose(case, self.doc(operand));
     }
 }

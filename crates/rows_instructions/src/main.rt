@@ -13,7 +13,6 @@ mod on_instructions;
 mod on_variables;
 mod session;
 mod sets;
-mod trouble;
 mod variables;
 mod words;
 
@@ -21,13 +20,23 @@ use session::Session;
 use std::alloc::{AllocError, Global};
 use std::io::{self, Write};
 
+/// Adds the answers to the lines.
+fn add_answers<'l>(
+    session: &mut Session<'l>,
+    input: &'l str,
+    answers: &mut String,
+) -> Result<(), AllocError> {
+    for line in input.lines() {
+        session.answer_line(line, answers)?;
+    }
+    Ok(())
+}
+
 /// The answers to the lines.
 fn answers(alloc: Global, input: &str) -> Result<String, AllocError> {
-    let mut session = Session::new(alloc);
     let mut answers = String::new(alloc);
-    for line in input.lines() {
-        session.answer_line(line, &mut answers)?;
-    }
+    let mut session = Session::new(alloc);
+    add_answers(&mut session, input, &mut answers)?;
     Ok(answers)
 }
 

@@ -1,7 +1,7 @@
+use crate::content::Shown;
 use crate::equal::equal_sets;
 use crate::session::Session;
-use crate::trouble::Trouble;
-use crate::words::named;
+use rows_words::{Case, Trouble, named};
 
 /// What a line about instructions asks.
 #[derive(Clone, Copy)]
@@ -20,10 +20,7 @@ enum Asked {
     Alike,
     Given,
     Build,
-    Names,
-    Places,
-    Marks,
-    Control,
+    Built(Shown),
     EqualSets,
     EqualVariables,
     Parent,
@@ -51,10 +48,10 @@ const WORDS: [(&str, Asked); 27] = [
     ("alike", Asked::Alike),
     ("given", Asked::Given),
     ("build", Asked::Build),
-    ("names", Asked::Names),
-    ("places", Asked::Places),
-    ("marks", Asked::Marks),
-    ("control", Asked::Control),
+    ("names", Asked::Built(Shown::Names)),
+    ("places", Asked::Built(Shown::Places)),
+    ("marks", Asked::Built(Shown::Marks)),
+    ("control", Asked::Built(Shown::Control)),
     ("equal_sets", Asked::EqualSets),
     ("equal_variables", Asked::EqualVariables),
     ("parent", Asked::Parent),
@@ -68,41 +65,35 @@ const WORDS: [(&str, Asked); 27] = [
 
 impl<'l> Session<'l> {
     /// Writes the answer to a line about instructions.
-    pub(crate) fn answer_on_instructions(
-        &mut self,
-        first: &str,
-        rest: &[&'l str],
-        doc: &str,
-        out: &mut String,
-    ) -> Result<(), Trouble> {
-        match *named(WORDS.as_slice(), first)? {
-            Asked::Ints => self.ints(rest, doc, out),
-            Asked::Derive => self.derive_by_all(rest, out),
-            Asked::Type => self.one_type(rest, out),
-            Asked::Kind => self.kind(rest, doc, out),
-            Asked::Operand => self.operand(rest, doc, out),
-            Asked::Insert => self.insert(rest, out),
-            Asked::Find => self.find(rest, out),
-            Asked::Format => self.format(rest, out),
-            Asked::Can => self.can_designate(rest, out),
-            Asked::Fields => self.fields(rest, out),
-            Asked::Structure => self.structure(rest, out),
-            Asked::Alike => self.alike(rest, out),
-            Asked::Given => self.given(rest, doc, out),
-            Asked::Build => self.build(rest, doc, out),
-            Asked::Names => self.names(out),
-            Asked::Places => self.places(out),
-            Asked::Marks => self.marks(out),
-            Asked::Control => self.control(out),
-            Asked::EqualSets => equal_sets(self.alloc, rest, doc, out),
-            Asked::EqualVariables => self.equal_variables(rest, out),
-            Asked::Parent => self.parent(rest, out),
-            Asked::New => self.start_registry(out),
-            Asked::InsertStructure => self.insert_structure(rest, out),
-            Asked::Formats => self.start_formats(out),
-            Asked::Order => self.order(rest, out),
-            Asked::Has => self.has(rest, out),
-            Asked::Fits => self.fits(rest, out),
+    pub(crate) fn answer_on_instructions(&mut self, first: &str, case: &mut Case<'l>) {
+        let Ok(asked) = named(&WORDS, first) else {
+            return case.refuse(Trouble::BadLine);
+        };
+        match *asked {
+            Asked::Ints => self.ints(case),
+            Asked::Derive => self.derive_by_all(case),
+            Asked::Type => self.one_type(case),
+            Asked::Kind => self.kind(case),
+            Asked::Operand => self.operand(case),
+            Asked::Insert => self.insert(case),
+            Asked::Find => self.find(case),
+            Asked::Format => self.format(case),
+            Asked::Can => self.can_designate(case),
+            Asked::Fields => self.fields(case),
+            Asked::Structure => self.structure(case),
+            Asked::Alike => self.alike(case),
+            Asked::Given => self.given(case),
+            Asked::Build => self.build(case),
+            Asked::Built(shown) => self.show_built(shown, case),
+            Asked::EqualSets => equal_sets(self.alloc, case),
+            Asked::EqualVariables => self.equal_variables(case),
+            Asked::Parent => self.parent(case),
+            Asked::New => self.start_registry(case),
+            Asked::InsertStructure => self.insert_structure(case),
+            Asked::Formats => self.start_formats(case),
+            Asked::Order => self.order(case),
+            Asked::Has => self.has(case),
+            Asked::Fits => self.fits(case),
         }
     }
 }

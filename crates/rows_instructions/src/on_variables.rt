@@ -1,7 +1,6 @@
 use crate::session::Session;
 use crate::sets::{can_build, contains, debug, image, member, parts, set};
-use crate::trouble::Trouble;
-use crate::words::named;
+use rows_words::{Case, Trouble, named};
 
 /// What a line about sets and variables asks.
 #[derive(Clone, Copy)]
@@ -48,30 +47,28 @@ const WORDS: [(&str, Asked); 17] = [
 
 impl<'l> Session<'l> {
     /// Writes the answer to a line about sets and variables.
-    pub(crate) fn answer_on_variables(
-        &mut self,
-        first: &str,
-        rest: &[&'l str],
-        out: &mut String,
-    ) -> Result<(), Trouble> {
-        match *named(WORDS.as_slice(), first)? {
-            Asked::Parts => parts(rest, out),
-            Asked::Can => can_build(rest, out),
-            Asked::Set => set(self.alloc, rest, out),
-            Asked::Image => image(self.alloc, rest, out),
-            Asked::Debug => debug(self.alloc, rest, out),
-            Asked::Member => member(self.alloc, rest, out),
-            Asked::Contains => contains(rest, out),
-            Asked::New => self.start_registry(out),
-            Asked::Count => self.count(out),
-            Asked::Root => self.root(rest, out),
-            Asked::One => self.one(rest, out),
-            Asked::Copy => self.copy(rest, out),
-            Asked::Derive => self.derive(rest, false, out),
-            Asked::Call => self.derive(rest, true, out),
-            Asked::Show => self.show(rest, out),
-            Asked::IsOf => self.is_of(rest, out),
-            Asked::CanDerive => self.can_derive(rest, out),
+    pub(crate) fn answer_on_variables(&mut self, first: &str, case: &mut Case<'l>) {
+        let Ok(asked) = named(&WORDS, first) else {
+            return case.refuse(Trouble::BadLine);
+        };
+        match *asked {
+            Asked::Parts => parts(case),
+            Asked::Can => can_build(case),
+            Asked::Set => set(self.alloc, case),
+            Asked::Image => image(self.alloc, case),
+            Asked::Debug => debug(self.alloc, case),
+            Asked::Member => member(self.alloc, case),
+            Asked::Contains => contains(case),
+            Asked::New => self.start_registry(case),
+            Asked::Count => self.count(case),
+            Asked::Root => self.root(case),
+            Asked::One => self.one(case),
+            Asked::Copy => self.copy(case),
+            Asked::Derive => self.derive(false, case),
+            Asked::Call => self.derive(true, case),
+            Asked::Show => self.show(case),
+            Asked::IsOf => self.is_of(case),
+            Asked::CanDerive => self.can_derive(case),
         }
     }
 }

@@ -1,7 +1,7 @@
-use crate::trouble::Trouble;
 use meta_inst::{AllInstructions, InstructionContent};
 use meta_operands::{FormatId, FormatStructure, FormatTable, OperandKind};
 use meta_typevar::{TypeVar, TypeVars};
+use rows_words::{Case, Trouble};
 use std::alloc::{AllocError, Global};
 use std::collections::HashSet;
 
@@ -55,7 +55,7 @@ impl<'l> Session<'l> {
         }
     }
 
-    /// Writes the answer to a line, or the line where it is a comment. About variables a line that asks nothing is told from one
+    /// Adds the answer to a line, or the line where it is a comment. About variables a line that asks nothing is told from one
     /// that asks what can't be asked; about instructions both are no case.
     pub(crate) fn answer_line(
         &mut self,
@@ -65,31 +65,23 @@ impl<'l> Session<'l> {
         if line.starts_with('#') {
             return writeln!(answers, "{line}");
         }
-        let mut answer = String::new(self.alloc);
-        let trouble = match self.answer(line, &mut answer) {
-            Ok(()) => return writeln!(answers, "{answer}"),
-            Err(trouble) => trouble,
-        };
-        match (trouble, self.subject) {
-            (Trouble::OutOfMemory, _) => Err(AllocError),
-            (Trouble::BadLine, Subject::Variables) => answers.push_str("bad line\n"),
-            _ => answers.push_str("no case\n"),
+        let mut case = Case::of(self.alloc, line)?;
+        self.answer(&mut case);
+        match (case.trouble(), self.subject) {
+            (Some(Trouble::BadLine), Subject::Variables) => answers.push_str("bad line\n"),
+            _ => case.end(answers),
         }
     }
 
-    /// Writes the answer to a case. Its words have one space between them, and ` | ` stands before a documentation.
-    fn answer(&mut self, line: &'l str, out: &mut String) -> Result<(), Trouble> {
-        let (case, doc) = line.split_once(" | ").unwrap_or((line, ""));
-        let words: Vec<&'l str> = case.split(' ').collect(self.alloc)?;
-        let Some((first, rest)) = words.as_slice().split_first() else {
-            return Err(Trouble::BadLine);
-        };
-        if *first == "ints" {
+    /// Writes the answer to a case.
+    fn answer(&mut self, case: &mut Case<'l>) {
+        let first = case.word();
+        if first == "ints" {
             self.subject = Subject::Instructions;
         }
         match self.subject {
-            Subject::Variables => self.answer_on_variables(first, rest, out),
-            Subject::Instructions => self.answer_on_instructions(first, rest, doc, out),
+            Subject::Variables => self.answer_on_variables(first, case),
+            Subject::Instructions => self.answer_on_instructions(first, case),
         }
     }
 }

@@ -1,8 +1,7 @@
-use crate::trouble::Trouble;
-use crate::words::{end_list, function_of, named, yes_or_no};
 use meta_types::ValueType;
 use meta_typevar::{Interval, Masks, Part, TypeSet, TypeSetBuilder};
-use std::alloc::{AllocError, Global};
+use rows_words::{Case, Trouble, function_of, named, type_of};
+use std::alloc::Global;
 
 /// The least number of a type.
 const FIRST_NUMBER: u16 = 0x74;
@@ -17,11 +16,6 @@ const PARTS: [(&str, Part); 4] = [
     ("lanes", Part::SimdLanes),
     ("dynamic", Part::DynamicSimdLanes),
 ];
-
-/// The type of this name.
-pub(crate) fn type_of(name: &str) -> Result<ValueType, Trouble> {
-    ValueType::parse(name.as_bytes()).ok_or(Trouble::BadLine)
-}
 
 /// `*` for all, `-` for none, and `A..B` for a range.
 fn interval_of(word: &str) -> Option<Interval> {
@@ -41,7 +35,7 @@ fn with_part(
     name: &str,
     interval: Interval,
 ) -> Result<TypeSetBuilder, Trouble> {
-    let part = *named(PARTS.as_slice(), name)?;
+    let part = *named(&PARTS, name)?;
     if builder.is_set(part) {
         return Err(Trouble::NoCase);
     }
@@ -103,32 +97,41 @@ pub(crate) fn set_of(alloc: Global, words: &[&str]) -> Result<TypeSet, Trouble> 
 }
 
 /// Writes the four masks: lanes, dynamic lanes, ints and floats.
-pub(crate) fn push_masks(out: &mut String, masks: Masks) -> Result<(), AllocError> {
-    let (lanes, dynamic_lanes) = (masks.lanes, masks.dynamic_lanes);
-    write!(
-        out,
-        "{lanes} {dynamic_lanes} {} {}",
-        masks.ints, masks.floats
-    )
+pub(crate) fn write_masks(case: &mut Case<'_>, masks: Masks) {
+    case.shown(&masks.lanes);
+    case.letter(' ');
+    case.shown(&masks.dynamic_lanes);
+    case.letter(' ');
+    case.shown(&masks.ints);
+    case.letter(' ');
+    case.shown(&masks.floats);
 }
 
 /// `parts PARTS`: the names of the parts that are set, with a space between them, or `-` for none.
-pub(crate) fn parts(words: &[&str], out: &mut String) -> Result<(), Trouble> {
-    let builder = builder_of(words)?;
+pub(crate) fn parts(case: &mut Case<'_>) {
+    match builder_of(case.rest()) {
+        Ok(builder) => write_parts(case, &builder),
+        Err(trouble) => case.refuse(trouble),
+    }
+}
+
+/// Writes the names of the parts that are set.
+fn write_parts(case: &mut Case<'_>, builder: &TypeSetBuilder) {
     for (name, part) in PARTS {
         if builder.is_set(part) {
-            if !out.is_empty() {
-                out.push(' ')?;
-            }
-            out.push_str(name)?;
+            case.separate(' ');
+            case.text(name);
         }
     }
-    Ok(end_list(out, 0)?)
+    case.end_list(0);
 }
 
 /// `can PARTS`: whether the set can be built.
-pub(crate) fn can_build(words: &[&str], out: &mut String) -> Result<(), Trouble> {
-    Ok(out.push_str(yes_or_no(builder_of(words)?.can_build()))?)
+pub(crate) fn can_build(case: &mut Case<'_>) {
+    match builder_of(case.rest()) {
+        Ok(builder) => case.yes_or_no(builder.can_build()),
+        Err(trouble) => case.refuse(trouble),
+    }
 }
 
 /// How many of all types the set contains.
@@ -140,72 +143,69 @@ fn contained(set: &TypeSet) -> usize {
 }
 
 /// Writes the types, each behind a space.
-fn push_types(out: &mut String, types: &[ValueType]) -> Result<(), AllocError> {
+fn write_types(case: &mut Case<'_>, types: &[ValueType]) {
     for value_type in types {
-        write!(out, " {value_type}")?;
+        case.letter(' ');
+        case.shown(value_type);
     }
-    Ok(())
 }
 
 /// Writes the masks of a set, its size, how many of all types it contains, and its members as they are listed.
-fn push_set(alloc: Global, set: &TypeSet, out: &mut String) -> Result<(), AllocError> {
-    out.push_str("masks ")?;
-    push_masks(out, set.masks())?;
-    write!(
-        out,
-        " size {} contains {} types",
-        set.size(),
-        contained(set)
-    )?;
-    push_types(out, set.concrete_types(alloc)?.as_slice())
+fn write_set(alloc: Global, set: &TypeSet, case: &mut Case<'_>) {
+    case.text("masks ");
+    write_masks(case, set.masks());
+    case.text(" size ");
+    case.shown(&set.size());
+    case.text(" contains ");
+    case.shown(&contained(set));
+    case.text(" types");
+    match set.concrete_types(alloc) {
+        Ok(types) => write_types(case, types.as_slice()),
+        Err(_) => case.refuse(Trouble::OutOfMemory),
+    }
 }
 
 /// `set PARTS`: a set.
-pub(crate) fn set(alloc: Global, words: &[&str], out: &mut String) -> Result<(), Trouble> {
-    let set = built(alloc, words)?;
-    Ok(push_set(alloc, &set, out)?)
+pub(crate) fn set(alloc: Global, case: &mut Case<'_>) {
+    match built(alloc, case.rest()) {
+        Ok(set) => write_set(alloc, &set, case),
+        Err(trouble) => case.refuse(trouble),
+    }
 }
 
 /// `image FUNCTION of set PARTS`: the masks of a coded image.
-pub(crate) fn image(alloc: Global, words: &[&str], out: &mut String) -> Result<(), Trouble> {
-    Ok(push_masks(out, image_of(alloc, words)?.masks())?)
+pub(crate) fn image(alloc: Global, case: &mut Case<'_>) {
+    match image_of(alloc, case.rest()) {
+        Ok(image) => write_masks(case, image.masks()),
+        Err(trouble) => case.refuse(trouble),
+    }
 }
 
 /// `debug SET`: the Debug text of a set.
-pub(crate) fn debug(alloc: Global, words: &[&str], out: &mut String) -> Result<(), Trouble> {
-    let set = set_of(alloc, words)?;
-    Ok(write!(out, "{set:?}")?)
+pub(crate) fn debug(alloc: Global, case: &mut Case<'_>) {
+    match set_of(alloc, case.rest()) {
+        Ok(set) => case.debugged(&set),
+        Err(trouble) => case.refuse(trouble),
+    }
 }
 
 /// `member TYPE SET`: whether the type is a member of the set.
-pub(crate) fn member(alloc: Global, words: &[&str], out: &mut String) -> Result<(), Trouble> {
-    let [name, rest @ ..] = words else {
-        return Err(Trouble::BadLine);
-    };
-    let value_type = type_of(name)?;
-    let is_member = set_of(alloc, rest)?.contains(value_type);
-    Ok(out.push_str(yes_or_no(is_member))?)
-}
-
-/// Four masks.
-fn masks_of(words: &[&str]) -> Option<Masks> {
-    let [lanes, dynamic_lanes, ints, floats] = words else {
-        return None;
-    };
-    Some(Masks {
-        lanes: lanes.parse().ok()?,
-        dynamic_lanes: dynamic_lanes.parse().ok()?,
-        ints: ints.parse().ok()?,
-        floats: floats.parse().ok()?,
-    })
+pub(crate) fn member(alloc: Global, case: &mut Case<'_>) {
+    match (type_of(case.word()), set_of(alloc, case.rest())) {
+        (Ok(value_type), Ok(set)) => case.yes_or_no(set.contains(value_type)),
+        (Err(trouble), _) | (_, Err(trouble)) => case.refuse(trouble),
+    }
 }
 
 /// `contains N masks A B C D`: whether the masks contain the type with this number.
-pub(crate) fn contains(words: &[&str], out: &mut String) -> Result<(), Trouble> {
-    let [number, "masks", masks @ ..] = words else {
-        return Err(Trouble::BadLine);
+pub(crate) fn contains(case: &mut Case<'_>) {
+    let number = case.number();
+    case.expect("masks");
+    let masks = Masks {
+        lanes: case.number(),
+        dynamic_lanes: case.number(),
+        ints: case.number(),
+        floats: case.number(),
     };
-    let masks = masks_of(masks).ok_or(Trouble::BadLine)?;
-    let number = number.parse::<u16>().ok().ok_or(Trouble::BadLine)?;
-    Ok(out.push_str(yes_or_no(masks.contains(number)))?)
+    case.yes_or_no(masks.contains(number));
 }

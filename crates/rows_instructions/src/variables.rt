@@ -1,15 +1,23 @@
 use crate::session::Session;
-use crate::sets::{set_of, type_of};
-use crate::trouble::Trouble;
-use crate::words::{define, end_list, function_of, named, push_item, yes_or_no};
+use crate::sets::set_of;
+use crate::words::define;
 use meta_types::{DerivedFunc, Text};
 use meta_typevar::{Interval, TypeSet, TypeSetBuilder, TypeVar, TypeVars};
-use std::alloc::AllocError;
+use rows_words::{Case, Trouble, function_of, named, type_of};
 
 impl<'l> Session<'l> {
     /// The variable for which the word stands.
     pub(crate) fn variable(&self, word: &str) -> Result<TypeVar, Trouble> {
-        Ok(*named(self.variables.as_slice(), word)?)
+        match named(self.variables.as_slice(), word) {
+            Ok(tv) => Ok(*tv),
+            Err(trouble) => Err(trouble),
+        }
+    }
+
+    /// Takes the next word, and answers the variable for which it stands.
+    pub(crate) fn next_variable(&self, case: &mut Case<'l>) -> Option<TypeVar> {
+        let found = self.variable(case.word());
+        case.kept(found)
     }
 
     /// The name of a variable, `?` where it is of another registry.
@@ -30,39 +38,39 @@ impl<'l> Session<'l> {
     }
 
     /// Writes the names of the variables, with commas between them, or `-` for none.
-    pub(crate) fn push_names(
-        &self,
-        variables: &[TypeVar],
-        out: &mut String,
-    ) -> Result<(), AllocError> {
-        let start = out.len();
+    pub(crate) fn write_names(&self, variables: &[TypeVar], case: &mut Case<'_>) {
+        let start = case.written();
         for tv in variables {
-            push_item(out, start, self.name(*tv))?;
+            case.item(start, self.name(*tv));
         }
-        end_list(out, start)
+        case.end_list(start);
     }
 
     /// Counts the variable that a call answered, and tells whether the call added it.
-    fn is_added(&mut self, tv: TypeVar) -> Result<bool, Trouble> {
+    fn is_added(&mut self, tv: TypeVar, case: &mut Case<'_>) -> bool {
         let is_added = self.vars.len() > self.numbered.len();
-        if is_added {
-            self.numbered.push(tv)?;
+        if is_added && self.numbered.push(tv).is_err() {
+            case.refuse(Trouble::OutOfMemory);
         }
-        Ok(is_added)
+        is_added
     }
 
     /// Lets the word stand for the variable that a call answered, and writes its name.
-    fn keep(&mut self, word: &'l str, tv: TypeVar, out: &mut String) -> Result<(), Trouble> {
-        self.is_added(tv)?;
-        define(&mut self.variables, word, tv)?;
-        Ok(out.push_str(self.name(tv))?)
+    fn keep(&mut self, word: &'l str, tv: TypeVar, case: &mut Case<'l>) {
+        self.is_added(tv, case);
+        define(&mut self.variables, word, tv, case);
+        case.text(self.name(tv));
     }
 
     /// Lets the word stand for the variable that a call answered, and writes what the registry tells of it.
-    fn keep_all(&mut self, word: &'l str, tv: TypeVar, out: &mut String) -> Result<(), Trouble> {
-        let change = if self.is_added(tv)? { "added" } else { "known" };
-        define(&mut self.variables, word, tv)?;
-        self.describe(tv, change, out)
+    fn keep_all(&mut self, word: &'l str, tv: TypeVar, case: &mut Case<'l>) {
+        let change = if self.is_added(tv, case) {
+            "added"
+        } else {
+            "known"
+        };
+        define(&mut self.variables, word, tv, case);
+        self.describe(tv, change, case);
     }
 
     /// A fresh root with this name, documentation and set.
@@ -70,8 +78,9 @@ impl<'l> Session<'l> {
         if !self.vars.has_room() {
             return Err(Trouble::NoCase);
         }
-        let name = Text::new(self.alloc, name)?;
-        let doc = Text::new(self.alloc, doc)?;
+        let (Ok(name), Ok(doc)) = (Text::new(self.alloc, name), Text::new(self.alloc, doc)) else {
+            return Err(Trouble::OutOfMemory);
+        };
         Ok(TypeVar::new(&mut self.vars, name, doc, set)?)
     }
 
@@ -84,22 +93,20 @@ impl<'l> Session<'l> {
         Ok(TypeVar::new_singleton(&mut self.vars, value_type)?)
     }
 
-    /// The variable that is derived from one: what the call answers that has the function's name, or else what `derived` does.
-    fn derived(
-        &mut self,
-        tv: TypeVar,
-        function: DerivedFunc,
-        by_name: bool,
-    ) -> Result<TypeVar, Trouble> {
+    /// The variable that is derived from one.
+    fn derived(&mut self, tv: TypeVar, function: DerivedFunc) -> Result<TypeVar, Trouble> {
         let vars = &mut self.vars;
-        if !vars.has_room() || !vars.is_of(tv) {
+        if !vars.has_room() || !vars.is_of(tv) || !tv.can_derive(self.alloc, vars, function)? {
             return Err(Trouble::NoCase);
         }
-        if !tv.can_derive(self.alloc, vars, function)? {
+        Ok(tv.derived(vars, function)?)
+    }
+
+    /// The same, by the call that has the function's name.
+    fn derived_by_name(&mut self, tv: TypeVar, function: DerivedFunc) -> Result<TypeVar, Trouble> {
+        let vars = &mut self.vars;
+        if !vars.has_room() || !vars.is_of(tv) || !tv.can_derive(self.alloc, vars, function)? {
             return Err(Trouble::NoCase);
-        }
-        if !by_name {
-            return Ok(tv.derived(vars, function)?);
         }
         Ok(match function {
             DerivedFunc::LaneOf => tv.lane_of(vars),
@@ -126,103 +133,112 @@ impl<'l> Session<'l> {
     }
 
     /// `ints X LOW HIGH LANES | DOC`: a variable of the ints from one width to another, with the lanes from 1 to a count.
-    pub(crate) fn ints(
+    pub(crate) fn ints(&mut self, case: &mut Case<'l>) {
+        let (word, low) = (case.word(), case.number());
+        let (high, lanes) = (case.number(), case.number());
+        match self.set_of_ints(low, high, lanes) {
+            Ok(set) => {
+                let root = self.fresh_root(word, case.doc(), set);
+                self.keep_found(word, root, case);
+            }
+            Err(trouble) => case.refuse(trouble),
+        }
+    }
+
+    /// Lets the word stand for the variable that a call answered, if it did, and writes its name.
+    fn keep_found(&mut self, word: &'l str, found: Result<TypeVar, Trouble>, case: &mut Case<'l>) {
+        match found {
+            Ok(tv) => self.keep(word, tv, case),
+            Err(trouble) => case.refuse(trouble),
+        }
+    }
+
+    /// Lets the word stand for the variable that a call answered, if it did, and writes what the registry tells of it.
+    fn keep_all_found(
         &mut self,
-        words: &[&'l str],
-        doc: &str,
-        out: &mut String,
-    ) -> Result<(), Trouble> {
-        let [word, low, high, lanes] = words else {
-            return Err(Trouble::BadLine);
-        };
-        let (Ok(low), Ok(high), Ok(lanes)) = (low.parse(), high.parse(), lanes.parse()) else {
-            return Err(Trouble::BadLine);
-        };
-        let set = self.set_of_ints(low, high, lanes)?;
-        let tv = self.fresh_root(word, doc, set)?;
-        self.keep(word, tv, out)
+        word: &'l str,
+        found: Result<TypeVar, Trouble>,
+        case: &mut Case<'l>,
+    ) {
+        match found {
+            Ok(tv) => self.keep_all(word, tv, case),
+            Err(trouble) => case.refuse(trouble),
+        }
     }
 
     /// `type X TYPE`: a variable that stands for a type.
-    pub(crate) fn one_type(&mut self, words: &[&'l str], out: &mut String) -> Result<(), Trouble> {
-        let [word, name] = words else {
-            return Err(Trouble::BadLine);
-        };
-        let tv = self.singleton(name)?;
-        self.keep(word, tv, out)
+    pub(crate) fn one_type(&mut self, case: &mut Case<'l>) {
+        let word = case.word();
+        let one = self.singleton(case.word());
+        self.keep_found(word, one, case);
     }
 
-    /// The variable that is derived from one by the function of this name, which is counted.
-    fn derived_by(&mut self, tv: TypeVar, function: &str) -> Result<TypeVar, Trouble> {
-        let tv = self.derived(tv, function_of(function)?, false)?;
-        self.is_added(tv)?;
-        Ok(tv)
-    }
-
-    /// The same by functions with commas between them, the first of which is taken first.
-    fn derived_by_all(&mut self, tv: TypeVar, functions: &str) -> Result<TypeVar, Trouble> {
+    /// The variable that is derived from one by functions with commas between them, the first of which is taken first. Each on the
+    /// way is counted.
+    fn derived_by_all(
+        &mut self,
+        tv: TypeVar,
+        functions: &str,
+        case: &mut Case<'l>,
+    ) -> Result<TypeVar, Trouble> {
         let mut tv = tv;
         for function in functions.split(',') {
-            tv = self.derived_by(tv, function)?;
+            tv = self.derived(tv, function_of(function)?)?;
+            self.is_added(tv, case);
         }
         Ok(tv)
     }
 
     /// `derive X Y FUNCTIONS`: the variable that is derived from one by these functions, the first of which is taken first.
-    pub(crate) fn derive_by_all(
-        &mut self,
-        words: &[&'l str],
-        out: &mut String,
-    ) -> Result<(), Trouble> {
-        let [word, from, functions] = words else {
-            return Err(Trouble::BadLine);
+    pub(crate) fn derive_by_all(&mut self, case: &mut Case<'l>) {
+        let word = case.word();
+        let Some(from) = self.next_variable(case) else {
+            return;
         };
-        let tv = self.derived_by_all(self.variable(from)?, functions)?;
-        self.keep(word, tv, out)
+        let functions = case.word();
+        let derived = self.derived_by_all(from, functions, case);
+        self.keep_found(word, derived, case);
     }
 
     /// `new`: another registry without a variable.
-    pub(crate) fn start_registry(&mut self, out: &mut String) -> Result<(), Trouble> {
+    pub(crate) fn start_registry(&mut self, case: &mut Case<'l>) {
         self.vars = TypeVars::new(self.alloc);
         self.numbered.clear();
-        self.count(out)
+        self.count(case);
     }
 
     /// `count`: how many variables and roots there are.
-    pub(crate) fn count(&self, out: &mut String) -> Result<(), Trouble> {
-        Ok(write!(
-            out,
-            "variables {} roots {}",
-            self.vars.len(),
-            self.vars.root_count()
-        )?)
+    pub(crate) fn count(&self, case: &mut Case<'l>) {
+        case.text("variables ");
+        case.shown(&self.vars.len());
+        case.text(" roots ");
+        case.shown(&self.vars.root_count());
     }
 
     /// `root X = SET`: a fresh root.
-    pub(crate) fn root(&mut self, words: &[&'l str], out: &mut String) -> Result<(), Trouble> {
-        let [word, "=", set @ ..] = words else {
-            return Err(Trouble::BadLine);
-        };
-        let set = set_of(self.alloc, set)?;
-        let tv = self.fresh_root(word, "A root", set)?;
-        self.keep_all(word, tv, out)
+    pub(crate) fn root(&mut self, case: &mut Case<'l>) {
+        let word = case.word();
+        case.expect("=");
+        match set_of(self.alloc, case.rest()) {
+            Ok(set) => {
+                let root = self.fresh_root(word, "A root", set);
+                self.keep_all_found(word, root, case);
+            }
+            Err(trouble) => case.refuse(trouble),
+        }
     }
 
     /// `one X = TYPE`: a fresh root that stands for a type.
-    pub(crate) fn one(&mut self, words: &[&'l str], out: &mut String) -> Result<(), Trouble> {
-        let [word, "=", name] = words else {
-            return Err(Trouble::BadLine);
-        };
-        let tv = self.singleton(name)?;
-        self.keep_all(word, tv, out)
+    pub(crate) fn one(&mut self, case: &mut Case<'l>) {
+        let word = case.word();
+        case.expect("=");
+        let one = self.singleton(case.word());
+        self.keep_all_found(word, one, case);
     }
 
     /// A fresh root with this name and the set of another.
     fn copied(&mut self, name: &str, other: TypeVar) -> Result<TypeVar, Trouble> {
-        if !self.vars.has_room() || !self.vars.is_of(other) {
-            return Err(Trouble::NoCase);
-        }
-        if other.root(&self.vars) != other {
+        if !self.vars.has_room() || !self.vars.is_of(other) || other.root(&self.vars) != other {
             return Err(Trouble::NoCase);
         }
         let name = Text::new(self.alloc, name)?;
@@ -230,58 +246,57 @@ impl<'l> Session<'l> {
     }
 
     /// `copy X of Y`: a fresh root with the set of another.
-    pub(crate) fn copy(&mut self, words: &[&'l str], out: &mut String) -> Result<(), Trouble> {
-        let [word, "of", other] = words else {
-            return Err(Trouble::BadLine);
-        };
-        let other = self.variable(other)?;
-        let tv = self.copied(word, other)?;
-        self.keep_all(word, tv, out)
+    pub(crate) fn copy(&mut self, case: &mut Case<'l>) {
+        let word = case.word();
+        case.expect("of");
+        if let Some(other) = self.next_variable(case) {
+            let root = self.copied(word, other);
+            self.keep_all_found(word, root, case);
+        }
     }
 
     /// `derive X = FUNCTION Y`: what `derived` answers; `call X = FUNCTION Y`: what the call of this name answers.
-    pub(crate) fn derive(
-        &mut self,
-        words: &[&'l str],
-        by_name: bool,
-        out: &mut String,
-    ) -> Result<(), Trouble> {
-        let [word, "=", function, parent] = words else {
-            return Err(Trouble::BadLine);
+    pub(crate) fn derive(&mut self, by_name: bool, case: &mut Case<'l>) {
+        let word = case.word();
+        case.expect("=");
+        let (function, parent) = (function_of(case.word()), self.next_variable(case));
+        let (Ok(function), Some(parent)) = (function, parent) else {
+            return case.refuse(Trouble::BadLine);
         };
-        let function = function_of(function)?;
-        let tv = self.derived(self.variable(parent)?, function, by_name)?;
-        self.keep_all(word, tv, out)
+        let derived = if by_name {
+            self.derived_by_name(parent, function)
+        } else {
+            self.derived(parent, function)
+        };
+        self.keep_all_found(word, derived, case);
     }
 
     /// `show X`: the variable as it is.
-    pub(crate) fn show(&self, words: &[&str], out: &mut String) -> Result<(), Trouble> {
-        let [word] = words else {
-            return Err(Trouble::BadLine);
-        };
-        self.describe(self.variable(word)?, "kept", out)
+    pub(crate) fn show(&self, case: &mut Case<'l>) {
+        if let Some(tv) = self.next_variable(case) {
+            self.describe(tv, "kept", case);
+        }
     }
 
     /// `is_of X`: whether the variable is of the registry.
-    pub(crate) fn is_of(&self, words: &[&str], out: &mut String) -> Result<(), Trouble> {
-        let [word] = words else {
-            return Err(Trouble::BadLine);
-        };
-        let is_of = self.vars.is_of(self.variable(word)?);
-        Ok(out.push_str(yes_or_no(is_of))?)
+    pub(crate) fn is_of(&self, case: &mut Case<'l>) {
+        if let Some(tv) = self.next_variable(case) {
+            case.yes_or_no(self.vars.is_of(tv));
+        }
     }
 
     /// `can_derive FUNCTION X`: whether the variable may be derived from by the function.
-    pub(crate) fn can_derive(&self, words: &[&str], out: &mut String) -> Result<(), Trouble> {
-        let [function, word] = words else {
-            return Err(Trouble::BadLine);
+    pub(crate) fn can_derive(&self, case: &mut Case<'l>) {
+        let (function, tv) = (function_of(case.word()), self.next_variable(case));
+        let (Ok(function), Some(tv)) = (function, tv) else {
+            return case.refuse(Trouble::BadLine);
         };
-        let function = function_of(function)?;
-        let tv = self.variable(word)?;
         if !self.vars.is_of(tv) {
-            return Err(Trouble::NoCase);
+            return case.no_case();
         }
-        let can = tv.can_derive(self.alloc, &self.vars, function)?;
-        Ok(out.push_str(yes_or_no(can))?)
+        match tv.can_derive(self.alloc, &self.vars, function) {
+            Ok(can) => case.yes_or_no(can),
+            Err(_) => case.refuse(Trouble::OutOfMemory),
+        }
     }
 }

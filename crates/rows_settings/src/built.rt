@@ -1,63 +1,71 @@
-use crate::trouble::Trouble;
 use meta_settings::{Preset, Setting, SettingGroup, SpecificSetting};
+use rows_words::{Case, Trouble};
 use std::alloc::{AllocError, Global};
 
 /// Writes the kind of a setting, with its default or with its values.
-fn write_kind(setting: &Setting, out: &mut String) -> Result<(), AllocError> {
+fn write_kind(setting: &Setting, case: &mut Case<'_>) {
     match setting.specific() {
-        SpecificSetting::Bool(b) => write!(out, "bool {}", b.default),
-        SpecificSetting::Num(default) => write!(out, "num {default}"),
+        SpecificSetting::Bool(b) => {
+            case.text(" bool ");
+            case.shown(&b.default);
+        }
+        SpecificSetting::Num(default) => {
+            case.text(" num ");
+            case.shown(default);
+        }
         SpecificSetting::Enum(values) => {
-            out.push_str("enum")?;
+            case.text(" enum");
             let mut before = ' ';
             for value in values.as_slice() {
-                out.push(before)?;
-                out.push_str(value.as_str())?;
+                case.letter(before);
+                case.text(value.as_str());
                 before = ',';
             }
-            Ok(())
         }
     }
 }
 
 /// Writes the prose behind a line, each text behind ` | `, and nothing where both are empty.
-fn write_prose(description: &str, comment: &str, out: &mut String) -> Result<(), AllocError> {
+fn write_prose(description: &str, comment: &str, case: &mut Case<'_>) {
+    if !description.is_empty() || !comment.is_empty() {
+        case.text(" | ");
+        case.text(description);
+    }
     if !comment.is_empty() {
-        return write!(out, " | {description} | {comment}");
+        case.text(" | ");
+        case.text(comment);
     }
-    if !description.is_empty() {
-        return write!(out, " | {description}");
-    }
-    Ok(())
 }
 
-/// Writes the settings of a group in their order, a line each: a setting's kind, its byte, of a boolean its bit and its number,
-/// and what it gives to its byte.
-pub(crate) fn write_layout(group: &SettingGroup, out: &mut String) -> Result<(), Trouble> {
-    for (place, setting) in group.settings().iter().enumerate() {
-        if place > 0 {
-            out.push('\n')?;
-        }
-        write!(out, "{} ", setting.name().as_str())?;
-        write_kind(setting, out)?;
-        write!(out, " byte {}", setting.byte_offset())?;
-        if let SpecificSetting::Bool(b) = setting.specific() {
-            write!(out, " bit {} number {}", b.bit_offset, b.predicate_number)?;
-        }
-        write!(out, " gives {}", setting.default_byte())?;
-        write_prose(
-            setting.description().as_str(),
-            setting.comment().as_str(),
-            out,
-        )?;
+/// Writes a setting: its kind, its byte, of a boolean its bit and its number, and what it gives to its byte.
+fn write_setting(setting: &Setting, case: &mut Case<'_>) {
+    case.text(setting.name().as_str());
+    write_kind(setting, case);
+    case.text(" byte ");
+    case.shown(&setting.byte_offset());
+    if let SpecificSetting::Bool(b) = setting.specific() {
+        case.text(" bit ");
+        case.shown(&b.bit_offset);
+        case.text(" number ");
+        case.shown(&b.predicate_number);
     }
-    Ok(())
+    case.text(" gives ");
+    case.shown(&setting.default_byte());
+    let (description, comment) = (setting.description().as_str(), setting.comment().as_str());
+    write_prose(description, comment, case);
+}
+
+/// Writes the settings of a group in their order, a line each.
+pub(crate) fn write_layout(group: &SettingGroup, case: &mut Case<'_>) {
+    for setting in group.settings() {
+        case.separate('\n');
+        write_setting(setting, case);
+    }
 }
 
 /// The default bytes of a group: in each byte what its settings give to it.
 fn defaults(alloc: Global, group: &SettingGroup) -> Result<Vec<u8>, AllocError> {
-    let mut bytes = Vec::new(alloc);
-    bytes.resize(usize::from(group.byte_size()), 0)?;
+    let mut bytes = vec![in alloc; 0u8; usize::from(group.byte_size())]?;
     for setting in group.settings() {
         if let Some(byte) = bytes.get_mut(usize::from(setting.byte_offset())) {
             *byte |= setting.default_byte();
@@ -67,51 +75,47 @@ fn defaults(alloc: Global, group: &SettingGroup) -> Result<Vec<u8>, AllocError> 
 }
 
 /// Writes the group's sizes and default bytes.
-pub(crate) fn write_bytes(
-    alloc: Global,
-    group: &SettingGroup,
-    out: &mut String,
-) -> Result<(), Trouble> {
-    write!(
-        out,
-        "{} byte size {} settings size {} booleans from {} defaults ",
-        group.name().as_str(),
-        group.byte_size(),
-        group.settings_size(),
-        group.bool_start_byte_offset()
-    )?;
-    let bytes = defaults(alloc, group)?;
-    Ok(write!(out, "{bytes:?}")?)
+pub(crate) fn write_bytes(alloc: Global, group: &SettingGroup, case: &mut Case<'_>) {
+    case.text(group.name().as_str());
+    case.text(" byte size ");
+    case.shown(&group.byte_size());
+    case.text(" settings size ");
+    case.shown(&group.settings_size());
+    case.text(" booleans from ");
+    case.shown(&group.bool_start_byte_offset());
+    case.text(" defaults ");
+    match defaults(alloc, group) {
+        Ok(bytes) => case.debugged(&bytes),
+        Err(_) => case.refuse(Trouble::OutOfMemory),
+    }
 }
 
-/// Writes the group's presets in their order, a line each: the booleans that a preset turns on, and for each byte the mask and the
-/// value.
-pub(crate) fn write_presets(
-    alloc: Global,
-    group: &SettingGroup,
-    out: &mut String,
-) -> Result<(), Trouble> {
-    for (place, preset) in group.presets().iter().enumerate() {
-        if !group.has(preset) {
-            return Err(Trouble::NoCase);
-        }
-        if place > 0 {
-            out.push('\n')?;
-        }
-        out.push_str(preset.name().as_str())?;
-        let mut before = ' ';
-        for name in preset.setting_names(group) {
-            out.push(before)?;
-            out.push_str(name)?;
-            before = ',';
-        }
-        if before == ' ' {
-            out.push_str(" -")?;
-        }
-        write!(out, " {:?}", preset.layout(alloc, group)?)?;
-        write_prose(preset.description().as_str(), "", out)?;
+/// Writes a preset: the booleans that it turns on, and for each byte the mask and the value.
+fn write_preset(alloc: Global, group: &SettingGroup, preset: &Preset, case: &mut Case<'_>) {
+    if !group.has(preset) {
+        return case.no_case();
     }
-    Ok(())
+    case.text(preset.name().as_str());
+    let mut before = ' ';
+    for name in preset.setting_names(group) {
+        case.letter(before);
+        case.text(name);
+        before = ',';
+    }
+    case.text(if before == ' ' { " - " } else { " " });
+    match preset.layout(alloc, group) {
+        Ok(layout) => case.debugged(&layout),
+        Err(_) => case.refuse(Trouble::OutOfMemory),
+    }
+    write_prose(preset.description().as_str(), "", case);
+}
+
+/// Writes the group's presets in their order, a line each.
+pub(crate) fn write_presets(alloc: Global, group: &SettingGroup, case: &mut Case<'_>) {
+    for preset in group.presets() {
+        case.separate('\n');
+        write_preset(alloc, group, preset, case);
+    }
 }
 
 /// The preset of this name.
@@ -125,16 +129,12 @@ pub(crate) fn preset_of<'g>(group: &'g SettingGroup, name: &str) -> Result<&'g P
 }
 
 /// Writes what the iterator of a preset's names answers, four times.
-pub(crate) fn write_names(
-    group: &SettingGroup,
-    name: &str,
-    out: &mut String,
-) -> Result<(), Trouble> {
-    let preset = preset_of(group, name)?;
-    if !group.has(preset) {
-        return Err(Trouble::NoCase);
+pub(crate) fn write_names(group: &SettingGroup, name: &str, case: &mut Case<'_>) {
+    match preset_of(group, name) {
+        Ok(preset) if group.has(preset) => {
+            let mut names = preset.setting_names(group);
+            case.debugged(&[names.next(), names.next(), names.next(), names.next()]);
+        }
+        _ => case.no_case(),
     }
-    let mut names = preset.setting_names(group);
-    let answers = [names.next(), names.next(), names.next(), names.next()];
-    Ok(write!(out, "{answers:?}")?)
 }

@@ -1,8 +1,8 @@
-use crate::line::{Line, MANY, OTHERS, Sort, find, number};
+use crate::line::{Line, MANY, OTHERS, Sort};
 use crate::named::{named_in_order, nothing_named};
-use crate::trouble::Trouble;
 use meta_settings::{BoolSettingIndex, PresetIndex, PresetType, SettingGroup, SettingGroupBuilder};
 use meta_types::{DefinitionError, Text};
+use rows_words::{Case, Trouble, named, number, texts_of};
 use std::alloc::{AllocError, Global};
 
 /// What an entry is declared as.
@@ -23,6 +23,21 @@ enum Added {
 }
 
 impl Added {
+    /// Writes the number, or `Ok` for none.
+    fn write(self, case: &mut Case<'_>) {
+        match self {
+            Added::Boolean(index) => {
+                case.text("boolean ");
+                case.shown(&index.number());
+            }
+            Added::Preset(index) => {
+                case.text("preset ");
+                case.shown(&index.number());
+            }
+            Added::Other => case.text("Ok"),
+        }
+    }
+
     /// The number of a boolean.
     fn boolean(self) -> Result<BoolSettingIndex, Trouble> {
         match self {
@@ -57,17 +72,6 @@ pub(crate) struct Declared {
     named: Vec<(Text, Added)>,
 }
 
-/// The texts that are parted by commas, none for an empty list.
-pub(crate) fn texts(alloc: Global, list: &str) -> Result<Vec<Text>, AllocError> {
-    let mut texts = Vec::new(alloc);
-    if !list.is_empty() {
-        for text in list.split(',') {
-            texts.push(Text::new(alloc, text)?)?;
-        }
-    }
-    Ok(texts)
-}
-
 /// An entry of a sort that gives and names nothing.
 fn plain(alloc: Global, sort: Sort) -> Kind {
     match sort {
@@ -81,16 +85,22 @@ fn plain(alloc: Global, sort: Sort) -> Kind {
 /// An enum of so many values, `v0`, `v1` and so on.
 fn enum_of(alloc: Global, count: u16) -> Result<Kind, AllocError> {
     let mut values = Vec::new(alloc);
+    add_values(alloc, &mut values, count)?;
+    Ok(Kind::Enum(values))
+}
+
+/// Adds `v0`, `v1` and so on.
+fn add_values(alloc: Global, values: &mut Vec<Text>, count: u16) -> Result<(), AllocError> {
     for k in 0..count {
         let value = format!(in alloc; "v{k}")?;
         values.push(Text::new(alloc, value.as_str())?)?;
     }
-    Ok(Kind::Enum(values))
+    Ok(())
 }
 
 /// What a word such as `boolean:3` or `preset:1` means: an index of another group, behind so many others.
 fn of_other_group(alloc: Global, word: &str, count: &str) -> Result<Added, Trouble> {
-    let (sort, count) = (find(&OTHERS, word)?, number::<u16>(count)?);
+    let (sort, count) = (*named(&OTHERS, word)?, number::<u16>(count)?);
     let mut other = Declared::new(alloc, "other")?;
     let mut last = Added::Other;
     for _ in 0..=count {
@@ -147,17 +157,20 @@ impl Declared {
         Err(Trouble::NoCase)
     }
 
-    /// What the names mean, which are parted by commas, none for an empty list: booleans and presets of this group, or an
-    /// index of another one.
+    /// What the name means: a boolean or a preset of this group, or an index of another one.
+    fn meant_by(&self, name: &str) -> Result<PresetType, Trouble> {
+        match name.split_once(':') {
+            Some((word, count)) => of_other_group(self.alloc, word, count)?.meant(),
+            None => self.find(name)?.meant(),
+        }
+    }
+
+    /// What the names mean, which are parted by commas, none for an empty list.
     fn meant(&self, names: &str) -> Result<Vec<PresetType>, Trouble> {
         let mut args = Vec::new(self.alloc);
         if !names.is_empty() {
             for name in names.split(',') {
-                let added = match name.split_once(':') {
-                    Some((word, count)) => of_other_group(self.alloc, word, count)?,
-                    None => self.find(name)?,
-                };
-                args.push(added.meant()?)?;
+                args.push(self.meant_by(name)?)?;
             }
         }
         Ok(args)
@@ -166,43 +179,47 @@ impl Declared {
     /// What a line declares.
     fn kind(&self, sort: Sort, value: &str) -> Result<Kind, Trouble> {
         match sort {
-            Sort::Bool => Ok(Kind::Bool(number::<bool>(value)?)),
-            Sort::Num => Ok(Kind::Num(number::<u8>(value)?)),
-            Sort::Enum => Ok(Kind::Enum(texts(self.alloc, value)?)),
+            Sort::Bool => Ok(Kind::Bool(number(value)?)),
+            Sort::Num => Ok(Kind::Num(number(value)?)),
+            Sort::Enum => Ok(Kind::Enum(texts_of(self.alloc, value, "")?)),
             Sort::Preset => Ok(Kind::Preset(self.meant(value)?)),
         }
     }
 
-    /// Declares an entry, and writes its number or `Ok`.
-    pub(crate) fn add_entry(
-        &mut self,
-        sort: Sort,
-        line: &Line<'_>,
-        out: &mut String,
-    ) -> Result<(), Trouble> {
+    /// Declares an entry, and keeps its number under its name.
+    fn add_named(&mut self, sort: Sort, line: &Line<'_>) -> Result<Added, Trouble> {
         let kind = self.kind(sort, line.value)?;
         let added = self.add(line, kind)?;
         self.named.push((Text::new(self.alloc, line.name)?, added))?;
-        match added {
-            Added::Boolean(index) => write!(out, "boolean {}", index.number())?,
-            Added::Preset(index) => write!(out, "preset {}", index.number())?,
-            Added::Other => out.push_str("Ok")?,
+        Ok(added)
+    }
+
+    /// Declares an entry, and writes its number or `Ok`.
+    pub(crate) fn add_entry(&mut self, sort: Sort, line: &Line<'_>, case: &mut Case<'_>) {
+        match self.add_named(sort, line) {
+            Ok(added) => added.write(case),
+            Err(trouble) => case.refuse(trouble),
         }
-        Ok(())
     }
 
     /// Adds so many of a sort, named by a letter and their numbers from 0, or an enum `e` of so many values.
     pub(crate) fn add_many(&mut self, line: &Line<'_>) -> Result<(), Trouble> {
-        let ((letter, sort), count) = (find(&MANY, line.name)?, number::<u16>(line.value)?);
+        let ((letter, sort), count) = (*named(&MANY, line.name)?, number::<u16>(line.value)?);
         if let Sort::Enum = sort {
             let kind = enum_of(self.alloc, count)?;
             self.add(&Line::of("enum e"), kind)?;
             return Ok(());
         }
         for place in 0..count {
-            let text = format!(in self.alloc; "many {letter}{place}")?;
-            self.add(&Line::of(text.as_str()), plain(self.alloc, sort))?;
+            self.add_numbered(letter, sort, place)?;
         }
+        Ok(())
+    }
+
+    /// Adds one of a sort, named by a letter and a number.
+    fn add_numbered(&mut self, letter: char, sort: Sort, place: u16) -> Result<(), Trouble> {
+        let text = format!(in self.alloc; "many {letter}{place}")?;
+        self.add(&Line::of(text.as_str()), plain(self.alloc, sort))?;
         Ok(())
     }
 
@@ -216,15 +233,22 @@ impl Declared {
     }
 
     /// Adds a preset of what `preset!` makes, and writes that, and whether it is what the names mean.
-    pub(crate) fn add_in_order(
-        &mut self,
-        line: &Line<'_>,
-        out: &mut String,
-    ) -> Result<(), Trouble> {
-        let args = self.in_order(line.value)?;
-        let is_meant = args.as_slice() == self.meant(line.value)?.as_slice();
-        write!(out, "{args:?} {is_meant}")?;
-        self.add(line, Kind::Preset(args))?;
-        Ok(())
+    pub(crate) fn add_in_order(&mut self, line: &Line<'_>, case: &mut Case<'_>) {
+        match (self.in_order(line.value), self.meant(line.value)) {
+            (Ok(args), Ok(meant)) => {
+                case.debugged(&args);
+                case.letter(' ');
+                case.shown(&(args.as_slice() == meant.as_slice()));
+                self.add_meant(line, args, case);
+            }
+            (Err(trouble), _) | (_, Err(trouble)) => case.refuse(trouble),
+        }
+    }
+
+    /// Adds a preset.
+    fn add_meant(&mut self, line: &Line<'_>, args: Vec<PresetType>, case: &mut Case<'_>) {
+        if let Err(trouble) = self.add(line, Kind::Preset(args)) {
+            case.refuse(trouble);
+        }
     }
 }

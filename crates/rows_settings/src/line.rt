@@ -1,5 +1,3 @@
-use crate::trouble::Trouble;
-
 /// What sort an entry is of.
 #[derive(Clone, Copy)]
 pub(crate) enum Sort {
@@ -73,24 +71,6 @@ pub(crate) const MANY: [(&str, (char, Sort)); 4] = [
 
 /// The words for what another group has.
 pub(crate) const OTHERS: [(&str, Sort); 2] = [("boolean", Sort::Bool), ("preset", Sort::Preset)];
-
-/// What stands beside a word in a table, the first of them.
-pub(crate) fn find<T: Copy>(table: &[(&str, T)], word: &str) -> Result<T, Trouble> {
-    for (known, found) in table {
-        if *known == word {
-            return Ok(*found);
-        }
-    }
-    Err(Trouble::NoCase)
-}
-
-/// The number that a word is.
-pub(crate) fn number<N: std::str::FromStr + Drop>(word: &str) -> Result<N, Trouble>
-where
-    N::Err: Drop,
-{
-    word.parse::<N>().map_err(|_| Trouble::NoCase)
-}
 
 /// A line: its words have one space between them, and ` | ` stands before a description, and again before a comment. What is
 /// missing is empty.

@@ -8,19 +8,24 @@ mod declared;
 mod line;
 mod named;
 mod session;
-mod trouble;
 
 use session::Session;
 use std::alloc::{AllocError, Global};
 use std::io::{self, Write};
 
+/// Adds the answers to the lines.
+fn add_answers(session: &mut Session, input: &str, answers: &mut String) -> Result<(), AllocError> {
+    for line in input.lines() {
+        session.answer_line(line, answers)?;
+    }
+    Ok(())
+}
+
 /// The answers to the lines.
 fn answers(alloc: Global, input: &str) -> Result<String, AllocError> {
-    let mut session = Session::new(alloc)?;
     let mut answers = String::new(alloc);
-    for line in input.lines() {
-        session.answer_line(line, &mut answers)?;
-    }
+    let mut session = Session::new(alloc)?;
+    add_answers(&mut session, input, &mut answers)?;
     Ok(answers)
 }
 

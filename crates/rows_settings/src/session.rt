@@ -1,11 +1,11 @@
 use crate::built::{preset_of, write_bytes, write_layout, write_names, write_presets};
 use crate::compared::{write_alike, write_which};
 use crate::declared::Declared;
-use crate::line::{ASKED, Asked, Line, find, number};
+use crate::line::{ASKED, Asked, Line};
 use crate::named::nothing_named;
-use crate::trouble::Trouble;
 use meta_settings::{SettingGroup, TargetIsa};
 use meta_types::Text;
+use rows_words::{Case, Trouble, named};
 use std::alloc::{AllocError, Global};
 
 /// What the lines so far have left: the group that is being declared, and the groups that were built.
@@ -37,84 +37,123 @@ impl Session {
     }
 
     /// Begins a group.
-    fn begin(&mut self, name: &str, out: &mut String) -> Result<(), Trouble> {
-        self.declared = Declared::new(self.alloc, name)?;
-        Ok(out.push_str("Ok")?)
+    fn begin(&mut self, name: &str, case: &mut Case<'_>) {
+        match Declared::new(self.alloc, name) {
+            Ok(declared) => {
+                self.declared = declared;
+                case.text("Ok");
+            }
+            Err(_) => case.refuse(Trouble::OutOfMemory),
+        }
     }
 
     /// Declares many.
-    fn add_many(&mut self, line: &Line<'_>, out: &mut String) -> Result<(), Trouble> {
-        self.declared.add_many(line)?;
-        Ok(out.push_str("Ok")?)
+    fn add_many(&mut self, line: &Line<'_>, case: &mut Case<'_>) {
+        match self.declared.add_many(line) {
+            Ok(()) => case.text("Ok"),
+            Err(trouble) => case.refuse(trouble),
+        }
     }
 
     /// Builds the group, and writes `Ok`, or the line of its first fault.
-    fn build(&mut self, line: &Line<'_>, out: &mut String) -> Result<(), Trouble> {
-        match self.declared.build(number::<u64>(line.name)?) {
+    fn build(&mut self, line: &Line<'_>, case: &mut Case<'_>) {
+        match self.declared.build(case.number_of(line.name)) {
             Ok(group) => {
-                self.built.push(group)?;
-                out.push_str("Ok")?;
+                if self.built.push(group).is_err() {
+                    case.refuse(Trouble::OutOfMemory);
+                }
+                case.text("Ok");
             }
-            Err(fault) => out.push_str(fault.line(self.alloc)?.as_str())?,
+            Err(fault) => case.made(fault.line(self.alloc)),
         }
-        Ok(())
     }
 
     /// The group as it is built once more.
     fn built_again(&self) -> Result<SettingGroup, Trouble> {
-        self.declared.build(1).map_err(|_| Trouble::NoCase)
+        match self.declared.build(1) {
+            Ok(group) => Ok(group),
+            Err(_) => Err(Trouble::NoCase),
+        }
+    }
+
+    /// The target of this name.
+    fn target(&self, name: &str) -> Result<TargetIsa, Trouble> {
+        let group = self.built_again()?;
+        Ok(TargetIsa::new(Text::new(self.alloc, name)?, group))
     }
 
     /// Writes the target of this name, its group and how many bytes that takes.
-    fn write_target(&self, name: &str, out: &mut String) -> Result<(), Trouble> {
-        let isa = TargetIsa::new(Text::new(self.alloc, name)?, self.built_again()?);
-        let (name, group) = (isa.name.as_str(), isa.settings.name().as_str());
-        Ok(write!(out, "{name} {group} byte size {}", isa.settings.byte_size())?)
+    fn write_target(&self, name: &str, case: &mut Case<'_>) {
+        match self.target(name) {
+            Ok(isa) => {
+                case.text(isa.name.as_str());
+                case.letter(' ');
+                case.text(isa.settings.name().as_str());
+                case.text(" byte size ");
+                case.shown(&isa.settings.byte_size());
+            }
+            Err(trouble) => case.refuse(trouble),
+        }
     }
 
     /// Writes whether the preset of a group is one of another.
-    fn write_has(&self, line: &Line<'_>, out: &mut String) -> Result<(), Trouble> {
-        let preset = preset_of(self.group(line.name)?, line.value)?;
-        Ok(write!(out, "{}", self.group(line.third)?.has(preset))?)
+    fn write_has(&self, line: &Line<'_>, case: &mut Case<'_>) {
+        let (Ok(group), Ok(other)) = (self.group(line.name), self.group(line.third)) else {
+            return case.no_case();
+        };
+        match preset_of(group, line.value) {
+            Ok(preset) => case.shown(&other.has(preset)),
+            Err(trouble) => case.refuse(trouble),
+        }
     }
 
-    /// Writes which settings and presets of a built group are as those of the same that is built once more.
-    fn write_alike(&self, name: &str, out: &mut String) -> Result<(), Trouble> {
-        let again = self.built_again()?;
-        Ok(write_alike(self.group(name)?, &again, out)?)
+    /// Writes what a line asks of a built group.
+    fn write_of(&self, group: &SettingGroup, asked: Asked, line: &Line<'_>, case: &mut Case<'_>) {
+        match asked {
+            Asked::Layout => write_layout(group, case),
+            Asked::Bytes => write_bytes(self.alloc, group, case),
+            Asked::Presets => write_presets(self.alloc, group, case),
+            Asked::Names => write_names(group, line.value, case),
+            Asked::Alike => match self.built_again() {
+                Ok(again) => write_alike(group, &again, case),
+                Err(trouble) => case.refuse(trouble),
+            },
+            _ => write_which(self.alloc, group, line, case),
+        }
     }
 
     /// Writes the answer to a line.
-    fn answer(&mut self, line: &Line<'_>, out: &mut String) -> Result<(), Trouble> {
-        match find(&ASKED, line.asked)? {
-            Asked::Group => self.begin(line.name, out),
-            Asked::Entry(sort) => self.declared.add_entry(sort, line, out),
-            Asked::Many => self.add_many(line, out),
-            Asked::InOrder => self.declared.add_in_order(line, out),
-            Asked::Nothing => Ok(write!(out, "{:?}", nothing_named(self.alloc))?),
-            Asked::Build => self.build(line, out),
-            Asked::Target => self.write_target(line.name, out),
-            Asked::Layout => write_layout(self.group(line.name)?, out),
-            Asked::Bytes => write_bytes(self.alloc, self.group(line.name)?, out),
-            Asked::Presets => write_presets(self.alloc, self.group(line.name)?, out),
-            Asked::Has => self.write_has(line, out),
-            Asked::Names => write_names(self.group(line.name)?, line.value, out),
-            Asked::Alike => self.write_alike(line.name, out),
-            Asked::Which => write_which(self.alloc, self.group(line.name)?, line, out),
+    fn answer(&mut self, line: &Line<'_>, case: &mut Case<'_>) {
+        let Ok(asked) = named(&ASKED, line.asked) else {
+            return case.no_case();
+        };
+        match *asked {
+            Asked::Group => self.begin(line.name, case),
+            Asked::Entry(sort) => self.declared.add_entry(sort, line, case),
+            Asked::Many => self.add_many(line, case),
+            Asked::InOrder => self.declared.add_in_order(line, case),
+            Asked::Nothing => case.debugged(&nothing_named(self.alloc)),
+            Asked::Build => self.build(line, case),
+            Asked::Target => self.write_target(line.name, case),
+            Asked::Has => self.write_has(line, case),
+            asked => match self.group(line.name) {
+                Ok(group) => self.write_of(group, asked, line, case),
+                Err(trouble) => case.refuse(trouble),
+            },
         }
     }
 
     /// Writes the answer to a line and a line feed: `no case` where it asks nothing, or what can't be asked.
-    pub(crate) fn answer_line(&mut self, line: &str, out: &mut String) -> Result<(), AllocError> {
+    pub(crate) fn answer_line(
+        &mut self,
+        line: &str,
+        answers: &mut String,
+    ) -> Result<(), AllocError> {
         if line.starts_with('#') {
-            out.push_str(line)?;
-        } else {
-            match self.answer(&Line::of(line), out) {
-                Ok(()) => {}
-                Err(Trouble::NoCase) => out.push_str("no case")?,
-                Err(Trouble::OutOfMemory) => return Err(AllocError),
-            }
+            return writeln!(answers, "{line}");
         }
-        out.push('\n')
+        let mut case = Case::of(self.alloc, "")?;
+        self.answer(&Line::of(line), &mut case);
+        case.end(answers)
     }
 }

@@ -13,4 +13,5 @@ new-requires-3 c =
       format = c.in_ok-format.ensures;
       outputs = λ k n at. absurd (cc);
       inputs = c.in_ok-inputs.ensures;
+      second = λ s at. absurd (cc);
     }))

@@ -13,4 +13,5 @@ returns c = λ vars formats in_vars in_formats.
       format = in_formats;
       outputs = c.in_ok-operands-2.ensures vars in_vars;
       inputs = c.in_ok-operands.ensures vars in_vars;
+      second = λ s at. absurd (cc);
     })

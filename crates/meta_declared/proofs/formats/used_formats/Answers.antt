@@ -1,20 +1,23 @@
-use Rattle.std.proofs.Common.{◌≡◌, length, ℕ, ◌+◌, ◌∙◌, ap, sym, refl, subst, arith}
+use Rattle.std.proofs.Common.{◌≡◌, ◌≢◌, Result, Ok, Err, length, ℕ, ◌+◌, ◌<◌, ◌∙◌, ap, sym, refl, subst, arith}
 use Rattle.std.specs.List.{slice_get}
+use Rattle.std.specs.Result.{IfErr, IsErrAnd}
 use Rattle.std.proofs.lemmas.Bool.{false≢true}
 use Rattle.meta_types.specs.declared.fault.Place.TheVariants.{Format as AtFormat}
-use Rattle.meta_types.specs.declared.fault.DefinitionError.TheVariants.{BadName, BadFormat, FormatClash}
+use Rattle.meta_types.specs.declared.fault.DefinitionError.{DefinitionError}
+use Rattle.meta_types.specs.declared.fault.DefinitionError.TheVariants.{OutOfMemory, BadName, BadFormat, FormatClash}
 use Rattle.meta_inst.specs.Faults.{FormatNameRule, BlocksRule, ClashRule, OfFormat, IsFirstFault}
-use Rattle.meta_declared.specs.FormatsUsed.{AreUsedBefore, IsAmong, IsNotAmong, ClashesWithNone, IsFirstToClash}
+use Rattle.meta_declared.specs.FormatsUsed.{AreUsedBefore, AreApart, AreOfTable, IsAmong, IsNotAmong, ClashesWithNone, IsFirstToClash}
 use Rattle.meta_declared.specs.Searched.{IsCleanBefore}
 use Rattle.meta_declared.proofs.FirstFault.{passed_formats}
-use Rattle.meta_declared.proofs.FormatSearch.{declared, carry, has_name, has_few, used_again, clean_again, first_here, used_new, good_name, few_blocks, no_clash, first_clash, of_table_more, apart_more}
+use Rattle.meta_declared.proofs.FormatSearch.{declared, of_here, has_name, has_few, used_again, clean_again, first_here, used_new, good_name, few_blocks, no_clash, first_clash, apart_more}
 use Rattle.meta_declared.proofs.formats.used_formats.Goals as goal
 
-pub loop-place-preserved-then-is_among : goal.loop-place-preserved-then-is_among
-loop-place-preserved-then-is_among c =
-    let among = carry IsAmong _ _ _ _ c.deref.ensures.value c.format-id.ensures c.if-is_among.ensures in
+pub loop-place-preserved-then-contains : goal.loop-place-preserved-then-contains
+loop-place-preserved-then-contains c =
+    let among = subst (IsAmong c.loop-place.used.used.items) c.format-id.ensures c.if-contains.ensures in
     record {
-      of_table = c.loop-place.invariant.of_table;
+      table = c.loop-place.invariant.table;
+      indexed = c.loop-place.invariant.indexed;
       apart = c.loop-place.invariant.apart;
       used = λ vars. used_again (declared vars c.args.formats.now c.args.instructions.now) _ _ _ (c.loop-place.invariant.used vars) c.get.ensures among;
       clean = λ vars start. clean_again (declared vars c.args.formats.now c.args.instructions.now) _ _ _ (c.loop-place.invariant.used vars) c.get.ensures (c.loop-place.invariant.clean vars start) among;
@@ -23,7 +26,7 @@ loop-place-preserved-then-is_among c =
 pub returns-then-not-is_name-clause-refused : goal.returns-then-not-is_name-clause-refused
 returns-then-not-is_name-clause-refused c = λ vars start other.
     let d = declared vars c.args.formats.now c.args.instructions.now in
-    let new = carry IsNotAmong _ _ _ _ c.deref.ensures.value c.format-id.ensures c.if-is_among.ensures in
+    let new = subst (IsNotAmong c.loop-place.used.used.items) c.format-id.ensures c.if-contains.ensures in
     let format = ap (slice_get c.args.formats.now) (sym c.format-id.ensures) ∙ c.get-format.ensures in
     let number = sym (c.from-number.ensures ∙ c.number.ensures ∙ c.format-id.ensures) in
     subst (λ (z : ℕ). IsFirstFault d (BadName (AtFormat z))) number (record {
@@ -35,7 +38,7 @@ returns-then-not-is_name-clause-refused c = λ vars start other.
 pub returns-then-has_too_many_blocks-clause-refused : goal.returns-then-has_too_many_blocks-clause-refused
 returns-then-has_too_many_blocks-clause-refused c = λ vars start other.
     let d = declared vars c.args.formats.now c.args.instructions.now in
-    let new = carry IsNotAmong _ _ _ _ c.deref.ensures.value c.format-id.ensures c.if-is_among.ensures in
+    let new = subst (IsNotAmong c.loop-place.used.used.items) c.format-id.ensures c.if-contains.ensures in
     let format = ap (slice_get c.args.formats.now) (sym c.format-id.ensures) ∙ c.get-format.ensures in
     let used = c.loop-place.invariant.used vars in
     let named = good_name d _ _ _ used c.get.ensures (c.loop-place.invariant.clean vars start) (has_name d _ _ format (c.if-not-is_name.ensures.0 refl)) in
@@ -49,12 +52,12 @@ returns-then-has_too_many_blocks-clause-refused c = λ vars start other.
 pub returns-in-Some-clause-refused : goal.returns-in-Some-clause-refused
 returns-in-Some-clause-refused c = λ vars start other.
     let d = declared vars c.args.formats.now c.args.instructions.now in
-    let new = carry IsNotAmong _ _ _ _ c.deref.ensures.value c.format-id.ensures c.if-is_among.ensures in
+    let new = subst (IsNotAmong c.loop-place.used.used.items) c.format-id.ensures c.if-contains.ensures in
     let format = ap (slice_get c.args.formats.now) (sym c.format-id.ensures) ∙ c.get-format.ensures in
     let used = c.loop-place.invariant.used vars in
     let named = good_name d _ _ _ used c.get.ensures (c.loop-place.invariant.clean vars start) (has_name d _ _ format (c.if-not-is_name.ensures.0 refl)) in
     let few = few_blocks d _ _ _ used c.get.ensures named (has_few d _ _ format (λ many. false≢true (c.if-has_too_many_blocks.ensures.1 many))) in
-    let first = carry (λ used f. IsFirstToClash c.args.formats.now used f c.in-Some.earlier) _ _ _ _ c.deref-in-loop-place.ensures.value c.format-id.ensures c.in-Some.ensures.some in
+    let first = of_here (λ formats f. IsFirstToClash formats c.loop-place.used.used.items f c.in-Some.earlier) _ _ _ _ c.loop-place.invariant.table c.format-id.ensures c.in-Some.ensures.some in
     let number = sym (c.from-number.ensures ∙ c.number.ensures ∙ c.format-id.ensures) in
     let earlier = sym (c.from.ensures ∙ c.number-in-Some.ensures) in
     subst (λ (z : ℕ). IsFirstFault d (FormatClash z c.from.result)) number
@@ -66,18 +69,19 @@ returns-in-Some-clause-refused c = λ vars start other.
 
 pub loop-place-preserved : goal.loop-place-preserved
 loop-place-preserved c =
-    let new = carry IsNotAmong _ _ _ _ c.deref.ensures.value c.format-id.ensures c.if-is_among.ensures in
+    let new = subst (IsNotAmong c.loop-place.used.used.items) c.format-id.ensures c.if-contains.ensures in
     let format = ap (slice_get c.args.formats.now) (sym c.format-id.ensures) ∙ c.get-format.ensures in
     let is_name = c.if-not-is_name.ensures.0 refl in
-    let none = carry (λ used f. ClashesWithNone c.args.formats.now used f) _ _ _ _ c.deref-in-loop-place.ensures.value c.format-id.ensures c.in_default.ensures.none in
-    let none_own = carry (λ used f. ClashesWithNone c.args.formats.now used f) _ _ _ _ c.deref-in-loop-place.ensures.value refl c.in_default.ensures.none in
-    let pushed = c.in_ok-push.ensures.items in
+    let none = of_here (λ formats f. ClashesWithNone formats c.loop-place.used.used.items f) _ _ _ _ c.loop-place.invariant.table c.format-id.ensures c.in_default.ensures.none in
+    let none_own = of_here (λ formats f. ClashesWithNone formats c.loop-place.used.used.items f) _ _ _ _ c.loop-place.invariant.table refl c.in_default.ensures.none in
+    let added = c.in_ok-add.ensures.added in
     record {
-      of_table = of_table_more c.args.formats.now c.loop-place.used.items c.push.new.self.items _ c.loop-place.invariant.of_table (record { format = _; at = c.get-format.ensures; structure = c.in_ok-structure.ensures }) pushed;
-      apart = apart_more c.args.formats.now c.loop-place.used.items c.push.new.self.items _ c.loop-place.invariant.apart none_own pushed;
+      table = c.in_ok-add.ensures.formats ∙ c.loop-place.invariant.table;
+      indexed = c.in_ok-add.ensures.indexed;
+      apart = apart_more c.args.formats.now c.loop-place.used.used.items c.add.new.self.used.items _ c.loop-place.invariant.apart none_own added;
       used = λ vars.
           let d = declared vars c.args.formats.now c.args.instructions.now in
-          subst (AreUsedBefore d (c.loop-place.place + 1)) (sym pushed) (used_new d _ _ _ (c.loop-place.invariant.used vars) c.get.ensures _ c.format-id.ensures new);
+          subst (AreUsedBefore d (c.loop-place.place + 1)) (sym added) (used_new d _ _ _ (c.loop-place.invariant.used vars) c.get.ensures _ c.format-id.ensures new);
       clean = λ vars start.
           let d = declared vars c.args.formats.now c.args.instructions.now in
           let used = c.loop-place.invariant.used vars in
@@ -95,4 +99,27 @@ returns-clause-clean c = λ vars start.
 pub returns-clause-used : goal.returns-clause-used
 returns-clause-used c = λ vars.
     let end : c.loop-place.place ≡ length c.args.instructions.now = omega arith in
-    subst (λ k. AreUsedBefore (declared vars c.args.formats.now c.args.instructions.now) k c.loop-place.used.items) end (c.loop-place.invariant.used vars)
+    let d = declared vars c.args.formats.now c.args.instructions.now in
+    subst (AreUsedBefore d (length c.args.instructions.now)) (sym c.into_used.ensures) (subst (λ k. AreUsedBefore d k c.loop-place.used.used.items) end (c.loop-place.invariant.used vars))
+
+pub returns-clause-of_table : goal.returns-clause-of_table
+returns-clause-of_table c = subst (AreOfTable c.args.formats.now) (sym c.into_used.ensures) (subst (λ formats. AreOfTable formats c.loop-place.used.used.items) c.loop-place.invariant.table c.loop-place.invariant.indexed.of_table)
+
+pub returns-clause-apart : goal.returns-clause-apart
+returns-clause-apart c = subst (AreApart c.args.formats.now) (sym c.into_used.ensures) c.loop-place.invariant.apart
+
+pub contains-requires-clause-of_table : goal.contains-requires-clause-of_table
+contains-requires-clause-of_table c =
+    let below = c.requires c.loop-place.place c.get.result.now c.get.ensures in
+    subst (λ formats. c.format-id.result < length formats) (sym c.loop-place.invariant.table) (subst (λ f. f < length c.args.formats.now) (sym c.format-id.ensures) below)
+
+-- an error that says that memory ran out shows no fault
+no_fault : {T : Type 0} (r : Result T DefinitionError) (Shows : DefinitionError → Type 0) → IsErrAnd r (λ e. e ≡ OutOfMemory) → IfErr r (λ e. e ≢ OutOfMemory → Shows e)
+no_fault (Ok t) Shows h = tt
+no_fault (Err e) Shows h = λ other. absurd (other h)
+
+pub returns-in_err-structure-clause-refused : goal.returns-in_err-structure-clause-refused
+returns-in_err-structure-clause-refused c = λ vars start. no_fault c.from_residual-in_err-structure.result _ c.from_residual-in_err-structure.ensures.1
+
+pub returns-in_err-add-clause-refused : goal.returns-in_err-add-clause-refused
+returns-in_err-add-clause-refused c = λ vars start. no_fault c.from_residual-in_err-add.result _ c.from_residual-in_err-add.ensures.1

@@ -1,6 +1,7 @@
-use Rattle.std.proofs.Common.{List}
+use Rattle.std.proofs.Common.{◌≡◌, List}
 use Rattle.meta_typevar.specs.declared.content.TypeVarContent.{TypeVarContent}
-use Rattle.meta_declared.specs.FormatsUsed.{AreUsedBefore, AreApart, AreOfTable}
+use Rattle.meta_declared.specs.FormatsUsed.{AreUsedBefore, AreApart}
+use Rattle.meta_declared.specs.FormatsIndexed.{AreIndexed}
 use Rattle.meta_inst.specs.Faults.{FormatNameRule, OfFormat}
 use Rattle.meta_declared.specs.Searched.{IsCleanBefore}
 use Rattle.meta_declared.proofs.FormatSearch.{declared}
@@ -9,8 +10,9 @@ use Rattle.meta_declared.proofs.formats.used_formats.Given as goal
 -- these formats are used so far, and none of them shows a fault, if none is shown before
 abbrev pub invariant-loop-place : goal.invariant-loop-place
 invariant-loop-place l = record {
-  of_table : AreOfTable l.formats l.used.items;
-  apart : AreApart l.formats l.used.items;
-  used : (vars : List TypeVarContent) → AreUsedBefore (declared vars l.formats l.instructions) l.place l.used.items;
+  table : l.used.formats.now ≡ l.formats;
+  indexed : AreIndexed l.used;
+  apart : AreApart l.formats l.used.used.items;
+  used : (vars : List TypeVarContent) → AreUsedBefore (declared vars l.formats l.instructions) l.place l.used.used.items;
   clean : (vars : List TypeVarContent) → IsCleanBefore (declared vars l.formats l.instructions) (OfFormat 0 FormatNameRule) → IsCleanBefore (declared vars l.formats l.instructions) (OfFormat l.place FormatNameRule);
 }

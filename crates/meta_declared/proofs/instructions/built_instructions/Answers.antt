@@ -17,3 +17,14 @@ loop-place-preserved c =
           (λ (h : (k ≡ length c.loop-place.built.items) × (c.in_ok-built_instruction.field-0 ≡ x)). subst (λ n. IsBuiltAt c.args.set.now n x) (sym (h.0 ∙ count)) (subst (λ (y : Built). IsBuiltAt c.args.set.now c.loop-place.place y) h.1 c.in_ok-built_instruction.ensures.built))
           (get_pushed c.loop-place.built.items c.in_ok-built_instruction.field-0 k x (ap (λ xs. slice_get xs k) (sym pushed) ∙ at));
     }
+
+pub returns-clause-built : goal.returns-clause-built
+returns-clause-built c = record {
+  each = c.loop-place.invariant.built;
+  count =
+      let so_far = c.loop-place.invariant.count in
+      let past = c.loop-place-test.false in
+      let most = c.loop-place.auto.place-end in
+      let declared = ap length c.instructions-2.ensures.instructions in
+      omega (arith, declared);
+}

@@ -17,3 +17,6 @@ returns-clause-tables c =
 
 pub returns-clause-acceptance : goal.returns-clause-acceptance
 returns-clause-acceptance c = rw c.new.ensures (rw c.in_ok-built.ensures.declarations at c.in_ok-opcodes.ensures.acceptance)
+
+pub returns-clause-inference : goal.returns-clause-inference
+returns-clause-inference c = rw c.new.ensures (rw c.in_ok-built.ensures.declarations at c.in_ok-opcodes.ensures.inference)

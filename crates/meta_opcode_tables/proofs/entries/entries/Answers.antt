@@ -1,4 +1,4 @@
-use Rattle.std.proofs.Common.{◌≡◌, arith, refl, sym, ap, ◌∙◌, subst, length, slice_get, [], ◌∷◌, ◌++◌, List, Some}
+use Rattle.std.proofs.Common.{ℕ, ◌≤◌, ◌+◌, ◌*◌, ◌≡◌, arith, refl, sym, ap, ◌∙◌, subst, length, slice_get, [], ◌∷◌, ◌++◌, List, Some}
 use Rattle.std.proofs.lemmas.Option.{slice_get_read, slice_get_within}
 use Rattle.meta_lists.proofs.Pushed.{one_longer}
 use Rattle.meta_inst.specs.Built.{Built}
@@ -13,6 +13,10 @@ use Rattle.meta_opcode_tables.proofs.Entering.{can_enter}
 use Rattle.meta_opcode_tables.specs.declared.constraint.Constraint.{Constraint}
 use Rattle.meta_opcode_tables.proofs.entries.entries.Goals as goal
 use Rattle.meta_opcode_tables.proofs.entries.entries.Goals.{After-constraints-in-loop-k-1}
+
+-- the room after one more entry
+next_room : (few more k : ℕ) → more ≤ few + 14 → few ≤ 3 + 14 * k → more ≤ 3 + 14 * (k + 1)
+next_room few more k grown room = omega arith
 
 -- the instruction that was read is built of the declared one
 read : (c : After-constraints-in-loop-k-1) → IsBuiltAt c.args.built.now.declared.set c.loop-k.k c.index-instructions-k.result
@@ -56,16 +60,13 @@ loop-k-preserved c =
     let at_built : slice_get c.args.built.now.instructions c.loop-k.k ≡ Some x = ap (λ (xs : List Built). slice_get xs c.loop-k.k) (sym c.instructions-instructions.ensures.instructions) ∙ slice_get_read c.instructions-instructions.result.now _ _ _ refl c.loop-k-test.true c.index-instructions-k.is in
     let h : IsBuiltAt d c.loop-k.k x = c.instructions-instructions.ensures.built.each c.loop-k.k x at_built in
     let pushed = c.in_ok-push.ensures.items in
-    let longer = one_longer _ _ _ pushed in
     let count = c.loop-k.invariant.count in
-    let room = c.loop-k.invariant.room in
-    let more = c.in_ok-entry_of.ensures.count in
     let holds : EntryHolds d.vars (instruction_in_set d h.builder) sets c.entry_of.new.constraints c.in_ok-entry_of.field-0 = subst (λ (i : Instruction). EntryHolds d.vars i sets c.entry_of.new.constraints c.in_ok-entry_of.field-0) (meaning d h.builder x h.is) (rw (c.requires.variables, c.type_sets-type_sets.ensures.type_sets) at c.in_ok-entry_of.ensures.holds) in
     let added : IsAdded d.vars (instruction_in_set d h.builder) sets c.loop-k.constraints c.entry_of.new.constraints c.in_ok-entry_of.field-0 = subst (λ (i : Instruction). IsAdded d.vars i sets c.loop-k.constraints c.entry_of.new.constraints c.in_ok-entry_of.field-0) (meaning d h.builder x h.is) (rw (c.requires.variables, c.type_sets-type_sets.ensures.type_sets) at c.in_ok-entry_of.ensures.added) in
     let (lists, so_far) = c.loop-k.invariant.added in
     record {
-      room = omega arith;
-      count = omega arith;
+      room = next_room (length c.loop-k.constraints) (length c.entry_of.new.constraints) c.loop-k.k c.in_ok-entry_of.ensures.count c.loop-k.invariant.room;
+      count = one_longer _ _ _ pushed ∙ ap (λ n. n + 1) count;
       holds = one_more_held d.vars d.formats sets d.instructions c.loop-k.constraints c.entry_of.new.constraints c.loop-k.entries.items c.push.new.self.items c.in_ok-entry_of.field-0 h.builder c.loop-k.k pushed count h.at c.in_ok-entry_of.ensures.stays holds c.loop-k.invariant.holds;
       added = (lists ++ added.list ∷ [], one_more_added d.vars d.formats sets d.instructions c.loop-k.constraints c.entry_of.new.constraints c.loop-k.entries.items c.push.new.self.items c.in_ok-entry_of.field-0 h.builder lists pushed (ap (slice_get d.instructions) count ∙ h.at) added so_far);
     }

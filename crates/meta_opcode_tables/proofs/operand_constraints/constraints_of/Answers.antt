@@ -1,4 +1,4 @@
-use Rattle.std.proofs.Common.{arith, refl}
+use Rattle.std.proofs.Common.{ap, arith, length, refl, rules}
 use Rattle.std.proofs.lemmas.Option.{slice_get_read, slice_get_within}
 use Rattle.meta_lists.proofs.Pushed.{one_longer}
 use Rattle.meta_opcode_tables.proofs.Describing.{one_more}
@@ -17,7 +17,7 @@ loop-place-preserved c =
     let count = c.loop-place.invariant.count in
     record {
       count = omega arith;
-      described = one_more _ _ _ _ _ _ added _ _ _ count
+      described = one_more _ _ _ _ _ _ _ added _ _ _ count
           (slice_get_read c.args.variables.now _ _ _ refl c.loop-place-test.true c.index-variables-place.is)
           c.next_constraint-constraint.ensures c.loop-place.invariant.described;
       before = c.next_constraint-constraint.ensures;
@@ -32,3 +32,24 @@ returns c =
       count = omega arith;
       each = λ k n at. let l = slice_get_within c.args.variables.now k n at in c.loop-place.invariant.described k n (omega arith) at;
     }
+
+pub loop-place-init : goal.loop-place-init
+loop-place-init c = record { count = ap length c.in_ok-constraints.ensures.items; described = λ k n below at. absurd (omega arith); before = tt }
+
+pub next_constraint-constraint-requires-clause-of_registry : goal.next_constraint-constraint-requires-clause-of_registry
+next_constraint-constraint-requires-clause-of_registry c = c.requires.variables _ _ (slice_get_read c.args.variables.now _ _ _ refl c.loop-place-test.true c.index-variables-place.is)
+
+pub next_constraint-constraint-requires-clause-control_of : goal.next_constraint-constraint-requires-clause-control_of
+next_constraint-constraint-requires-clause-control_of c = c.requires.control_of
+
+pub next_constraint-constraint-requires-clause-few : goal.next_constraint-constraint-requires-clause-few
+next_constraint-constraint-requires-clause-few c = c.requires.few
+
+pub next_constraint-constraint-requires-clause-before : goal.next_constraint-constraint-requires-clause-before
+next_constraint-constraint-requires-clause-before c = c.loop-place.invariant.before
+
+pub returns-in_err-constraints : goal.returns-in_err-constraints
+returns-in_err-constraints c = search rules
+
+pub returns-in_err-push : goal.returns-in_err-push
+returns-in_err-push c = search rules

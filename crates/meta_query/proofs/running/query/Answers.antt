@@ -24,3 +24,6 @@ returns-in-Ok-write_whole-clause-done g c = search rules
 
 pub returns-clause-in_part : goal.returns-clause-in_part
 returns-clause-in_part g c = search rules
+
+pub returns-in-Err-ReadFault-clause-too_long : goal.returns-in-Err-ReadFault-clause-too_long
+returns-in-Err-ReadFault-clause-too_long g c = search rules

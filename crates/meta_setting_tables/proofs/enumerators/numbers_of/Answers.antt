@@ -1,4 +1,4 @@
-use Rattle.std.proofs.Common.{length, refl}
+use Rattle.std.proofs.Common.{length, refl, rules}
 use Rattle.std.proofs.lemmas.Option.{slice_get_read}
 use Rattle.meta_setting_tables.proofs.Enumerating.{kept_then, kept_added, numbers_next}
 use Rattle.meta_setting_tables.proofs.enumerators.numbers_of.Goals as goal
@@ -18,3 +18,30 @@ pub returns-in_err-push-clause-kept : goal.returns-in_err-push-clause-kept
 returns-in_err-push-clause-kept c =
     kept_then c.args.texts.now c.loop-value.texts c.add.new.self c.loop-value.invariant.kept
     (kept_added c.loop-value.texts c.add.new.self c.value-item.result (λ i h. (c.in_ok-add.ensures.known i h).1) c.in_ok-add.ensures.added)
+
+pub returns-in_err-numbers-clause-numbers : goal.returns-in_err-numbers-clause-numbers
+returns-in_err-numbers-clause-numbers c = search rules
+
+pub returns-in_err-numbers-clause-different : goal.returns-in_err-numbers-clause-different
+returns-in_err-numbers-clause-different c = search rules
+
+pub returns-in_err-add-clause-numbers : goal.returns-in_err-add-clause-numbers
+returns-in_err-add-clause-numbers c = search rules
+
+pub returns-in_err-add-clause-different : goal.returns-in_err-add-clause-different
+returns-in_err-add-clause-different c = search rules
+
+pub returns-in_err-add-clause-kept : goal.returns-in_err-add-clause-kept
+returns-in_err-add-clause-kept c = search rules
+
+pub returns-in_err-push-clause-numbers : goal.returns-in_err-push-clause-numbers
+returns-in_err-push-clause-numbers c = search rules
+
+pub returns-in_err-push-clause-different : goal.returns-in_err-push-clause-different
+returns-in_err-push-clause-different c = search rules
+
+pub returns-clause-different : goal.returns-clause-different
+returns-clause-different c = search rules
+
+pub returns-clause-kept : goal.returns-clause-kept
+returns-clause-kept c = search rules

@@ -1,4 +1,4 @@
-use Rattle.std.proofs.Common.{◌++◌, List, ℕ, length, map, slice_get, refl, sym, ap, ◌∙◌, arith}
+use Rattle.std.proofs.Common.{◌++◌, List, ℕ, length, map, slice_get, refl, sym, ap, ◌∙◌, arith, rules}
 use Rattle.std.proofs.lemmas.Option.{slice_get_read}
 use Rattle.meta_settings.specs.Layout.{BuiltPreset}
 use Rattle.meta_setting_tables.proofs.Masking.{masks_more, masks_all}
@@ -18,3 +18,18 @@ returns c =
     let past = c.loop-preset-test.false in
     let within = c.loop-preset.auto.preset-index-end in
     masks_all c.args.group.now c.loop-preset.preset-index c.loop-preset.masks.items (omega (arith, e, past)) (omega (arith, e, within)) c.loop-preset.invariant
+
+pub loop-preset-init : goal.loop-preset-init
+loop-preset-init c = search rules
+
+pub returns-in_err-layout : goal.returns-in_err-layout
+returns-in_err-layout c = search rules
+
+pub returns-in_err-add_masks : goal.returns-in_err-add_masks
+returns-in_err-add_masks c = search rules
+
+pub layout-requires : goal.layout-requires
+layout-requires c =
+    let items = c.presets-preset-items.result.now in
+    let k = c.loop-preset.preset-index in
+    c.requires k c.preset-item.result (ap (λ (w : List BuiltPreset). slice_get w k) (sym c.presets-preset-items.ensures) ∙ slice_get_read items (length items) k c.preset-item.result refl c.loop-preset-test.true c.preset-item.is)

@@ -24,4 +24,5 @@ returns-clause-builder c = subst (IsBuilderOf c.operands-2.new.vars c.args.names
       inputs = operands_grow _ _ _ c.in_ok-outputs.ensures.grows c.in_ok-inputs.ensures.operands;
       outputs = c.in_ok-outputs.ensures.operands;
       marks = refl;
+      second = refl;
     })

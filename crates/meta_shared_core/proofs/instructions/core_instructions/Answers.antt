@@ -1,7 +1,9 @@
-use Rattle.std.proofs.Common.{◌∙◌, ◌++◌, length, map, sym, ap, subst}
+use Rattle.std.proofs.Common.{◌∙◌, ◌++◌, arith, length, length-append, map, sym, ap, subst}
 use Rattle.std.proofs.lemmas.List.{length-map}
 use Rattle.meta_shared_core.specs.CoreNames.{core_names}
+use Rattle.meta_shared_core.specs.Roots.{AreRoots}
 use Rattle.meta_shared_core.specs.Words.{Meanings, AreMeant}
+use Rattle.meta_shared_core.proofs.Growing.{meant_grows}
 use Rattle.meta_shared_core.specs.Rows.{builder_name, row_name, rows_in, FitsNames}
 use Rattle.meta_shared_core.proofs.Fitting.{all_fit, none_fit, names_added}
 use Rattle.meta_shared_core.proofs.instructions.core_instructions.Goals as goal
@@ -19,3 +21,31 @@ returns-clause-fit c = λ k b at.
     let meant : AreMeant c.new.new.vars c.new-names.result = subst (AreMeant c.new.new.vars) (sym c.new-names.ensures) (record { immediates = c.requires.immediates; entities = c.requires.entities; roots = c.in_ok-roots.ensures.roots }) in
     subst (λ f. FitsNames c.push_tables.new.vars f b) (ap (λ (m : Meanings). m.formats) c.new-names.ensures)
     (all_fit c.in_ok-push_tables.ensures.grows meant c.in_ok-push_tables.ensures.rows (none_fit c.requires.no_instruction) k b at)
+
+pub push_tables-requires-clause-meant : goal.push_tables-requires-clause-meant
+push_tables-requires-clause-meant c = subst (AreMeant c.new.new.vars) (sym c.new-names.ensures) (record { immediates = c.requires.immediates; entities = c.requires.entities; roots = c.in_ok-roots.ensures.roots })
+
+pub push_tables-requires-clause-room : goal.push_tables-requires-clause-room
+push_tables-requires-clause-room c =
+    let count = c.in_ok-roots.ensures.count in
+    let derived = c.core_tables.ensures.are_derived in
+    omega arith
+
+pub push_tables-requires-clause-derivable : goal.push_tables-requires-clause-derivable
+push_tables-requires-clause-derivable c = c.core_tables.ensures.derivable
+
+pub returns-clause-roots : goal.returns-clause-roots
+returns-clause-roots c =
+    let meant : AreMeant c.new.new.vars c.new-names.result = subst (AreMeant c.new.new.vars) (sym c.new-names.ensures) (record { immediates = c.requires.immediates; entities = c.requires.entities; roots = c.in_ok-roots.ensures.roots }) in
+    let grown : AreMeant c.push_tables.new.vars c.new-names.result = meant_grows c.in_ok-push_tables.ensures.grows meant in
+    subst (AreRoots c.push_tables.new.vars) (ap (λ (m : Meanings). m.roots) c.new-names.ensures) grown.roots
+
+pub returns-clause-numbers : goal.returns-clause-numbers
+returns-clause-numbers c = c.in_ok-roots.ensures.numbers
+
+pub returns-clause-few : goal.returns-clause-few
+returns-clause-few c =
+    let grows = c.in_ok-push_tables.ensures.grows in
+    let count = c.in_ok-roots.ensures.count in
+    let derived = c.core_tables.ensures.are_derived in
+    omega (arith, ap length grows.is, length-append c.new.new.vars grows.more, grows.few)

@@ -1,4 +1,4 @@
-use Rattle.std.proofs.Common.{◌≡◌, ◌∙◌, ◌++◌, ◌∷◌, [], ℕ, zero, suc, ◌<◌, List, length, map, get_or, sym, ap, subst, refl, arith, rules}
+use Rattle.std.proofs.Common.{◌≡◌, ◌∙◌, ◌+◌, ◌++◌, ◌∷◌, [], ℕ, zero, suc, ◌<◌, List, length, map, get_or, sym, ap, subst, refl, arith}
 use Rattle.std.proofs.lemmas.List.{length-map}
 use Rattle.meta_inst.specs.Faults.{names_of}
 use Rattle.meta_settings.specs.GroupDeclaration.{GroupDeclaration}
@@ -45,7 +45,7 @@ pub returns-clause-group : goal.returns-clause-group
 returns-clause-group c = one_shared _ c.in_ok-define.field-0 (ap (λ (d : Declared). d.groups) c.new-4.ensures ∙ (c.in_ok-push.ensures.items ∙ ap (λ xs. xs ++ c.in_ok-define.field-0 ∷ []) c.new-groups.ensures.items)) c.in_ok-define.ensures
 
 pub returns-clause-formats : goal.returns-clause-formats
-returns-clause-formats c = search rules
+returns-clause-formats c = ap (λ (d : Declared). length d.set.formats) c.new-4.ensures ∙ (c.in_ok-formats.ensures.count ∙ ap (λ n. n + 36) (ap length c.new-table.ensures))
 
 pub returns-clause-groups : goal.returns-clause-groups
-returns-clause-groups c = search rules
+returns-clause-groups c = ap (λ (d : Declared). length d.groups) c.new-4.ensures ∙ ap length (c.in_ok-push.ensures.items ∙ ap (λ xs. xs ++ c.in_ok-define.field-0 ∷ []) c.new-groups.ensures.items)

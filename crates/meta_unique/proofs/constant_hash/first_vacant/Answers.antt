@@ -1,4 +1,4 @@
-use Rattle.std.proofs.Common.{sym, ◌∙◌}
+use Rattle.std.proofs.Common.{sym, ◌∙◌, rules}
 use Rattle.meta_unique.proofs.Walks.{walk_next, walk_read, walk_end, taken_read, vacant_read}
 use Rattle.meta_unique.proofs.constant_hash.first_vacant.Goals as goal
 
@@ -14,3 +14,24 @@ returns-clause-vacant g c =
 
 pub returns-clause-first : goal.returns-clause-first
 returns-clause-first g c = walk_end _ _ _ _ c.walk.invariant (returns-clause-vacant g c)
+
+pub nonzero_rem-slot : goal.nonzero_rem-slot
+nonzero_rem-slot g c = search rules
+
+pub walk-init : goal.walk-init
+walk-init g c = search rules
+
+pub offset_bounds-slots-slot : goal.offset_bounds-slots-slot
+offset_bounds-slots-slot g c = search rules
+
+pub bounds-slots-slot : goal.bounds-slots-slot
+bounds-slots-slot g c = search rules
+
+pub overflow_add-passed : goal.overflow_add-passed
+overflow_add-passed g c = search rules
+
+pub nonzero_rem-slot-in-walk : goal.nonzero_rem-slot-in-walk
+nonzero_rem-slot-in-walk g c = search rules
+
+pub walk-smaller : goal.walk-smaller
+walk-smaller g c = search rules

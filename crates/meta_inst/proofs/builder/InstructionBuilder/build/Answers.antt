@@ -9,15 +9,15 @@ pub returns-clause-control : goal.returns-clause-control
 returns-clause-control c =
     info_of c.args.vars.now c.args.formats.now c.args.self.now (instruction_of_operands c.args.vars.now c.in_ok-operands.operands) c.control-control.result c.polymorphic_info-polymorphic_info.result c.in_ok-content.field-0.polymorphic_info
     (c.in_ok-operands.ensures.meaning c.args.vars.now) c.in_default-operands_fault.ensures.none c.control-control.ensures.found (ap (λ (x : Built). x.polymorphic_info) (c.in_ok-content.ensures c.args.formats.now c.in_ok-operands.ensures.operands))
-    c.polymorphic_info-polymorphic_info.ensures.kept c.polymorphic_info-polymorphic_info.ensures.of_registry c.polymorphic_info-polymorphic_info.ensures.designated
+    c.polymorphic_info-polymorphic_info.ensures.kept c.polymorphic_info-polymorphic_info.ensures.of_registry c.in_ok-operands.operands.second c.in_ok-operands.ensures.second c.polymorphic_info-polymorphic_info.ensures.second c.polymorphic_info-polymorphic_info.ensures.designated
 
 pub returns-clause-content : goal.returns-clause-content
 returns-clause-content c =
     let is = c.in_ok-content.ensures c.args.formats.now c.in_ok-operands.ensures.operands in
     is ∙ ap (content_of c.args.formats.now c.args.self.now) (sym (ap (λ (x : Built). x.polymorphic_info) is))
 
-pub control-control-requires : goal.control-control-requires
-control-control-requires c = c.in_ok-operands.ensures.fits c.args.vars.now c.requires
+pub control-control-requires-clause-variables : goal.control-control-requires-clause-variables
+control-control-requires-clause-variables c = c.in_ok-operands.ensures.fits c.args.vars.now c.requires
 
 pub polymorphic_info-polymorphic_info-requires-clause-variables : goal.polymorphic_info-polymorphic_info-requires-clause-variables
 polymorphic_info-polymorphic_info-requires-clause-variables c = c.in_ok-operands.ensures.fits c.args.vars.now c.requires
@@ -28,6 +28,7 @@ operands_fault-requires-clause-operands c = record {
   variables = c.in_ok-operands.ensures.variables;
   result_count = c.in_ok-operands.ensures.result_count;
   of_registry = c.in_ok-operands.ensures.fits c.args.vars.now c.requires;
+  second = c.in_ok-operands.ensures.second;
 }
 
 pub returns-in-Some-clause-refused : goal.returns-in-Some-clause-refused

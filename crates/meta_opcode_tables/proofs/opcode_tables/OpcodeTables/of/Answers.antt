@@ -9,6 +9,7 @@ use Rattle.meta_declared.specs.AllDeclared.{Declared}
 use Rattle.meta_opcode_tables.specs.TablesOf.{AreTablesOf}
 use Rattle.meta_opcode_tables.proofs.Made.{tables_made}
 use Rattle.meta_opcode_tables.proofs.Decoded.{tables_of_mean}
+use Rattle.meta_opcode_tables.proofs.Inferring.{results_of_mean}
 use Rattle.meta_declared.proofs.FirstFault.{few_opcodes}
 use Rattle.meta_declared.proofs.DifferentNames.{different_names}
 use Rattle.meta_opcode_tables.proofs.opcode_tables.OpcodeTables.of.Goals as goal
@@ -77,4 +78,10 @@ pub returns-clause-acceptance : goal.returns-clause-acceptance
 returns-clause-acceptance c =
     let d = c.args.built.now.declared.set in
     let typed : HoldTypeSets d.vars = rw c.declarations-declarations.ensures.declarations at c.vars.ensures.sets in
-    IfOk-weaker c.new.result (AreTablesOf d) _ (λ t h op control rs vs. tables_of_mean d t op control rs vs typed h) (returns-clause-tables c)
+    IfOk-weaker c.new.result (AreTablesOf d) _ (λ t h op control second rs vs. tables_of_mean d t op control second rs vs typed h) (returns-clause-tables c)
+
+pub returns-clause-inference : goal.returns-clause-inference
+returns-clause-inference c =
+    let d = c.args.built.now.declared.set in
+    let typed : HoldTypeSets d.vars = rw c.declarations-declarations.ensures.declarations at c.vars.ensures.sets in
+    IfOk-weaker c.new.result (AreTablesOf d) _ (λ t h op control second numbers. results_of_mean d t op control second typed h numbers) (returns-clause-tables c)

@@ -23,7 +23,7 @@ pub returns-clause-found : goal.returns-clause-found
 returns-clause-found c =
     let results : c.in_ok-read_types.field-0 ≡ true = search rules in
     let values : c.in_ok-read_types-2.field-0 ≡ true = search rules in
-    λ e. asks _ _ _ _ _ c.in-Some-parse_control.control c.read_types.new.numbers.items c.read_types-2.new.numbers.items
-    c.in-Some-parse_control.ensures.known c.in_ok-read_types.ensures.known c.in_ok-read_types-2.ensures.known
+    λ e. asks _ _ _ _ _ c.in-Some-parse_control.controls.control c.in-Some-parse_control.controls.second c.read_types.new.numbers.items c.read_types-2.new.numbers.items
+    c.in-Some-parse_control.ensures.known c.in-Some-parse_control.ensures.second_known c.in-Some-parse_control.ensures.behind c.in_ok-read_types.ensures.known c.in_ok-read_types-2.ensures.known
     c.in-Some.ensures.words c.in-Some.ensures.named
     c.in-Some-parse_control.ensures.found (c.in_ok-read_types.ensures.found results) (c.in_ok-read_types-2.ensures.found values)

@@ -1,4 +1,4 @@
-use Rattle.std.proofs.Common.{refl, sym, ◌∙◌, subst}
+use Rattle.std.proofs.Common.{refl, sym, ◌∙◌, subst, rules}
 use Rattle.meta_types.specs.SharedNames.{Keeps}
 use Rattle.meta_types.proofs.KeptNames.{added_reference, unshared_name, shared_name}
 use Rattle.meta_types.proofs.earlier_names.EarlierNames.add.Goals as goal
@@ -18,3 +18,51 @@ returns-clause-unshared c = elim c.match-insert.branch [
   | in-Ok w ↦ rw w.result-is (unshared_name c.self.inside.places _ _ _ c.args.self.now (sym c.in_default.ensures.value) c.in_ok-camel.ensures (subst (Keeps c.self.inside.places) c.self.view_is c.self.invariant) refl)
   | in-Err w ↦ rw w.result-is tt
 ]
+
+pub returns-in_err-camel-clause-added : goal.returns-in_err-camel-clause-added
+returns-in_err-camel-clause-added c = search rules
+
+pub returns-in_err-camel-clause-unshared : goal.returns-in_err-camel-clause-unshared
+returns-in_err-camel-clause-unshared c = search rules
+
+pub returns-in_err-camel-clause-shared : goal.returns-in_err-camel-clause-shared
+returns-in_err-camel-clause-shared c = search rules
+
+pub returns-in_err-camel-clause-kept : goal.returns-in_err-camel-clause-kept
+returns-in_err-camel-clause-kept c = search rules
+
+pub returns-in_err-camel-clause-unchanged : goal.returns-in_err-camel-clause-unchanged
+returns-in_err-camel-clause-unchanged c = search rules
+
+pub returns-in-Some-clause-added : goal.returns-in-Some-clause-added
+returns-in-Some-clause-added c = search rules
+
+pub returns-in-Some-clause-unshared : goal.returns-in-Some-clause-unshared
+returns-in-Some-clause-unshared c = search rules
+
+pub returns-in-Some-clause-kept : goal.returns-in-Some-clause-kept
+returns-in-Some-clause-kept c = search rules
+
+pub returns-in-Some-clause-unchanged : goal.returns-in-Some-clause-unchanged
+returns-in-Some-clause-unchanged c = search rules
+
+pub returns-in_err-push-clause-added : goal.returns-in_err-push-clause-added
+returns-in_err-push-clause-added c = search rules
+
+pub returns-in_err-push-clause-unshared : goal.returns-in_err-push-clause-unshared
+returns-in_err-push-clause-unshared c = search rules
+
+pub returns-in_err-push-clause-shared : goal.returns-in_err-push-clause-shared
+returns-in_err-push-clause-shared c = search rules
+
+pub returns-in_err-push-clause-kept : goal.returns-in_err-push-clause-kept
+returns-in_err-push-clause-kept c = search rules
+
+pub returns-in_err-push-clause-unchanged : goal.returns-in_err-push-clause-unchanged
+returns-in_err-push-clause-unchanged c = search rules
+
+pub returns-clause-shared : goal.returns-clause-shared
+returns-clause-shared c = search rules
+
+pub returns-clause-kept : goal.returns-clause-kept
+returns-clause-kept c = search rules

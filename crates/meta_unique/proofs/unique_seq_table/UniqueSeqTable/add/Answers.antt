@@ -1,8 +1,9 @@
-use Rattle.std.proofs.Common.{◌≡◌, ◌<◌, ℕ, true, false, sym, ◌∙◌, ap, subst, rules, length, List, ◌++◌, ◌-◌}
+use Rattle.std.proofs.Common.{◌≡◌, ◌<◌, ℕ, true, false, sym, ◌∙◌, ap, subst, rules, arith, length, List, ◌++◌, ◌-◌}
 use Rattle.std.proofs.lemmas.Bool.{eqb-true}
+use Rattle.std.proofs.lemmas.List.{take_all}
 use Rattle.std.specs.List.{AllZip}
 use Rattle.meta_unique.specs.Overlap.{stands_at, is_shared, first_place, shared}
-use Rattle.meta_unique.proofs.Overlaps.{Extension, alike_same, added_empty, added_stood, made_new, stands_new, shortest_new, rest_alike}
+use Rattle.meta_unique.proofs.Overlaps.{Extension, stands_empty, shortest_kept, shared_inside, kept_new, alike_same, added_empty, added_stood, made_new, stands_new, shortest_new, rest_alike}
 use Rattle.meta_unique.proofs.unique_seq_table.UniqueSeqTable.add.Given as given
 use Rattle.meta_unique.proofs.unique_seq_table.UniqueSeqTable.add.Goals as goal
 
@@ -13,7 +14,7 @@ pub returns-in-Some-clause-made : goal.returns-in-Some-clause-made
 returns-in-Some-clause-made g c =
     let same = c.as_slice.ensures.value ∙ c.self.view_is in
     let inside : first_place g.T.PartialEq.eq c.args.self.now c.args.values.now < length c.args.self.now =
-    subst (λ w. first_place g.T.PartialEq.eq w c.args.values.now < length w) same (subst (λ k. k < length c.as_slice.result.now) c.in-Some.ensures.found c.in-Some.ensures.inside) in
+    subst (λ w. first_place g.T.PartialEq.eq w c.args.values.now < length w) same (subst (λ k. k < length c.as_slice.result.now) {y = first_place g.T.PartialEq.eq c.as_slice.result.now c.args.values.now} c.in-Some.ensures.found c.in-Some.ensures.inside) in
     alike_same _ g.met.T.Eq.laws _ _ (added_stood _ c.args.self.now c.args.values.now inside)
 
 -- what the call gained
@@ -48,3 +49,52 @@ returns-clause-shortest g c = shortest_new _ g.met.T.Eq.laws _ _ _ _ (extension 
 
 pub returns-then-is_empty-clause-place : goal.returns-then-is_empty-clause-place
 returns-then-is_empty-clause-place g c = search rules
+
+pub returns-then-is_empty-clause-err : goal.returns-then-is_empty-clause-err
+returns-then-is_empty-clause-err g c = search rules
+
+pub returns-in-Some-clause-place : goal.returns-in-Some-clause-place
+returns-in-Some-clause-place g c = search rules
+
+pub returns-in-Some-clause-stands : goal.returns-in-Some-clause-stands
+returns-in-Some-clause-stands g c = search rules
+
+pub returns-in-Some-clause-err : goal.returns-in-Some-clause-err
+returns-in-Some-clause-err g c = search rules
+
+pub shared_tail-count-requires : goal.shared_tail-count-requires
+shared_tail-count-requires g c = search rules
+
+pub split_at-requires : goal.split_at-requires
+split_at-requires g c = search rules
+
+pub returns-clause-place : goal.returns-clause-place
+returns-clause-place g c = search rules
+
+pub returns-clause-err : goal.returns-clause-err
+returns-clause-err g c = search rules
+
+pub returns-then-is_empty-clause-stands : goal.returns-then-is_empty-clause-stands
+returns-then-is_empty-clause-stands g c = stands_empty _ c.args.self.now c.args.values.now (eqb-true _ _ (sym c.if-is_empty.ensures))
+
+pub returns-then-is_empty-clause-kept : goal.returns-then-is_empty-clause-kept
+returns-then-is_empty-clause-kept g c = take_all _ c.args.self.now (omega arith)
+
+pub returns-then-is_empty-clause-shortest : goal.returns-then-is_empty-clause-shortest
+returns-then-is_empty-clause-shortest g c = shortest_kept _ c.args.self.now c.args.values.now
+
+pub returns-in-Some-clause-kept : goal.returns-in-Some-clause-kept
+returns-in-Some-clause-kept g c = take_all _ c.args.self.now (omega arith)
+
+pub returns-in-Some-clause-shortest : goal.returns-in-Some-clause-shortest
+returns-in-Some-clause-shortest g c = shortest_kept _ c.args.self.now c.args.values.now
+
+pub overflow_sub-result : goal.overflow_sub-result
+overflow_sub-result g c =
+    let eq = g.T.PartialEq.eq in
+    let len : length c.args.self.now ≡ c.len-len.result = sym (ap length c.self.view_is) ∙ sym (c.len-len.ensures ∙ c.self.inside.table.ok.0) in
+    let tail = subst (λ w. is_shared eq w c.args.values.now c.shared_tail-count.result ≡ true) (c.as_slice-2.ensures.value ∙ c.self.view_is) c.shared_tail-count.ensures.tail in
+    omega (arith, len, shared_inside eq c.args.self.now c.args.values.now c.shared_tail-count.result (omega (arith, c.shared_tail-count.ensures.proper)) tail)
+
+pub returns-clause-kept : goal.returns-clause-kept
+returns-clause-kept g c = kept_new _ _ _ _ _ (extension g c)

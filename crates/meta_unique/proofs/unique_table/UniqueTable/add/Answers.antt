@@ -1,9 +1,9 @@
-use Rattle.std.proofs.Common.{refl, ap, ◌∙◌, Ok, rules, arith}
+use Rattle.std.proofs.Common.{refl, ap, ◌∙◌, Ok, rules, arith, [], ◌∷◌, ◌++◌}
 use Rattle.std.proofs.lemmas.Grind.{common_steps}
 use Rattle.std.specs.Map.{lookup}
 use Rattle.meta_lists.proofs.Pushed.{popped}
 use Rattle.meta_unique.specs.Interning.{pointed_to}
-use Rattle.meta_unique.proofs.Indexes.{found_index, found_none, found_some, indexed_push, index_push, indexed_same}
+use Rattle.meta_unique.proofs.Indexes.{pushed, found_index, found_none, found_some, indexed_push, index_push, indexed_same}
 use Rattle.meta_unique.proofs.unique_table.UniqueTable.add.Goals as goal
 
 pub returns-in-Some-clause-known : goal.returns-in-Some-clause-known
@@ -44,3 +44,30 @@ returns-in-Err-clause-different g c = grind (arith, common_steps)
 
 pub returns-in-Err-clause-err : goal.returns-in-Err-clause-err
 returns-in-Err-clause-err g c = grind (arith, common_steps)
+
+pub returns-in-Some-clause-index : goal.returns-in-Some-clause-index
+returns-in-Some-clause-index g c = search rules
+
+pub returns-in-Some-clause-different : goal.returns-in-Some-clause-different
+returns-in-Some-clause-different g c = search rules
+
+pub returns-in-Some-clause-err : goal.returns-in-Some-clause-err
+returns-in-Some-clause-err g c = search rules
+
+pub returns-in_err-push-clause-index : goal.returns-in_err-push-clause-index
+returns-in_err-push-clause-index g c = search rules
+
+pub returns-in_err-push-clause-added : goal.returns-in_err-push-clause-added
+returns-in_err-push-clause-added g c = search rules
+
+pub returns-in_err-push-clause-different : goal.returns-in_err-push-clause-different
+returns-in_err-push-clause-different g c = search rules
+
+pub returns-in_err-push-clause-err : goal.returns-in_err-push-clause-err
+returns-in_err-push-clause-err g c = search rules
+
+pub returns-in-Ok-clause-err : goal.returns-in-Ok-clause-err
+returns-in-Ok-clause-err g c = search rules
+
+pub returns-in-Ok-clause-added : goal.returns-in-Ok-clause-added
+returns-in-Ok-clause-added g c = λ new. pushed _ _ c.args.entry c.in_ok-push.ensures.items ∙ ap (λ w. w ++ c.args.entry.now ∷ []) c.self.view_is

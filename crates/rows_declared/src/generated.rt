@@ -1,0 +1,168 @@
+use super::asked::Of;
+use super::group_answers::{
+    write_applied, write_entries, write_entry, write_found_count, write_group, write_setting,
+    write_setting_slots,
+};
+use super::opcode_answers::{
+    found_count, write_accepts, write_constraints, write_control, write_finds, write_inferred,
+    write_opcode, write_opcodes, write_sets, write_slots,
+};
+use super::outside::{Fails, Outside, Ran, run_over};
+use meta_gen::{Declarations, Tables, generate};
+use meta_types::{DefinitionError, Text};
+use rows_words::{Case, Trouble};
+use std::alloc::{AllocError, Global};
+use std::mem;
+
+/// Declarations, and what `generate` makes of them.
+#[derive(Drop)]
+pub(crate) struct Generated {
+    declarations: Declarations,
+    tables: Result<Tables, DefinitionError>,
+}
+
+/// Writes so many of something.
+fn write_count(count: usize, what: &str, case: &mut Case<'_>) {
+    case.shown(&count);
+    case.text(what);
+}
+
+/// Writes what the words ask of the opcodes.
+fn write_of_opcodes(alloc: Global, tables: &Tables, asked: Of, case: &mut Case<'_>) {
+    match asked {
+        Of::Opcodes => write_opcodes(tables, case),
+        Of::Opcode => {
+            let opcode = case.number();
+            write_opcode(tables, opcode, case);
+        }
+        Of::Sets => write_sets(tables, case),
+        Of::Constraints => write_constraints(tables, case),
+        Of::Slots => write_slots(tables.opcode_slots(), case),
+        Of::Size => write_count(tables.opcode_slots().len(), " slots", case),
+        Of::Find => {
+            let names = case.word();
+            write_finds(tables, names, case);
+        }
+        Of::Found => write_count(found_count(tables), " found", case),
+        Of::Accepts => write_accepts(alloc, tables, case),
+        Of::Infer => write_inferred(tables, case),
+        Of::Control => write_control(tables, case),
+        _ => write_of_groups(alloc, tables, asked, case),
+    }
+}
+
+/// Writes what the words ask of the groups, most often of the one with the next number.
+fn write_of_groups(alloc: Global, tables: &Tables, asked: Of, case: &mut Case<'_>) {
+    if let Of::Groups = asked {
+        return write_count(tables.group_count(), " groups", case);
+    }
+    let group = case.number();
+    match asked {
+        Of::Holds => write_group(tables, group, case),
+        Of::Entries => write_entries(tables, group, case),
+        Of::Entry => {
+            let index = case.number();
+            write_entry(tables, group, index, case);
+        }
+        Of::Setting => {
+            let name = case.word();
+            write_setting(tables, group, name, case);
+        }
+        Of::SettingSlots => write_setting_slots(tables, group, case),
+        Of::SettingsFound => write_found_count(tables, group, case),
+        Of::Apply => write_applied(alloc, tables, group, case),
+        _ => case.no_case(),
+    }
+}
+
+impl Generated {
+    /// What `generate` makes of declarations.
+    pub(crate) fn of(alloc: Global, declarations: Declarations) -> Result<Generated, Trouble> {
+        let tables = generate(alloc, &declarations);
+        if let Err(DefinitionError::OutOfMemory) = &tables {
+            return Err(Trouble::OutOfMemory);
+        }
+        Ok(Generated {
+            declarations,
+            tables,
+        })
+    }
+
+    /// The tables, which there have to be.
+    pub(crate) fn tables(&self) -> Result<&Tables, Trouble> {
+        match &self.tables {
+            Ok(tables) => Ok(tables),
+            Err(_) => Err(Trouble::NoCase),
+        }
+    }
+
+    /// Takes the tables, which there have to be.
+    pub(crate) fn take_tables(&mut self) -> Result<Tables, Trouble> {
+        match mem::replace(&mut self.tables, Err(DefinitionError::OutOfMemory)) {
+            Ok(tables) => Ok(tables),
+            Err(_) => Err(Trouble::NoCase),
+        }
+    }
+
+    /// Writes `ok`, or the line of the fault.
+    pub(crate) fn write_outcome(&self, alloc: Global, case: &mut Case<'_>) {
+        match &self.tables {
+            Ok(_) => case.text("ok"),
+            Err(fault) => case.made(fault.line(alloc)),
+        }
+    }
+
+    /// Writes what the words ask of the tables.
+    pub(crate) fn write_of_tables(&self, alloc: Global, asked: Of, case: &mut Case<'_>) {
+        match &self.tables {
+            Ok(tables) => write_of_opcodes(alloc, tables, asked, case),
+            Err(_) => case.no_case(),
+        }
+    }
+
+    /// Whether a run that is done wrote something else than the tables answer to each line of the input.
+    fn differs(&self, alloc: Global, ran: &Ran, input: &[u8]) -> Result<bool, AllocError> {
+        match &self.tables {
+            Ok(tables) => Ok(!ran.is_by(alloc, tables, input)?),
+            Err(_) => Ok(false),
+        }
+    }
+
+    /// Writes how a run of these words over the input ends. Where it is done, its answers are held against those of the tables.
+    pub(crate) fn run(
+        &self,
+        alloc: Global,
+        outside: Outside,
+        words: &[Text],
+        input: &[u8],
+        case: &mut Case<'_>,
+    ) -> Result<(), Trouble> {
+        let ran = run_over(alloc, outside, &self.declarations, words, input)?;
+        if self.differs(alloc, &ran, input)? {
+            case.text("not by the tables");
+        } else {
+            ran.write(case);
+        }
+        Ok(())
+    }
+
+    /// Writes how runs of these words end of which the read, or the write, with each number in turn fails, from 0, which is none;
+    /// the last has no such read or write.
+    pub(crate) fn run_failing(
+        &self,
+        alloc: Global,
+        outside: Outside,
+        fails: Fails,
+        words: &[Text],
+        input: &[u8],
+        case: &mut Case<'_>,
+    ) -> Result<(), Trouble> {
+        for failing in 0..case.number() {
+            if failing > 0 {
+                case.text("; ");
+            }
+            self.run(alloc, outside.failing(fails, failing), words, input, case)?;
+        }
+        Ok(())
+    }
+}

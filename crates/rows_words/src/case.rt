@@ -1,0 +1,218 @@
+use super::trouble::Trouble;
+use super::words::{number, yes_or_no};
+use meta_types::Text;
+use std::alloc::{AllocError, Global};
+use std::fmt::{Debug, Display};
+use std::str::FromStr;
+
+/// A line: its words, which are taken one by one, its documentation, and the answer to it, which is written piece by piece. The
+/// first trouble is kept, and told where the answer ends.
+#[derive(Drop)]
+pub struct Case<'l> {
+    words: Vec<&'l str>,
+    taken: usize,
+    doc: &'l str,
+    text: String,
+    trouble: Option<Trouble>,
+}
+
+impl<'l> Case<'l> {
+    /// The words of a line have one space between them, and ` | ` stands before a documentation.
+    pub fn of(alloc: Global, line: &'l str) -> Result<Case<'l>, AllocError> {
+        let (words, doc) = line.split_once(" | ").unwrap_or((line, ""));
+        Ok(Case {
+            words: words.split(' ').collect(alloc)?,
+            taken: 0,
+            doc,
+            text: String::new(alloc),
+            trouble: None,
+        })
+    }
+
+    /// The documentation, which may be empty.
+    pub fn doc(&self) -> &'l str {
+        self.doc
+    }
+
+    /// The words that aren't taken.
+    pub fn rest(&self) -> &[&'l str] {
+        let words = self.words.as_slice();
+        if self.taken > words.len() {
+            return words;
+        }
+        &words[self.taken..]
+    }
+
+    /// Takes the next word. Without one the line asks nothing.
+    pub fn word(&mut self) -> &'l str {
+        let Some(word) = self.words.get(self.taken).copied() else {
+            self.refuse(Trouble::BadLine);
+            return "";
+        };
+        self.taken = self.taken.saturating_add(1);
+        word
+    }
+
+    /// Takes the next word, which has to be this one.
+    pub fn expect(&mut self, word: &str) {
+        if self.word() != word {
+            self.refuse(Trouble::BadLine);
+        }
+    }
+
+    /// Takes the next word, which has to be a number.
+    pub fn number<N: FromStr + Default + Drop>(&mut self) -> N
+    where
+        N::Err: Drop,
+    {
+        let word = self.word();
+        self.number_of(word)
+    }
+
+    /// The number that the word has to be.
+    pub fn number_of<N: FromStr + Default + Drop>(&mut self, word: &str) -> N
+    where
+        N::Err: Drop,
+    {
+        match number(word) {
+            Ok(number) => number,
+            Err(trouble) => {
+                self.refuse(trouble);
+                N::default()
+            }
+        }
+    }
+
+    /// Keeps the first trouble.
+    pub fn refuse(&mut self, trouble: Trouble) {
+        if self.trouble.is_none() {
+            self.trouble = Some(trouble);
+        }
+    }
+
+    /// Keeps that what is asked can't be asked.
+    pub fn no_case(&mut self) {
+        self.refuse(Trouble::NoCase);
+    }
+
+    /// Keeps whether there was no memory.
+    pub fn note(&mut self, outcome: Result<(), AllocError>) {
+        if outcome.is_err() {
+            self.refuse(Trouble::OutOfMemory);
+        }
+    }
+
+    /// What there is, where there was no trouble.
+    pub fn kept<T: Drop>(&mut self, outcome: Result<T, Trouble>) -> Option<T> {
+        match outcome {
+            Ok(value) => Some(value),
+            Err(trouble) => {
+                self.refuse(trouble);
+                None
+            }
+        }
+    }
+
+    /// The trouble, if there was any.
+    pub fn trouble(&self) -> Option<Trouble> {
+        self.trouble
+    }
+
+    /// What was written so far.
+    pub fn as_str(&self) -> &str {
+        self.text.as_str()
+    }
+
+    /// How many bytes were written so far.
+    pub fn written(&self) -> usize {
+        self.text.len()
+    }
+
+    /// Writes one letter.
+    pub fn letter(&mut self, letter: char) {
+        let written = self.text.push(letter);
+        self.note(written);
+    }
+
+    /// Writes a text.
+    pub fn text(&mut self, text: &str) {
+        let written = self.text.push_str(text);
+        self.note(written);
+    }
+
+    /// Writes a text that was made, where there was memory for it.
+    pub fn made(&mut self, text: Result<Text, AllocError>) {
+        match text {
+            Ok(text) => self.text(text.as_str()),
+            Err(_) => self.refuse(Trouble::OutOfMemory),
+        }
+    }
+
+    /// Writes a value as it is shown.
+    pub fn shown<T: Display>(&mut self, value: &T) {
+        let written = write!(self.text, "{value}");
+        self.note(written);
+    }
+
+    /// Writes a value as it is shown to a programmer.
+    pub fn debugged<T: Debug>(&mut self, value: &T) {
+        let written = write!(self.text, "{value:?}");
+        self.note(written);
+    }
+
+    /// Writes a byte as two hexadecimal digits.
+    pub fn hexadecimal(&mut self, byte: u8) {
+        let written = write!(self.text, "{byte:02x}");
+        self.note(written);
+    }
+
+    /// Writes whether something is so.
+    pub fn yes_or_no(&mut self, is_so: bool) {
+        self.text(yes_or_no(is_so));
+    }
+
+    /// Writes a number, or `-` for none.
+    pub fn number_or_dash(&mut self, number: Option<u16>) {
+        match number {
+            Some(number) => self.shown(&number),
+            None => self.letter('-'),
+        }
+    }
+
+    /// Parts what comes next from what was written, where anything was.
+    pub fn separate(&mut self, between: char) {
+        self.separate_from(0, between);
+    }
+
+    /// Parts the next item of a list that begins at `start` from the one before it, where there is one.
+    pub fn separate_from(&mut self, start: usize, between: char) {
+        if self.text.len() > start {
+            self.letter(between);
+        }
+    }
+
+    /// Writes one more item of a list that begins at `start`, behind a comma where it isn't the first.
+    pub fn item(&mut self, start: usize, item: &str) {
+        self.separate_from(start, ',');
+        self.text(item);
+    }
+
+    /// Writes `-` where the list that begins at `start` is empty.
+    pub fn end_list(&mut self, start: usize) {
+        if self.text.len() == start {
+            self.letter('-');
+        }
+    }
+
+    /// Adds the answer and a line feed to the answers: what was written, or what stands for it where there was trouble.
+    pub fn end(&self, answers: &mut String) -> Result<(), AllocError> {
+        let text = match self.trouble {
+            None => self.as_str(),
+            Some(Trouble::BadLine | Trouble::NoCase) => "no case",
+            Some(Trouble::Differ) => "differ",
+            Some(Trouble::OutOfMemory) => return Err(AllocError),
+        };
+        answers.push_str(text)?;
+        answers.push('\n')
+    }
+}

@@ -1,0 +1,33 @@
+use std::alloc::{AllocError, AllocFailed};
+use std::num::ParseIntError;
+
+/// Why a line has no answer of its own.
+#[derive(Clone, Copy)]
+pub enum Trouble {
+    /// It asks nothing.
+    BadLine,
+    /// What it asks can't be asked.
+    NoCase,
+    /// Two calls that have to agree don't.
+    Differ,
+    /// Memory ran out.
+    OutOfMemory,
+}
+
+impl From<AllocError> for Trouble {
+    fn from(_error: AllocError) -> Trouble {
+        Trouble::OutOfMemory
+    }
+}
+
+impl<T: Drop> From<AllocFailed<T>> for Trouble {
+    fn from(_failed: AllocFailed<T>) -> Trouble {
+        Trouble::OutOfMemory
+    }
+}
+
+impl From<ParseIntError> for Trouble {
+    fn from(_error: ParseIntError) -> Trouble {
+        Trouble::BadLine
+    }
+}

@@ -1,0 +1,96 @@
+use super::trouble::Trouble;
+use meta_types::{DerivedFunc, Text, ValueType};
+use std::alloc::Global;
+use std::hash::{DefaultHasher, Hash, Hasher};
+use std::str::FromStr;
+
+/// The nine derived functions.
+const FUNCTIONS: [DerivedFunc; 9] = [
+    DerivedFunc::LaneOf,
+    DerivedFunc::AsTruthy,
+    DerivedFunc::HalfWidth,
+    DerivedFunc::DoubleWidth,
+    DerivedFunc::SplitLanes,
+    DerivedFunc::MergeLanes,
+    DerivedFunc::DynamicToVector,
+    DerivedFunc::Narrower,
+    DerivedFunc::Wider,
+];
+
+/// What the word stands for in the table: what stands in its last row.
+pub fn named<'t, T>(table: &'t [(&str, T)], word: &str) -> Result<&'t T, Trouble> {
+    for row in table.iter().rev() {
+        if row.0 == word {
+            return Ok(&row.1);
+        }
+    }
+    Err(Trouble::BadLine)
+}
+
+/// The number that the word is.
+pub fn number<N: FromStr + Drop>(word: &str) -> Result<N, Trouble>
+where
+    N::Err: Drop,
+{
+    match word.parse::<N>() {
+        Ok(number) => Ok(number),
+        Err(_) => Err(Trouble::BadLine),
+    }
+}
+
+/// What stands before the first such character, and what stands behind it.
+pub fn pair_of(words: &str, between: char) -> Result<(&str, &str), Trouble> {
+    match words.split_once(between) {
+        Some(pair) => Ok(pair),
+        None => Err(Trouble::BadLine),
+    }
+}
+
+/// The items of a list, which are parted by commas. The word for none is no item.
+pub fn items_of<'t>(alloc: Global, list: &'t str, none: &str) -> Result<Vec<&'t str>, Trouble> {
+    if list == none {
+        return Ok(Vec::new(alloc));
+    }
+    Ok(list.split(',').collect(alloc)?)
+}
+
+/// The items of a list as texts.
+pub fn texts_of(alloc: Global, list: &str, none: &str) -> Result<Vec<Text>, Trouble> {
+    let mut texts = Vec::new(alloc);
+    if list != none {
+        for item in list.split(',') {
+            texts.push(Text::new(alloc, item)?)?;
+        }
+    }
+    Ok(texts)
+}
+
+/// The derived function of this name.
+pub fn function_of(name: &str) -> Result<DerivedFunc, Trouble> {
+    for func in FUNCTIONS {
+        if func.name() == name {
+            return Ok(func);
+        }
+    }
+    Err(Trouble::BadLine)
+}
+
+/// The type of this name.
+pub fn type_of(name: &str) -> Result<ValueType, Trouble> {
+    match ValueType::parse(name.as_bytes()) {
+        Some(value_type) => Ok(value_type),
+        None => Err(Trouble::BadLine),
+    }
+}
+
+/// The answer to a question of yes or no.
+pub fn yes_or_no(is_so: bool) -> &'static str {
+    if is_so { "yes" } else { "no" }
+}
+
+/// The hash of a value.
+pub fn hash_of<T: Hash>(value: &T) -> u64 {
+    let mut state = DefaultHasher::new();
+    value.hash(&mut state);
+    state.finish()
+}
