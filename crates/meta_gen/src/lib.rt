@@ -1,7 +1,7 @@
 //! The tables of declarations, and how they are read.
 //!
-//! `generate` refuses `Declarations` by their first fault, or makes `Tables` of what is built of them. `Tables::accepts` is the
-//! decoding.
+//! `generate` refuses `Declarations` by their first fault, or makes `Tables` of what is built of them. `Tables::accepts2` is the
+//! decoding, and `Tables::infer_results2` gives the types that it leaves no choice for.
 #![tactic(auto)]
 
 mod generation;

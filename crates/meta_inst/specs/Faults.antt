@@ -63,7 +63,7 @@ pub record IsFirstClash (d : InstructionSet) (f k g : ℕ) : Type 0 where
   pub clashes : AreClashing d f g
   pub first : (i h : ℕ) → i < place → IsFirstUse d h i → AreClashing d f h → ⊥
 
--- s is the set of the control
+-- s is the set of the control a
 pub record IsControlSet (sets : Sets) (controls : Which → Option Variable) (a : Which) (s : TypeSetParts) : Type 0 where
   pub variable : Variable
   pub controls_is : controls a ≡ Some variable

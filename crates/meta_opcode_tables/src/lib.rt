@@ -1,6 +1,7 @@
 //! The tables of an instruction set, and how they are read.
 //!
-//! `OpcodeTables::of` makes the tables of what is built of declarations. `OpcodeTables::accepts` is the decoding.
+//! `OpcodeTables::of` makes the tables of what is built of declarations. `OpcodeTables::accepts2` is the decoding, and
+//! `OpcodeTables::infer_results2` gives the types that it leaves no choice for.
 #![tactic(auto)]
 
 mod constraint;

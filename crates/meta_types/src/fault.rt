@@ -124,6 +124,11 @@ impl fmt::Display for Detail {
 
 /// The fault's name alone.
 impl fmt::Display for DefinitionError {
+    ghost use Rattle.std.specs.Prelude.{Some};
+    ghost use Rattle.meta_types.specs.Fault.{name_of};
+
+    ghost output = { λ e. Some (name_of e) };
+
     fn fmt<W: fmt::Write>(&self, f: &mut fmt::Formatter<W>) -> fmt::Result {
         f.write_str(self.name())
     }
@@ -131,6 +136,11 @@ impl fmt::Display for DefinitionError {
 
 /// The fault as its line shows it.
 impl fmt::Debug for DefinitionError {
+    ghost use Rattle.std.specs.Prelude.{Some};
+    ghost use Rattle.meta_types.specs.Fault.{line_of};
+
+    ghost debug_output = { λ e. Some (line_of e) };
+
     fn fmt<W: fmt::Write>(&self, f: &mut fmt::Formatter<W>) -> fmt::Result {
         let (name, detail) = (self.name(), self.detail());
         write!(f, "{name}{detail}")
