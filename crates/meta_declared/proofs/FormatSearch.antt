@@ -46,10 +46,6 @@ clash_in d f g c = record { one = c.0; other = c.1; is_one = c.2; is_other = c.3
 are_clashing : (d : InstructionSet) (f g : ℕ) → ClashIn d.formats f g → AreClashing d f g
 are_clashing d f g c = (c.one, c.other, c.is_one, c.is_other, c.shares)
 
--- before the first instruction
-pub none_used : (d : InstructionSet) → AreUsedBefore d 0 []
-none_used d = record { uses = λ j f is. absurd (cc); all = λ i b l is. absurd (omega arith); in_order = λ i j f g p q l is_f is_g u v. absurd (cc) }
-
 module _ (d : InstructionSet) (k : ℕ) (b : Builder) (used : List UsedFormat) (before : AreUsedBefore d k used) (at : IsAt d k b) where
   -- a format that isn't among those used before is first used here
   pub first_here : IsNotAmong used b.format → IsFirstUse d b.format k

@@ -1,5 +1,5 @@
 -- What is kept of a control is the instruction's.
-use Rattle.std.proofs.Common.{◌≡◌, ◌<◌, ◌↔◌, ◌∙◌, ℕ, List, length, IsTrue, Option, None, Some, IfSome, refl, sym, subst}
+use Rattle.std.proofs.Common.{◌≡◌, ◌<◌, ◌↔◌, ◌∙◌, ℕ, List, length, IsTrue, Option, IfSome, refl, sym, subst}
 use Rattle.std.proofs.lemmas.Option.{MatchOption-at_some}
 use Rattle.meta_types.specs.declared.fault.DefinitionError.TheVariants.{NoControl}
 use Rattle.meta_typevar.specs.Registry.{sets_of, variable_at}

@@ -1,6 +1,6 @@
 -- The operands by the numbers of their variables, and the instruction that they make.
 use Rattle.std.proofs.Common.{◌≡◌, ◌<◌, ◌≤◌, inl, inr, ℕ, List, [], Bool, true, false, length, take, drop, Option, None, Some, slice_get, arith, refl, sym, ap, ◌∙◌, map, subst, ⊎_elim, ◌+◌}
-use Rattle.std.specs.Prelude.{◌↔◌, IsTrue, IfSome, option_map, option_and_then, if◌then◌else◌}
+use Rattle.std.specs.Prelude.{◌↔◌, IsTrue, option_map, option_and_then, if◌then◌else◌}
 use Rattle.std.proofs.lemmas.Bool.{false≢true}
 use Rattle.std.proofs.lemmas.Option.{same_Some, option_and_then_some}
 use Rattle.meta_lists.proofs.Options.{mapped}

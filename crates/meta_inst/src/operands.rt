@@ -118,9 +118,13 @@ fn lets_control(vars: &TypeVars, operands: &Operands, v: TypeVar, place: usize) 
     ensures { (n : ℕ) → slice_get operands.now.variables place ≡ Some n → (IsTrue result ↔ LetsControl vars.now operands.now.second operands.now.variables operands.now.result_count v place n) }
 {
     let tv = operands.variables()[place];
-    rules(operands.second(), v, tv.root(vars))
-        || has_one_type(vars, tv)
-        || (is_underived(vars, tv) && operands.is_alone(place))
+    if rules(operands.second(), v, tv.root(vars)) {
+        return true;
+    }
+    if has_one_type(vars, tv) {
+        return true;
+    }
+    is_underived(vars, tv) && operands.is_alone(place)
 }
 
 /// Whether `v` may control: it is underived, and each variable lets it.

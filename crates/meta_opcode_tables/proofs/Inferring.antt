@@ -19,11 +19,11 @@ use Rattle.meta_meaning.proofs.Inferring.{control_typed}
 use Rattle.meta_meaning.proofs.Listed.{number_of_type, number_at}
 use Rattle.meta_meaning.proofs.Giving.{results_mean}
 use Rattle.meta_meaning.proofs.Given.{allowed_given, given_is}
-use Rattle.meta_opcode_tables.specs.Asked.{which_of, number_constraint_asked}
+use Rattle.meta_opcode_tables.specs.Demand.{which_of, number_constraint_demanded}
 use Rattle.meta_opcode_tables.specs.TablesOf.{AreTablesOf, HoldsInstruction}
 use Rattle.meta_opcode_tables.specs.Inferred.{InfersControl, InfersOpcode, HasControlType}
-use Rattle.meta_opcode_tables.specs.declared.constraint.Asked.{Asked}
-use Rattle.meta_opcode_tables.specs.declared.constraint.Asked.TheVariants.{By}
+use Rattle.meta_opcode_tables.specs.declared.constraint.Demand.{Demand}
+use Rattle.meta_opcode_tables.specs.declared.constraint.Demand.TheVariants.{Controlling, By}
 use Rattle.meta_opcode_tables.specs.declared.constraint.Which.{Which as WhichType}
 use Rattle.meta_opcode_tables.proofs.Declared.{declared_as}
 
@@ -38,9 +38,14 @@ none_by from f u None is other none = by_case
     by_case n (inl h) = other h.0
     by_case n (inr (v, is_v, answer)) = none n (subst (λ x. AnswersNumber f x n) (same_Some v u (sym is_v ∙ is)) answer)
 
-pub none_as : (c : Which → Option ℕ) (x : NumberConstraint) (asked : Asked) (which : WhichType) (f : DerivedFunc) (from r : Option ℕ) → number_constraint_asked asked ≡ x → asked ≡ By which f → from ≡ c (which_of which) → IfNone r ((n : ℕ) → GivesBy from (function_of f) n → ⊥) → IfNone r ((n : ℕ) → GivesNumber c x n → ⊥)
-none_as c x asked which f from (Some y) e is of none = tt
-none_as c x asked which f from None e is of none = λ n g. none n (subst (λ o. GivesBy o (function_of f) n) (sym of) (subst (λ z. GivesNumber c z n) (sym e ∙ ap number_constraint_asked is) g))
+-- what a control gives, where its number is demanded
+pub same_as : (c : Which → Option ℕ) (x : NumberConstraint) (demand : Demand) (which : WhichType) (r : Option ℕ) → number_constraint_demanded demand ≡ x → demand ≡ Controlling which → r ≡ c (which_of which) → IfSome r (GivesNumber c x)
+same_as c x demand which (Some n) e is of = subst (λ z. GivesNumber c z n) (sym (ap number_constraint_demanded is) ∙ e) (sym of)
+same_as c x demand which None e is of = tt
+
+pub none_as : (c : Which → Option ℕ) (x : NumberConstraint) (demand : Demand) (which : WhichType) (f : DerivedFunc) (from r : Option ℕ) → number_constraint_demanded demand ≡ x → demand ≡ By which f → from ≡ c (which_of which) → IfNone r ((n : ℕ) → GivesBy from (function_of f) n → ⊥) → IfNone r ((n : ℕ) → GivesNumber c x n → ⊥)
+none_as c x demand which f from (Some y) e is of none = tt
+none_as c x demand which f from None e is of none = λ n g. none n (subst (λ o. GivesBy o (function_of f) n) (sym of) (subst (λ z. GivesNumber c z n) (sym e ∙ ap number_constraint_demanded is) g))
 
 module _ (tables : TableContents) (c : Which → Option ℕ) (place : ℕ) where
   -- the constraint at a place gives what is given there

@@ -1,5 +1,5 @@
 pub mod Constraint
-pub mod Asked
+pub mod Demand
 pub mod ConstraintLists
 pub mod Entries
 pub mod Contents

@@ -4,7 +4,7 @@ ghost use Rattle.meta_inst.specs.Which.{Second, both};
 ghost use Rattle.meta_meaning.specs.Inference.{IsRelation, GivesBy, GivesNumber};
 ghost use Rattle.meta_meaning.specs.Tables.{ByNumber, result_count, value_count};
 ghost use Rattle.meta_opcode_tables.specs.Constraint.{number_constraint_of};
-ghost use Rattle.meta_opcode_tables.specs.Asked.{which_of, number_constraint_asked};
+ghost use Rattle.meta_opcode_tables.specs.Demand.{which_of, number_constraint_demanded};
 
 use meta_types::DerivedFunc;
 
@@ -102,33 +102,33 @@ impl Constraint {
         }
     }
 
-    /// What it asks.
-    pub(crate) fn asked(self) -> Asked
-        ensures { number_constraint_asked result ≡ number_constraint_of self }
+    /// What it demands.
+    pub(crate) fn demanded(self) -> Demand
+        ensures { number_constraint_demanded result ≡ number_constraint_of self }
     {
         match self {
-            Constraint::Concrete(number) => Asked::Number(number),
-            Constraint::Free(set) => Asked::OfSet(set),
-            Constraint::Same => Asked::Controlling(Which::First),
-            Constraint::Same2 => Asked::Controlling(Which::Second),
-            Constraint::LaneOf => Asked::By(Which::First, DerivedFunc::LaneOf),
-            Constraint::AsTruthy => Asked::By(Which::First, DerivedFunc::AsTruthy),
-            Constraint::HalfWidth => Asked::By(Which::First, DerivedFunc::HalfWidth),
-            Constraint::DoubleWidth => Asked::By(Which::First, DerivedFunc::DoubleWidth),
-            Constraint::SplitLanes => Asked::By(Which::First, DerivedFunc::SplitLanes),
-            Constraint::MergeLanes => Asked::By(Which::First, DerivedFunc::MergeLanes),
-            Constraint::DynamicToVector => Asked::By(Which::First, DerivedFunc::DynamicToVector),
-            Constraint::Narrower => Asked::By(Which::First, DerivedFunc::Narrower),
-            Constraint::Wider => Asked::By(Which::First, DerivedFunc::Wider),
-            Constraint::LaneOf2 => Asked::By(Which::Second, DerivedFunc::LaneOf),
-            Constraint::AsTruthy2 => Asked::By(Which::Second, DerivedFunc::AsTruthy),
-            Constraint::HalfWidth2 => Asked::By(Which::Second, DerivedFunc::HalfWidth),
-            Constraint::DoubleWidth2 => Asked::By(Which::Second, DerivedFunc::DoubleWidth),
-            Constraint::SplitLanes2 => Asked::By(Which::Second, DerivedFunc::SplitLanes),
-            Constraint::MergeLanes2 => Asked::By(Which::Second, DerivedFunc::MergeLanes),
-            Constraint::DynamicToVector2 => Asked::By(Which::Second, DerivedFunc::DynamicToVector),
-            Constraint::Narrower2 => Asked::By(Which::Second, DerivedFunc::Narrower),
-            Constraint::Wider2 => Asked::By(Which::Second, DerivedFunc::Wider),
+            Constraint::Concrete(number) => Demand::Number(number),
+            Constraint::Free(set) => Demand::OfSet(set),
+            Constraint::Same => Demand::Controlling(Which::First),
+            Constraint::Same2 => Demand::Controlling(Which::Second),
+            Constraint::LaneOf => Demand::By(Which::First, DerivedFunc::LaneOf),
+            Constraint::AsTruthy => Demand::By(Which::First, DerivedFunc::AsTruthy),
+            Constraint::HalfWidth => Demand::By(Which::First, DerivedFunc::HalfWidth),
+            Constraint::DoubleWidth => Demand::By(Which::First, DerivedFunc::DoubleWidth),
+            Constraint::SplitLanes => Demand::By(Which::First, DerivedFunc::SplitLanes),
+            Constraint::MergeLanes => Demand::By(Which::First, DerivedFunc::MergeLanes),
+            Constraint::DynamicToVector => Demand::By(Which::First, DerivedFunc::DynamicToVector),
+            Constraint::Narrower => Demand::By(Which::First, DerivedFunc::Narrower),
+            Constraint::Wider => Demand::By(Which::First, DerivedFunc::Wider),
+            Constraint::LaneOf2 => Demand::By(Which::Second, DerivedFunc::LaneOf),
+            Constraint::AsTruthy2 => Demand::By(Which::Second, DerivedFunc::AsTruthy),
+            Constraint::HalfWidth2 => Demand::By(Which::Second, DerivedFunc::HalfWidth),
+            Constraint::DoubleWidth2 => Demand::By(Which::Second, DerivedFunc::DoubleWidth),
+            Constraint::SplitLanes2 => Demand::By(Which::Second, DerivedFunc::SplitLanes),
+            Constraint::MergeLanes2 => Demand::By(Which::Second, DerivedFunc::MergeLanes),
+            Constraint::DynamicToVector2 => Demand::By(Which::Second, DerivedFunc::DynamicToVector),
+            Constraint::Narrower2 => Demand::By(Which::Second, DerivedFunc::Narrower),
+            Constraint::Wider2 => Demand::By(Which::Second, DerivedFunc::Wider),
         }
     }
 }
@@ -158,11 +158,11 @@ pub(crate) fn given(controls: Controls, constraint: Constraint) -> Option<u16>
     ensures some { IfSome result (λ n. GivesNumber (both controls.ctrl controls.second) (number_constraint_of constraint) n) }
     ensures none { IfNone result ((n : ℕ) → ¬ GivesNumber (both controls.ctrl controls.second) (number_constraint_of constraint) n) }
 {
-    match constraint.asked() {
-        Asked::Number(number) => Some(number),
-        Asked::OfSet(_) => Some(0),
-        Asked::Controlling(which) => controls.of(which),
-        Asked::By(which, derived_func) => given_by(controls.of(which), derived_func),
+    match constraint.demanded() {
+        Demand::Number(number) => Some(number),
+        Demand::OfSet(_) => Some(0),
+        Demand::Controlling(which) => controls.of(which),
+        Demand::By(which, derived_func) => given_by(controls.of(which), derived_func),
     }
 }
 
@@ -175,9 +175,9 @@ pub(crate) enum Which {
     Second,
 }
 
-/// What a constraint asks of the number of a type.
+/// What a constraint demands of the number of a type.
 #[derive(Clone, Copy)]
-pub(crate) enum Asked {
+pub(crate) enum Demand {
     /// That it is this number.
     Number(u16),
     /// That the type set at this place contains it.

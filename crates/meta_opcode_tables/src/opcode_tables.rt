@@ -16,7 +16,7 @@ ghost use Rattle.meta_opcode_tables.specs.Found.{IsDeclaredAs, FindsName};
 ghost use Rattle.meta_opcode_tables.specs.Inferred.{InfersControl, InfersOpcode, HasControlType};
 ghost use Rattle.meta_meaning.specs.Inference.{GivesAt, GivesResults};
 
-use super::constraint::{Asked, Constraint, Controls, NO_TYPE_SET, OpcodeConstraints, given};
+use super::constraint::{Constraint, Controls, Demand, NO_TYPE_SET, OpcodeConstraints, given};
 use super::entries::entries;
 use super::masks::masks_of;
 use super::names::{copied_formats, copied_names};
@@ -425,11 +425,11 @@ impl OpcodeTables {
     fn passes(&self, controls: Controls, constraint: Constraint, number: u16) -> bool
         ensures { IsTrue result ↔ NumberPasses self.now (both controls.ctrl controls.second) (number_constraint_of constraint) number }
     {
-        match constraint.asked() {
-            Asked::Number(wanted) => number == wanted,
-            Asked::OfSet(set) => self.set_contains(set, number),
-            Asked::Controlling(which) => controls.of(which) == Some(number),
-            Asked::By(which, derived_func) => is_related(controls.of(which), derived_func, number),
+        match constraint.demanded() {
+            Demand::Number(wanted) => number == wanted,
+            Demand::OfSet(set) => self.set_contains(set, number),
+            Demand::Controlling(which) => controls.of(which) == Some(number),
+            Demand::By(which, derived_func) => is_related(controls.of(which), derived_func, number),
         }
     }
 

@@ -51,10 +51,6 @@ length-in_bits start k (x ∷ xs) = ap suc (length-in_bits start (k + 1) xs)
 
 module _ (settings : List SettingDeclaration) (i : ℕ) (s : SettingDeclaration) (l : i < length settings) (is : s ≡ slice_index_or settings i s) where
   module _ (old : List PlacedSetting) (so_far : old ≡ in_bytes 0 (others_among (take i settings))) where
-    -- a boolean has no byte of its own
-    pub no_byte : true ≡ is_bool s → old ≡ in_bytes 0 (others_among (take (i + 1) settings))
-    no_byte t = so_far ∙ sym (ap (in_bytes 0) (fails_more has_own_byte settings i s l is (ap not (sym t))))
-
     pub byte_below : false ≡ is_bool s → length old < length (others_among settings)
     byte_below f =
         let own = one_of_all has_own_byte settings i s l is (ap not (sym f)) in

@@ -1,6 +1,6 @@
 -- What stays where a registry grows.
-use Rattle.std.proofs.Common.{◌≡◌, ◌∙◌, ◌<◌, ◌≤◌, ◌+◌, ℕ, List, [], ◌++◌, length, slice_get, sym, ap, subst, arith}
-use Rattle.std.proofs.lemmas.List.{append_assoc, append-nil, length-append}
+use Rattle.std.proofs.Common.{◌≡◌, ◌∙◌, ◌<◌, ◌≤◌, ◌+◌, ℕ, List, ◌++◌, length, slice_get, sym, ap, subst, arith}
+use Rattle.std.proofs.lemmas.List.{append_assoc, length-append}
 use Rattle.meta_lists.proofs.Places.{get_left}
 use Rattle.meta_lists.proofs.Pairs.{pairs_imply}
 use Rattle.meta_typevar.specs.TypeSetParts.{TypeSetParts}
@@ -17,9 +17,6 @@ use Rattle.meta_shared_core.specs.declared.word.Word.TheVariants.{Kind, Root, De
 use Rattle.meta_shared_core.specs.Roots.{IsRootWith, root_of, set_of_root}
 use Rattle.meta_shared_core.specs.Words.{Meanings, AreMeant, Grows, IsValueOf, IsKindOfWord}
 use Rattle.meta_shared_core.specs.Rows.{IsOperandOf, AreOperandsOf, IsBuilderOf, AreBuildersOf}
-
-pub grows_none : (vars : List TypeVarContent) → Grows 0 vars vars
-grows_none vars = record { more = []; is = sym (append-nil vars); few = omega arith }
 
 pub grows_more : {n k : ℕ} {old now new : List TypeVarContent} → Grows n old now → Grows k now new → Grows (n + k) old new
 grows_more {n} {k} {old} {now} {new} g h =

@@ -1,10 +1,12 @@
 -- Numbers that count on.
-use Rattle.std.proofs.Common.{◌≡◌, ◌∙◌, ◌+◌, ℕ, List, [], ◌∷◌, ◌++◌, length, slice_get, Some, refl, ap, subst, ⊎_elim, arith}
+use Rattle.std.proofs.Common.{rules, ◌≡◌, ◌∙◌, ◌+◌, ◌<◌, ℕ, List, [], ◌∷◌, ◌++◌, length, slice_get, Some, ap, subst, ⊎_elim, arith}
 use Rattle.std.proofs.lemmas.Bool.{cases_lt}
 use Rattle.std.proofs.lemmas.List.{length-append}
 use Rattle.meta_lists.proofs.Places.{get_left}
 use Rattle.meta_lists.proofs.Pushed.{get_end}
-use Rattle.meta_shared_core.specs.Formats.{AreNumbered}
+use Rattle.meta_shared_core.specs.Formats.{AreNumbered, AreNumberedFrom, AreFormatsOf, place_of, id_of}
+use Rattle.meta_shared_core.specs.declared.format.Format.{Format}
+use Rattle.meta_shared_core.specs.declared.formats.Formats.{Formats}
 
 -- the last of so many numbers, and those before it
 last_number : (first count : ℕ) (ids : List ℕ) (id k : ℕ) → AreNumbered first count ids → id ≡ first + count → k ≡ count → slice_get (ids ++ id ∷ []) k ≡ Some (first + k)
@@ -25,5 +27,17 @@ numbered_more first count ids id held is =
           (cases_lt k count);
     }
 
-pub numbered_none : (first : ℕ) → AreNumbered first 0 []
-numbered_none first = record { count_is = refl; at = λ k within. absurd (omega arith) }
+-- each format has a place among the 36
+place_below : (format : Format) → place_of format < 36
+place_below format = search rules
+
+-- numbers that count on, told of each format by its place
+pub numbered_from : (first : ℕ) (ids xs : List ℕ) (f : Formats) → AreNumbered first 36 ids → xs ≡ ids → ((format : Format) → slice_get xs (place_of format) ≡ Some (id_of f format)) → AreNumberedFrom first f
+numbered_from first ids xs f held is told = λ format.
+    let here : slice_get ids (place_of format) ≡ Some (id_of f format) = subst (λ (ys : List ℕ). slice_get ys (place_of format) ≡ Some (id_of f format)) is (told format) in
+    let there : slice_get ids (place_of format) ≡ Some (first + place_of format) = held.at (place_of format) (place_below format) in
+    cc
+
+-- they are below the number that follows
+pub numbered_below : (first n : ℕ) (f : Formats) → AreNumberedFrom first f → n ≡ first + 36 → AreFormatsOf n f
+numbered_below first n f numbers is = λ format. omega (arith, numbers format, place_below format, is)

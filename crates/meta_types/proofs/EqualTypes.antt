@@ -57,8 +57,5 @@ same_type (DynamicVector a) (Lane b) e = cc
 same_type (DynamicVector a) (Vector b) e = cc
 same_type (DynamicVector a) (DynamicVector b) e = λ i. DynamicVector (record { base = same_lane a.base b.base (and_parts _ _ e).0 i; unscaled_lanes = same_count a.unscaled_lanes b.unscaled_lanes (and_parts _ _ e).1 i })
 
-equal_lane : (a : LaneType) → lane_eq.it a a ≡ true
-equal_lane a = search rules
-
 pub equal_type : (a b : ValueType) → a ≡ b → eq-value.it a b ≡ true
 equal_type a b e = search rules

@@ -9,7 +9,7 @@ use lib.Pointwise.{pointwise}
 use Rattle.meta_types.specs.TypeParts.{IntKind, FloatKind, widths, lane_counts}
 use Rattle.meta_types.specs.Function.{LaneOf, AsTruthy, HalfWidth, DoubleWidth, SplitLanes, MergeLanes, DynamicToVector, same_mark}
 use Rattle.meta_typevar.specs.MaskSets.{holds, sets_in, AreMasks}
-use Rattle.meta_typevar.specs.Image.{halves, doubles, is_among, is_scalar, has_some, truthy_ints, can_halve, can_double, has_scalars_alone}
+use Rattle.meta_typevar.specs.Image.{halves, doubles, is_among, is_scalar, has_some, truthy_ints, can_halve, can_double}
 use Rattle.meta_typevar.specs.MaskImage.{IsMaskImage}
 use Rattle.meta_typevar.specs.declared.masks.Masks.{Masks}
 use Rattle.meta_typevar.proofs.MaskLemmas.{masks_of}
@@ -125,18 +125,6 @@ lanes_double_told m h = same_test (lane_counts false) (λ n. not (n == 0) && (bi
 pub lanes_halve_told : (m : Masks) → AreMasks m → (not (m.lanes == 0) && (bit_and m.lanes 1 == 0)) ≡ (has_some (sets_in m).lanes && list_all (nat_lt 1) (sets_in m).lanes)
 lanes_halve_told m h = same_test (lane_counts false) (λ n. not (n == 0) && (bit_and n 1 == 0)) (λ xs. has_some xs && list_all (nat_lt 1) xs) refl m.lanes h.lanes
 
-pub scalars_alone_told : (m : Masks) → AreMasks m → ((m.lanes == 1) && (m.dynamic_lanes == 0) && (not (m.ints == 0) || not (m.floats == 0))) ≡ has_scalars_alone (sets_in m)
-scalars_alone_told m h =
-    let l = scalars_told m.lanes h.lanes in
-    let d = same_test (lane_counts true) (λ n. n == 0) (λ xs. not (has_some xs)) refl m.dynamic_lanes h.dynamic_lanes in
-    let a = same_test (widths IntKind) (λ n. not (n == 0)) has_some refl m.ints h.ints in
-    let b = same_test (widths FloatKind) (λ n. not (n == 0)) has_some refl m.floats h.floats in
-    and_assoc (m.lanes == 1) (m.dynamic_lanes == 0) (not (m.ints == 0) || not (m.floats == 0)) ∙ λ i. l i && (d i && (a i || b i))
-  where
-    and_assoc : (a b c : Bool) → (a && b && c) ≡ (a && (b && c))
-    and_assoc true b c = refl
-    and_assoc false b c = refl
-
 -- a conjunction whose first test passes is the second
 after_first : (a b r : Bool) → a ≡ true → (a && b) ≡ r → b ≡ r
 after_first a b r e h = ap (λ x. x && b) (sym e) ∙ h
@@ -206,12 +194,6 @@ truthy_image m ints h s = record {
   sets = λ i. record { lanes = (sets_in m).lanes; dynamic_lanes = (sets_in m).dynamic_lanes; ints = s.set i; floats = [] };
   masks = record { lanes = h.lanes; dynamic_lanes = h.dynamic_lanes; ints = s.mask; floats = refl };
 }
-
--- the ints of as_truthy, by whether there are scalars alone
-pub scalar_ints : (m : Masks) → AreMasks m → (m.lanes == 1) ≡ true → StandsFor (widths IntKind) 8 (truthy_ints (sets_in m))
-scalar_ints m h e =
-    let t : is_scalar (sets_in m).lanes ≡ true = sym (scalars_told m.lanes h.lanes) ∙ e in
-    record { set = ap (λ b. if b then 8 ∷ [] else filter (λ w. is_among (sets_in m).ints w || is_among (sets_in m).floats w) (widths IntKind)) (sym t); mask = refl }
 
 pub vector_ints : (m : Masks) → AreMasks m → (m.lanes == 1) ≡ false → StandsFor (widths IntKind) (bit_or m.ints m.floats) (truthy_ints (sets_in m))
 vector_ints m h e =

@@ -1,6 +1,5 @@
-use Rattle.std.proofs.Common.{◌≡◌, ◌≤◌, length, arith, refl, sym, subst}
+use Rattle.std.proofs.Common.{◌≤◌, length, arith, refl, sym, subst}
 use Rattle.std.proofs.lemmas.Option.{slice_get_read}
-use Rattle.meta_typevar.specs.TypeSetParts.{TypeSetParts}
 use Rattle.meta_inst.specs.Instruction.{Instruction}
 use Rattle.meta_inst.specs.InstructionSet.{root_sets}
 use Rattle.meta_declared.specs.BuiltInstructions.{IsBuiltAt}

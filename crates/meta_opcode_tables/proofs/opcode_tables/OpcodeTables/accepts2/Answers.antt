@@ -2,21 +2,33 @@ use Rattle.meta_opcode_tables.proofs.Reading.{refused_result_count, refused_valu
 use Rattle.std.proofs.Common.{rules, arith}
 use Rattle.meta_opcode_tables.proofs.opcode_tables.OpcodeTables.accepts2.Goals as goal
 
+pub returns-then-results-result_count-clause-decoding : goal.returns-then-results-result_count-clause-decoding
+returns-then-results-result_count-clause-decoding c =
+    refused (refused_result_count _ _ _ _ _ _ _ c.in-Some.ensures.entry (λ e. let t = c.result_count.ensures in omega arith))
+
 pub returns-then-results-result_count-clause-meaning : goal.returns-then-results-result_count-clause-meaning
-returns-then-results-result_count-clause-meaning c =
-    answer_means _ _ _ _ _ _ _ (refused (refused_result_count _ _ _ _ _ _ _ c.in-Some.ensures.entry (λ e. let t = c.result_count.ensures in omega arith)))
+returns-then-results-result_count-clause-meaning c = answer_means _ _ _ _ _ _ _ (returns-then-results-result_count-clause-decoding c)
+
+pub returns-then-values-value_count-clause-decoding : goal.returns-then-values-value_count-clause-decoding
+returns-then-values-value_count-clause-decoding c =
+    refused (refused_value_count _ _ _ _ _ _ _ c.in-Some.ensures.entry (λ e. let t = c.value_count.ensures in omega arith))
 
 pub returns-then-values-value_count-clause-meaning : goal.returns-then-values-value_count-clause-meaning
-returns-then-values-value_count-clause-meaning c =
-    answer_means _ _ _ _ _ _ _ (refused (refused_value_count _ _ _ _ _ _ _ c.in-Some.ensures.entry (λ e. let t = c.value_count.ensures in omega arith)))
+returns-then-values-value_count-clause-meaning c = answer_means _ _ _ _ _ _ _ (returns-then-values-value_count-clause-decoding c)
+
+pub returns-then-not-control_fits-clause-decoding : goal.returns-then-not-control_fits-clause-decoding
+returns-then-not-control_fits-clause-decoding c =
+    refused (refused_control _ _ _ _ _ _ _ c.in-Some.ensures.entry (λ h. absurd (let e = c.control_fits.ensures.1 h in cc)))
 
 pub returns-then-not-control_fits-clause-meaning : goal.returns-then-not-control_fits-clause-meaning
-returns-then-not-control_fits-clause-meaning c =
-    answer_means _ _ _ _ _ _ _ (refused (refused_control _ _ _ _ _ _ _ c.in-Some.ensures.entry (λ h. absurd (let e = c.control_fits.ensures.1 h in cc))))
+returns-then-not-control_fits-clause-meaning c = answer_means _ _ _ _ _ _ _ (returns-then-not-control_fits-clause-decoding c)
+
+pub returns-then-not-control_fits-2-clause-decoding : goal.returns-then-not-control_fits-2-clause-decoding
+returns-then-not-control_fits-2-clause-decoding c =
+    refused (refused_second _ _ _ _ _ _ _ c.in-Some.ensures.entry (λ h. absurd (let e = c.control_fits-2.ensures.1 h in cc)))
 
 pub returns-then-not-control_fits-2-clause-meaning : goal.returns-then-not-control_fits-2-clause-meaning
-returns-then-not-control_fits-2-clause-meaning c =
-    answer_means _ _ _ _ _ _ _ (refused (refused_second _ _ _ _ _ _ _ c.in-Some.ensures.entry (λ h. absurd (let e = c.control_fits-2.ensures.1 h in cc))))
+returns-then-not-control_fits-2-clause-meaning c = answer_means _ _ _ _ _ _ _ (returns-then-not-control_fits-2-clause-decoding c)
 
 pub returns-then-not-all_pass-clause-decoding : goal.returns-then-not-all_pass-clause-decoding
 returns-then-not-all_pass-clause-decoding c =

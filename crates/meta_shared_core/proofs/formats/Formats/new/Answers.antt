@@ -1,0 +1,12 @@
+use Rattle.meta_shared_core.proofs.Added.{all_counted}
+use Rattle.meta_shared_core.proofs.Numbered.{numbered_from, numbered_below}
+use Rattle.meta_shared_core.proofs.formats.Formats.new.Goals as goal
+
+pub returns-clause-count : goal.returns-clause-count
+returns-clause-count c = all_counted _ _ _ _ c.in_ok-ids.ensures.added
+
+pub returns-clause-numbers : goal.returns-clause-numbers
+returns-clause-numbers c = numbered_from _ _ _ _ c.in_ok-ids.ensures.numbers c.deref.ensures.value c.named.ensures
+
+pub returns-clause-of : goal.returns-clause-of
+returns-clause-of c = numbered_below _ _ _ (numbered_from _ _ _ _ c.in_ok-ids.ensures.numbers c.deref.ensures.value c.named.ensures) (all_counted _ _ _ _ c.in_ok-ids.ensures.added)
