@@ -1,18 +1,31 @@
 use super::asked::{ASKED, Asked};
 use super::lists::Lists;
 use super::{faults, functions, interning, lanes, lookups, slots, texts, types, vectors};
-use rows_words::{Case, named};
+use rows_words::{Case, found};
 use std::alloc::{AllocError, Global};
 
-/// The answers to all lines, one a line.
-pub(crate) fn answers_to(alloc: Global, input: &str) -> Result<String, AllocError> {
-    let mut answers = String::new(alloc);
+/// Adds the answers to all lines, one a line.
+pub(crate) fn add_answers(
+    alloc: Global,
+    input: &str,
+    answers: &mut String,
+) -> Result<(), AllocError> {
     // Lists of texts outlive the lines that they come from.
     let mut lists = Lists::new(alloc);
+    add_answers_with(alloc, &mut lists, input, answers)
+}
+
+/// Adds the answers to all lines.
+fn add_answers_with<'a>(
+    alloc: Global,
+    lists: &mut Lists<'a>,
+    input: &'a str,
+    answers: &mut String,
+) -> Result<(), AllocError> {
     for line in input.lines() {
-        add_answer(alloc, &mut lists, line, &mut answers)?;
+        add_answer(alloc, lists, line, answers)?;
     }
-    Ok(answers)
+    Ok(())
 }
 
 /// Adds the answer to a line.
@@ -33,8 +46,8 @@ fn write_answer<'a>(alloc: Global, lists: &mut Lists<'a>, line: &'a str, out: &m
         return out.text(line);
     }
     let (word, rest) = line.split_once(' ').unwrap_or((line, ""));
-    match named(&ASKED, word) {
-        Ok(asked) => answer(alloc, lists, *asked, rest, out),
+    match found(&ASKED, word) {
+        Ok(asked) => answer(alloc, lists, asked, rest, out),
         Err(_) => functions::row(alloc, out, word, rest),
     }
 }

@@ -1,5 +1,5 @@
 use meta_types::{DefinitionError, Place};
-use rows_words::{Case, named};
+use rows_words::{Case, found};
 use std::alloc::Global;
 
 /// A place of each kind.
@@ -49,7 +49,7 @@ fn numbers_of(out: &mut Case<'_>, words: &str) -> [u64; 4] {
 fn place_of(out: &mut Case<'_>, words: &str) -> (Place, u64) {
     let (kind, numbers) = words.split_once(' ').unwrap_or((words, ""));
     let [first, second, third, _] = numbers_of(out, numbers);
-    match named(&PLACES, kind) {
+    match found(&PLACES, kind) {
         Ok(Place::Instruction(_)) => (Place::Instruction(first), second),
         Ok(Place::Format(_)) => (Place::Format(first), second),
         Ok(Place::Group(_)) => (Place::Group(first), second),
@@ -99,9 +99,9 @@ fn numbered(out: &mut Case<'_>, kind: DefinitionError, words: &str) -> Definitio
 /// The line of a fault.
 pub(crate) fn line(alloc: Global, out: &mut Case<'_>, words: &str) {
     let (kind, words) = words.split_once(' ').unwrap_or((words, "0"));
-    match named(&FAULTS, kind) {
+    match found(&FAULTS, kind) {
         Ok(kind) => {
-            let fault = fault_of(out, *kind, words);
+            let fault = fault_of(out, kind, words);
             out.made(fault.line(alloc));
         }
         Err(trouble) => out.refuse(trouble),

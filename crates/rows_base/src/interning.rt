@@ -20,8 +20,7 @@ fn write_interned(alloc: Global, out: &mut Case<'_>, names: &[&str]) {
             Err(_) => out.refuse(Trouble::OutOfMemory),
         }
     }
-    out.letter('|');
-    out.shown(&table.len());
+    out.field("|", &table.len());
     write_entries(out, &table);
 }
 

@@ -16,10 +16,8 @@ pub(crate) fn lane_of(name: &str) -> Option<LaneType> {
 /// Writes what is said of a lane: name, number, lane bits and documentation.
 pub(crate) fn write_row(alloc: Global, out: &mut Case<'_>, lane: LaneType) {
     out.shown(&lane);
-    out.letter('|');
-    out.shown(&lane.number());
-    out.letter('|');
-    out.shown(&lane.lane_bits());
+    out.field("|", &lane.number());
+    out.field("|", &lane.lane_bits());
     out.letter('|');
     out.made(lane.doc(alloc));
 }

@@ -57,8 +57,7 @@ impl<'a> Lists<'a> {
         match place {
             Ok(place) => {
                 out.shown(&place);
-                out.letter(' ');
-                out.shown(&self.texts.len());
+                out.field(" ", &self.texts.len());
             }
             Err(trouble) => out.refuse(trouble),
         }

@@ -98,8 +98,7 @@ fn write_find(out: &mut Case<'_>, slots: &[Option<u16>], names: &[&str], wanted:
         }
     });
     out.number_or_dash(place);
-    out.letter(':');
-    out.shown(&compared.get());
+    out.field(":", &compared.get());
 }
 
 /// How many items were looked at for each of so many items that all have the hash 0.

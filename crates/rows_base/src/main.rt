@@ -15,11 +15,13 @@ mod texts;
 mod types;
 mod vectors;
 
-use case::answers_to;
-use std::io;
+use case::add_answers;
+use std::io::{self, Write};
 
 fn main(rt: HostRuntime) -> io::Result<()> {
-    let input = io::read_to_string(rt.alloc(), rt.reader())?;
-    let answers = answers_to(rt.alloc(), input.as_str())?;
-    print!(rt; "{answers}")
+    let alloc = rt.alloc();
+    let input = io::read_to_string(alloc, rt.reader())?;
+    let mut answers = String::new(alloc);
+    add_answers(alloc, input.as_str(), &mut answers)?;
+    io::writer(&rt).write_all(answers.as_bytes())
 }

@@ -79,8 +79,7 @@ fn write_pair(out: &mut Case<'_>, text: &Text, other: &Text, copy: &Text) {
 
 /// Writes the next field of a row.
 fn write_field(out: &mut Case<'_>, field: &str) {
-    out.letter('|');
-    out.text(field);
+    out.field("|", &field);
 }
 
 /// An order by its name.

@@ -41,8 +41,7 @@ fn write_row(alloc: Global, out: &mut Case<'_>, t: ValueType) {
 /// Writes these numbers as the next fields of a row.
 pub(crate) fn write_fields(out: &mut Case<'_>, fields: &[u64]) {
     for field in fields {
-        out.letter('|');
-        out.shown(field);
+        out.field("|", field);
     }
 }
 

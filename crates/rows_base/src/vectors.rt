@@ -43,8 +43,7 @@ fn write_vector(alloc: Global, out: &mut Case<'_>, vector: VectorType) {
         out,
         &[number.into(), vector.lane_bits(), vector.lane_count()],
     );
-    out.letter('|');
-    out.shown(&vector.lane_type());
+    out.field("|", &vector.lane_type());
     out.letter('|');
     out.made(vector.doc(alloc));
 }
@@ -74,8 +73,7 @@ fn write_dynamic(alloc: Global, out: &mut Case<'_>, vector: DynamicVectorType) {
             vector.minimum_lane_count(),
         ],
     );
-    out.letter('|');
-    out.shown(&vector.lane_type());
+    out.field("|", &vector.lane_type());
     out.letter('|');
     out.made(vector.doc(alloc));
 }

@@ -24,21 +24,16 @@ fn write_mark(case: &mut Case<'_>, is_set: bool, letter: char) {
 /// Writes its names: as it is declared, in camel case and in the code that is written; and its documentation.
 fn write_names(content: &InstructionContent, case: &mut Case<'_>) {
     case.text(content.name().as_str());
-    case.letter(' ');
-    case.text(content.camel_name().as_str());
-    case.letter(' ');
-    case.text(content.snake_name());
+    case.field(" ", &content.camel_name().as_str());
+    case.field(" ", &content.snake_name());
     write_prose(case, content.doc().as_str());
 }
 
 /// Writes its format's number, how many operands it has, and the places of values, immediates and results.
 fn write_places(content: &InstructionContent, case: &mut Case<'_>) {
-    case.text("format ");
-    case.shown(&content.format().number());
-    case.text(" inputs ");
-    case.shown(&content.operands_in().len());
-    case.text(" outputs ");
-    case.shown(&content.operands_out().len());
+    case.field("format ", &content.format().number());
+    case.field(" inputs ", &content.operands_in().len());
+    case.field(" outputs ", &content.operands_out().len());
     write_numbers(case, " values ", content.value_opnums());
     write_numbers(case, " immediates ", content.imm_opnums());
     write_numbers(case, " results ", content.value_results());
@@ -92,8 +87,7 @@ impl<'l> Session<'l> {
         match content.polymorphic_info() {
             Some(info) => {
                 case.text(self.name(info.ctrl_typevar));
-                case.text(" designated ");
-                case.shown(&info.use_typevar_operand);
+                case.field(" designated ", &info.use_typevar_operand);
             }
             None => case.text("none"),
         }

@@ -58,10 +58,12 @@ impl<'l> Session<'l> {
         let Some(tv) = found else {
             return case.letter('-');
         };
-        match self.numbered.iter().position(|known| *known == tv) {
-            Some(number) => case.shown(&number),
-            None => case.letter('?'),
+        for (number, known) in self.numbered.iter().enumerate() {
+            if *known == tv {
+                return case.shown(&number);
+            }
         }
+        case.letter('?');
     }
 
     /// Writes a variable's parent, and `-` for none.
@@ -84,12 +86,9 @@ impl<'l> Session<'l> {
         case: &mut Case<'_>,
     ) {
         self.write_number("", Some(tv), case);
-        case.letter(' ');
-        case.text(change);
-        case.letter(' ');
-        case.text(content.name.as_str());
-        case.text(" \"");
-        case.text(content.doc.as_str());
+        case.field(" ", &change);
+        case.field(" ", &content.name.as_str());
+        case.field(" \"", &content.doc.as_str());
         case.text("\" base ");
         self.write_base(&content.base, case);
     }

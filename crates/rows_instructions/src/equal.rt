@@ -7,13 +7,10 @@ use std::alloc::Global;
 /// Writes whether two sets are equal, and their masks; of equal ones whether they hash equally.
 fn write_equal(set: &TypeSet, other: &TypeSet, case: &mut Case<'_>) {
     let is_equal = *set == *other;
-    case.text("sets ");
-    case.shown(&is_equal);
-    case.text(" masks ");
-    case.shown(&(set.masks() == other.masks()));
+    case.field("sets ", &is_equal);
+    case.field(" masks ", &(set.masks() == other.masks()));
     if is_equal {
-        case.text(" hashes ");
-        case.shown(&(hash_of(set) == hash_of(other)));
+        case.field(" hashes ", &(hash_of(set) == hash_of(other)));
     }
 }
 
@@ -39,14 +36,14 @@ impl<'l> Session<'l> {
             return;
         };
         let referred = TypeVar::from(&other);
-        case.text("equal ");
-        case.shown(&(one == other));
+        case.field("equal ", &(one == other));
         if one == other {
-            case.text(" referred ");
-            case.shown(&(one == referred));
+            case.field(" referred ", &(one == referred));
             let hash = hash_of(&one);
-            case.text(" hashes ");
-            case.shown(&(hash == hash_of(&other) && hash == hash_of(&referred)));
+            case.field(
+                " hashes ",
+                &(hash == hash_of(&other) && hash == hash_of(&referred)),
+            );
         }
     }
 
@@ -66,9 +63,7 @@ impl<'l> Session<'l> {
             derived_func,
         });
         let base = &self.vars.content(derived).base;
-        case.text("equal ");
-        case.shown(&(*base == expected));
-        case.text(" hashes ");
-        case.shown(&(hash_of(base) == hash_of(&expected)));
+        case.field("equal ", &(*base == expected));
+        case.field(" hashes ", &(hash_of(base) == hash_of(&expected)));
     }
 }

@@ -1,23 +1,11 @@
 use crate::session::Session;
-use crate::words::define;
 use meta_operands::{
     FormatField, FormatFields, FormatId, FormatStructure, FormatTable, InstructionFormat,
     InstructionFormatBuilder,
 };
 use meta_types::Text;
-use rows_words::{Case, Trouble, named, number, yes_or_no};
-
-/// The format whose value input at this place is designated.
-fn designating(
-    builder: InstructionFormatBuilder,
-    place: usize,
-) -> Result<InstructionFormatBuilder, Trouble> {
-    if builder.can_designate(place) {
-        Ok(builder.typevar_operand(place))
-    } else {
-        Err(Trouble::NoCase)
-    }
-}
+use rows_declaring::designating;
+use rows_words::{Case, Trouble, define, found, number, yes_or_no};
 
 /// Writes, with commas between them, whether the value inputs at these places can be designated.
 fn write_can(builder: &InstructionFormatBuilder, places: &str, case: &mut Case<'_>) {
@@ -31,10 +19,8 @@ fn write_can(builder: &InstructionFormatBuilder, places: &str, case: &mut Case<'
 /// Writes the number of a format, its text, whether it has a value list, and what it designates.
 fn write_format(id: FormatId, format: &InstructionFormat, case: &mut Case<'_>) {
     case.shown(&id.number());
-    case.letter(' ');
-    case.shown(format);
-    case.text(" list ");
-    case.shown(&format.has_value_list);
+    case.field(" ", format);
+    case.field(" list ", &format.has_value_list);
     case.text(" designated ");
     match format.typevar_operand {
         Some(place) => case.shown(&place),
@@ -47,22 +33,17 @@ fn write_field_names(names: &[(Text, Text)], case: &mut Case<'_>) {
     let start = case.written();
     for (field_name, rust_type) in names {
         case.item(start, field_name.as_str());
-        case.letter('=');
-        case.text(rust_type.as_str());
+        case.field("=", &rust_type.as_str());
     }
     case.end_list(start);
 }
 
 /// Writes what the structure of a format shows.
 fn write_structure(structure: &FormatStructure, case: &mut Case<'_>) {
-    case.text("vals=");
-    case.shown(&structure.num_value_operands);
-    case.text(" list=");
-    case.shown(&structure.has_value_list);
-    case.text(" blocks=");
-    case.shown(&structure.num_block_operands);
-    case.text(" raw_blocks=");
-    case.shown(&structure.num_raw_block_operands);
+    case.field("vals=", &structure.num_value_operands);
+    case.field(" list=", &structure.has_value_list);
+    case.field(" blocks=", &structure.num_block_operands);
+    case.field(" raw_blocks=", &structure.num_raw_block_operands);
     case.text(" fields ");
     write_field_names(structure.imm_field_names.as_slice(), case);
 }
@@ -145,17 +126,9 @@ impl<'l> Session<'l> {
         }
     }
 
-    /// The number of the format for whose name the word stands.
-    pub(crate) fn id(&self, word: &str) -> Result<FormatId, Trouble> {
-        match named(self.ids.as_slice(), word) {
-            Ok(id) => Ok(*id),
-            Err(trouble) => Err(trouble),
-        }
-    }
-
     /// The format for whose name the word stands.
     fn format_named(&self, word: &str) -> Result<&InstructionFormat, Trouble> {
-        match self.id(word) {
+        match found(self.ids.as_slice(), word) {
             Ok(id) if self.formats.is_of(id) => Ok(self.formats.get(id)),
             _ => Err(Trouble::NoCase),
         }
@@ -163,10 +136,8 @@ impl<'l> Session<'l> {
 
     /// Writes a line with a field's member, its text, and its kind.
     fn write_field(&self, field: &FormatField, case: &mut Case<'l>) {
-        case.text("\nmember ");
-        case.text(field.member.as_str());
-        case.text(" text ");
-        case.shown(field);
+        case.field("\nmember ", &field.member.as_str());
+        case.field(" text ", field);
         case.text(" kind ");
         self.write_kind(&field.kind, case);
     }
@@ -183,8 +154,7 @@ impl<'l> Session<'l> {
     /// Writes how many fields there are, all as they are written, and a line for each.
     fn write_fields(&self, fields: &FormatFields, case: &mut Case<'l>) {
         case.shown(&fields.len());
-        case.text(" (");
-        case.shown(fields);
+        case.field(" (", fields);
         case.letter(')');
         for place in 0..fields.len() {
             self.write_field(fields.get(place), case);
@@ -226,18 +196,18 @@ impl<'l> Session<'l> {
     /// `formats`: another table without a format, and how many it has.
     pub(crate) fn start_formats(&mut self, case: &mut Case<'l>) {
         self.formats = FormatTable::new(self.alloc);
-        case.text("formats ");
-        case.shown(&self.formats.len());
+        case.field("formats ", &self.formats.len());
     }
 
     /// `order ONE OTHER`: whether the number of a format is less than another, and whether it is equal.
     pub(crate) fn order(&self, case: &mut Case<'l>) {
-        match (self.id(case.word()), self.id(case.word())) {
+        match (
+            found(self.ids.as_slice(), case.word()),
+            found(self.ids.as_slice(), case.word()),
+        ) {
             (Ok(one), Ok(other)) => {
-                case.text("less ");
-                case.shown(&(one < other));
-                case.text(" equal ");
-                case.shown(&(one == other));
+                case.field("less ", &(one < other));
+                case.field(" equal ", &(one == other));
             }
             _ => case.no_case(),
         }
@@ -245,7 +215,7 @@ impl<'l> Session<'l> {
 
     /// `has NAME`: how many formats the table has, and whether the number is that of one.
     pub(crate) fn has(&self, case: &mut Case<'l>) {
-        match self.id(case.word()) {
+        match found(self.ids.as_slice(), case.word()) {
             Ok(id) => {
                 case.shown(&self.formats.len());
                 case.letter(' ');

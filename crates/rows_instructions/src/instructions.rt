@@ -1,10 +1,10 @@
 use crate::session::Session;
 use crate::words::text_of;
 use meta_inst::{InstructionBuilder, InstructionGroupBuilder, Operands};
-use meta_operands::{FormatId, Operand};
-use meta_types::Text;
-use rows_words::{Case, Trouble, named};
-use std::alloc::{AllocError, Global};
+use meta_operands::Operand;
+use rows_declaring::instruction;
+use rows_words::{Case, Trouble, found};
+use std::alloc::AllocError;
 
 /// The names of inputs by their places; `o` from there on.
 const INPUTS: [&str; 8] = ["x", "y", "z", "u", "v", "w", "s", "t"];
@@ -65,23 +65,10 @@ fn with_calls(builder: InstructionBuilder, calls: &str) -> Result<InstructionBui
     let mut builder = builder;
     if calls != "-" {
         for call in calls.split(',') {
-            builder = called(builder, *named(&CALLS, call)?);
+            builder = called(builder, found(&CALLS, call)?);
         }
     }
     Ok(builder)
-}
-
-/// The instruction of this name, documentation and format.
-fn instruction(
-    alloc: Global,
-    name: &str,
-    doc: &str,
-    format: FormatId,
-) -> Result<InstructionBuilder, Trouble> {
-    match (Text::new(alloc, name), Text::new(alloc, doc)) {
-        (Ok(name), Ok(doc)) => Ok(InstructionBuilder::new(alloc, name, doc, format)),
-        _ => Err(Trouble::OutOfMemory),
-    }
 }
 
 /// Writes how many operands were set, or that they weren't.
@@ -96,8 +83,7 @@ fn write_count(case: &mut Case<'_>, is_set: bool, operands: &[Operand]) {
 /// Writes what the builder of an instruction keeps.
 fn write_builder(builder: &InstructionBuilder, case: &mut Case<'_>) {
     case.text(builder.name().as_str());
-    case.text(" format ");
-    case.shown(&builder.format().number());
+    case.field(" format ", &builder.format().number());
     case.text(" inputs ");
     write_count(case, builder.has_operands_in(), builder.inputs());
     case.text(" outputs ");
@@ -155,7 +141,10 @@ impl<'l> Session<'l> {
     /// The builder of an instruction by the next words: its name, the name of its format, its inputs and outputs, as words with
     /// commas between them, or `-` where they aren't set, and the calls of its builder, with commas between them, or `-` for none.
     fn next_builder(&self, case: &mut Case<'l>) -> Result<InstructionBuilder, Trouble> {
-        let (name, format) = (text_of(case.word()), self.id(case.word())?);
+        let (name, format) = (
+            text_of(case.word()),
+            found(self.ids.as_slice(), case.word())?,
+        );
         let builder = instruction(self.alloc, name, case.doc(), format)?;
         let builder = self.with_inputs(builder, case.word())?;
         let builder = self.with_outputs(builder, case.word())?;
@@ -231,13 +220,10 @@ impl<'l> Session<'l> {
 
     /// Writes the value operands of an instruction.
     fn write_operands(&self, operands: &Operands, case: &mut Case<'l>) {
-        case.text(" results ");
-        case.shown(&operands.result_count());
+        case.field(" results ", &operands.result_count());
         case.text(" variables ");
         self.write_names(operands.variables(), case);
-        case.text(" designated ");
-        case.text(self.name_or_dash(operands.designated()));
-        case.text(" first ");
-        case.text(self.name_or_dash(operands.first_result()));
+        case.field(" designated ", &self.name_or_dash(operands.designated()));
+        case.field(" first ", &self.name_or_dash(operands.first_result()));
     }
 }

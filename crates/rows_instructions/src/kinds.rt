@@ -1,8 +1,9 @@
 use crate::session::Session;
-use crate::words::{define, text_of, write_prose};
+use crate::words::{text_of, write_prose};
 use meta_operands::{EnumValues, Operand, OperandKind, OperandKindFields};
 use meta_types::Text;
-use rows_words::{Case, Trouble, named, pair_of};
+use rows_declaring::kind_of;
+use rows_words::{Case, Trouble, define, found, named, pair_of};
 use std::alloc::{AllocError, Global};
 
 /// Lets a name stand for a variant, written `NAME=VARIANT`, and answers what it stood for before.
@@ -35,8 +36,7 @@ fn write_values(values: &EnumValues, case: &mut Case<'_>) {
     let start = case.written();
     for (name, variant) in values.iter() {
         case.item(start, name.as_str());
-        case.letter('=');
-        case.text(variant.as_str());
+        case.field("=", &variant.as_str());
     }
     case.end_list(start);
 }
@@ -111,24 +111,11 @@ impl<'l> Session<'l> {
             "varargs" => Ok(OperandKindFields::VariableArgs),
             "imm" => Ok(OperandKindFields::ImmValue),
             "enum" => Ok(OperandKindFields::ImmEnum(values_of(self.alloc, case.word())?)),
-            "value" => Ok(OperandKindFields::TypeVar(self.variable(case.word())?)),
+            "value" => Ok(OperandKindFields::TypeVar(found(
+                self.variables.as_slice(),
+                case.word(),
+            )?)),
             _ => Err(Trouble::NoCase),
-        }
-    }
-
-    /// The kind of these names, this documentation and these fields.
-    fn kind_of(
-        &self,
-        [field_name, rust_type, doc]: [&str; 3],
-        fields: OperandKindFields,
-    ) -> Result<OperandKind, Trouble> {
-        let field_name = Text::new(self.alloc, field_name);
-        let rust_type = Text::new(self.alloc, rust_type);
-        match (field_name, rust_type, Text::new(self.alloc, doc)) {
-            (Ok(field_name), Ok(rust_type), Ok(doc)) => {
-                Ok(OperandKind::new(field_name, rust_type, fields, doc))
-            }
-            _ => Err(Trouble::OutOfMemory),
         }
     }
 
@@ -136,7 +123,11 @@ impl<'l> Session<'l> {
     fn next_kind(&self, case: &mut Case<'l>) -> Result<OperandKind, Trouble> {
         let (field_name, rust_type) = (case.word(), case.word());
         let fields = self.kind_fields(case)?;
-        self.kind_of([text_of(field_name), rust_type, case.doc()], fields)
+        Ok(kind_of(
+            self.alloc,
+            [text_of(field_name), rust_type, case.doc()],
+            fields,
+        )?)
     }
 
     /// `kind WORD FIELD_NAME RUST_TYPE FIELDS | DOC`: a kind, and what it shows.
@@ -154,8 +145,7 @@ impl<'l> Session<'l> {
     /// Writes what a kind shows: its field name and Rust type, and what it is, with an enum's values or the variable of a value.
     pub(crate) fn write_kind(&self, kind: &OperandKind, case: &mut Case<'_>) {
         case.text(kind.rust_field_name.as_str());
-        case.text(": ");
-        case.text(kind.rust_type.as_str());
+        case.field(": ", &kind.rust_type.as_str());
         match &kind.fields {
             OperandKindFields::EntityRef => case.text(" entity"),
             OperandKindFields::VariableArgs => case.text(" varargs"),
@@ -165,15 +155,14 @@ impl<'l> Session<'l> {
                 write_values(values, case);
             }
             OperandKindFields::TypeVar(tv) => {
-                case.text(" value ");
-                case.text(self.name(*tv));
+                case.field(" value ", &self.name(*tv));
             }
         }
     }
 
     /// The kind for which the word stands: that of the values of a variable, or one that is declared.
     pub(crate) fn kind_named(&self, word: &str) -> Result<OperandKind, Trouble> {
-        if let Ok(tv) = self.variable(word) {
+        if let Ok(tv) = found(self.variables.as_slice(), word) {
             return Ok(OperandKind::of(self.alloc, tv)?);
         }
         Ok(named(self.kinds.as_slice(), word)?.copy(self.alloc)?)
@@ -225,8 +214,7 @@ impl<'l> Session<'l> {
             Ok(mut copied) => {
                 self.write_operand(copy, &mut copied);
                 if case.as_str() != copied.as_str() {
-                    case.text(" copied ");
-                    case.text(copied.as_str());
+                    case.field(" copied ", &copied.as_str());
                 }
             }
             Err(_) => case.refuse(Trouble::OutOfMemory),
@@ -247,8 +235,7 @@ impl<'l> Session<'l> {
         case.text(" of ");
         self.write_kind(&operand.kind, case);
         write_tests(operand, case);
-        case.text(" variable ");
-        case.text(self.name_or_dash(operand.type_var()));
+        case.field(" variable ", &self.name_or_dash(operand.type_var()));
         write_prose(case, self.doc(operand));
     }
 }

@@ -1,7 +1,7 @@
 use crate::content::Shown;
 use crate::equal::equal_sets;
 use crate::session::Session;
-use rows_words::{Case, Trouble, named};
+use rows_words::{Case, Trouble, found};
 
 /// What a line about instructions asks.
 #[derive(Clone, Copy)]
@@ -66,10 +66,10 @@ const WORDS: [(&str, Asked); 27] = [
 impl<'l> Session<'l> {
     /// Writes the answer to a line about instructions.
     pub(crate) fn answer_on_instructions(&mut self, first: &str, case: &mut Case<'l>) {
-        let Ok(asked) = named(&WORDS, first) else {
+        let Ok(asked) = found(&WORDS, first) else {
             return case.refuse(Trouble::BadLine);
         };
-        match *asked {
+        match asked {
             Asked::Ints => self.ints(case),
             Asked::Derive => self.derive_by_all(case),
             Asked::Type => self.one_type(case),

@@ -1,6 +1,6 @@
 use crate::session::Session;
 use crate::sets::{can_build, contains, debug, image, member, parts, set};
-use rows_words::{Case, Trouble, named};
+use rows_words::{Case, Trouble, found};
 
 /// What a line about sets and variables asks.
 #[derive(Clone, Copy)]
@@ -48,10 +48,10 @@ const WORDS: [(&str, Asked); 17] = [
 impl<'l> Session<'l> {
     /// Writes the answer to a line about sets and variables.
     pub(crate) fn answer_on_variables(&mut self, first: &str, case: &mut Case<'l>) {
-        let Ok(asked) = named(&WORDS, first) else {
+        let Ok(asked) = found(&WORDS, first) else {
             return case.refuse(Trouble::BadLine);
         };
-        match *asked {
+        match asked {
             Asked::Parts => parts(case),
             Asked::Can => can_build(case),
             Asked::Set => set(self.alloc, case),

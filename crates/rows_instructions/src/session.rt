@@ -55,18 +55,27 @@ impl<'l> Session<'l> {
         }
     }
 
-    /// Adds the answer to a line, or the line where it is a comment. About variables a line that asks nothing is told from one
-    /// that asks what can't be asked; about instructions both are no case.
-    pub(crate) fn answer_line(
+    /// Adds the answers to the lines.
+    pub(crate) fn answer_lines(
         &mut self,
-        line: &'l str,
+        input: &'l str,
         answers: &mut String,
     ) -> Result<(), AllocError> {
+        for line in input.lines() {
+            self.answer_line(line, answers)?;
+        }
+        Ok(())
+    }
+
+    /// Adds the answer to a line, or the line where it is a comment. About variables a line that asks nothing is told from one
+    /// that asks what can't be asked; about instructions both are no case.
+    fn answer_line(&mut self, line: &'l str, answers: &mut String) -> Result<(), AllocError> {
         if line.starts_with('#') {
             return writeln!(answers, "{line}");
         }
         let mut case = Case::of(self.alloc, line)?;
         self.answer(&mut case);
+        case.end_words();
         match (case.trouble(), self.subject) {
             (Some(Trouble::BadLine), Subject::Variables) => answers.push_str("bad line\n"),
             _ => case.end(answers),

@@ -1,6 +1,7 @@
 use meta_types::ValueType;
-use meta_typevar::{Interval, Masks, Part, TypeSet, TypeSetBuilder};
-use rows_words::{Case, Trouble, function_of, named, type_of};
+use meta_typevar::{Masks, TypeSet, TypeSetBuilder};
+use rows_declaring::{PARTS, builder_of, built};
+use rows_words::{Case, Trouble, function_of, type_of};
 use std::alloc::Global;
 
 /// The least number of a type.
@@ -8,74 +9,6 @@ const FIRST_NUMBER: u16 = 0x74;
 
 /// One above the greatest number of a type.
 const END_OF_NUMBERS: u16 = 0x17d;
-
-/// The parts of a builder by their words.
-const PARTS: [(&str, Part); 4] = [
-    ("ints", Part::Ints),
-    ("floats", Part::Floats),
-    ("lanes", Part::SimdLanes),
-    ("dynamic", Part::DynamicSimdLanes),
-];
-
-/// `*` for all, `-` for none, and `A..B` for a range.
-fn interval_of(word: &str) -> Option<Interval> {
-    match word {
-        "*" => Some(Interval::All),
-        "-" => Some(Interval::None),
-        _ => {
-            let (low, high) = word.split_once("..")?;
-            Some(Interval::from(low.parse().ok()?..high.parse().ok()?))
-        }
-    }
-}
-
-/// The builder with a part, which wasn't set before.
-fn with_part(
-    builder: TypeSetBuilder,
-    name: &str,
-    interval: Interval,
-) -> Result<TypeSetBuilder, Trouble> {
-    let part = *named(&PARTS, name)?;
-    if builder.is_set(part) {
-        return Err(Trouble::NoCase);
-    }
-    Ok(match part {
-        Part::Ints => builder.ints(interval),
-        Part::Floats => builder.floats(interval),
-        Part::SimdLanes => builder.simd_lanes(interval),
-        Part::DynamicSimdLanes => builder.dynamic_simd_lanes(interval),
-    })
-}
-
-/// The builder with what a name and a value say.
-fn with_words(builder: TypeSetBuilder, name: &str, value: &str) -> Result<TypeSetBuilder, Trouble> {
-    if name == "scalars" && (value == "yes" || value == "no") {
-        return Ok(builder.includes_scalars(value == "yes"));
-    }
-    let interval = interval_of(value).ok_or(Trouble::BadLine)?;
-    with_part(builder, name, interval)
-}
-
-/// The builder of these parts: each is a name and an interval, or `scalars` and `yes` or `no`.
-fn builder_of(words: &[&str]) -> Result<TypeSetBuilder, Trouble> {
-    let mut builder = TypeSetBuilder::new();
-    for pair in words.chunks(2) {
-        let [name, value] = pair else {
-            return Err(Trouble::BadLine);
-        };
-        builder = with_words(builder, name, value)?;
-    }
-    Ok(builder)
-}
-
-/// The set that the parts span, where they can be built.
-fn built(alloc: Global, parts: &[&str]) -> Result<TypeSet, Trouble> {
-    let builder = builder_of(parts)?;
-    if !builder.can_build() {
-        return Err(Trouble::NoCase);
-    }
-    Ok(builder.build(alloc)?)
-}
 
 /// The coded image of the words `FUNCTION of set PARTS`.
 fn image_of(alloc: Global, words: &[&str]) -> Result<TypeSet, Trouble> {
@@ -99,12 +32,9 @@ pub(crate) fn set_of(alloc: Global, words: &[&str]) -> Result<TypeSet, Trouble> 
 /// Writes the four masks: lanes, dynamic lanes, ints and floats.
 pub(crate) fn write_masks(case: &mut Case<'_>, masks: Masks) {
     case.shown(&masks.lanes);
-    case.letter(' ');
-    case.shown(&masks.dynamic_lanes);
-    case.letter(' ');
-    case.shown(&masks.ints);
-    case.letter(' ');
-    case.shown(&masks.floats);
+    case.field(" ", &masks.dynamic_lanes);
+    case.field(" ", &masks.ints);
+    case.field(" ", &masks.floats);
 }
 
 /// `parts PARTS`: the names of the parts that are set, with a space between them, or `-` for none.
@@ -135,18 +65,22 @@ pub(crate) fn can_build(case: &mut Case<'_>) {
 }
 
 /// How many of all types the set contains.
-fn contained(set: &TypeSet) -> usize {
-    (FIRST_NUMBER..END_OF_NUMBERS)
-        .filter_map(ValueType::from_number)
-        .filter(|t| set.contains(*t))
-        .count()
+fn contained(set: &TypeSet) -> u32 {
+    let mut count: u32 = 0;
+    for number in FIRST_NUMBER..END_OF_NUMBERS {
+        if let Some(value_type) = ValueType::from_number(number)
+            && set.contains(value_type)
+        {
+            count = count.saturating_add(1);
+        }
+    }
+    count
 }
 
 /// Writes the types, each behind a space.
 fn write_types(case: &mut Case<'_>, types: &[ValueType]) {
     for value_type in types {
-        case.letter(' ');
-        case.shown(value_type);
+        case.field(" ", value_type);
     }
 }
 
@@ -154,10 +88,8 @@ fn write_types(case: &mut Case<'_>, types: &[ValueType]) {
 fn write_set(alloc: Global, set: &TypeSet, case: &mut Case<'_>) {
     case.text("masks ");
     write_masks(case, set.masks());
-    case.text(" size ");
-    case.shown(&set.size());
-    case.text(" contains ");
-    case.shown(&contained(set));
+    case.field(" size ", &set.size());
+    case.field(" contains ", &contained(set));
     case.text(" types");
     match set.concrete_types(alloc) {
         Ok(types) => write_types(case, types.as_slice()),

@@ -1,22 +1,14 @@
 use crate::session::Session;
 use crate::sets::set_of;
-use crate::words::define;
 use meta_types::{DerivedFunc, Text};
 use meta_typevar::{Interval, TypeSet, TypeSetBuilder, TypeVar, TypeVars};
-use rows_words::{Case, Trouble, function_of, named, type_of};
+use rows_declaring::{derived, fresh_root, singleton};
+use rows_words::{Case, Trouble, define, found, function_of};
 
 impl<'l> Session<'l> {
-    /// The variable for which the word stands.
-    pub(crate) fn variable(&self, word: &str) -> Result<TypeVar, Trouble> {
-        match named(self.variables.as_slice(), word) {
-            Ok(tv) => Ok(*tv),
-            Err(trouble) => Err(trouble),
-        }
-    }
-
     /// Takes the next word, and answers the variable for which it stands.
     pub(crate) fn next_variable(&self, case: &mut Case<'l>) -> Option<TypeVar> {
-        let found = self.variable(case.word());
+        let found = found(self.variables.as_slice(), case.word());
         case.kept(found)
     }
 
@@ -73,36 +65,7 @@ impl<'l> Session<'l> {
         self.describe(tv, change, case);
     }
 
-    /// A fresh root with this name, documentation and set.
-    fn fresh_root(&mut self, name: &str, doc: &str, set: TypeSet) -> Result<TypeVar, Trouble> {
-        if !self.vars.has_room() {
-            return Err(Trouble::NoCase);
-        }
-        let (Ok(name), Ok(doc)) = (Text::new(self.alloc, name), Text::new(self.alloc, doc)) else {
-            return Err(Trouble::OutOfMemory);
-        };
-        Ok(TypeVar::new(&mut self.vars, name, doc, set)?)
-    }
-
-    /// A fresh root that stands for the type of this name.
-    fn singleton(&mut self, name: &str) -> Result<TypeVar, Trouble> {
-        let value_type = type_of(name)?;
-        if !self.vars.has_room() {
-            return Err(Trouble::NoCase);
-        }
-        Ok(TypeVar::new_singleton(&mut self.vars, value_type)?)
-    }
-
-    /// The variable that is derived from one.
-    fn derived(&mut self, tv: TypeVar, function: DerivedFunc) -> Result<TypeVar, Trouble> {
-        let vars = &mut self.vars;
-        if !vars.has_room() || !vars.is_of(tv) || !tv.can_derive(self.alloc, vars, function)? {
-            return Err(Trouble::NoCase);
-        }
-        Ok(tv.derived(vars, function)?)
-    }
-
-    /// The same, by the call that has the function's name.
+    /// The variable that is derived from one, by the call that has the function's name.
     fn derived_by_name(&mut self, tv: TypeVar, function: DerivedFunc) -> Result<TypeVar, Trouble> {
         let vars = &mut self.vars;
         if !vars.has_room() || !vars.is_of(tv) || !tv.can_derive(self.alloc, vars, function)? {
@@ -138,7 +101,7 @@ impl<'l> Session<'l> {
         let (high, lanes) = (case.number(), case.number());
         match self.set_of_ints(low, high, lanes) {
             Ok(set) => {
-                let root = self.fresh_root(word, case.doc(), set);
+                let root = fresh_root(self.alloc, &mut self.vars, word, case.doc(), set);
                 self.keep_found(word, root, case);
             }
             Err(trouble) => case.refuse(trouble),
@@ -169,7 +132,7 @@ impl<'l> Session<'l> {
     /// `type X TYPE`: a variable that stands for a type.
     pub(crate) fn one_type(&mut self, case: &mut Case<'l>) {
         let word = case.word();
-        let one = self.singleton(case.word());
+        let one = singleton(&mut self.vars, case.word());
         self.keep_found(word, one, case);
     }
 
@@ -183,7 +146,7 @@ impl<'l> Session<'l> {
     ) -> Result<TypeVar, Trouble> {
         let mut tv = tv;
         for function in functions.split(',') {
-            tv = self.derived(tv, function_of(function)?)?;
+            tv = derived(self.alloc, &mut self.vars, tv, function_of(function)?)?;
             self.is_added(tv, case);
         }
         Ok(tv)
@@ -209,10 +172,8 @@ impl<'l> Session<'l> {
 
     /// `count`: how many variables and roots there are.
     pub(crate) fn count(&self, case: &mut Case<'l>) {
-        case.text("variables ");
-        case.shown(&self.vars.len());
-        case.text(" roots ");
-        case.shown(&self.vars.root_count());
+        case.field("variables ", &self.vars.len());
+        case.field(" roots ", &self.vars.root_count());
     }
 
     /// `root X = SET`: a fresh root.
@@ -221,7 +182,7 @@ impl<'l> Session<'l> {
         case.expect("=");
         match set_of(self.alloc, case.rest()) {
             Ok(set) => {
-                let root = self.fresh_root(word, "A root", set);
+                let root = fresh_root(self.alloc, &mut self.vars, word, "A root", set);
                 self.keep_all_found(word, root, case);
             }
             Err(trouble) => case.refuse(trouble),
@@ -232,7 +193,7 @@ impl<'l> Session<'l> {
     pub(crate) fn one(&mut self, case: &mut Case<'l>) {
         let word = case.word();
         case.expect("=");
-        let one = self.singleton(case.word());
+        let one = singleton(&mut self.vars, case.word());
         self.keep_all_found(word, one, case);
     }
 
@@ -266,7 +227,7 @@ impl<'l> Session<'l> {
         let derived = if by_name {
             self.derived_by_name(parent, function)
         } else {
-            self.derived(parent, function)
+            derived(self.alloc, &mut self.vars, parent, function)
         };
         self.keep_all_found(word, derived, case);
     }

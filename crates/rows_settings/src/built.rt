@@ -6,12 +6,10 @@ use std::alloc::{AllocError, Global};
 fn write_kind(setting: &Setting, case: &mut Case<'_>) {
     match setting.specific() {
         SpecificSetting::Bool(b) => {
-            case.text(" bool ");
-            case.shown(&b.default);
+            case.field(" bool ", &b.default);
         }
         SpecificSetting::Num(default) => {
-            case.text(" num ");
-            case.shown(default);
+            case.field(" num ", default);
         }
         SpecificSetting::Enum(values) => {
             case.text(" enum");
@@ -28,12 +26,10 @@ fn write_kind(setting: &Setting, case: &mut Case<'_>) {
 /// Writes the prose behind a line, each text behind ` | `, and nothing where both are empty.
 fn write_prose(description: &str, comment: &str, case: &mut Case<'_>) {
     if !description.is_empty() || !comment.is_empty() {
-        case.text(" | ");
-        case.text(description);
+        case.field(" | ", &description);
     }
     if !comment.is_empty() {
-        case.text(" | ");
-        case.text(comment);
+        case.field(" | ", &comment);
     }
 }
 
@@ -41,16 +37,12 @@ fn write_prose(description: &str, comment: &str, case: &mut Case<'_>) {
 fn write_setting(setting: &Setting, case: &mut Case<'_>) {
     case.text(setting.name().as_str());
     write_kind(setting, case);
-    case.text(" byte ");
-    case.shown(&setting.byte_offset());
+    case.field(" byte ", &setting.byte_offset());
     if let SpecificSetting::Bool(b) = setting.specific() {
-        case.text(" bit ");
-        case.shown(&b.bit_offset);
-        case.text(" number ");
-        case.shown(&b.predicate_number);
+        case.field(" bit ", &b.bit_offset);
+        case.field(" number ", &b.predicate_number);
     }
-    case.text(" gives ");
-    case.shown(&setting.default_byte());
+    case.field(" gives ", &setting.default_byte());
     let (description, comment) = (setting.description().as_str(), setting.comment().as_str());
     write_prose(description, comment, case);
 }
@@ -77,12 +69,9 @@ fn defaults(alloc: Global, group: &SettingGroup) -> Result<Vec<u8>, AllocError> 
 /// Writes the group's sizes and default bytes.
 pub(crate) fn write_bytes(alloc: Global, group: &SettingGroup, case: &mut Case<'_>) {
     case.text(group.name().as_str());
-    case.text(" byte size ");
-    case.shown(&group.byte_size());
-    case.text(" settings size ");
-    case.shown(&group.settings_size());
-    case.text(" booleans from ");
-    case.shown(&group.bool_start_byte_offset());
+    case.field(" byte size ", &group.byte_size());
+    case.field(" settings size ", &group.settings_size());
+    case.field(" booleans from ", &group.bool_start_byte_offset());
     case.text(" defaults ");
     match defaults(alloc, group) {
         Ok(bytes) => case.debugged(&bytes),

@@ -9,10 +9,8 @@ fn write_pairs<T: PartialEq + Hash>(one: &[T], two: &[T], case: &mut Case<'_>) {
     for (j, a) in one.iter().enumerate() {
         for (k, b) in two.iter().enumerate() {
             if *a == *b && hash_of(a) == hash_of(b) {
-                case.letter(' ');
-                case.shown(&j);
-                case.letter('=');
-                case.shown(&k);
+                case.field(" ", &j);
+                case.field("=", &k);
             }
         }
     }

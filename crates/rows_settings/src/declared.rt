@@ -1,68 +1,10 @@
-use crate::line::{Line, MANY, OTHERS, Sort};
-use crate::named::{named_in_order, nothing_named};
-use meta_settings::{BoolSettingIndex, PresetIndex, PresetType, SettingGroup, SettingGroupBuilder};
+use crate::line::{Line, MANY, OTHERS};
+use crate::named::named_in_order;
+use meta_settings::{PresetType, SettingGroup, SettingGroupBuilder};
 use meta_types::{DefinitionError, Text};
-use rows_words::{Case, Trouble, named, number, texts_of};
+use rows_declaring::{Added, Kind, Sort, add, add_many, add_plain};
+use rows_words::{Case, Trouble, found, number, texts_of};
 use std::alloc::{AllocError, Global};
-
-/// What an entry is declared as.
-#[derive(Drop)]
-enum Kind {
-    Bool(bool),
-    Num(u8),
-    Enum(Vec<Text>),
-    Preset(Vec<PresetType>),
-}
-
-/// The number that a declaration answered: that of a boolean or of a preset, which a preset may name, or none.
-#[derive(Clone, Copy)]
-enum Added {
-    Boolean(BoolSettingIndex),
-    Preset(PresetIndex),
-    Other,
-}
-
-impl Added {
-    /// Writes the number, or `Ok` for none.
-    fn write(self, case: &mut Case<'_>) {
-        match self {
-            Added::Boolean(index) => {
-                case.text("boolean ");
-                case.shown(&index.number());
-            }
-            Added::Preset(index) => {
-                case.text("preset ");
-                case.shown(&index.number());
-            }
-            Added::Other => case.text("Ok"),
-        }
-    }
-
-    /// The number of a boolean.
-    fn boolean(self) -> Result<BoolSettingIndex, Trouble> {
-        match self {
-            Added::Boolean(index) => Ok(index),
-            _ => Err(Trouble::NoCase),
-        }
-    }
-
-    /// The number of a preset.
-    fn preset(self) -> Result<PresetIndex, Trouble> {
-        match self {
-            Added::Preset(index) => Ok(index),
-            _ => Err(Trouble::NoCase),
-        }
-    }
-
-    /// What a preset names by it.
-    fn meant(self) -> Result<PresetType, Trouble> {
-        match self {
-            Added::Boolean(index) => Ok(PresetType::from(index)),
-            Added::Preset(index) => Ok(PresetType::from(index)),
-            Added::Other => Err(Trouble::NoCase),
-        }
-    }
-}
 
 /// A group while it is declared, with the numbers of the booleans and presets that a preset may name.
 #[derive(Drop)]
@@ -72,41 +14,25 @@ pub(crate) struct Declared {
     named: Vec<(Text, Added)>,
 }
 
-/// An entry of a sort that gives and names nothing.
-fn plain(alloc: Global, sort: Sort) -> Kind {
-    match sort {
-        Sort::Bool => Kind::Bool(false),
-        Sort::Num => Kind::Num(0),
-        Sort::Enum => Kind::Enum(Vec::new(alloc)),
-        Sort::Preset => Kind::Preset(nothing_named(alloc)),
-    }
-}
-
-/// An enum of so many values, `v0`, `v1` and so on.
-fn enum_of(alloc: Global, count: u16) -> Result<Kind, AllocError> {
-    let mut values = Vec::new(alloc);
-    add_values(alloc, &mut values, count)?;
-    Ok(Kind::Enum(values))
-}
-
-/// Adds `v0`, `v1` and so on.
-fn add_values(alloc: Global, values: &mut Vec<Text>, count: u16) -> Result<(), AllocError> {
-    for k in 0..count {
-        let value = format!(in alloc; "v{k}")?;
-        values.push(Text::new(alloc, value.as_str())?)?;
-    }
-    Ok(())
-}
-
 /// What a word such as `boolean:3` or `preset:1` means: an index of another group, behind so many others.
-fn of_other_group(alloc: Global, word: &str, count: &str) -> Result<Added, Trouble> {
-    let (sort, count) = (*named(&OTHERS, word)?, number::<u16>(count)?);
-    let mut other = Declared::new(alloc, "other")?;
+fn of_other_group(alloc: Global, word: &str, count: &str) -> Result<PresetType, Trouble> {
+    let (sort, count) = (found(&OTHERS, word)?, number::<u16>(count)?);
+    let mut other = SettingGroupBuilder::new(alloc, Text::new(alloc, "other")?);
+    meant_of_last(alloc, &mut other, sort, count)
+}
+
+/// What a preset names by the last of so many entries and one more, which are added to a group.
+fn meant_of_last(
+    alloc: Global,
+    group: &mut SettingGroupBuilder,
+    sort: Sort,
+    count: u16,
+) -> Result<PresetType, Trouble> {
     let mut last = Added::Other;
     for _ in 0..=count {
-        last = other.add(&Line::of("other"), plain(alloc, sort))?;
+        last = add_plain(alloc, group, "", sort)?;
     }
-    Ok(last)
+    last.meant()
 }
 
 impl Declared {
@@ -124,29 +50,6 @@ impl Declared {
         self.builder.build(self.alloc, number)
     }
 
-    /// Adds an entry with the name, the description and the comment of a line; of a preset the comment counts for nothing.
-    fn add(&mut self, line: &Line<'_>, kind: Kind) -> Result<Added, Trouble> {
-        if !self.builder.has_room() {
-            return Err(Trouble::NoCase);
-        }
-        let name = Text::new(self.alloc, line.name)?;
-        let description = Text::new(self.alloc, line.description)?;
-        let comment = Text::new(self.alloc, line.comment)?;
-        match kind {
-            Kind::Bool(default) => {
-                let index = self.builder.add_bool(name, description, comment, default)?;
-                return Ok(Added::Boolean(index));
-            }
-            Kind::Num(default) => self.builder.add_num(name, description, comment, default)?,
-            Kind::Enum(values) => self.builder.add_enum(name, description, comment, values)?,
-            Kind::Preset(args) => {
-                let index = self.builder.add_preset(name, description, args)?;
-                return Ok(Added::Preset(index));
-            }
-        }
-        Ok(Added::Other)
-    }
-
     /// What was added under this name, the first of it.
     fn find(&self, name: &str) -> Result<Added, Trouble> {
         for (known, added) in &self.named {
@@ -160,7 +63,7 @@ impl Declared {
     /// What the name means: a boolean or a preset of this group, or an index of another one.
     fn meant_by(&self, name: &str) -> Result<PresetType, Trouble> {
         match name.split_once(':') {
-            Some((word, count)) => of_other_group(self.alloc, word, count)?.meant(),
+            Some((word, count)) => of_other_group(self.alloc, word, count),
             None => self.find(name)?.meant(),
         }
     }
@@ -189,7 +92,7 @@ impl Declared {
     /// Declares an entry, and keeps its number under its name.
     fn add_named(&mut self, sort: Sort, line: &Line<'_>) -> Result<Added, Trouble> {
         let kind = self.kind(sort, line.value)?;
-        let added = self.add(line, kind)?;
+        let added = add(self.alloc, &mut self.builder, &line.entry(), kind)?;
         self.named.push((Text::new(self.alloc, line.name)?, added))?;
         Ok(added)
     }
@@ -202,25 +105,10 @@ impl Declared {
         }
     }
 
-    /// Adds so many of a sort, named by a letter and their numbers from 0, or an enum `e` of so many values.
+    /// Adds so many of a sort, or an enum of so many values.
     pub(crate) fn add_many(&mut self, line: &Line<'_>) -> Result<(), Trouble> {
-        let ((letter, sort), count) = (*named(&MANY, line.name)?, number::<u16>(line.value)?);
-        if let Sort::Enum = sort {
-            let kind = enum_of(self.alloc, count)?;
-            self.add(&Line::of("enum e"), kind)?;
-            return Ok(());
-        }
-        for place in 0..count {
-            self.add_numbered(letter, sort, place)?;
-        }
-        Ok(())
-    }
-
-    /// Adds one of a sort, named by a letter and a number.
-    fn add_numbered(&mut self, letter: char, sort: Sort, place: u16) -> Result<(), Trouble> {
-        let text = format!(in self.alloc; "many {letter}{place}")?;
-        self.add(&Line::of(text.as_str()), plain(self.alloc, sort))?;
-        Ok(())
+        let (sort, count) = (found(&MANY, line.name)?, number::<u16>(line.value)?);
+        add_many(self.alloc, &mut self.builder, sort, count.into())
     }
 
     /// What `preset!` makes of the boolean, the preset and the boolean of these names, which are parted by commas.
@@ -237,8 +125,7 @@ impl Declared {
         match (self.in_order(line.value), self.meant(line.value)) {
             (Ok(args), Ok(meant)) => {
                 case.debugged(&args);
-                case.letter(' ');
-                case.shown(&(args.as_slice() == meant.as_slice()));
+                case.field(" ", &(args.as_slice() == meant.as_slice()));
                 self.add_meant(line, args, case);
             }
             (Err(trouble), _) | (_, Err(trouble)) => case.refuse(trouble),
@@ -247,7 +134,8 @@ impl Declared {
 
     /// Adds a preset.
     fn add_meant(&mut self, line: &Line<'_>, args: Vec<PresetType>, case: &mut Case<'_>) {
-        if let Err(trouble) = self.add(line, Kind::Preset(args)) {
+        let kind = Kind::Preset(args);
+        if let Err(trouble) = add(self.alloc, &mut self.builder, &line.entry(), kind) {
             case.refuse(trouble);
         }
     }

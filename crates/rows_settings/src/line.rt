@@ -1,11 +1,4 @@
-/// What sort an entry is of.
-#[derive(Clone, Copy)]
-pub(crate) enum Sort {
-    Bool,
-    Num,
-    Enum,
-    Preset,
-}
+use rows_declaring::{Entry, Sort};
 
 /// What a line asks.
 #[derive(Clone, Copy)]
@@ -61,12 +54,12 @@ pub(crate) const ASKED: [(&str, Asked); 17] = [
     ("which", Asked::Which),
 ];
 
-/// The words for many of a sort, each with the letter that their names begin with.
-pub(crate) const MANY: [(&str, (char, Sort)); 4] = [
-    ("bool", ('b', Sort::Bool)),
-    ("num", ('n', Sort::Num)),
-    ("value", ('e', Sort::Enum)),
-    ("preset", ('p', Sort::Preset)),
+/// The words for many of a sort.
+pub(crate) const MANY: [(&str, Sort); 4] = [
+    ("bool", Sort::Bool),
+    ("num", Sort::Num),
+    ("value", Sort::Enum),
+    ("preset", Sort::Preset),
 ];
 
 /// The words for what another group has.
@@ -104,6 +97,15 @@ impl<'l> Line<'l> {
             third: text_of(words.next()),
             description: text_of(parts.next()),
             comment: text_of(parts.next()),
+        }
+    }
+
+    /// The texts of the entry that a line declares.
+    pub(crate) fn entry(&self) -> Entry<'l> {
+        Entry {
+            name: self.name,
+            description: self.description,
+            comment: self.comment,
         }
     }
 }

@@ -5,7 +5,7 @@ use crate::line::{ASKED, Asked, Line};
 use crate::named::nothing_named;
 use meta_settings::{SettingGroup, TargetIsa};
 use meta_types::Text;
-use rows_words::{Case, Trouble, named};
+use rows_words::{Case, Trouble, found};
 use std::alloc::{AllocError, Global};
 
 /// What the lines so far have left: the group that is being declared, and the groups that were built.
@@ -87,10 +87,8 @@ impl Session {
         match self.target(name) {
             Ok(isa) => {
                 case.text(isa.name.as_str());
-                case.letter(' ');
-                case.text(isa.settings.name().as_str());
-                case.text(" byte size ");
-                case.shown(&isa.settings.byte_size());
+                case.field(" ", &isa.settings.name().as_str());
+                case.field(" byte size ", &isa.settings.byte_size());
             }
             Err(trouble) => case.refuse(trouble),
         }
@@ -124,10 +122,10 @@ impl Session {
 
     /// Writes the answer to a line.
     fn answer(&mut self, line: &Line<'_>, case: &mut Case<'_>) {
-        let Ok(asked) = named(&ASKED, line.asked) else {
+        let Ok(asked) = found(&ASKED, line.asked) else {
             return case.no_case();
         };
-        match *asked {
+        match asked {
             Asked::Group => self.begin(line.name, case),
             Asked::Entry(sort) => self.declared.add_entry(sort, line, case),
             Asked::Many => self.add_many(line, case),
@@ -143,12 +141,20 @@ impl Session {
         }
     }
 
-    /// Writes the answer to a line and a line feed: `no case` where it asks nothing, or what can't be asked.
-    pub(crate) fn answer_line(
+    /// Adds the answers to the lines.
+    pub(crate) fn answer_lines(
         &mut self,
-        line: &str,
+        input: &str,
         answers: &mut String,
     ) -> Result<(), AllocError> {
+        for line in input.lines() {
+            self.answer_line(line, answers)?;
+        }
+        Ok(())
+    }
+
+    /// Writes the answer to a line and a line feed: `no case` where it asks nothing, or what can't be asked.
+    fn answer_line(&mut self, line: &str, answers: &mut String) -> Result<(), AllocError> {
         if line.starts_with('#') {
             return writeln!(answers, "{line}");
         }

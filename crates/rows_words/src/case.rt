@@ -34,13 +34,39 @@ impl<'l> Case<'l> {
         self.doc
     }
 
-    /// The words that aren't taken.
-    pub fn rest(&self) -> &[&'l str] {
+    /// Takes all words that aren't taken.
+    pub fn rest(&mut self) -> &[&'l str] {
         let words = self.words.as_slice();
-        if self.taken > words.len() {
+        let taken = self.taken;
+        self.taken = words.len();
+        if taken > words.len() {
             return words;
         }
-        &words[self.taken..]
+        &words[taken..]
+    }
+
+    /// Whether there are words that aren't taken.
+    pub fn has_more(&self) -> bool {
+        self.taken < self.words.len()
+    }
+
+    /// Takes the next word where it is this one, and tells whether it was.
+    pub fn takes(&mut self, word: &str) -> bool {
+        let is_next = match self.words.get(self.taken) {
+            Some(next) => *next == word,
+            None => false,
+        };
+        if is_next {
+            self.taken = self.taken.saturating_add(1);
+        }
+        is_next
+    }
+
+    /// Ends the words of a line: one with words that aren't taken asks nothing.
+    pub fn end_words(&mut self) {
+        if self.has_more() {
+            self.refuse(Trouble::BadLine);
+        }
     }
 
     /// Takes the next word. Without one the line asks nothing.
@@ -152,6 +178,12 @@ impl<'l> Case<'l> {
     pub fn shown<T: Display>(&mut self, value: &T) {
         let written = write!(self.text, "{value}");
         self.note(written);
+    }
+
+    /// Writes a text, and behind it a value as it is shown.
+    pub fn field<T: Display>(&mut self, before: &str, value: &T) {
+        self.text(before);
+        self.shown(value);
     }
 
     /// Writes a value as it is shown to a programmer.

@@ -9,5 +9,6 @@ mod words;
 pub use case::Case;
 pub use trouble::Trouble;
 pub use words::{
-    function_of, hash_of, items_of, named, number, pair_of, texts_of, type_of, yes_or_no,
+    define, found, function_of, hash_of, items_of, named, number, pair_of, texts_of, type_of,
+    yes_or_no,
 };

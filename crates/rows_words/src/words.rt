@@ -1,3 +1,9 @@
+ghost use Rattle.std.specs.Prelude.{◌≡◌, ◌≢◌, IfOk, IfErr, codes, true, false};
+ghost use Rattle.meta_types.specs.DerivedFunc.{function_name, function_of as meant_by};
+ghost use Rattle.meta_types.specs.TypeParts.{TypeParts, IsType, name_of};
+ghost use Rattle.meta_types.specs.ValueTypes.{type_parts_of};
+
+use super::case::Case;
 use super::trouble::Trouble;
 use meta_types::{DerivedFunc, Text, ValueType};
 use std::alloc::Global;
@@ -27,10 +33,31 @@ pub fn named<'t, T>(table: &'t [(&str, T)], word: &str) -> Result<&'t T, Trouble
     Err(Trouble::BadLine)
 }
 
+/// The same, of what can be copied.
+pub fn found<T: Copy>(table: &[(&str, T)], word: &str) -> Result<T, Trouble> {
+    match named(table, word) {
+        Ok(meaning) => Ok(*meaning),
+        Err(trouble) => Err(trouble),
+    }
+}
+
+/// Lets the word stand for something in the table, whatever it stood for before.
+pub fn define<'l, T: Drop>(
+    table: &mut Vec<(&'l str, T)>,
+    word: &'l str,
+    meaning: T,
+    case: &mut Case<'l>,
+) {
+    if table.push((word, meaning)).is_err() {
+        case.refuse(Trouble::OutOfMemory);
+    }
+}
+
 /// The number that the word is.
 pub fn number<N: FromStr + Drop>(word: &str) -> Result<N, Trouble>
 where
     N::Err: Drop,
+    ensures { IfOk result (λ n. N.from_str_gives word.now (Ok n)) }
 {
     match word.parse::<N>() {
         Ok(number) => Ok(number),
@@ -66,7 +93,9 @@ pub fn texts_of(alloc: Global, list: &str, none: &str) -> Result<Vec<Text>, Trou
 }
 
 /// The derived function of this name.
-pub fn function_of(name: &str) -> Result<DerivedFunc, Trouble> {
+pub fn function_of(name: &str) -> Result<DerivedFunc, Trouble>
+    ensures { IfOk result (λ f. function_name (meant_by f) ≡ name.now) }
+{
     for func in FUNCTIONS {
         if func.name() == name {
             return Ok(func);
@@ -76,7 +105,10 @@ pub fn function_of(name: &str) -> Result<DerivedFunc, Trouble> {
 }
 
 /// The type of this name.
-pub fn type_of(name: &str) -> Result<ValueType, Trouble> {
+pub fn type_of(name: &str) -> Result<ValueType, Trouble>
+    ensures found { IfOk result (λ t. name_of (type_parts_of t) ≡ name.now) }
+    ensures none { IfErr result (λ e. (t : TypeParts) → IsType t → name_of t ≢ name.now) }
+{
     match ValueType::parse(name.as_bytes()) {
         Some(value_type) => Ok(value_type),
         None => Err(Trouble::BadLine),
@@ -84,7 +116,10 @@ pub fn type_of(name: &str) -> Result<ValueType, Trouble> {
 }
 
 /// The answer to a question of yes or no.
-pub fn yes_or_no(is_so: bool) -> &'static str {
+pub fn yes_or_no(is_so: bool) -> &'static str
+    ensures yes { is_so ≡ true → result.now ≡ codes "yes" }
+    ensures no { is_so ≡ false → result.now ≡ codes "no" }
+{
     if is_so { "yes" } else { "no" }
 }
 
