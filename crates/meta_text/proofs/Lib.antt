@@ -1,3 +1,5 @@
 mod Any
 mod Given
+mod LineParts
 mod Taken
+mod Writing

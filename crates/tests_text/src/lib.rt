@@ -13,3 +13,5 @@ mod expect;
 mod faults;
 #[cfg(test)]
 mod limits;
+#[cfg(test)]
+mod lines;
