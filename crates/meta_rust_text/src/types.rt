@@ -1,0 +1,146 @@
+ghost use Rattle.std.specs.Prelude.{◌≡◌, ◌≤◌, ◌++◌, IfOk, OnOk, IsErrOf, Contains, string_bytes};
+ghost use Rattle.std.specs.List.{flat_map};
+ghost use Rattle.meta_types.specs.Lane.{lane_parts};
+ghost use Rattle.meta_types.specs.ValueTypes.{type_parts_of};
+ghost use Rattle.meta_types.specs.AllTypes.{scalars};
+ghost use Rattle.meta_types.specs.Vector.{lanes_of, least_lanes_of};
+ghost use Rattle.meta_text.specs.Outside.{Rose, with_more, TookPart};
+ghost use Rattle.meta_rust_text.specs.TypesText.{constant_text, type_text, sized_text, vector_sizes, vectors_of, dynamic_vectors_of, types_text};
+
+use meta_text::{Sink, WriteError, write_whole};
+use meta_types::{DynamicVectorType, LaneType, ValueType, VectorType};
+use std::alloc::{AllocError, Global};
+
+/// The sizes that have vectors, in bits.
+const VECTOR_SIZES: [u64; 6] = [16, 32, 64, 128, 256, 512];
+
+/// Adds a constant with this documentation, name and number.
+#[tactic(auto, unfolding(crate::specs::TypesText::constant_text))]
+fn push_constant(out: &mut String, doc: &str, name: &str, number: u16) -> Result<(), AllocError>
+    ensures { OnOk result (string_bytes out.new ≡ string_bytes out.old ++ constant_text doc.now name.now number) }
+{
+    write!(
+        out,
+        "/// {doc}
+pub const {name}: Type = Type(0x{number:x});
+
+"
+    )
+}
+
+/// Adds the constant of a type.
+#[tactic(auto, unfolding(crate::specs::TypesText::type_text))]
+fn push_type(alloc: Global, out: &mut String, ty: ValueType) -> Result<(), AllocError>
+    ensures { OnOk result (string_bytes out.new ≡ string_bytes out.old ++ type_text (type_parts_of ty)) }
+{
+    let name = ty.to_string(alloc)?;
+    let capitals = name.to_ascii_uppercase(alloc)?;
+    let doc = ty.doc(alloc)?;
+    let (doc, capitals, number) = (doc.as_str(), capitals.as_str(), ty.number());
+    push_constant(out, doc, capitals, number)
+}
+
+/// Adds the lane types.
+fn push_lanes(alloc: Global, out: &mut String) -> Result<(), AllocError>
+    ensures { OnOk result (string_bytes out.new ≡ string_bytes out.old ++ flat_map type_text scalars) }
+{
+    for lane in ValueType::all_lane_types() {
+        push_type(alloc, out, ValueType::Lane(lane))?;
+    }
+    Ok(())
+}
+
+/// Adds the fixed vector of so many bits of this lane type, where it is smaller.
+#[tactic(auto, using(crate::proofs::Sizes::fits, crate::proofs::Sizes::wide))]
+fn push_vector(alloc: Global, out: &mut String, lane: LaneType, bits: u64) -> Result<(), AllocError>
+    requires { Contains vector_sizes bits }
+    ensures { OnOk result (string_bytes out.new ≡ string_bytes out.old ++ sized_text lanes_of bits (lane_parts lane)) }
+{
+    let width = lane.lane_bits();
+    if width < bits {
+        let vector = VectorType::new(lane, bits / width);
+        return push_type(alloc, out, ValueType::Vector(vector));
+    }
+    Ok(())
+}
+
+/// Adds the dynamic vector of at least so many bits of this lane type, where it is smaller.
+#[tactic(auto, using(crate::proofs::Sizes::fits, crate::proofs::Sizes::wide))]
+fn push_dynamic_vector(
+    alloc: Global,
+    out: &mut String,
+    lane: LaneType,
+    bits: u64,
+) -> Result<(), AllocError>
+    requires { Contains vector_sizes bits }
+    ensures { OnOk result (string_bytes out.new ≡ string_bytes out.old ++ sized_text least_lanes_of bits (lane_parts lane)) }
+{
+    let width = lane.lane_bits();
+    if width < bits {
+        let vector = DynamicVectorType::new(lane, bits / width);
+        return push_type(alloc, out, ValueType::DynamicVector(vector));
+    }
+    Ok(())
+}
+
+/// Adds the fixed vectors of so many bits.
+fn push_vectors(alloc: Global, out: &mut String, bits: u64) -> Result<(), AllocError>
+    requires { Contains vector_sizes bits }
+    ensures { OnOk result (string_bytes out.new ≡ string_bytes out.old ++ flat_map type_text (vectors_of bits)) }
+{
+    for lane in ValueType::all_lane_types() {
+        push_vector(alloc, out, lane, bits)?;
+    }
+    Ok(())
+}
+
+/// Adds the dynamic vectors of so many bits.
+fn push_dynamic_vectors(alloc: Global, out: &mut String, bits: u64) -> Result<(), AllocError>
+    requires { Contains vector_sizes bits }
+    ensures { OnOk result (string_bytes out.new ≡ string_bytes out.old ++ flat_map type_text (dynamic_vectors_of bits)) }
+{
+    for lane in ValueType::all_lane_types() {
+        push_dynamic_vector(alloc, out, lane, bits)?;
+    }
+    Ok(())
+}
+
+/// Adds the vectors of each size.
+fn push_sizes(alloc: Global, out: &mut String) -> Result<(), AllocError>
+    ensures { OnOk result (string_bytes out.new ≡ string_bytes out.old ++ flat_map (λ bits. flat_map type_text (vectors_of bits) ++ flat_map type_text (dynamic_vectors_of bits)) vector_sizes) }
+{
+    for &bits in VECTOR_SIZES.iter() {
+        push_vectors(alloc, out, bits)?;
+        push_dynamic_vectors(alloc, out, bits)?;
+    }
+    Ok(())
+}
+
+/// The constants of the types that are most in use, as Rust source (`gen_types.rs`): the nine lane
+/// types, and then of 16, 32, 64, 128, 256 and 512 bits the fixed and the dynamic vectors, of each
+/// lane type that is smaller. Each has its documentation, and an empty line behind it.
+pub fn types_text(alloc: Global) -> Result<String, AllocError>
+    ensures { IfOk result (λ text. string_bytes text ≡ types_text) }
+{
+    let mut out = String::new(alloc);
+    push_lanes(alloc, &mut out)?;
+    push_sizes(alloc, &mut out)?;
+    Ok(out)
+}
+
+/// Writes the types text to the sink, once it is there as a whole (`gen_types.rs`).
+///
+/// `WriteFault` comes only where a write failed, and the sink then took a front of the text. Where
+/// no memory is found nothing is written.
+pub fn write_types<K: Sink>(alloc: Global, sink: &mut K) -> Result<(), WriteError>
+    ensures ok { OnOk result (K.taken sink.new ≡ with_more (K.taken sink.old) types_text) }
+    ensures in_part { IsErrOf result WriteError.WriteFault → TookPart types_text (K.taken sink.old) (K.taken sink.new) }
+    ensures memory { IsErrOf result WriteError.OutOfMemory → sink.new ≡ sink.old }
+    ensures fault { IsErrOf result WriteError.WriteFault → Rose (K.faults sink.old) (K.faults sink.new) }
+    ensures counted { K.faults sink.old ≤ K.faults sink.new }
+{
+    match types_text(alloc) {
+        Ok(text) => write_whole(sink, text.as_bytes()),
+        Err(_) => Err(WriteError::OutOfMemory),
+    }
+}

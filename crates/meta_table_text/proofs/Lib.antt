@@ -1,0 +1,9 @@
+-- texts, piece by piece
+mod Chains
+mod Places
+-- types by their numbers
+mod TypeNames
+mod GroupDigits
+mod GroupBits
+mod GroupEntries
+mod GroupLists

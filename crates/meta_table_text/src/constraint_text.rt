@@ -1,0 +1,151 @@
+ghost use Rattle.std.specs.Prelude.{◌≡◌, ◌≢◌, ◌++◌, ◌∷◌, [], ℕ, List, IfOk, OnOk, Some, None, map, string_bytes};
+ghost use Rattle.meta_types.specs.TypeParts.{TypeParts, IsType, number_of};
+ghost use Rattle.meta_meaning.specs.Tables.{ConcreteNumber, FreeOf};
+ghost use Rattle.meta_opcode_tables.specs.declared.constraint.Constraint.{Constraint};
+ghost use Rattle.meta_opcode_tables.specs.Constraint.{number_constraint_of};
+ghost use Rattle.meta_table_text.specs.TypeSetText.{parted_behind};
+ghost use Rattle.meta_table_text.specs.ConstraintText.{type_numbered, type_text, constraint_text, constraint_line, quoted, quoted_all, constraints_comment};
+
+use meta_gen::Constraint;
+use meta_types::{ValueType, there_are_153_types};
+use std::alloc::{AllocError, Global};
+
+/// A type is the one that has its number, and there is none of a number that no type has.
+#[tactic(auto, unfolding(crate::specs::ConstraintText::type_numbered))]
+fn types_by_number()
+    ensures type_of { (t : TypeParts) → IsType t → type_numbered (number_of t) ≡ Some t }
+    ensures none { (n : ℕ) → ((t : TypeParts) → IsType t → number_of t ≢ n) → type_numbered n ≡ None }
+{
+    there_are_153_types();
+}
+
+/// Adds the name in Rust source of the type that has the number, and nothing where none has it.
+#[tactic(auto, unfolding(crate::specs::ConstraintText::type_text))]
+fn push_type(alloc: Global, out: &mut String, number: u16) -> Result<(), AllocError>
+    ensures { OnOk result (string_bytes out.new ≡ string_bytes out.old ++ type_text number) }
+{
+    types_by_number();
+    let Some(found) = ValueType::from_number(number) else {
+        return Ok(());
+    };
+    let name = found.rust_name(alloc)?;
+    out.push_str(name.as_str())
+}
+
+/// Adds the constraint of the type with this number.
+fn push_concrete(alloc: Global, out: &mut String, number: u16) -> Result<(), AllocError>
+    ensures { OnOk result (string_bytes out.new ≡ string_bytes out.old ++ constraint_text (ConcreteNumber number)) }
+{
+    out.push_str("Concrete(")?;
+    push_type(alloc, out, number)?;
+    out.push_str(")")
+}
+
+/// Adds the constraint of the type set at this place.
+fn push_free(out: &mut String, set: u16) -> Result<(), AllocError>
+    ensures { OnOk result (string_bytes out.new ≡ string_bytes out.old ++ constraint_text (FreeOf set)) }
+{
+    write!(out, "Free({set})")
+}
+
+/// Adds the text of a constraint.
+fn push_constraint_text(
+    alloc: Global,
+    out: &mut String,
+    constraint: Constraint,
+) -> Result<(), AllocError>
+    ensures { OnOk result (string_bytes out.new ≡ string_bytes out.old ++ constraint_text (number_constraint_of constraint)) }
+{
+    match constraint {
+        Constraint::Concrete(number) => push_concrete(alloc, out, number),
+        Constraint::Free(set) => push_free(out, set),
+        Constraint::Same => out.push_str("Same"),
+        Constraint::LaneOf => out.push_str("LaneOf"),
+        Constraint::AsTruthy => out.push_str("AsTruthy"),
+        Constraint::HalfWidth => out.push_str("HalfWidth"),
+        Constraint::DoubleWidth => out.push_str("DoubleWidth"),
+        Constraint::SplitLanes => out.push_str("SplitLanes"),
+        Constraint::MergeLanes => out.push_str("MergeLanes"),
+        Constraint::DynamicToVector => out.push_str("DynamicToVector"),
+        Constraint::Narrower => out.push_str("Narrower"),
+        Constraint::Wider => out.push_str("Wider"),
+        Constraint::Same2 => out.push_str("Same2"),
+        Constraint::LaneOf2 => out.push_str("LaneOf2"),
+        Constraint::AsTruthy2 => out.push_str("AsTruthy2"),
+        Constraint::HalfWidth2 => out.push_str("HalfWidth2"),
+        Constraint::DoubleWidth2 => out.push_str("DoubleWidth2"),
+        Constraint::SplitLanes2 => out.push_str("SplitLanes2"),
+        Constraint::MergeLanes2 => out.push_str("MergeLanes2"),
+        Constraint::DynamicToVector2 => out.push_str("DynamicToVector2"),
+        Constraint::Narrower2 => out.push_str("Narrower2"),
+        Constraint::Wider2 => out.push_str("Wider2"),
+    }
+}
+
+/// Adds the line of a constraint.
+#[tactic(auto, unfolding(crate::specs::ConstraintText::constraint_line))]
+pub(crate) fn push_constraint(
+    alloc: Global,
+    out: &mut String,
+    constraint: Constraint,
+) -> Result<(), AllocError>
+    ensures { OnOk result (string_bytes out.new ≡ string_bytes out.old ++ constraint_line (number_constraint_of constraint)) }
+{
+    out.push_str("    OperandConstraint::")?;
+    push_constraint_text(alloc, out, constraint)?;
+    out.push_str(",\n")
+}
+
+/// Adds a constraint between single quotes.
+#[tactic(auto, unfolding(crate::specs::ConstraintText::quoted))]
+fn push_quoted(alloc: Global, out: &mut String, constraint: Constraint) -> Result<(), AllocError>
+    ensures { OnOk result (string_bytes out.new ≡ string_bytes out.old ++ quoted (number_constraint_of constraint)) }
+{
+    out.push_str("'")?;
+    push_constraint_text(alloc, out, constraint)?;
+    out.push_str("'")
+}
+
+/// Adds a constraint between single quotes behind what stands before it, and answers what stands before the next.
+fn push_next<'a>(
+    alloc: Global,
+    out: &mut String,
+    constraint: Constraint,
+    before: &'a str,
+) -> Result<&'a str, AllocError>
+    ensures { IfOk result (λ next. (rest : List Constraint) → string_bytes out.new ++ parted_behind next.now (map quoted (map number_constraint_of rest)) ≡ string_bytes out.old ++ parted_behind before.now (map quoted (map number_constraint_of (constraint ∷ rest)))) }
+{
+    out.push_str(before)?;
+    push_quoted(alloc, out, constraint)?;
+    Ok(", ")
+}
+
+/// Adds the constraints between single quotes, parted by a comma and a space.
+#[tactic(auto, unfolding(crate::specs::ConstraintText::quoted_all))]
+fn push_quoted_all(
+    alloc: Global,
+    out: &mut String,
+    constraints: &[Constraint],
+) -> Result<(), AllocError>
+    ensures { OnOk result (string_bytes out.new ≡ string_bytes out.old ++ quoted_all (map number_constraint_of constraints.now)) }
+{
+    let mut before = "";
+    for constraint in constraints {
+        before = push_next(alloc, out, *constraint, before)?;
+    }
+    Ok(())
+}
+
+/// Adds the comment that lists constraints.
+#[tactic(auto, unfolding(crate::specs::ConstraintText::constraints_comment))]
+pub(crate) fn push_constraints_comment(
+    alloc: Global,
+    out: &mut String,
+    constraints: &[Constraint],
+) -> Result<(), AllocError>
+    ensures { OnOk result (string_bytes out.new ≡ string_bytes out.old ++ constraints_comment (map number_constraint_of constraints.now)) }
+{
+    out.push_str("        // Constraints=[")?;
+    push_quoted_all(alloc, out, constraints)?;
+    out.push_str("]\n")
+}

@@ -1,0 +1,94 @@
+ghost use Rattle.std.specs.Prelude.{◌≡◌, ◌↔◌, IsTrue, map};
+ghost use Rattle.std.specs.List.{list_all};
+ghost use Rattle.meta_opcode_tables.specs.Constraint.{number_constraint_of};
+ghost use Rattle.meta_table_text.specs.Fits.{IsSmall, LacksSecondSet, HasNoSecondSet, asks_of_no_second, Fits};
+
+use super::version::{NO_TYPE_SET, Version};
+use meta_gen::{Constraint, Tables};
+
+/// Whether there are at most 255 opcodes and 255 type sets.
+fn is_small(tables: &Tables) -> bool
+    ensures { IsTrue result ↔ IsSmall tables.now.opcodes }
+{
+    tables.opcode_count() <= 255 && tables.type_sets().len() <= 255
+}
+
+/// Whether the opcode has no type set of a second control.
+fn lacks_second_set(tables: &Tables, opcode: u16) -> bool
+    ensures { IsTrue result ↔ LacksSecondSet tables.now.opcodes opcode }
+{
+    match tables.constraints(opcode) {
+        Some(entry) => entry.second_offset == NO_TYPE_SET,
+        None => true,
+    }
+}
+
+/// Whether no opcode has one.
+fn has_no_second_set(tables: &Tables) -> bool
+    ensures { IsTrue result ↔ HasNoSecondSet tables.now.opcodes }
+{
+    for before in 0..tables.opcode_count() {
+        if !lacks_second_set(tables, before + 1) {
+            return false;
+        }
+    }
+    true
+}
+
+/// Whether the constraint asks for nothing of the second control.
+fn asks_of_no_second(constraint: Constraint) -> bool
+    ensures { result ≡ asks_of_no_second (number_constraint_of constraint) }
+{
+    match constraint {
+        Constraint::Concrete(_)
+        | Constraint::Free(_)
+        | Constraint::Same
+        | Constraint::LaneOf
+        | Constraint::AsTruthy
+        | Constraint::HalfWidth
+        | Constraint::DoubleWidth
+        | Constraint::SplitLanes
+        | Constraint::MergeLanes
+        | Constraint::DynamicToVector
+        | Constraint::Narrower
+        | Constraint::Wider => true,
+        Constraint::Same2
+        | Constraint::LaneOf2
+        | Constraint::AsTruthy2
+        | Constraint::HalfWidth2
+        | Constraint::DoubleWidth2
+        | Constraint::SplitLanes2
+        | Constraint::MergeLanes2
+        | Constraint::DynamicToVector2
+        | Constraint::Narrower2
+        | Constraint::Wider2 => false,
+    }
+}
+
+/// Whether no constraint asks for anything of the second control.
+fn all_ask_of_no_second(constraints: &[Constraint]) -> bool
+    ensures { result ≡ list_all asks_of_no_second (map number_constraint_of constraints.now) }
+{
+    for constraint in constraints {
+        if !asks_of_no_second(*constraint) {
+            return false;
+        }
+    }
+    true
+}
+
+/// Whether the version can show the tables. Version 3 can always; version 2 where there are at most 255 opcodes and 255 type
+/// sets; version 1 where besides no opcode and no constraint knows a second control (this project's own).
+pub fn fits(version: Version, tables: &Tables) -> bool
+    ensures { IsTrue result ↔ Fits version tables.now }
+{
+    match version {
+        Version::One => {
+            is_small(tables)
+                && has_no_second_set(tables)
+                && all_ask_of_no_second(tables.operand_constraints())
+        }
+        Version::Two => is_small(tables),
+        Version::Three => true,
+    }
+}

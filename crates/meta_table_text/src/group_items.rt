@@ -1,0 +1,175 @@
+ghost use Rattle.std.specs.Prelude.{◌≡◌, ◌++◌, OnOk, IfOk, string_bytes};
+ghost use Rattle.meta_table_text.specs.GroupItems.{hex_text, head_text, list_head_text, list_end_text, enumerator_text, block_text, descriptor_text, slot_text, pair_text, comment_text, bytes_text, template_text};
+
+use meta_setting_tables::{Descriptor, Detail};
+use std::alloc::{AllocError, Global};
+use std::fmt;
+
+/// Adds the comment that a group of this name begins with.
+#[tactic(auto, unfolding(crate::specs::GroupItems::head_text))]
+pub(crate) fn push_head(out: &mut String, name: &str) -> Result<(), AllocError>
+    ensures { OnOk result (string_bytes out.new ≡ string_bytes out.old ++ head_text name.now) }
+{
+    write!(out, "// Settings group {name}.\n")
+}
+
+/// Adds the first line of a list of this name, with so many elements of this type.
+#[tactic(auto, unfolding(crate::specs::GroupItems::list_head_text))]
+pub(crate) fn push_list_head(
+    out: &mut String,
+    name: &str,
+    element: &str,
+    count: usize,
+) -> Result<(), AllocError>
+    ensures { OnOk result (string_bytes out.new ≡ string_bytes out.old ++ list_head_text name.now element.now count) }
+{
+    write!(out, "static {name}: [{element}; {count}] = [\n")
+}
+
+/// Adds the last line of a list.
+#[tactic(auto, unfolding(crate::specs::GroupItems::list_end_text))]
+pub(crate) fn push_list_end(out: &mut String) -> Result<(), AllocError>
+    ensures { OnOk result (string_bytes out.new ≡ string_bytes out.old ++ list_end_text) }
+{
+    out.push_str("];\n")
+}
+
+/// Adds an enumerator.
+#[tactic(auto, unfolding(crate::specs::GroupItems::enumerator_text))]
+pub(crate) fn push_enumerator(out: &mut String, name: &str) -> Result<(), AllocError>
+    ensures { OnOk result (string_bytes out.new ≡ string_bytes out.old ++ enumerator_text name.now) }
+{
+    write!(out, "    \"{name}\",\n")
+}
+
+/// What an entry is, as the text shows it.
+#[derive(Clone, Copy)]
+struct DetailText(Detail);
+
+impl fmt::Display for DetailText {
+    ghost use Rattle.std.specs.Prelude.{Some};
+    ghost use Rattle.meta_table_text.specs.GroupItems.{detail_text};
+
+    ghost output = { λ d. Some (detail_text d.0) };
+
+    fn fmt<W: fmt::Write>(&self, f: &mut fmt::Formatter<W>) -> fmt::Result {
+        match self.0 {
+            Detail::Bool { bit } => write!(f, "detail::Detail::Bool {{ bit: {bit} }}"),
+            Detail::Enum { last, enumerators } => write!(
+                f,
+                "detail::Detail::Enum {{ last: {last}, enumerators: {enumerators} }}"
+            ),
+            Detail::Num => write!(f, "detail::Detail::Num"),
+            Detail::Preset => write!(f, "detail::Detail::Preset"),
+        }
+    }
+}
+
+/// Adds the descriptor of an entry of this name, description, offset and detail.
+#[tactic(auto, unfolding(crate::specs::GroupItems::block_text))]
+fn push_block(
+    out: &mut String,
+    name: &str,
+    description: &str,
+    offset: u32,
+    detail: Detail,
+) -> Result<(), AllocError>
+    ensures { OnOk result (string_bytes out.new ≡ string_bytes out.old ++ block_text name.now description.now offset detail) }
+{
+    let detail = DetailText(detail);
+    write!(
+        out,
+        "    detail::Descriptor {{
+        name: \"{name}\",
+        description: \"{description}\",
+        offset: {offset},
+        detail: {detail},
+    }}
+    ,
+"
+    )
+}
+
+/// Adds the descriptor of an entry.
+pub(crate) fn push_descriptor(out: &mut String, entry: &Descriptor) -> Result<(), AllocError>
+    ensures { OnOk result (string_bytes out.new ≡ string_bytes out.old ++ descriptor_text entry.now) }
+{
+    push_block(
+        out,
+        entry.name.as_str(),
+        entry.description.as_str(),
+        entry.offset,
+        entry.detail,
+    )
+}
+
+/// Adds a slot, which holds the number of an entry or is vacant.
+#[tactic(auto, unfolding(crate::specs::GroupItems::slot_text))]
+pub(crate) fn push_slot(out: &mut String, slot: Option<u16>) -> Result<(), AllocError>
+    ensures { OnOk result (string_bytes out.new ≡ string_bytes out.old ++ slot_text slot) }
+{
+    match slot {
+        Some(number) => write!(out, "    {number},\n"),
+        None => out.push_str("    0xffff,\n"),
+    }
+}
+
+/// Adds the mask and the value of a preset in a setting byte, which are equal.
+#[tactic(auto, unfolding(crate::specs::GroupItems::pair_text), using(crate::proofs::GroupDigits::binary_byte))]
+pub(crate) fn push_pair(out: &mut String, mask: u8) -> Result<(), AllocError>
+    ensures { OnOk result (string_bytes out.new ≡ string_bytes out.old ++ pair_text mask) }
+{
+    write!(out, "    (0b{mask:08b}, 0b{mask:08b}),\n")
+}
+
+/// Adds the comment of a preset of this name that turns on booleans, whose names are parted by a comma and a space.
+#[tactic(auto, unfolding(crate::specs::GroupItems::comment_text))]
+pub(crate) fn push_comment(out: &mut String, name: &str, booleans: &str) -> Result<(), AllocError>
+    ensures { OnOk result (string_bytes out.new ≡ string_bytes out.old ++ comment_text name.now booleans.now) }
+{
+    write!(out, "    // {name}: {booleans}\n")
+}
+
+/// Adds a byte in hexadecimal digits.
+#[tactic(auto, using(std::proofs::lemmas::Fmt::hex_byte))]
+fn push_hex(out: &mut String, byte: u8) -> Result<(), AllocError>
+    ensures { OnOk result (string_bytes out.new ≡ string_bytes out.old ++ hex_text byte) }
+{
+    write!(out, "0x{byte:02x}")
+}
+
+/// Bytes in hexadecimal digits, parted by a comma and a space.
+pub(crate) fn hex_bytes(alloc: Global, bytes: &[u8]) -> Result<String, AllocError>
+    ensures { IfOk result (λ text. string_bytes text ≡ bytes_text bytes.now) }
+{
+    let mut text = String::new(alloc);
+    let [first, rest @ ..] = bytes else {
+        return Ok(text);
+    };
+    push_hex(&mut text, *first)?;
+    for byte in rest {
+        text.push_str(", ")?;
+        push_hex(&mut text, *byte)?;
+    }
+    Ok(text)
+}
+
+/// Adds the template of a group of this name with default bytes in hexadecimal digits, parted by a comma and a space.
+#[tactic(auto, unfolding(crate::specs::GroupItems::template_text))]
+pub(crate) fn push_template(out: &mut String, name: &str, defaults: &str) -> Result<(), AllocError>
+    ensures { OnOk result (string_bytes out.new ≡ string_bytes out.old ++ template_text name.now defaults.now) }
+{
+    write!(
+        out,
+        "static TEMPLATE: detail::Template = detail::Template {{
+    name: \"{name}\",
+    descriptors: &DESCRIPTORS,
+    enumerators: &ENUMERATORS,
+    hash_table: &HASH_TABLE,
+    defaults: &[{defaults}],
+    presets: &PRESETS,
+}}
+;
+"
+    )
+}

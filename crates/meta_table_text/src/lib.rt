@@ -1,0 +1,21 @@
+//! The text of tables: what `meta_gen` makes of declarations, as the Rust source of the crate's generator has it, in three
+//! versions.
+//!
+//! `table_text` makes the text of any tables in any version. `fits` tells whether a version can show all that the tables hold.
+//! `write_tables` writes the newest version to a sink.
+#![tactic(auto)]
+
+mod constraint_text;
+mod fitting;
+mod group_items;
+mod group_text;
+mod lines;
+mod opcode_block;
+mod opcode_lists;
+mod type_set_text;
+mod version;
+mod whole_text;
+
+pub use fitting::fits;
+pub use version::Version;
+pub use whole_text::{table_text, write_tables};

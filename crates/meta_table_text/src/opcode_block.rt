@@ -1,0 +1,216 @@
+ghost use Rattle.std.specs.Prelude.{◌≡◌, ◌++◌, OnOk, IfOk, map, take, drop, string_bytes};
+ghost use Rattle.meta_opcode_tables.specs.Constraint.{number_constraint_of, entry_of};
+ghost use Rattle.meta_opcode_tables.specs.Contents.{IsOpcode};
+ghost use Rattle.meta_table_text.specs.OpcodeText.{name_at, format_at, camel_at, hex_byte, flags_lines, place_line, second_line, entry_fields, flags_comment, constraints_of, control_comment, second_comment, entry_comments, entry_block, opcode_block};
+
+use super::constraint_text::push_constraints_comment;
+use super::type_set_text::{push_block_end, push_set_comment};
+use super::version::{NO_TYPE_SET, Version};
+use meta_gen::{Constraint, OpcodeConstraints, Tables};
+use meta_types::{Text, camel_case};
+use std::alloc::{AllocError, Global};
+
+/// The name of an opcode, and nothing where it isn't one.
+pub(crate) fn name_of(tables: &Tables, opcode: u16) -> &str
+    ensures { result.now ≡ name_at tables.now.opcodes opcode }
+{
+    match tables.opcode_name(opcode) {
+        Some(name) => name.as_str(),
+        None => "",
+    }
+}
+
+/// The name of the format of an opcode, and nothing where it isn't one.
+pub(crate) fn format_of(tables: &Tables, opcode: u16) -> &str
+    ensures { result.now ≡ format_at tables.now.opcodes opcode }
+{
+    match tables.opcode_format(opcode) {
+        Some(name) => name.as_str(),
+        None => "",
+    }
+}
+
+/// The camel case of the name of an opcode, and nothing where it isn't one.
+#[tactic(auto, unfolding(crate::specs::OpcodeText::camel_at))]
+pub(crate) fn camel_of(alloc: Global, tables: &Tables, opcode: u16) -> Result<Text, AllocError>
+    ensures { IfOk result (λ t. t ≡ camel_at tables.now.opcodes opcode) }
+{
+    match tables.opcode_name(opcode) {
+        Some(name) => camel_case(alloc, name),
+        None => Text::new(alloc, ""),
+    }
+}
+
+/// Adds a byte in two small hexadecimal digits.
+#[tactic(auto, using(std::proofs::lemmas::Fmt::hex_byte), unfolding(crate::specs::OpcodeText::hex_byte))]
+fn push_hex_byte(out: &mut String, byte: u8) -> Result<(), AllocError>
+    ensures { OnOk result (string_bytes out.new ≡ string_bytes out.old ++ hex_byte byte) }
+{
+    write!(out, "{byte:02x}")
+}
+
+/// Adds the first lines of a block, and the flags.
+#[tactic(auto, unfolding(crate::specs::OpcodeText::flags_lines))]
+fn push_flags(out: &mut String, flags: u8) -> Result<(), AllocError>
+    ensures { OnOk result (string_bytes out.new ≡ string_bytes out.old ++ flags_lines flags) }
+{
+    out.push_str("    OpcodeConstraints {\n        flags: 0x")?;
+    push_hex_byte(out, flags)?;
+    out.push_str(",\n")
+}
+
+/// Adds the line of a field that is a place.
+#[tactic(auto, unfolding(crate::specs::OpcodeText::place_line))]
+fn push_place(out: &mut String, field: &str, place: u16) -> Result<(), AllocError>
+    ensures { OnOk result (string_bytes out.new ≡ string_bytes out.old ++ place_line field.now place) }
+{
+    write!(out, "        {field}: {place},\n")
+}
+
+/// Adds the line of the place of the second control's type set, where the version has it.
+#[tactic(auto, unfolding(crate::specs::OpcodeText::second_line))]
+fn push_second(
+    out: &mut String,
+    version: Version,
+    entry: OpcodeConstraints,
+) -> Result<(), AllocError>
+    ensures { OnOk result (string_bytes out.new ≡ string_bytes out.old ++ second_line version (entry_of entry)) }
+{
+    match version {
+        Version::One => Ok(()),
+        Version::Two | Version::Three => {
+            push_place(out, "second_offset", version.shown(entry.second_offset))
+        }
+    }
+}
+
+/// Adds the fields of the block of an entry.
+#[tactic(auto, unfolding(crate::specs::OpcodeText::entry_fields))]
+fn push_fields(
+    out: &mut String,
+    version: Version,
+    entry: OpcodeConstraints,
+) -> Result<(), AllocError>
+    ensures { OnOk result (string_bytes out.new ≡ string_bytes out.old ++ entry_fields version (entry_of entry)) }
+{
+    push_flags(out, entry.flags)?;
+    push_place(out, "typeset_offset", version.shown(entry.typeset_offset))?;
+    push_second(out, version, entry)?;
+    push_place(out, "constraint_offset", entry.constraint_offset)
+}
+
+/// Adds the comment on the flags of the opcode that has this name in Rust source.
+#[tactic(auto, unfolding(crate::specs::OpcodeText::flags_comment))]
+fn push_flags_comment(out: &mut String, name: &str, flags: u8) -> Result<(), AllocError>
+    ensures { OnOk result (string_bytes out.new ≡ string_bytes out.old ++ flags_comment name.now flags) }
+{
+    let (results, values) = (flags % 8, flags / 32 % 8);
+    let (designated, differs) = (flags / 8 % 2 == 1, flags / 16 % 2 == 1);
+    write!(
+        out,
+        "        // {name}: fixed_results={results}, use_typevar_operand={designated}, requires_typevar_operand={differs}, fixed_values={values}\n"
+    )
+}
+
+/// So many of the constraints, or those that there are, from this place on.
+fn part(constraints: &[Constraint], place: u16, count: u8) -> &[Constraint]
+    ensures { result.now ≡ take count (drop place constraints.now) }
+{
+    let behind = &constraints[constraints.len().min(place as usize)..];
+    &behind[..behind.len().min(count as usize)]
+}
+
+/// The constraints of an entry.
+fn constraints_of(tables: &Tables, entry: OpcodeConstraints) -> &[Constraint]
+    ensures { map number_constraint_of result.now ≡ constraints_of tables.now.opcodes (entry_of entry) }
+{
+    let count = entry.flags % 8 + entry.flags / 32 % 8;
+    part(tables.operand_constraints(), entry.constraint_offset, count)
+}
+
+/// Adds the comment on a control whose type set has this place, and nothing where it has none.
+#[tactic(auto, unfolding(crate::specs::OpcodeText::control_comment))]
+fn push_control_comment(
+    out: &mut String,
+    tables: &Tables,
+    about: &str,
+    offset: u16,
+) -> Result<(), AllocError>
+    ensures { OnOk result (string_bytes out.new ≡ string_bytes out.old ++ control_comment tables.now.opcodes about.now offset) }
+{
+    if offset == NO_TYPE_SET {
+        return Ok(());
+    }
+    push_set_comment(out, about, tables.type_sets().get(offset as usize))
+}
+
+/// Adds the comment on the second control, where the version has it.
+#[tactic(auto, unfolding(crate::specs::OpcodeText::second_comment))]
+fn push_second_comment(
+    out: &mut String,
+    version: Version,
+    tables: &Tables,
+    entry: OpcodeConstraints,
+) -> Result<(), AllocError>
+    ensures { OnOk result (string_bytes out.new ≡ string_bytes out.old ++ second_comment version tables.now.opcodes (entry_of entry)) }
+{
+    match version {
+        Version::One => Ok(()),
+        Version::Two | Version::Three => {
+            push_control_comment(out, tables, "Second control over ", entry.second_offset)
+        }
+    }
+}
+
+/// Adds the comments of the block of an entry.
+#[tactic(auto, unfolding(crate::specs::OpcodeText::entry_comments))]
+fn push_comments(
+    alloc: Global,
+    out: &mut String,
+    version: Version,
+    tables: &Tables,
+    opcode: u16,
+    entry: OpcodeConstraints,
+) -> Result<(), AllocError>
+    ensures { OnOk result (string_bytes out.new ≡ string_bytes out.old ++ entry_comments version tables.now.opcodes opcode (entry_of entry)) }
+{
+    let name = camel_of(alloc, tables, opcode)?;
+    push_flags_comment(out, name.as_str(), entry.flags)?;
+    push_constraints_comment(alloc, out, constraints_of(tables, entry))?;
+    push_control_comment(out, tables, "Polymorphic over ", entry.typeset_offset)?;
+    push_second_comment(out, version, tables, entry)
+}
+
+/// Adds the block of an entry.
+#[tactic(auto, unfolding(crate::specs::OpcodeText::entry_block))]
+fn push_entry(
+    alloc: Global,
+    out: &mut String,
+    version: Version,
+    tables: &Tables,
+    opcode: u16,
+    entry: OpcodeConstraints,
+) -> Result<(), AllocError>
+    ensures { OnOk result (string_bytes out.new ≡ string_bytes out.old ++ entry_block version tables.now.opcodes opcode (entry_of entry)) }
+{
+    push_fields(out, version, entry)?;
+    push_comments(alloc, out, version, tables, opcode, entry)?;
+    push_block_end(out)
+}
+
+/// Adds the block of an opcode.
+#[tactic(auto, unfolding(crate::specs::OpcodeText::opcode_block))]
+pub(crate) fn push_opcode(
+    alloc: Global,
+    out: &mut String,
+    version: Version,
+    tables: &Tables,
+    opcode: u16,
+) -> Result<(), AllocError>
+    ensures { IsOpcode tables.now.opcodes opcode → OnOk result (string_bytes out.new ≡ string_bytes out.old ++ opcode_block version tables.now.opcodes opcode) }
+{
+    match tables.constraints(opcode) {
+        Some(entry) => push_entry(alloc, out, version, tables, opcode, entry),
+        None => Ok(()),
+    }
+}

@@ -1,0 +1,135 @@
+ghost use Rattle.std.specs.Prelude.{◌≡◌, ◌++◌, ◌∷◌, [], ℕ, List, IfOk, OnOk, map, string_bytes};
+ghost use Rattle.std.specs.Fmt.{decimal};
+ghost use Rattle.std.specs.Option.{option_map};
+ghost use Rattle.meta_table_text.specs.TypeSetText.{parted_behind, held, members, part_of, set_text, set_or_nothing, mask_lines, set_comment, block_end, set_block};
+ghost use Rattle.meta_text.specs.Lines.{text_of};
+
+use meta_typevar::Masks;
+use std::alloc::AllocError;
+
+/// The powers of two that a mask may hold.
+const POWERS: [u16; 16] = [
+    1, 2, 4, 8, 16, 32, 64, 128, 256, 512, 1024, 2048, 4096, 8192, 16384, 32768,
+];
+
+/// Adds a number, where the mask holds it, behind what stands before it, and answers what stands before the next.
+fn push_number<'a>(
+    out: &mut String,
+    mask: u16,
+    number: u16,
+    before: &'a str,
+) -> Result<&'a str, AllocError>
+    ensures { IfOk result (λ next. (rest : List ℕ) → string_bytes out.new ++ parted_behind next.now (map decimal (held mask rest)) ≡ string_bytes out.old ++ parted_behind before.now (map decimal (held mask (number ∷ rest)))) }
+{
+    if mask & number != number {
+        return Ok(before);
+    }
+    write!(out, "{before}{number}")?;
+    Ok(", ")
+}
+
+/// Adds those of the numbers that the mask holds, parted by a comma and a space.
+fn push_held(out: &mut String, mask: u16, numbers: &[u16]) -> Result<(), AllocError>
+    ensures { OnOk result (string_bytes out.new ≡ string_bytes out.old ++ parted_behind [] (map decimal (held mask numbers.now))) }
+{
+    let mut before = "";
+    for number in numbers {
+        before = push_number(out, mask, *number, before)?;
+    }
+    Ok(())
+}
+
+/// Adds the powers of two that the mask holds.
+#[tactic(auto, unfolding(crate::specs::TypeSetText::members))]
+fn push_members(out: &mut String, mask: u16) -> Result<(), AllocError>
+    ensures { OnOk result (string_bytes out.new ≡ string_bytes out.old ++ members mask) }
+{
+    push_held(out, mask, &POWERS)
+}
+
+/// Adds this text, the members of a mask and `}`, and nothing where the mask is empty.
+#[tactic(auto, unfolding(crate::specs::TypeSetText::part_of))]
+fn push_part(out: &mut String, before: &str, mask: u16) -> Result<(), AllocError>
+    ensures { OnOk result (string_bytes out.new ≡ string_bytes out.old ++ part_of before.now mask) }
+{
+    if mask == 0 {
+        return Ok(());
+    }
+    out.push_str(before)?;
+    push_members(out, mask)?;
+    out.push_str("}")
+}
+
+/// Adds the text of a type set.
+#[tactic(auto, unfolding(crate::specs::TypeSetText::set_text))]
+fn push_set_text(out: &mut String, masks: &Masks) -> Result<(), AllocError>
+    ensures { OnOk result (string_bytes out.new ≡ string_bytes out.old ++ set_text masks.now) }
+{
+    out.push_str("TypeSet(lanes={")?;
+    push_members(out, masks.lanes)?;
+    out.push_str("}")?;
+    push_part(out, ", ints={", u16::from(masks.ints))?;
+    push_part(out, ", floats={", u16::from(masks.floats))?;
+    out.push_str(")")
+}
+
+/// Adds the lines of the masks of a type set.
+#[tactic(auto, unfolding(crate::specs::TypeSetText::mask_lines))]
+fn push_masks(out: &mut String, masks: &Masks) -> Result<(), AllocError>
+    ensures { OnOk result (string_bytes out.new ≡ string_bytes out.old ++ text_of (mask_lines masks.now)) }
+{
+    let (lanes, dynamic_lanes) = (masks.lanes, masks.dynamic_lanes);
+    let (ints, floats) = (masks.ints, masks.floats);
+    write!(
+        out,
+        "    ir::instructions::ValueTypeSet {{
+        lanes: ScalarBitSet::<u16>({lanes}),
+        dynamic_lanes: ScalarBitSet::<u16>({dynamic_lanes}),
+        ints: ScalarBitSet::<u8>({ints}),
+        floats: ScalarBitSet::<u8>({floats}),
+"
+    )
+}
+
+/// Adds the text of a type set, where there is one.
+fn push_set_or_nothing(out: &mut String, masks: Option<&Masks>) -> Result<(), AllocError>
+    ensures { OnOk result (string_bytes out.new ≡ string_bytes out.old ++ set_or_nothing (option_map (λ m. m.now) masks.entry)) }
+{
+    match masks {
+        Some(masks) => push_set_text(out, masks),
+        None => Ok(()),
+    }
+}
+
+/// Adds the comment that says what a type set is for, and the set, where there is one.
+#[tactic(auto, unfolding(crate::specs::TypeSetText::set_comment))]
+pub(crate) fn push_set_comment(
+    out: &mut String,
+    about: &str,
+    masks: Option<&Masks>,
+) -> Result<(), AllocError>
+    ensures { OnOk result (string_bytes out.new ≡ string_bytes out.old ++ set_comment about.now (set_or_nothing (option_map (λ m. m.now) masks.entry))) }
+{
+    out.push_str("        // ")?;
+    out.push_str(about)?;
+    push_set_or_nothing(out, masks)?;
+    out.push_str("\n")
+}
+
+/// Adds the end of a block.
+#[tactic(auto, unfolding(crate::specs::TypeSetText::block_end))]
+pub(crate) fn push_block_end(out: &mut String) -> Result<(), AllocError>
+    ensures { OnOk result (string_bytes out.new ≡ string_bytes out.old ++ block_end) }
+{
+    out.push_str("    }\n    ,\n")
+}
+
+/// Adds the block of a type set.
+#[tactic(auto, unfolding(crate::specs::TypeSetText::set_block))]
+pub(crate) fn push_set(out: &mut String, masks: &Masks) -> Result<(), AllocError>
+    ensures { OnOk result (string_bytes out.new ≡ string_bytes out.old ++ set_block masks.now) }
+{
+    push_masks(out, masks)?;
+    push_set_comment(out, "", Some(masks))?;
+    push_block_end(out)
+}

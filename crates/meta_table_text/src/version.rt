@@ -1,0 +1,51 @@
+ghost use Rattle.std.specs.Prelude.{◌≡◌};
+ghost use Rattle.meta_table_text.specs.Version.{number_of, none_of, offset_shown};
+
+/// The place of a type set that stands in tables where there is none.
+pub(crate) const NO_TYPE_SET: u16 = 65535;
+
+/// A version of the text of tables (this project's own). An earlier version shows less: where it can't tell tables from others,
+/// they don't fit it.
+#[derive(Clone, Copy, Debug, PartialEq, Eq)]
+pub enum Version {
+    /// At most 255 opcodes and 255 type sets, and no second control.
+    One,
+    /// At most 255 opcodes and 255 type sets.
+    Two,
+    /// All tables.
+    Three,
+}
+
+impl Version {
+    /// The number that the first line of the text names: 1 to 3.
+    pub fn number(self) -> u8
+        ensures { result ≡ number_of self }
+    {
+        match self {
+            Version::One => 1,
+            Version::Two => 2,
+            Version::Three => 3,
+        }
+    }
+
+    /// What is shown where there is no type set: 255 in versions 1 and 2, and 65,535 in version 3.
+    pub fn none(self) -> u16
+        ensures { result ≡ none_of self }
+    {
+        match self {
+            Version::One | Version::Two => 255,
+            Version::Three => NO_TYPE_SET,
+        }
+    }
+
+    /// What is shown for the place of a type set, or for none.
+    pub(crate) fn shown(self, offset: u16) -> u16
+        ensures { result ≡ offset_shown self offset }
+    {
+        if offset == NO_TYPE_SET {
+            self.none()
+        } else {
+            offset
+        }
+    }
+}

@@ -1,0 +1,54 @@
+ghost use Rattle.std.specs.Prelude.{◌≡◌, ◌++◌, ◌≤◌, OnOk, IfOk, IsErrOf, string_bytes};
+ghost use Rattle.std.specs.List.{flat_map};
+ghost use Rattle.meta_text.specs.Outside.{Rose, with_more, TookPart};
+ghost use Rattle.meta_table_text.specs.declared.version.Version.TheVariants.{Three};
+ghost use Rattle.meta_table_text.specs.GroupText.{group_text};
+ghost use Rattle.meta_table_text.specs.TableText.{table_text};
+
+use super::group_text::push_group;
+use super::opcode_lists::push_opcodes;
+use super::version::Version;
+use meta_gen::Tables;
+use meta_text::{Sink, WriteError, write_whole};
+use std::alloc::{AllocError, Global};
+
+/// Adds the texts of the tables of all groups of settings.
+fn push_groups(alloc: Global, out: &mut String, tables: &Tables) -> Result<(), AllocError>
+    ensures { OnOk result (string_bytes out.new ≡ string_bytes out.old ++ flat_map group_text tables.now.groups) }
+{
+    for group in 0..tables.group_count() {
+        push_group(alloc, out, tables, group)?;
+    }
+    Ok(())
+}
+
+/// The text of the tables in a version (this project's own, in place of the writers of tables in `gen_inst.rs` and
+/// `gen_settings.rs`). Tables that don't fit the version have a text too, of which some tables can't be told.
+///
+/// The text is made in one pass over the tables, and the only error is want of memory.
+#[tactic(auto, unfolding(crate::specs::TableText::table_text))]
+pub fn table_text(alloc: Global, version: Version, tables: &Tables) -> Result<String, AllocError>
+    ensures { IfOk result (λ text. string_bytes text ≡ table_text version tables.now) }
+{
+    let mut out = String::new(alloc);
+    push_opcodes(alloc, &mut out, version, tables)?;
+    push_groups(alloc, &mut out, tables)?;
+    Ok(out)
+}
+
+/// Writes the text of the tables, in version 3, to the sink (this project's own).
+///
+/// `OutOfMemory` comes before anything is written. After `WriteFault`, which comes only where a write failed, the sink took a
+/// front of the text.
+pub fn write_tables<K: Sink>(alloc: Global, tables: &Tables, sink: &mut K) -> Result<(), WriteError>
+    ensures ok { OnOk result (K.taken sink.new ≡ with_more (K.taken sink.old) (table_text Three tables.now)) }
+    ensures in_part { IsErrOf result WriteError.WriteFault → TookPart (table_text Three tables.now) (K.taken sink.old) (K.taken sink.new) }
+    ensures memory { IsErrOf result WriteError.OutOfMemory → sink.new ≡ sink.old }
+    ensures fault { IsErrOf result WriteError.WriteFault → Rose (K.faults sink.old) (K.faults sink.new) }
+    ensures counted { K.faults sink.old ≤ K.faults sink.new }
+{
+    match table_text(alloc, Version::Three, tables) {
+        Ok(text) => write_whole(sink, text.as_bytes()),
+        Err(_) => Err(WriteError::OutOfMemory),
+    }
+}
