@@ -11,13 +11,15 @@ const MOST_INSTRUCTIONS: u16 = 4095;
 pub(crate) enum Subject {
     /// So many instructions.
     Instructions(u16),
+    /// The table text of so many instructions.
+    Tables(u16),
     /// One group of so many settings and presets.
     Settings(u16),
     /// One instruction with inputs of so many variables, which shows a fault.
     Inputs(Shown, u32),
 }
 
-/// What the words ask for: that `generate` is called so many times over one subject.
+/// What the words ask for: that `generate` is called so many times over one subject, or that the text is made so many times.
 #[derive(Clone, Copy, Debug, PartialEq, Eq)]
 pub(crate) struct Command {
     pub(crate) subject: Subject,
@@ -25,15 +27,17 @@ pub(crate) struct Command {
 }
 
 impl Subject {
-    /// So many instructions, where there may be so many.
-    fn of_instructions(count: u16) -> Option<Subject> {
-        (count <= MOST_INSTRUCTIONS).then_some(Subject::Instructions(count))
+    /// The count of instructions, where there may be so many.
+    fn instruction_count(size: &str) -> Option<u16> {
+        let count = size.parse().ok()?;
+        (count <= MOST_INSTRUCTIONS).then_some(count)
     }
 
     /// The subject of this name and size.
     fn of(name: &str, size: &str) -> Option<Subject> {
         match name {
-            "instructions" => Subject::of_instructions(size.parse().ok()?),
+            "instructions" => Some(Subject::Instructions(Subject::instruction_count(size)?)),
+            "tables" => Some(Subject::Tables(Subject::instruction_count(size)?)),
             "settings" => Some(Subject::Settings(size.parse().ok()?)),
             _ => Some(Subject::Inputs(Shown::of(name)?, size.parse().ok()?)),
         }

@@ -8,6 +8,7 @@ use super::inputs::input_declarations;
 use super::instructions::instruction_declarations;
 use super::settings::setting_declarations;
 use meta_gen::{Declarations, Tables, generate};
+use meta_table_text::{Version, table_text};
 use meta_types::DefinitionError;
 use std::alloc::{AllocError, Global};
 
@@ -47,29 +48,50 @@ fn about_settings(alloc: Global, count: u16, tables: &Tables) -> Result<String, 
     )
 }
 
+/// How long the text of the tables is, which is made so many times.
+fn about_text(
+    alloc: Global,
+    count: u16,
+    tables: &Tables,
+    times: u32,
+) -> Result<String, AllocError> {
+    for _ in 1..times {
+        let _text = table_text(alloc, Version::Three, tables)?;
+    }
+    let bytes = table_text(alloc, Version::Three, tables)?.len();
+    format!(in alloc; "tables {count}: {bytes} bytes")
+}
+
 /// Declarations of the subject.
 fn declared(alloc: Global, subject: Subject) -> Result<Declarations, AllocError> {
     match subject {
-        Subject::Instructions(count) => instruction_declarations(alloc, count),
+        Subject::Instructions(count) | Subject::Tables(count) => {
+            instruction_declarations(alloc, count)
+        }
         Subject::Settings(count) => setting_declarations(alloc, count),
         Subject::Inputs(shown, count) => input_declarations(alloc, shown, count),
     }
 }
 
-/// What the tables of the subject hold.
-fn about(alloc: Global, subject: Subject, tables: &Tables) -> Result<String, AllocError> {
-    match subject {
+/// What the tables of the subject hold, or how long their text is.
+fn about(alloc: Global, command: &Command, tables: &Tables) -> Result<String, AllocError> {
+    match command.subject {
+        Subject::Tables(count) => about_text(alloc, count, tables, command.times),
         Subject::Instructions(count) => about_instructions(alloc, count, tables),
         Subject::Settings(count) => about_settings(alloc, count, tables),
         Subject::Inputs(..) => about_instructions(alloc, 1, tables),
     }
 }
 
-/// Declares the subject once, makes its tables as often as the command says, and tells what they hold.
+/// Declares the subject once, makes its tables, or their text, as often as the command says, and tells what they hold.
 pub(crate) fn measured(alloc: Global, command: &Command) -> Result<String, DefinitionError>
     requires { 0 < command.now.times }
 {
     let declarations = declared(alloc, command.subject)?;
-    let tables = generated(alloc, &declarations, command.times)?;
-    Ok(about(alloc, command.subject, &tables)?)
+    let times = match command.subject {
+        Subject::Tables(_) => 1,
+        _ => command.times,
+    };
+    let tables = generated(alloc, &declarations, times)?;
+    Ok(about(alloc, command, &tables)?)
 }

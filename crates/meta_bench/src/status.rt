@@ -57,7 +57,7 @@ impl Status {
             Status::Refused => Some("the declarations are refused"),
             Status::Usage => {
                 Some(
-                    "usage: instructions N TIMES, N to 4095; settings N TIMES, N to 65535; FormatMismatch, NoControl or TooManyOperands N TIMES; TIMES from 1",
+                    "usage: instructions or tables N TIMES, N to 4095; settings N TIMES, N to 65535; FormatMismatch, NoControl or TooManyOperands N TIMES; TIMES from 1",
                 )
             }
             Status::WriteFault => Some("standard output could not be written"),

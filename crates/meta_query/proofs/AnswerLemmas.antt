@@ -1,16 +1,15 @@
 -- The answers of lines, one line after another.
-use Rattle.std.proofs.Common.{◌≡◌, ℕ, ◌==◌, false, List, [], ◌∷◌, ◌++◌, length, append_assoc, inl, inr, refl, sym, ap, ◌∙◌, subst}
+use Rattle.std.proofs.Common.{◌≡◌, ℕ, ◌==◌, false, List, [], ◌∷◌, ◌++◌, length, append_assoc, inl, refl, sym, ap, ◌∙◌, subst}
 use Rattle.std.specs.Prelude.{Result, Ok, Err, OnOk, is_ok, if◌then◌else◌}
 use Rattle.std.proofs.lemmas.List.{append-nil}
 use Rattle.meta_gen.specs.WholeTables.{WholeTables}
 use Rattle.meta_query.specs.Words.{AreWords}
 use Rattle.meta_query.specs.Question.{Question, IsQuestion}
 use Rattle.meta_query.specs.Inference.{Inference, IsInference}
-use Rattle.meta_query.specs.Query.{Asked, OfQuestion, OfInference, OfSetting, setting_words, Asks}
+use Rattle.meta_query.specs.Query.{OfQuestion, OfInference, OfSetting, setting_words}
 use Rattle.meta_query.specs.Reply.{reply_text}
 use Rattle.meta_query.specs.Answer.{AllowedReply, GivenReply, SettingReply, IsTableReply, reply_line, IsWrittenAnswer, AreWrittenAnswers}
 use Rattle.meta_query.specs.declared.reply.Reply.{Reply}
-use Rattle.meta_query.specs.declared.reply.Reply.TheVariants.{Bad}
 
 module _ (tables : WholeTables) (line : List ℕ) where
   -- the reply to the setting that a line asks for is the reply to the line
@@ -24,15 +23,6 @@ module _ (tables : WholeTables) (line : List ℕ) where
   -- and that to what it asks to infer
   pub of_inference : (q : Inference) (old new : List ℕ) → IsInference line q → (reply : Reply) × GivenReply tables.opcodes q reply × (new ≡ old ++ reply_text reply) → (reply : Reply) × IsTableReply tables line reply × (new ≡ old ++ reply_text reply)
   of_inference q old new asks h = (h.0, inl (OfInference q, asks, h.1), h.2)
-
-  -- and a line that asks nothing is bad
-  pub of_nothing : ((q : Question) → IsQuestion line q → ⊥) → ((name : List ℕ) → Asks line (OfSetting name) → ⊥) → ((q : Inference) → Asks line (OfInference q) → ⊥) → IsTableReply tables line Bad
-  of_nothing question setting inference = inr (refl, by_case)
-    where
-      by_case : (q : Asked) → Asks line q → ⊥
-      by_case (OfQuestion q) asks = question q asks
-      by_case (OfInference q) asks = inference q asks
-      by_case (OfSetting name) asks = setting name asks
 
 -- a text is pushed where that is said to be done
 pub pushed : {T E : Type 0} (r : Result T E) (old new text : List ℕ) → new ≡ (if is_ok r then old ++ text else old) → OnOk r (new ≡ old ++ text)

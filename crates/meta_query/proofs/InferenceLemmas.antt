@@ -1,16 +1,15 @@
 -- A line that asks what an instruction infers, and the line of the results.
-use Rattle.std.proofs.Common.{◌≡◌, ◌≢◌, ◌⊎◌, ◌+◌, ◌<◌, ◌≤◌, ◌==◌, ℕ, List, [], ◌∷◌, ◌++◌, length, All, codes, false, Option, None, Some, IfSome, IfNone, slice_get, take, flat_map, inl, inr, refl, sym, ap, ap₂, ◌∙◌, subst, arith, append_assoc, append-nil}
+use Rattle.std.proofs.Common.{◌≡◌, ◌≢◌, ◌⊎◌, ◌+◌, ◌<◌, ◌==◌, ℕ, List, [], ◌∷◌, ◌++◌, length, All, codes, false, Option, Some, IfSome, slice_get, take, inl, inr, refl, sym, ap, ◌∙◌, subst, arith, append_assoc, append-nil}
 use Rattle.std.specs.List.{join_with_byte}
 use Rattle.std.specs.Option.{option_map}
 use Rattle.std.proofs.lemmas.Grind.{flat_map-append}
-use Rattle.std.proofs.lemmas.Option.{same_Some}
 use Rattle.std.proofs.lemmas.List.Elements.{All-nil, All-cons, All-head, All-tail, All-same}
 use Rattle.std.proofs.lemmas.List.Splits.{join_with_byte-slice_split}
 use Rattle.meta_lists.proofs.Places.{get_there, get_beside, same_places, take_next}
 use Rattle.meta_lists.proofs.Pushed.{get_pushed_below, one_longer}
-use Rattle.meta_types.specs.TypeParts.{TypeParts, IsType, number_of, name_of}
+use Rattle.meta_types.specs.TypeParts.{TypeParts, IsType, name_of}
 use Rattle.meta_types.proofs.Numbers.{one_number}
-use Rattle.meta_query.specs.Words.{IsWord, AreWords, pieces_of}
+use Rattle.meta_query.specs.Words.{IsWord, pieces_of}
 use Rattle.meta_query.specs.TypeNumber.{type_with, IsTypeNumber}
 use Rattle.meta_query.specs.Question.{control_text, IsBehind}
 use Rattle.meta_query.specs.Inference.{Inference, IsInference, inference_words, IsResultWord, AreResultWords, more_words, results_text, IsResultsLine}

@@ -9,6 +9,7 @@ mod AnswerLemmas
 mod SettingLines
 mod LineParts
 mod Meant
+mod Commands
 mod Runs
 mod OneInference
 mod OneOutput

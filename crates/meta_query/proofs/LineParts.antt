@@ -1,5 +1,5 @@
 -- The making of the line of a setting from the tables.
-use Rattle.std.proofs.Common.{◌≡◌, ℕ, ◌+◌, ◌≤◌, ◌==◌, ltb, Bool, true, false, List, [], ◌∷◌, ◌++◌, append_assoc, append-nil, length, map, take, drop, filter, slice_get, get_or, Option, None, Some, Bor, Fits, w8, refl, sym, ap, ◌∙◌, subst, unwrap_or, arith}
+use Rattle.std.proofs.Common.{◌≡◌, ℕ, ◌+◌, ◌≤◌, ◌==◌, ltb, Bool, true, false, List, [], ◌∷◌, ◌++◌, append_assoc, append-nil, length, map, drop, filter, slice_get, get_or, Option, None, Some, Bor, Fits, w8, refl, sym, ap, ◌∙◌, subst, unwrap_or, arith}
 use Rattle.std.specs.List.{join_by, join_with_byte, flat_map}
 use Rattle.std.specs.Option.{option_map}
 use Rattle.std.specs.Int.{bit_at}
@@ -7,14 +7,14 @@ use Rattle.std.proofs.lemmas.Bool.{cond-true, cond-false, le-ltb}
 use Rattle.std.proofs.lemmas.List.Sums.{take_while-cons}
 use Rattle.std.proofs.lemmas.Nat.Bits.{bit_at_above}
 use Rattle.std.proofs.lemmas.Option.{slice_get-map}
-use Rattle.meta_lists.proofs.Places.{drop_next, drop_past}
+use Rattle.meta_lists.proofs.Places.{drop_next}
 use Rattle.meta_setting_tables.specs.declared.descriptor.Detail.{Detail}
 use Rattle.meta_setting_tables.specs.declared.descriptor.Detail.TheVariants.{Bool as BoolDetail, Enum as EnumDetail, Num as NumDetail, Preset}
 use Rattle.meta_setting_tables.specs.declared.descriptor.Descriptor.{Descriptor}
 use Rattle.meta_setting_tables.specs.FoundSetting.{FindsEntry}
 use Rattle.meta_setting_tables.specs.GroupTables.{GroupContents, names_in, default_in}
 use Rattle.meta_gen.specs.WholeTables.{WholeTables, OfGroup, HasNoGroup}
-use Rattle.meta_query.specs.SettingLine.{BoolFacts, NumFacts, EnumFacts, PresetFacts, line_of_facts, listed, is_setting_detail, settings_in, is_on_at, names_on, facts_in, line_in}
+use Rattle.meta_query.specs.SettingLine.{BoolFacts, NumFacts, PresetFacts, line_of_facts, listed, is_setting_detail, settings_in, is_on_at, names_on, facts_in, line_in}
 use Rattle.meta_query.specs.Answer.{IsLineInTables}
 
 -- ---- lists of names
@@ -84,12 +84,9 @@ module _ (masks : List ℕ) (start : ℕ) where
     one_off d at other off =
         ap (λ ns. names ++ ns) (sym (ap names_among (drop_next ds i d at) ∙ among_off d (drop (i + 1) ds) (other_is_setting d.detail other) off)) ∙ so_far
 
-    -- all are found at a preset, and at the end
+    -- all are found at a preset
     pub at_preset : (d : Descriptor) → slice_get ds i ≡ Some d → d.detail ≡ Preset → names ≡ all
     at_preset d at is = sym (ap (λ ns. names ++ ns) (ap names_among (drop_next ds i d at) ∙ among_preset d (drop (i + 1) ds) is) ∙ append-nil names) ∙ so_far
-
-    pub at_end : slice_get ds i ≡ None → names ≡ all
-    at_end past = sym (ap (λ ns. names ++ ns) (ap names_among (drop_past ds i past)) ∙ append-nil names) ∙ so_far
 
 -- ---- the lines of the kinds of entries
 
@@ -104,9 +101,6 @@ module _ (g : GroupContents) (d : Descriptor) where
     num_line detail =
         let own : default ≡ get_or g.defaults d.offset 0 = is ∙ ap (λ o. unwrap_or o 0) (answered ∙ ap (default_in (get_or g.defaults d.offset 0)) detail) in
         ap (λ n. line_of_facts d.name (NumFacts d.offset n)) own ∙ ap (λ e. line_of_facts d.name (facts_in g d.offset e)) (sym detail)
-
-  pub enum_line : (last place : ℕ) (values : List (List ℕ)) → d.detail ≡ EnumDetail last place → values ≡ take (last + 1) (drop place g.enumerators) → line_of_facts d.name (EnumFacts d.offset values) ≡ line_in g d
-  enum_line last place values detail is = ap (λ v. line_of_facts d.name (EnumFacts d.offset v)) is ∙ ap (λ e. line_of_facts d.name (facts_in g d.offset e)) (sym detail)
 
   pub preset_line_in : (names : List (List ℕ)) → d.detail ≡ Preset → names ≡ names_on g d.offset → line_of_facts d.name (PresetFacts names) ≡ line_in g d
   preset_line_in names detail is = ap (λ n. line_of_facts d.name (PresetFacts n)) is ∙ ap (λ e. line_of_facts d.name (facts_in g d.offset e)) (sym detail)

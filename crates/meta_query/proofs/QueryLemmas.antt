@@ -5,7 +5,7 @@ use Rattle.std.proofs.lemmas.List.Elements.{All-nil, All-cons, All-head, All-tai
 use Rattle.std.proofs.lemmas.List.Splits.{join_with_byte-slice_split}
 use Rattle.meta_query.specs.Words.{IsWord, AreWords, pieces_of}
 use Rattle.meta_query.specs.Question.{Question, IsQuestion, words_of}
-use Rattle.meta_query.specs.Inference.{Inference, IsInference, inference_words}
+use Rattle.meta_query.specs.Inference.{Inference, IsInference}
 use Rattle.meta_query.specs.Query.{Asked, OfQuestion, OfInference, OfSetting, setting_words, Asks}
 use Rattle.meta_query.proofs.PieceLemmas.{All-slice_split}
 use Rattle.meta_query.proofs.QuestionLemmas.{pieces_of-words, words_from, one_question}

@@ -2,6 +2,7 @@ pub mod Lines
 pub mod Words
 pub mod TypeNumber
 pub mod Question
+pub mod Command
 pub mod Inference
 pub mod Query
 pub mod SettingLine

@@ -1,28 +1,51 @@
 -- What a run does, by how it ended.
-use Rattle.std.specs.Prelude.{◌≡◌, ◌≢◌, ℕ, ◌≤◌, ◌⊎◌, List, [], ◌∷◌, ◌++◌, length, Option, Some, codes}
+use Rattle.std.specs.Prelude.{◌≡◌, ◌≢◌, ℕ, ◌≤◌, ◌⊎◌, ⊤, List, [], ◌++◌, length, Option, Some}
 use Rattle.meta_types.specs.declared.fault.DefinitionError.{DefinitionError}
 use Rattle.meta_text.specs.Outside.{Rose, with_front, with_more, NothingLeft, longest_input, TookPart}
 use Rattle.meta_declared.specs.AllDeclared.{Declared, ShowsFirst, AreValid}
-use Rattle.meta_gen.specs.WholeTables.{WholeTables}
+use Rattle.meta_gen.specs.WholeTables.{WholeTables, AreWholeTablesOf}
+use Rattle.meta_table_text.specs.TableText.{table_text}
+use Rattle.meta_table_text.specs.declared.version.Version.TheVariants.{Three}
+use Rattle.meta_rust_text.specs.TypesText.{types_text}
+use Rattle.meta_query.specs.Command.{words_of, IsCommand}
+use Rattle.meta_query.specs.declared.command.Command.{Command}
+use Rattle.meta_query.specs.declared.command.Command.TheVariants.{Query, Tables, Types}
 use Rattle.meta_query.specs.Lines.{lines_of}
 use Rattle.meta_query.specs.Answer.{IsTableReply, AreWrittenAnswers, IsOutput, refusal}
 use Rattle.meta_query.specs.declared.status.Status.{Status}
 use Rattle.meta_query.specs.declared.status.Status.TheVariants.{Done, Refused, Usage, ReadFault, TooLong, OutOfMemory}
 
--- the words are those of a command: `query` alone
-abbrev pub IsCommand : List (List ℕ) → Type 0
-IsCommand words = words ≡ codes "query" ∷ []
+-- ---- what a command answers
 
--- The whole input was read, up to its end, and the sink took its output whole: the answer to each line as the declarations,
+-- The output of a command over declarations: of `query` the answer to each line of the input, of `tables` the text of the tables of
+-- the declarations, and of `types` the text of the types. No other command than `query` has an input.
+abbrev pub IsOutputOf : Declared → Command → List ℕ → List ℕ → Type 0
+IsOutputOf d Query input output = IsOutput d input output
+IsOutputOf d Tables input output = (input ≡ []) × (t : WholeTables) × AreWholeTablesOf d t × (output ≡ table_text Three t)
+IsOutputOf d Types input output = (input ≡ []) × (output ≡ types_text)
+
+-- after the command was answered nothing is left where it has an input
+abbrev pub IsReadOut : Command → Option (List ℕ) → Type 0
+IsReadOut Query left = NothingLeft left
+IsReadOut Tables left = ⊤
+IsReadOut Types left = ⊤
+
+-- the command writes a text, and has no input
+abbrev pub WritesText : Command → Type 0
+WritesText command = command ≢ Query
+
+-- The words are a command. Its input was read whole, and the sink took its output whole: what it answers as the declarations,
 -- which are valid, mean.
-pub record IsAnsweredWhole (d : Declared) (left left' taken taken' : Option (List ℕ)) : Type 0 where
+pub record IsAnsweredWhole (d : Declared) (words : List (List ℕ)) (left left' taken taken' : Option (List ℕ)) : Type 0 where
+  pub command : Command
+  pub is_command : words ≡ words_of command
   pub valid : AreValid d
   pub input : List ℕ
   pub output : List ℕ
   pub read : left ≡ with_front input left'
-  pub end : NothingLeft left'
+  pub end : IsReadOut command left'
   pub within : length input ≤ longest_input
-  pub answers : IsOutput d input output
+  pub answers : IsOutputOf d command input output
   pub took : taken' ≡ with_more taken output
 
 -- The declarations are refused by the first fault that they show, and the sink took the line that says so.
@@ -37,46 +60,66 @@ pub record IsRefusedInPart (d : Declared) (taken taken' : Option (List ℕ)) : T
   pub first : ShowsFirst d fault
   pub took : TookPart (refusal fault) taken taken'
 
--- the whole input was read, up to its end, and the sink took a part of its output, and not all
-pub record IsAnsweredInPart (d : Declared) (left left' taken taken' : Option (List ℕ)) : Type 0 where
+-- the words are a command, its input was read whole, and the sink took a part of its output, and not all
+pub record IsAnsweredInPart (d : Declared) (words : List (List ℕ)) (left left' taken taken' : Option (List ℕ)) : Type 0 where
+  pub command : Command
+  pub is_command : words ≡ words_of command
   pub valid : AreValid d
   pub input : List ℕ
   pub output : List ℕ
   pub read : left ≡ with_front input left'
-  pub end : NothingLeft left'
-  pub answers : IsOutput d input output
+  pub end : IsReadOut command left'
+  pub answers : IsOutputOf d command input output
   pub took : TookPart output taken taken'
 
 -- after these nothing was written
 abbrev pub WritesNothing : Status → Type 0
 WritesNothing status = (status ≡ Usage) ⊎ ((status ≡ ReadFault) ⊎ ((status ≡ TooLong) ⊎ (status ≡ OutOfMemory)))
 
--- the whole input was read, up to its end, and the sink took the answers of the tables to its lines whole
-pub record IsWritten (tables : WholeTables) (left left' taken taken' : Option (List ℕ)) : Type 0 where
+-- ---- by tables
+
+-- the output of a command by tables: of `query` their answers to the lines of the input, of `tables` their text
+abbrev pub IsTableOutput : WholeTables → Command → List ℕ → List ℕ → Type 0
+IsTableOutput tables Query input output = AreWrittenAnswers (IsTableReply tables) (lines_of input) output
+IsTableOutput tables Tables input output = (input ≡ []) × (output ≡ table_text Three tables)
+IsTableOutput tables Types input output = (input ≡ []) × (output ≡ types_text)
+
+-- the input of the command was read whole, and the sink took its output by the tables whole
+pub record IsWritten (tables : WholeTables) (command : Command) (left left' taken taken' : Option (List ℕ)) : Type 0 where
   pub input : List ℕ
   pub output : List ℕ
   pub read : left ≡ with_front input left'
-  pub end : NothingLeft left'
+  pub end : IsReadOut command left'
   pub within : length input ≤ longest_input
-  pub answers : AreWrittenAnswers (IsTableReply tables) (lines_of input) output
+  pub answers : IsTableOutput tables command input output
   pub took : taken' ≡ with_more taken output
 
--- the whole input was read, up to its end, and the sink took a part of the answers of the tables to its lines, and not all
-pub record IsWrittenInPart (tables : WholeTables) (left left' taken taken' : Option (List ℕ)) : Type 0 where
+-- the input of the command was read whole, and the sink took a part of its output by the tables, and not all
+pub record IsWrittenInPart (tables : WholeTables) (command : Command) (left left' taken taken' : Option (List ℕ)) : Type 0 where
   pub input : List ℕ
   pub output : List ℕ
   pub read : left ≡ with_front input left'
-  pub end : NothingLeft left'
-  pub answers : AreWrittenAnswers (IsTableReply tables) (lines_of input) output
+  pub end : IsReadOut command left'
+  pub answers : IsTableOutput tables command input output
   pub took : TookPart output taken taken'
 
--- Where the words are a command and the declarations valid, memory didn't run out, the source told its bytes and gave at
+-- ---- what a command does, where nothing fails
+
+-- Where the words are `query` and the declarations valid, memory didn't run out, the source told its bytes and gave at
 -- most the limit, and no count rose: the run is done, and the sink took exactly the output of all that was left.
 abbrev pub AnswersInput : Declared → List (List ℕ) → Option (List ℕ) → ℕ → ℕ → Option (List ℕ) → Option (List ℕ) → ℕ → ℕ → Status → Type 0
 AnswersInput d words left reads reads' taken taken' writes writes' status =
-    IsCommand words → AreValid d → status ≢ OutOfMemory → (input before : List ℕ) → left ≡ Some input → length input ≤ longest_input
+    words ≡ words_of Query → AreValid d → status ≢ OutOfMemory → (input before : List ℕ) → left ≡ Some input → length input ≤ longest_input
     → (Rose reads reads' → ⊥) → taken ≡ Some before → (Rose writes writes' → ⊥)
     → (status ≡ Done) × (output : List ℕ) × IsOutput d input output × (taken' ≡ Some (before ++ output))
+
+-- Where the words are a command that writes a text and the declarations are valid, memory didn't run out and the sink's count didn't
+-- rise: the run is done, and the sink took exactly the text.
+abbrev pub WritesTexts : Declared → List (List ℕ) → Option (List ℕ) → Option (List ℕ) → ℕ → ℕ → Status → Type 0
+WritesTexts d words taken taken' writes writes' status =
+    (command : Command) → WritesText command → words ≡ words_of command → AreValid d → status ≢ OutOfMemory → (before : List ℕ)
+    → taken ≡ Some before → (Rose writes writes' → ⊥)
+    → (status ≡ Done) × (text : List ℕ) × IsOutputOf d command [] text × (taken' ≡ Some (before ++ text))
 
 -- Where the words are a command and the declarations show a fault, memory didn't run out and the sink's count didn't rise:
 -- the declarations are refused, and the sink took exactly the line that says so, by the first fault.

@@ -2,6 +2,7 @@
 #![tactic(auto)]
 
 mod answer;
+mod command;
 mod inference;
 mod laws;
 mod lines;
@@ -16,8 +17,9 @@ mod status;
 mod type_name;
 
 pub use answer::answer_line;
+pub use command::Command;
 pub use inference::Inference;
-pub use laws::one_output;
+pub use laws::{one_command, one_output};
 pub use lines::Lines;
 pub use query::{Query, asks_one_query};
 pub use question::{Question, asks_one_question};

@@ -1,4 +1,4 @@
-// Answers the query lines of the standard input over the shared instruction set.
+// Writes the tables of the shared instruction set, or answers the query lines of the standard input over it.
 #![tactic(auto)]
 
 mod command;
@@ -12,13 +12,16 @@ use std::io::{self, ErrorKind};
 use std::process::ExitCode;
 
 const HELP: &str = "\
-Answers questions about the shared instructions and settings of Cranelift, one a line, from standard input to standard output.
+Writes the tables of the shared instructions and settings of Cranelift to standard output, or answers questions about them.
 
-Usage: meta_query_cli query < FILE
+Usage: meta_query_cli tables          the tables as text
+       meta_query_cli types           the constants of types as text
+       meta_query_cli query < FILE    an answer to each line of standard input
 
 A line is `accept NAME CONTROL RESULTS VALUES`: whether the instruction takes these types, with `-` where there is none.
+A line `infer NAME CONTROL` asks for the types of its results.
 A line `setting NAME` asks what the setting is: its kind, byte, default and values, or what a preset enables.
-The answers are accept, refuse, the line of the setting, unknown and bad.
+The answers are accept, refuse, the results, the line of the setting, unknown and bad.
 
 Options:
   --help     prints this

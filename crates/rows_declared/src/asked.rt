@@ -1,11 +1,4 @@
-/// What sort an entry of a group is of.
-#[derive(Clone, Copy)]
-pub(crate) enum Sort {
-    Bool,
-    Num,
-    Enum,
-    Preset,
-}
+use rows_declaring::Sort;
 
 /// What a line declares.
 #[derive(Clone, Copy)]
@@ -35,7 +28,7 @@ pub(crate) enum Declares {
     Entries(Sort),
 }
 
-/// What a line asks of the tables.
+/// What a line asks of the tables. `text VERSION` asks for their text.
 #[derive(Clone, Copy)]
 pub(crate) enum Of {
     Opcodes,
@@ -43,6 +36,7 @@ pub(crate) enum Of {
     Sets,
     Constraints,
     Slots,
+    Text,
     Size,
     Find,
     Found,
@@ -94,7 +88,7 @@ pub(crate) enum Asked {
 }
 
 /// What a line says by its first word.
-pub(crate) const ASKED: [(&str, Asked); 49] = [
+pub(crate) const ASKED: [(&str, Asked); 50] = [
     ("", Asked::Nothing),
     ("new", Asked::New),
     ("keep", Asked::Keep),
@@ -121,6 +115,7 @@ pub(crate) const ASKED: [(&str, Asked); 49] = [
     ("sets", Asked::Sets),
     ("constraints", Asked::Of(Of::Constraints)),
     ("slots", Asked::Of(Of::Slots)),
+    ("text", Asked::Of(Of::Text)),
     ("size", Asked::Of(Of::Size)),
     ("find", Asked::Of(Of::Find)),
     ("found", Asked::Of(Of::Found)),

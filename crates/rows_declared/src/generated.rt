@@ -8,6 +8,7 @@ use super::opcode_answers::{
     write_opcode, write_opcodes, write_sets, write_slots,
 };
 use super::outside::{Fails, Outside, Ran, run_over};
+use super::table_text::write_text;
 use meta_gen::{Declarations, Tables, generate};
 use meta_types::{DefinitionError, Text};
 use rows_words::{Case, Trouble};
@@ -27,6 +28,11 @@ fn write_count(count: usize, what: &str, case: &mut Case<'_>) {
     case.text(what);
 }
 
+/// Whether the words are `query` alone.
+fn is_query(words: &[Text]) -> bool {
+    words.len() == 1 && words[0].as_str() == "query"
+}
+
 /// Writes what the words ask of the opcodes.
 fn write_of_opcodes(alloc: Global, tables: &Tables, asked: Of, case: &mut Case<'_>) {
     match asked {
@@ -38,6 +44,10 @@ fn write_of_opcodes(alloc: Global, tables: &Tables, asked: Of, case: &mut Case<'
         Of::Sets => write_sets(tables, case),
         Of::Constraints => write_constraints(tables, case),
         Of::Slots => write_slots(tables.opcode_slots(), case),
+        Of::Text => {
+            let version = case.number();
+            write_text(alloc, tables, version, case);
+        }
         Of::Size => write_count(tables.opcode_slots().len(), " slots", case),
         Of::Find => {
             let names = case.word();
@@ -128,7 +138,7 @@ impl Generated {
         }
     }
 
-    /// Writes how a run of these words over the input ends. Where it is done, its answers are held against those of the tables.
+    /// Writes how a run of these words over the input ends. Where queries are done, the answers are held against those of the tables.
     pub(crate) fn run(
         &self,
         alloc: Global,
@@ -138,7 +148,7 @@ impl Generated {
         case: &mut Case<'_>,
     ) -> Result<(), Trouble> {
         let ran = run_over(alloc, outside, &self.declarations, words, input)?;
-        if self.differs(alloc, &ran, input)? {
+        if is_query(words) && self.differs(alloc, &ran, input)? {
             case.text("not by the tables");
         } else {
             ran.write(case);

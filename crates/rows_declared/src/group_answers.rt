@@ -25,16 +25,17 @@ pub(crate) fn write_group(tables: &Tables, group: usize, case: &mut Case<'_>) {
         return case.text("none");
     };
     case.text(name.as_str());
-    case.text(": size ");
-    case.shown(&tables.settings_size(group).unwrap_or(0));
+    case.field(": size ", &tables.settings_size(group).unwrap_or(0));
     case.text(", defaults ");
     case.debugged(&tables.defaults(group).unwrap_or(&[]));
     case.text(", masks ");
     case.debugged(&tables.preset_masks(group).unwrap_or(&[]));
     case.text(", values ");
     write_texts(tables.enumerators(group).unwrap_or(&[]), case);
-    case.text(", slots ");
-    case.shown(&tables.setting_slots(group).unwrap_or(&[]).len());
+    case.field(
+        ", slots ",
+        &tables.setting_slots(group).unwrap_or(&[]).len(),
+    );
 }
 
 /// Writes the slots of a group's names, or `none`.
@@ -48,18 +49,14 @@ pub(crate) fn write_setting_slots(tables: &Tables, group: usize, case: &mut Case
 /// Writes where an entry stands, and what it is.
 fn write_detail(entry: &Descriptor, case: &mut Case<'_>) {
     case.text(entry.name.as_str());
-    case.letter(' ');
-    case.shown(&entry.offset);
+    case.field(" ", &entry.offset);
     match entry.detail {
         Detail::Bool { bit } => {
-            case.text(" bool ");
-            case.shown(&bit);
+            case.field(" bool ", &bit);
         }
         Detail::Enum { last, enumerators } => {
-            case.text(" enum ");
-            case.shown(&last);
-            case.letter(' ');
-            case.shown(&enumerators);
+            case.field(" enum ", &last);
+            case.field(" ", &enumerators);
         }
         Detail::Num => case.text(" num"),
         Detail::Preset => case.text(" preset"),
@@ -73,8 +70,7 @@ pub(crate) fn write_entry(tables: &Tables, group: usize, index: u16, case: &mut 
         None => case.text("none"),
     }
     if let Some(value) = tables.default_value(group, index) {
-        case.text(" default ");
-        case.shown(&value);
+        case.field(" default ", &value);
     }
 }
 

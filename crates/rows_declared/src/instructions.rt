@@ -7,7 +7,8 @@ use meta_operands::{
 };
 use meta_types::Text;
 use meta_typevar::TypeVar;
-use rows_words::{Case, Trouble, named};
+use rows_declaring::{designating, instruction, kind_of};
+use rows_words::{Case, Trouble, define, found};
 use std::alloc::{AllocError, Global};
 
 /// The formats and the instructions of a case.
@@ -18,25 +19,8 @@ pub(crate) struct Instructions<'l> {
     all: AllInstructions,
 }
 
-/// A kind of operands that are no values, with this field name and Rust type.
-fn kind(
-    alloc: Global,
-    name: &str,
-    rust_type: &str,
-    fields: OperandKindFields,
-) -> Result<OperandKind, AllocError> {
-    match (
-        Text::new(alloc, name),
-        Text::new(alloc, rust_type),
-        Text::new(alloc, ""),
-    ) {
-        (Ok(name), Ok(rust_type), Ok(doc)) => Ok(OperandKind::new(name, rust_type, fields, doc)),
-        _ => Err(AllocError),
-    }
-}
-
 /// The kind of the operand of this word: a variable's name, `block`, `raw`, `varargs`, or else an immediate with this field name.
-fn kind_of(
+fn kind_named(
     alloc: Global,
     variables: &Variables<'_>,
     word: &str,
@@ -45,15 +29,22 @@ fn kind_of(
         return OperandKind::of(alloc, tv);
     }
     match word {
-        "block" => kind(
+        "block" => kind_of(
             alloc,
-            "block",
-            "ir::BlockCall",
+            ["block", "ir::BlockCall", ""],
             OperandKindFields::EntityRef,
         ),
-        "raw" => kind(alloc, "block", "ir::Block", OperandKindFields::EntityRef),
-        "varargs" => kind(alloc, "args", "&[Value]", OperandKindFields::VariableArgs),
-        _ => kind(alloc, word, "i64", OperandKindFields::ImmValue),
+        "raw" => kind_of(
+            alloc,
+            ["block", "ir::Block", ""],
+            OperandKindFields::EntityRef,
+        ),
+        "varargs" => kind_of(
+            alloc,
+            ["args", "&[Value]", ""],
+            OperandKindFields::VariableArgs,
+        ),
+        _ => kind_of(alloc, [word, "i64", ""], OperandKindFields::ImmValue),
     }
 }
 
@@ -66,7 +57,7 @@ fn add_operands(
 ) -> Result<(), AllocError> {
     if words != "-" {
         for word in words.split(',') {
-            operands.push(operand(alloc, kind_of(alloc, variables, word)?)?)?;
+            operands.push(operand(alloc, kind_named(alloc, variables, word)?)?)?;
         }
     }
     Ok(())
@@ -106,7 +97,11 @@ fn with_operand(
 /// The kind of an immediate whose field name is this letter.
 fn immediate(alloc: Global, letter: u8) -> Result<OperandKind, AllocError> {
     let name = format!(in alloc; "{}", char::from(letter))?;
-    kind(alloc, name.as_str(), "i64", OperandKindFields::ImmValue)
+    kind_of(
+        alloc,
+        [name.as_str(), "i64", ""],
+        OperandKindFields::ImmValue,
+    )
 }
 
 /// The format of this name and these operands; none are `-`.
@@ -123,19 +118,6 @@ fn format_of(
     Ok(format)
 }
 
-/// The instruction of this name and format, without a documentation.
-fn instruction(
-    alloc: Global,
-    name: &str,
-    format: FormatId,
-) -> Result<InstructionBuilder, AllocError>
-    ensures inputs { IfOk result (λ b. b.operands_in ≡ None) }
-    ensures outputs { IfOk result (λ b. b.operands_out ≡ None) }
-{
-    let (name, doc) = (Text::new(alloc, name)?, Text::new(alloc, "")?);
-    Ok(InstructionBuilder::new(alloc, name, doc, format))
-}
-
 /// The instruction that is named by a letter and a number, without operands.
 fn numbered(
     alloc: Global,
@@ -146,7 +128,7 @@ fn numbered(
     ensures { IfOk result (λ b. b.operands_in ≡ None) }
 {
     let name = format!(in alloc; "{letter}{number}")?;
-    instruction(alloc, name.as_str(), format)
+    instruction(alloc, name.as_str(), "", format)
 }
 
 /// The instruction that is named by a number, of one value.
@@ -172,24 +154,11 @@ fn operand(alloc: Global, kind: OperandKind) -> Result<Operand, AllocError> {
     Ok(Operand::new(Text::new(alloc, "x")?, kind))
 }
 
-/// The format that designates the value with this number.
-fn designating(
-    format: InstructionFormatBuilder,
-    number: usize,
-) -> Result<InstructionFormatBuilder, Trouble> {
-    if format.can_designate(number) {
-        Ok(format.typevar_operand(number))
-    } else {
-        Err(Trouble::NoCase)
-    }
-}
-
 /// Takes the second control, where the next word says that one is named.
 fn next_second(variables: &Variables<'_>, case: &mut Case<'_>) -> Option<TypeVar> {
-    if case.rest().first().is_none_or(|word| *word != "second") {
+    if !case.takes("second") {
         return None;
     }
-    case.expect("second");
     let name = case.word();
     case.kept(variables.find(name))
 }
@@ -223,10 +192,7 @@ impl<'l> Instructions<'l> {
 
     /// The last format of this key.
     fn find(&self, name: &str) -> Result<FormatId, Trouble> {
-        match named(self.named.as_slice(), name) {
-            Ok(id) => Ok(*id),
-            Err(trouble) => Err(trouble),
-        }
+        found(self.named.as_slice(), name)
     }
 
     /// Adds the format of this name and these operands.
@@ -247,11 +213,7 @@ impl<'l> Instructions<'l> {
     pub(crate) fn format(&mut self, alloc: Global, case: &mut Case<'l>) {
         let (key, name) = (case.word(), case.word());
         match self.add_format(alloc, name, case.word()) {
-            Ok(id) => {
-                if self.named.push((key, id)).is_err() {
-                    case.refuse(Trouble::OutOfMemory);
-                }
-            }
+            Ok(id) => define(&mut self.named, key, id, case),
             Err(trouble) => case.refuse(trouble),
         }
     }
@@ -271,11 +233,11 @@ impl<'l> Instructions<'l> {
         let inputs = operands(alloc, variables, case.word());
         let outputs = operands(alloc, variables, case.word());
         let second = next_second(variables, case);
-        let method = case.rest().first().is_some_and(|word| *word == "method");
+        let method = case.takes("method");
         let Ok(format) = self.find(format) else {
             return case.no_case();
         };
-        match (inputs, outputs, instruction(alloc, name, format)) {
+        match (inputs, outputs, instruction(alloc, name, "", format)) {
             (Ok(inputs), Ok(outputs), Ok(builder)) => {
                 let builder = builder.operands_in(inputs).operands_out(outputs);
                 let builder = with_second(builder.inst_builder_imm_method(method), second);
@@ -292,7 +254,7 @@ impl<'l> Instructions<'l> {
             return case.no_case();
         };
         if count > 0 {
-            self.push(instruction(alloc, first, id), case);
+            self.push(instruction(alloc, first, "", id), case);
         }
         for number in 1..count {
             self.push(numbered(alloc, 'f', number, id), case);

@@ -15,6 +15,7 @@ mod opcode_answers;
 mod outside;
 mod questions;
 mod session;
+mod table_text;
 mod variables;
 mod words;
 
@@ -23,29 +24,16 @@ use std::alloc::{AllocError, Global};
 use std::io::{self, Write};
 
 /// Adds the answers to the lines.
-fn add_answers<'l>(
-    session: &mut Session<'l>,
-    input: &'l str,
-    answers: &mut String,
-) -> Result<(), AllocError> {
-    for line in input.lines() {
-        session.answer_line(line, answers)?;
-    }
-    Ok(())
-}
-
-/// The answers to the lines.
-fn answers(alloc: Global, input: &str) -> Result<String, AllocError> {
-    let mut answers = String::new(alloc);
+fn add_answers(alloc: Global, input: &str, answers: &mut String) -> Result<(), AllocError> {
     let mut session = Session::new(alloc);
-    add_answers(&mut session, input, &mut answers)?;
-    Ok(answers)
+    session.answer_lines(input, answers)
 }
 
 /// Answers the lines of the standard input on the standard output.
 fn main(rt: HostRuntime) -> io::Result<()> {
     let alloc = rt.alloc();
     let input = io::read_to_string(alloc, rt.reader())?;
-    let text = answers(alloc, input.as_str())?;
-    io::writer(&rt).write_all(text.as_bytes())
+    let mut answers = String::new(alloc);
+    add_answers(alloc, input.as_str(), &mut answers)?;
+    io::writer(&rt).write_all(answers.as_bytes())
 }

@@ -19,18 +19,13 @@ pub(crate) fn write_opcode(tables: &Tables, opcode: u16, case: &mut Case<'_>) {
         return case.text("none");
     };
     case.shown(&opcode);
-    case.letter(' ');
-    case.text(name.as_str());
-    case.letter(' ');
-    case.text(format.as_str());
+    case.field(" ", &name.as_str());
+    case.field(" ", &format.as_str());
     case.letter(' ');
     case.hexadecimal(entry.flags);
-    case.letter(' ');
-    case.shown(&entry.typeset_offset);
-    case.letter(' ');
-    case.shown(&entry.second_offset);
-    case.letter(' ');
-    case.shown(&entry.constraint_offset);
+    case.field(" ", &entry.typeset_offset);
+    case.field(" ", &entry.second_offset);
+    case.field(" ", &entry.constraint_offset);
 }
 
 /// Writes all opcodes, a line each.
@@ -48,14 +43,10 @@ pub(crate) fn write_sets(tables: &Tables, case: &mut Case<'_>) {
     case.shown(&tables.type_sets().len());
     case.text(" sets");
     for masks in tables.type_sets() {
-        case.letter('\n');
-        case.shown(&masks.lanes);
-        case.letter(' ');
-        case.shown(&masks.dynamic_lanes);
-        case.letter(' ');
-        case.shown(&masks.ints);
-        case.letter(' ');
-        case.shown(&masks.floats);
+        case.field("\n", &masks.lanes);
+        case.field(" ", &masks.dynamic_lanes);
+        case.field(" ", &masks.ints);
+        case.field(" ", &masks.floats);
     }
 }
 
@@ -216,8 +207,7 @@ pub(crate) fn write_inferred(tables: &Tables, case: &mut Case<'_>) {
     }
     case.letter(':');
     for number in numbers {
-        case.letter(' ');
-        case.shown(&number);
+        case.field(" ", &number);
     }
 }
 

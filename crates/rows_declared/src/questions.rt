@@ -50,8 +50,7 @@ fn write_parts(alloc: Global, question: &Question, case: &mut Case<'_>) -> Resul
     case.letter(' ');
     case.debugged(&question.control_number());
     if let Some(second) = question.second_number() {
-        case.letter('/');
-        case.shown(&second);
+        case.field("/", &second);
     }
     case.letter(' ');
     case.debugged(&question.result_numbers(alloc)?);

@@ -6,7 +6,7 @@ use super::outside::{Fails, Outside};
 use super::questions::{write_codes, write_count, write_lines, write_question};
 use meta_gen::Tables;
 use meta_types::Text;
-use rows_words::{Case, Trouble, named};
+use rows_words::{Case, Trouble, found};
 use std::alloc::{AllocError, Global};
 use std::mem;
 
@@ -185,9 +185,9 @@ impl<'l> Session<'l> {
 
     /// Does what a line says, or writes what it asks; `false` where it has no answer.
     fn answer(&mut self, input: &str, case: &mut Case<'l>) -> Result<bool, Trouble> {
-        let asked = match *named(&ASKED, case.word())? {
-            Asked::Sets if case.rest().is_empty() => Asked::Of(Of::Sets),
-            Asked::Sets => Asked::Declares(Declares::Sets),
+        let asked = match found(&ASKED, case.word())? {
+            Asked::Sets if case.has_more() => Asked::Declares(Declares::Sets),
+            Asked::Sets => Asked::Of(Of::Sets),
             asked => asked,
         };
         match asked {
@@ -202,12 +202,20 @@ impl<'l> Session<'l> {
         }
     }
 
-    /// Adds the answer to a line, if it asks, or the line where it is a comment. An input stands behind ` < `.
-    pub(crate) fn answer_line(
+    /// Adds the answers to the lines.
+    pub(crate) fn answer_lines(
         &mut self,
-        line: &'l str,
+        input: &'l str,
         answers: &mut String,
     ) -> Result<(), AllocError> {
+        for line in input.lines() {
+            self.answer_line(line, answers)?;
+        }
+        Ok(())
+    }
+
+    /// Adds the answer to a line, if it asks, or the line where it is a comment. An input stands behind ` < `.
+    fn answer_line(&mut self, line: &'l str, answers: &mut String) -> Result<(), AllocError> {
         if line.starts_with('#') {
             return writeln!(answers, "{line}");
         }
@@ -220,6 +228,7 @@ impl<'l> Session<'l> {
                 true
             }
         };
+        case.end_words();
         if asks || case.trouble().is_some() {
             return case.end(answers);
         }

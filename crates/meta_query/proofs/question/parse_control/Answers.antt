@@ -1,7 +1,5 @@
-use Rattle.std.proofs.Common.{◌≡◌, List, ℕ, [], ◌∷◌, sym, ap, ◌∙◌}
+use Rattle.std.proofs.Common.{sym, ◌∙◌}
 use Rattle.std.specs.Cmp.Lexicographic.{other_text}
-use Rattle.std.specs.Option.{option_map_or}
-use Rattle.meta_query.specs.Words.{pieces_of}
 use Rattle.meta_query.proofs.QuestionLemmas.{refused_first, refused_second, one_control, two_controls}
 use Rattle.meta_query.proofs.question.parse_control.Goals as goal
 

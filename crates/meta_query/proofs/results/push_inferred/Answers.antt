@@ -1,4 +1,4 @@
-use Rattle.std.proofs.Common.{◌≡◌, sym, ap, ◌∙◌, ◌++◌, string_bytes, arith}
+use Rattle.std.proofs.Common.{ap, ◌∙◌, ◌++◌, string_bytes}
 use Rattle.std.proofs.lemmas.Result.{on_ok_weaker}
 use Rattle.meta_query.specs.declared.reply.Reply.TheVariants.{Refuse, Results}
 use Rattle.meta_query.proofs.AnswerLemmas.{pushed}

@@ -1,4 +1,4 @@
-use Rattle.std.proofs.Common.{◌≡◌, ◌≤◌, ℕ, List, ◌∷◌, ◌++◌, take, string_bytes}
+use Rattle.std.proofs.Common.{◌≡◌, ℕ, List, ◌∷◌, ◌++◌, take, string_bytes}
 use Rattle.meta_query.specs.Inference.{AreResultWords, results_text}
 use Rattle.meta_query.proofs.results.push_results.Given as goal
 
