@@ -277,6 +277,15 @@ impl Tables {
         Some(tables.setting_slots())
     }
 
+    /// The entries of a group, by their numbers from 0, and `None` exactly where there is no such group. There are at most 65,535.
+    pub fn descriptors(&self, group: usize) -> Option<&[Descriptor]>
+        ensures entries { option_map (λ list. list.now) result ≡ part_in self.now group (λ t. t.descriptors) }
+        ensures few { IfSome result (λ list. length list.now ≤ 65535) }
+    {
+        let tables = self.tables_of(group)?;
+        Some(tables.descriptors())
+    }
+
     /// The entry of a group with this number, from 0, and `None` exactly where there is no such group or entry.
     pub fn descriptor(&self, group: usize, index: u16) -> Option<&Descriptor>
         ensures entry { OfGroup self.now group (λ t. option_map (λ d. d.now) result ≡ slice_get t.descriptors index) }

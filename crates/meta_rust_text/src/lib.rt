@@ -1,4 +1,6 @@
-//! Rust source that is written from the tables: the constants of the value types.
+//! Texts of Rust source.
+//!
+//! `types_text` makes the constants of the value types that are most in use, and `write_types` writes them to a sink.
 #![tactic(auto)]
 
 mod types;

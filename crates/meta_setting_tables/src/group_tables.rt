@@ -238,9 +238,10 @@ impl GroupTables {
         self.defaults.len() as u8
     }
 
-    /// The entries: the settings by byte and bit, and then the presets.
+    /// The entries, at most 65,535: the settings by byte and bit, and then the presets.
     pub fn descriptors(&self) -> &[Descriptor]
-        ensures { result.now ≡ self.now.descriptors }
+        ensures entries { result.now ≡ self.now.descriptors }
+        ensures few { length result.now ≤ 65535 }
     {
         self.descriptors.as_slice()
     }

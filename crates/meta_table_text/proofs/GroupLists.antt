@@ -14,6 +14,10 @@ use Rattle.meta_table_text.specs.GroupText.{is_preset}
 pub none_left : {X : Type 0} (xs : List X) (i : ℕ) → length xs ≤ i → drop i xs ≡ []
 none_left xs i past = drop_past xs i (slice_get_past xs i past)
 
+-- what was begun is written in full
+pub all_is : (start all now left : List ℕ) → now ++ left ≡ start ++ all → left ≡ [] → now ≡ start ++ all
+all_is start all now left so_far none = sym (append-nil now) ∙ ap (λ t. now ++ t) (sym none) ∙ so_far
+
 -- what was begun is written in full, and then more
 pub all_written : (start all now left tail new : List ℕ) → now ++ left ≡ start ++ all → left ≡ [] → new ≡ now ++ tail → new ≡ start ++ (all ++ tail)
 all_written start all now left tail new so_far none more =

@@ -5,5 +5,5 @@ mod Places
 mod TypeNames
 mod GroupDigits
 mod GroupBits
-mod GroupEntries
+mod GroupLent
 mod GroupLists

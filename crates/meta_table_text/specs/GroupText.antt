@@ -38,6 +38,17 @@ is_preset Preset = true
 abbrev pub presets_in : List Descriptor → List Descriptor
 presets_in descriptors = filter (λ d. is_preset d.detail) descriptors
 
+-- whether the entry is a boolean
+abbrev pub is_boolean : Detail → Bool
+is_boolean (ABool bit) = true
+is_boolean (AnEnum last enumerators) = false
+is_boolean ANum = false
+is_boolean Preset = false
+
+-- the descriptors of the booleans, in order of their numbers
+abbrev pub booleans_in : List Descriptor → List Descriptor
+booleans_in descriptors = filter (λ d. is_boolean d.detail) descriptors
+
 -- whether the entry, whose byte this is, is a boolean whose bit is on in the mask of the byte
 abbrev pub is_on : List ℕ → ℕ → Detail → Bool
 is_on masks byte (ABool bit) = bit_at (slice_index_or masks byte 0) bit == 1
@@ -45,24 +56,25 @@ is_on masks byte (AnEnum last enumerators) = false
 is_on masks byte ANum = false
 is_on masks byte Preset = false
 
--- the names of the booleans that are on in the masks of a preset, which are one a setting byte
+-- the names of those of the booleans that are on in the masks of a preset, which are one a setting byte
 abbrev pub names_on : List Descriptor → List ℕ → List (List ℕ)
-names_on descriptors masks = map (λ d. d.name) (filter (λ d. is_on masks d.offset d.detail) descriptors)
+names_on booleans masks = map (λ d. d.name) (filter (λ d. is_on masks d.offset d.detail) booleans)
 
 -- the masks of the preset with this offset, which are so many of all, from there on
 abbrev pub masks_from : ℕ → List ℕ → ℕ → List ℕ
 masks_from size masks offset = take size (drop offset masks)
 
--- the lines of a preset, where each preset has so many of the masks: a pair for each of its own, and then the comment
+-- the lines of a preset, where each preset has so many of the masks: a pair for each of its own, and then the comment, with the names
+-- of those of the booleans that it turns on
 unfoldable pub preset_text : List Descriptor → ℕ → List ℕ → Descriptor → List ℕ
-preset_text descriptors size masks d =
+preset_text booleans size masks d =
     flat_map pair_text (masks_from size masks d.offset)
-    ++ comment_text d.name (names_text (names_on descriptors (masks_from size masks d.offset)))
+    ++ comment_text d.name (names_text (names_on booleans (masks_from size masks d.offset)))
 
 -- the presets among the descriptors, where each has so many of the masks
 unfoldable pub presets_text : List Descriptor → ℕ → List ℕ → List ℕ
 presets_text descriptors size masks = list_text (codes "PRESETS") (codes "(u8, u8)") (length (presets_in descriptors) * size)
-    (flat_map (preset_text descriptors size masks) (presets_in descriptors))
+    (flat_map (preset_text (booleans_in descriptors) size masks) (presets_in descriptors))
 
 -- ---- all parts
 

@@ -1,5 +1,4 @@
-use Rattle.std.proofs.Common.{◌++◌, map, length, flat_map, sym, ap, ◌∙◌, codes, string_bytes, arith}
-use Rattle.std.proofs.lemmas.List.{length-map}
+use Rattle.std.proofs.Common.{length, flat_map, ap, codes, string_bytes, arith}
 use Rattle.std.proofs.lemmas.Result.{on_ok_weaker}
 use Rattle.meta_table_text.specs.GroupItems.{list_head_text, list_end_text, descriptor_text}
 use Rattle.meta_table_text.specs.GroupText.{descriptors_text}
@@ -11,5 +10,5 @@ unfolding descriptors_text
 returns c =
     let none = none_left c.args.descriptors.now c.loop-descriptor.descriptor-index (omega (arith, c.loop-descriptor-test.false, c.loop-descriptor.auto.descriptor-index-end)) in
     on_ok_weaker c.push_list_end.result
-    (λ e. list_written (string_bytes c.args.out.now) (list_head_text (codes "DESCRIPTORS") (codes "detail::Descriptor") (length (map (λ d. d.now) c.args.descriptors.now))) _ (flat_map descriptor_text (map (λ d. d.now) c.args.descriptors.now)) _ _ list_end_text _ (c.in_ok-push_list_head.ensures ∙ ap (λ n. string_bytes c.args.out.now ++ list_head_text (codes "DESCRIPTORS") (codes "detail::Descriptor") n) (sym (length-map c.args.descriptors.now (λ d. d.now)))) c.loop-descriptor.invariant (ap (λ left. flat_map descriptor_text (map (λ d. d.now) left)) none) e)
+    (λ e. list_written (string_bytes c.args.out.now) (list_head_text (codes "DESCRIPTORS") (codes "detail::Descriptor") (length c.args.descriptors.now)) _ (flat_map descriptor_text c.args.descriptors.now) _ _ list_end_text _ c.in_ok-push_list_head.ensures c.loop-descriptor.invariant (ap (λ left. flat_map descriptor_text left) none) e)
     c.push_list_end.ensures

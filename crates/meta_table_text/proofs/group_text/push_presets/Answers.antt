@@ -1,23 +1,20 @@
-use Rattle.std.proofs.Common.{◌≡◌, ◌++◌, ◌*◌, map, length, flat_map, sym, ap, ◌∙◌, codes, string_bytes, arith}
+use Rattle.std.proofs.Common.{◌≡◌, ℕ, List, ◌++◌, ◌*◌, map, length, flat_map, ap, ◌∙◌, codes, string_bytes, arith}
 use Rattle.std.proofs.lemmas.List.{length-map}
 use Rattle.std.proofs.lemmas.Result.{on_ok_weaker}
 use Rattle.meta_table_text.specs.GroupItems.{list_head_text, list_end_text}
-use Rattle.meta_table_text.specs.GroupText.{preset_text, presets_text}
-use Rattle.meta_table_text.proofs.GroupLists.{none_left, list_written}
+use Rattle.meta_table_text.specs.GroupText.{booleans_in, presets_in, preset_text, presets_text}
+use Rattle.meta_table_text.proofs.Chains.{three}
 use Rattle.meta_table_text.proofs.group_text.push_presets.Goals as goal
 
 pub returns : goal.returns
 unfolding presets_text
 returns c =
-    let ds = map (λ d. d.now) c.args.descriptors.now in
-    let text = preset_text ds c.args.size c.args.masks.now in
-    let presets = c.deref-preset-items.result.now in
-    let same = c.deref-preset-items.ensures.value in
-    let count : c.len.result ≡ length presets = omega (arith, c.len.ensures, c.in_ok-presets.presets.ok.0, ap length same) in
-    let none = none_left presets c.loop-preset.preset-index (omega (arith, c.loop-preset-test.false, c.loop-preset.auto.preset-index-end)) in
+    let ds = c.args.descriptors.now in
+    let head : ℕ → List ℕ = λ n. list_head_text (codes "PRESETS") (codes "(u8, u8)") (n * c.args.size) in
+    let count : c.len.result ≡ length (presets_in ds) = omega (arith, c.len.ensures, c.in_ok-presets.presets.ok.0, length-map c.in_ok-presets.presets.items (λ d. d.now), ap length c.in_ok-presets.ensures.presets) in
     on_ok_weaker c.push_list_end.result
-    (λ e.
-    list_written (string_bytes c.args.out.now) (list_head_text (codes "PRESETS") (codes "(u8, u8)") (length presets * c.args.size)) _ (flat_map text (map (λ d. d.now) presets)) _ _ list_end_text _ (c.in_ok-push_list_head.ensures ∙ ap (λ n. string_bytes c.args.out.now ++ list_head_text (codes "PRESETS") (codes "(u8, u8)") (n * c.args.size)) count) c.loop-preset.invariant (ap (λ left. flat_map text (map (λ d. d.now) left)) none) e
-    ∙ ap (λ n. string_bytes c.args.out.now ++ (list_head_text (codes "PRESETS") (codes "(u8, u8)") (n * c.args.size) ++ (flat_map text (map (λ d. d.now) presets) ++ list_end_text))) (sym (length-map presets (λ d. d.now)))
-    ∙ ap (λ ps. string_bytes c.args.out.now ++ (list_head_text (codes "PRESETS") (codes "(u8, u8)") (length ps * c.args.size) ++ (flat_map text ps ++ list_end_text))) (ap (map (λ d. d.now)) same ∙ c.in_ok-presets.ensures.presets))
+    (λ e. three (string_bytes c.args.out.now) (head (length (presets_in ds))) (flat_map (preset_text (booleans_in ds) c.args.size c.args.masks.now) (presets_in ds)) list_end_text
+    (c.in_ok-push_list_head.ensures ∙ ap (λ n. string_bytes c.args.out.now ++ head n) count)
+    (c.in_ok-push_each_preset.ensures ∙ (λ i. string_bytes c.push_list_head.new.out ++ flat_map (preset_text ((ap (map (λ d. d.now)) c.as_slice.ensures.value ∙ c.in_ok-booleans.ensures) i) c.args.size c.args.masks.now) ((ap (map (λ d. d.now)) c.as_slice-2.ensures.value ∙ c.in_ok-presets.ensures.presets) i)))
+    e)
     c.push_list_end.ensures
