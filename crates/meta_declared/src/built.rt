@@ -3,6 +3,7 @@ ghost use Rattle.meta_types.specs.declared.fault.DefinitionError.TheVariants.{Ou
 ghost use Rattle.meta_inst.specs.Faults.{FormatNameRule, OfFormat, OfTypeSets, IsFirstFault, IsValid};
 ghost use Rattle.meta_settings.specs.LaidOut.{built_of};
 ghost use Rattle.meta_declared.specs.AllDeclared.{ShowsFirst, AreValid, AreValidGroups, IsFirstOfGroups};
+ghost use Rattle.meta_declared.specs.BuiltDeclarations.{AreBuilt};
 ghost use Rattle.meta_declared.specs.BuiltInstructions.{AreInstructionsOf};
 ghost use Rattle.meta_declared.specs.FormatsUsed.{AreUsedBefore, AreApart, AreOfTable};
 ghost use Rattle.meta_declared.specs.FormatsByName.{AreFormatsByName};
@@ -128,6 +129,7 @@ impl<'d> Built<'d> {
     pub fn declarations(&self) -> &'d Declarations
         ensures declarations { result.now ≡ self.now.declared }
         ensures valid { AreValid self.now.declared }
+        ensures built { AreBuilt self.now }
     {
         self.declarations
     }

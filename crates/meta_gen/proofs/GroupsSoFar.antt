@@ -1,6 +1,7 @@
 -- The tables of built groups, one group after another.
-use Rattle.std.proofs.Common.{◌≡◌, ◌⊎◌, inl, inr, ℕ, ◌+◌, List, [], ◌∷◌, ◌++◌, length, map, slice_get, Some, option_map, sym, ap, ◌∙◌, subst, arith}
+use Rattle.std.proofs.Common.{◌≡◌, ◌⊎◌, inl, inr, ℕ, ◌+◌, List, [], ◌∷◌, ◌++◌, All, length, map, slice_get, Some, option_map, sym, ap, ◌∙◌, subst, arith}
 use Rattle.std.proofs.lemmas.List.{length-append, length-map}
+use Rattle.std.proofs.lemmas.List.Elements.{All-push, All-same}
 use Rattle.std.proofs.lemmas.Option.{slice_get-map, same_Some}
 use Rattle.meta_lists.proofs.Pushed.{get_pushed}
 use Rattle.meta_lists.proofs.Mapped.{get_mapped}
@@ -11,17 +12,20 @@ use Rattle.meta_settings.specs.LaidOut.{built_of}
 use Rattle.meta_declared.specs.AllDeclared.{AreValidGroups}
 use Rattle.meta_setting_tables.specs.BuiltLayout.{IsBuiltLayout}
 use Rattle.meta_setting_tables.specs.GroupTables.{GroupContents, AreTablesOfGroup}
+use Rattle.meta_setting_tables.specs.WellFormed.{IsWellFormedGroup}
 use Rattle.meta_gen.specs.WholeTables.{AreTablesOfGroups}
 
 -- these are the tables of the first so many groups
 pub record GroupsTo (groups : List Layout) (n : ℕ) (tables : List GroupContents) : Type 0 where
   pub count : length tables ≡ n
   pub each : (k : ℕ) (g : Layout) (t : GroupContents) → slice_get groups k ≡ Some g → slice_get tables k ≡ Some t → AreTablesOfGroup g t
+  pub well_formed : All IsWellFormedGroup tables
 
-pub groups_next : (groups : List Layout) (n : ℕ) (g : Layout) (t : GroupContents) (old new : List GroupContents) → slice_get groups n ≡ Some g → AreTablesOfGroup g t → new ≡ old ++ t ∷ [] → GroupsTo groups n old → GroupsTo groups (n + 1) new
-groups_next groups n g t old new at is more so = record {
+pub groups_next : (groups : List Layout) (n : ℕ) (g : Layout) (t : GroupContents) (old new : List GroupContents) → slice_get groups n ≡ Some g → AreTablesOfGroup g t → IsWellFormedGroup t → new ≡ old ++ t ∷ [] → GroupsTo groups n old → GroupsTo groups (n + 1) new
+groups_next groups n g t old new at is good more so = record {
   count = (let long = ap length more ∙ length-append old (t ∷ []) in let was = so.count in omega (arith, long, was));
   each = λ k h u at' there. place k h u at' (get_pushed old t k u (sym (ap (λ w. slice_get w k) more) ∙ there));
+  well_formed = All-same IsWellFormedGroup new (old ++ t ∷ []) more (All-push IsWellFormedGroup old t so.well_formed good);
 }
   where
     place : (k : ℕ) (h : Layout) (u : GroupContents) → slice_get groups k ≡ Some h → (slice_get old k ≡ Some u) ⊎ ((k ≡ length old) × (t ≡ u)) → AreTablesOfGroup h u

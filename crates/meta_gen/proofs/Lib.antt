@@ -1,2 +1,4 @@
 mod GroupsSoFar
 mod FoundIn
+mod GroupsOfParts
+mod OneWhole

@@ -1,1 +1,3 @@
 pub mod WholeTables
+pub mod WellFormed
+pub mod Parts

@@ -1,17 +1,19 @@
-ghost use Rattle.std.specs.Prelude.{◌≡◌, ◌≢◌, ◌↔◌, ℕ, List, Option, IfOk, IfErr, OnOk, length, slice_get, Some};
+ghost use Rattle.std.specs.Prelude.{◌≡◌, ◌≢◌, ◌↔◌, ℕ, List, Option, IfOk, IfErr, OnOk, All, length, slice_get, Some};
 ghost use Rattle.meta_types.specs.declared.fault.DefinitionError.TheVariants.{OutOfMemory};
 ghost use Rattle.meta_meaning.specs.Inference.{GivesResults};
 ghost use Rattle.meta_meaning.specs.Tables.{Allows};
 ghost use Rattle.meta_settings.specs.Layout.{Layout};
 ghost use Rattle.meta_setting_tables.specs.BuiltLayout.{IsBuiltLayout};
 ghost use Rattle.meta_setting_tables.specs.GroupTables.{GroupContents, AreTablesOfGroup};
+ghost use Rattle.meta_setting_tables.specs.WellFormed.{IsWellFormedGroup};
 ghost use Rattle.meta_declared.specs.AllDeclared.{ShowsFirst, AreValid};
 ghost use Rattle.meta_opcode_tables.specs.Inferred.{InfersOpcode};
 ghost use Rattle.meta_opcode_tables.specs.TablesOf.{AcceptsOpcode};
 ghost use Rattle.meta_gen.specs.WholeTables.{AreWholeTablesOf};
+ghost use Rattle.meta_gen.specs.WellFormed.{IsWellFormed};
 
 use super::tables::Tables;
-use meta_declared::{Declarations, build_all};
+use meta_declared::{Built, Declarations, build_all};
 use meta_opcode_tables::OpcodeTables;
 use meta_setting_tables::{GroupTables, built_groups_have_tables};
 use meta_settings::SettingGroup;
@@ -23,6 +25,7 @@ fn group_tables(alloc: Global, groups: &[SettingGroup]) -> Result<Vec<GroupTable
     requires { (k : ℕ) (g : Layout) → slice_get groups.now k ≡ Some g → IsBuiltLayout g }
     ensures count { IfOk result (λ v. length v.items ≡ length groups.now) }
     ensures tables { IfOk result (λ v. (k : ℕ) (g : Layout) (t : GroupContents) → slice_get groups.now k ≡ Some g → slice_get v.items k ≡ Some t → AreTablesOfGroup g t) }
+    ensures well_formed { IfOk result (λ v. All IsWellFormedGroup v.items) }
 {
     let mut tables = Vec::with_capacity(alloc, groups.len())?;
     for k in 0..groups.len() {
@@ -31,23 +34,35 @@ fn group_tables(alloc: Global, groups: &[SettingGroup]) -> Result<Vec<GroupTable
     Ok(tables)
 }
 
-/// The tables of the declarations. They are refused exactly where the declarations show a fault, by the first one that they
-/// show, with its numbers; `OutOfMemory` may come in any case (this project's own, in place of the writers of `gen_inst.rs`
-/// and `gen_settings.rs`).
+/// The tables of what is built of declarations. The only error is want of memory (this project's own, in place of the writers of
+/// `gen_inst.rs` and `gen_settings.rs`).
 ///
 /// The tables hold each instruction, in order, under its name: opcode 1 is the first. Read by the decoding, they allow
 /// exactly what the declarations accept, and they give exactly the results that the declarations infer. They hold each group of
 /// settings, in order.
+pub fn tables_of(alloc: Global, built: &Built<'_>) -> Result<Tables, AllocError>
+    ensures tables { IfOk result (λ t. AreWholeTablesOf built.now.declared t) }
+    ensures well_formed { IfOk result IsWellFormed }
+    ensures acceptance { IfOk result (λ t. (op : ℕ) (c e : Option ℕ) (rs vs : List ℕ) → (Allows t.opcodes op c e rs vs ↔ AcceptsOpcode built.now.declared.set op c e rs vs)) }
+    ensures inference { IfOk result (λ t. (op : ℕ) (c e : Option ℕ) (numbers : List ℕ) → (GivesResults t.opcodes op c e numbers ↔ InfersOpcode built.now.declared.set op c e numbers)) }
+{
+    built_groups_have_tables();
+    let _declarations = built.declarations();
+    let opcodes = OpcodeTables::of(alloc, built)?;
+    let groups = group_tables(alloc, built.groups())?;
+    Ok(Tables::new(opcodes, groups))
+}
+
+/// The tables of the declarations, as `tables_of` makes them. They are refused exactly where the declarations show a fault, by the
+/// first one that they show, with its numbers; `OutOfMemory` may come in any case (this project's own).
 pub fn generate(alloc: Global, declarations: &Declarations) -> Result<Tables, DefinitionError>
     ensures refused { IfErr result (λ e. e ≢ OutOfMemory → ShowsFirst declarations.now e) }
     ensures valid { OnOk result (AreValid declarations.now) }
     ensures tables { IfOk result (λ t. AreWholeTablesOf declarations.now t) }
+    ensures well_formed { IfOk result IsWellFormed }
     ensures acceptance { IfOk result (λ t. (op : ℕ) (c e : Option ℕ) (rs vs : List ℕ) → (Allows t.opcodes op c e rs vs ↔ AcceptsOpcode declarations.now.set op c e rs vs)) }
     ensures inference { IfOk result (λ t. (op : ℕ) (c e : Option ℕ) (numbers : List ℕ) → (GivesResults t.opcodes op c e numbers ↔ InfersOpcode declarations.now.set op c e numbers)) }
 {
-    built_groups_have_tables();
     let built = build_all(alloc, declarations)?;
-    let opcodes = OpcodeTables::of(alloc, &built)?;
-    let groups = group_tables(alloc, built.groups())?;
-    Ok(Tables::new(opcodes, groups))
+    Ok(tables_of(alloc, &built)?)
 }

@@ -1,17 +1,23 @@
 //! The tables of declarations, and how they are read.
 //!
-//! `generate` refuses `Declarations` by their first fault, or makes `Tables` of what is built of them. `Tables::accepts2` is the
-//! decoding, and `Tables::infer_results2` gives the types that it leaves no choice for.
+//! `generate` refuses `Declarations` by their first fault, or makes `Tables` of what is built of them, as `tables_of` does, and
+//! `tables_from_parts` makes them of parts that are well-formed. `Tables::accepts2` is the decoding, and `Tables::infer_results2`
+//! gives the types that it leaves no choice for.
 #![tactic(auto)]
 
 mod generation;
+mod parts;
 mod same;
 mod tables;
 
-pub use generation::generate;
+pub use generation::{generate, tables_of};
 pub use meta_declared::{Built, Declarations, build_all, one_first_fault};
 pub use meta_opcode_tables::{
     Constraint, OpcodeConstraints, equal_constraints, tables_mean_the_declarations,
+    tables_of_valid_declarations_are_well_formed,
 };
-pub use meta_setting_tables::{Descriptor, Detail, built_groups_have_tables};
+pub use meta_setting_tables::{
+    Descriptor, Detail, GroupParts, built_groups_have_tables, built_groups_have_well_formed_tables,
+};
+pub use parts::{TableParts, one_table_has_all_parts, tables_from_parts};
 pub use tables::Tables;

@@ -1,4 +1,4 @@
-ghost use Rattle.std.specs.Prelude.{◌≡◌, ◌≢◌, ◌↔◌, ◌≤◌, ◌+◌, ◌<◌, ℕ, List, Option, IsTrue, IsSome, IfSome, IfNone, length, map, take, drop, slice_get, slice_index_or, None, Some, false};
+ghost use Rattle.std.specs.Prelude.{◌≡◌, ◌≢◌, ◌↔◌, ◌≤◌, ◌+◌, ◌<◌, ℕ, List, Option, All, IsTrue, IsSome, IfSome, IfNone, length, map, take, drop, slice_get, slice_index_or, None, Some, false};
 ghost use Rattle.std.specs.Option.{option_map};
 ghost use Rattle.meta_lists.specs.First.{IsFirst};
 ghost use Rattle.meta_typevar.specs.Registry.{HoldTypeSets};
@@ -18,6 +18,9 @@ ghost use Rattle.meta_setting_tables.specs.FoundSetting.{entry_count, FindsEntry
 ghost use Rattle.meta_setting_tables.specs.PresetMasks.{AreJoined};
 ghost use Rattle.meta_setting_tables.specs.GroupTables.{names_in, IsPresetIn, AreTablesOfGroup, default_in, AnswersDefault, Applies};
 ghost use Rattle.meta_declared.specs.AllDeclared.{Declared};
+ghost use Rattle.meta_opcode_tables.specs.WellFormed.{IsWellFormedOpcodes};
+ghost use Rattle.meta_setting_tables.specs.WellFormed.{IsWellFormedGroup};
+ghost use Rattle.meta_gen.specs.WellFormed.{IsWellFormed};
 ghost use Rattle.meta_gen.specs.WholeTables.{OfGroup, HasNoGroup, part_in, AreWholeTablesOf, FindsSetting};
 
 use super::same::same_groups;
@@ -32,7 +35,7 @@ use std::sync::ledger::Ledger;
 /// The tables of declarations (this project's own). Of the instruction set they have by opcode the name, the name of the format
 /// and the constraints, the type sets and the one list of operand constraints that these refer to, and the slots by which a name
 /// is looked up; opcodes are numbered from 1. Of each group of settings they have its entries, and what is found by an entry;
-/// groups and entries are numbered from 0.
+/// groups and entries are numbered from 0. They are well-formed: what they refer to is there.
 #[derive(Debug, Drop)]
 pub struct Tables {
     opcodes: OpcodeTables,
@@ -41,15 +44,20 @@ pub struct Tables {
 
 impl Model for Tables {
     ghost use Rattle.meta_gen.specs.WholeTables.{WholeTables};
+    ghost use Rattle.meta_gen.specs.WellFormed.{IsWellFormed};
 
     ghost Value = { WholeTables };
 
     ghost view = { λ t. record { opcodes = t.opcodes; groups = t.groups.items } };
+
+    ghost invariant = { λ t. IsWellFormed (record { opcodes = t.opcodes; groups = t.groups.items }) };
 }
 
 impl Tables {
     /// The tables with these parts.
     pub(crate) fn new(opcodes: OpcodeTables, groups: Vec<GroupTables>) -> Tables
+        requires opcodes { IsWellFormedOpcodes opcodes }
+        requires groups { All IsWellFormedGroup groups.items }
         ensures { result ≡ record { opcodes = opcodes; groups = groups.items } }
     {
         Tables { opcodes, groups }
@@ -60,6 +68,7 @@ impl Tables {
         ensures count { result ≡ length self.now.opcodes.entries }
         ensures named { length self.now.opcodes.names ≡ length self.now.opcodes.entries }
         ensures few { length self.now.opcodes.entries ≤ 4095 }
+        ensures well_formed { IsWellFormed self.now }
     {
         self.opcodes.opcode_count()
     }

@@ -17,12 +17,12 @@ use Rattle.meta_opcode_tables.specs.Entries.{CanEnter, HoldNeeded}
 use Rattle.meta_opcode_tables.proofs.Held.{needed_held}
 
 -- few results, and few inputs
-few_results : (b : Builder) → ((count : ℕ) → HasTooManyOperands b count → ⊥) → length (variables_of (outputs_of b)) ≤ 7
+pub few_results : (b : Builder) → ((count : ℕ) → HasTooManyOperands b count → ⊥) → length (variables_of (outputs_of b)) ≤ 7
 few_results b small =
     let few : 7 < length (variables_of (outputs_of b)) → ⊥ = λ l. small (length (variables_of (outputs_of b))) (inl (l, refl)) in
     omega arith
 
-few_values : (b : Builder) → ((count : ℕ) → HasTooManyOperands b count → ⊥) → length (variables_of (inputs_of b)) ≤ 7
+pub few_values : (b : Builder) → ((count : ℕ) → HasTooManyOperands b count → ⊥) → length (variables_of (inputs_of b)) ≤ 7
 few_values b small =
     let results = few_results b small in
     let few : 7 < length (variables_of (inputs_of b)) → ⊥ = λ l. small (length (variables_of (inputs_of b))) (inr (results, l, refl)) in

@@ -4,7 +4,7 @@ use Rattle.std.proofs.lemmas.Option.{same_Some, slice_get-get_or, slice_get_with
 use Rattle.std.proofs.Math.ListN.{set}
 use Rattle.std.proofs.lemmas.List.{length-take-le, get_or-set_same, get_or-set_other}
 use Rattle.meta_lists.proofs.Places.{same_places, get_take, get_drop, get_beside}
-use Rattle.meta_types.specs.TypeParts.{TypeParts, number_of}
+use Rattle.meta_types.specs.TypeParts.{number_of}
 use Rattle.meta_types.specs.DerivedFunc.{function_of}
 use Rattle.meta_types.specs.Function.{Function, AnswersNumber}
 use Rattle.meta_types.specs.declared.derived_func.DerivedFunc.{DerivedFunc}

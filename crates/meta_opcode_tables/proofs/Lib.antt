@@ -16,3 +16,15 @@ mod Masked
 mod Made
 pub mod Derivations
 pub mod Inferring
+-- tables of valid declarations are well-formed
+pub mod ValidNames
+mod ValidSets
+mod ValidLists
+mod ValidEntries
+mod Valid
+-- parts that are well-formed
+pub mod MaskTests
+mod PartsTested
+-- and parts have one table at most
+mod OneFilling
+mod OneTable

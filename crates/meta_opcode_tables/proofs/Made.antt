@@ -5,7 +5,7 @@ use Rattle.std.proofs.lemmas.List.{take_more, map-append, length-map}
 use Rattle.meta_lists.proofs.Pushed.{stays, last}
 use Rattle.meta_typevar.specs.TypeSetParts.{TypeSetParts}
 use Rattle.meta_typevar.specs.declared.masks.Masks.{Masks}
-use Rattle.meta_declared.specs.Needed.{StandForSets, AreSetsByNeed}
+use Rattle.meta_declared.specs.Needed.{StandForSets, AreSetsByNeed, AreNeededMasks}
 use Rattle.meta_operands.specs.declared.format.InstructionFormat.{InstructionFormat}
 use Rattle.meta_inst.specs.Builder.{Builder}
 use Rattle.meta_inst.specs.InstructionSet.{InstructionSet}
@@ -15,7 +15,8 @@ use Rattle.meta_opcode_tables.specs.declared.constraint.Constraint.{Constraint}
 use Rattle.meta_opcode_tables.specs.declared.constraint.OpcodeConstraints.{OpcodeConstraints}
 use Rattle.meta_opcode_tables.specs.Constraint.{entry_of}
 use Rattle.meta_opcode_tables.specs.Contents.{OpcodeNames, contents_of}
-use Rattle.meta_opcode_tables.specs.TablesOf.{IsFormatName, AreFormatNames, AreTablesOf}
+use Rattle.meta_opcode_tables.specs.ConstraintLists.{AreOverlapped}
+use Rattle.meta_opcode_tables.specs.TablesOf.{HoldsInstruction, IsFormatName, AreFormatNames, AreTablesOf}
 use Rattle.meta_opcode_tables.specs.Entries.{IsHeldAt, AreAdded}
 use Rattle.meta_opcode_tables.proofs.Held.{instruction_held, are_overlapped}
 use Rattle.meta_unique.specs.NameSlots.{AreNameSlots}
@@ -44,14 +45,38 @@ one_format_more formats instructions old new x place b format added count at is 
     subst (λ y. IsFormatName formats y new place) (same_Some b c (sym at ∙ at_c)) here)
     k below c at_k
 
+-- what tables of declarations have of them, but for the slots
+pub record HoldDeclared (d : InstructionSet) (tables : TableContents) : Type 0 where
+  pub names : tables.names ≡ names_of d
+  pub formats : AreFormatNames d.formats d.instructions tables.formats
+  pub type_sets : AreNeededMasks d tables.type_sets
+  pub operand_constraints : AreOverlapped d tables
+  pub count : length tables.entries ≡ length d.instructions
+  pub holds : (k : ℕ) (b : Builder) → IsAt d k b → HoldsInstruction d tables k b
+
 -- the parts make the tables of the declarations
-pub tables_made : (d : InstructionSet) (names : OpcodeNames) (masks : List Masks) (type_sets : List TypeSetParts) (constraints : List Constraint) (entries : List OpcodeConstraints) (lists : List (List Constraint)) (tables : TableContents) → tables ≡ contents_of names masks constraints entries → AreSetsByNeed d type_sets → StandForSets masks type_sets → names.names ≡ names_of d → AreFormatNames d.formats d.instructions names.formats → AreNameSlots 1 names.names names.slots → length entries ≡ length d.instructions → ((k : ℕ) (b : Builder) → IsAt d k b → IsHeldAt d.vars d.formats type_sets constraints entries k b) → AreAdded d.vars d.formats d.instructions type_sets constraints entries lists → AreTablesOf d tables
-tables_made d names masks type_sets constraints entries lists tables made needed stand named formatted slots counted holds added = subst (AreTablesOf d) (sym made) (record {
-  names = named;
-  formats = formatted;
-  opcode_slots = slots;
-  type_sets = record { sets = type_sets; are_needed = needed; stand = stand };
-  operand_constraints = are_overlapped d type_sets (contents_of names masks constraints entries) constraints entries lists stand refl refl counted added;
-  count = length-map entries entry_of ∙ counted;
-  holds = λ k b at. instruction_held d.vars d.formats type_sets d.instructions (contents_of names masks constraints entries) constraints entries stand refl refl k b (holds k b at);
-})
+module _ (d : InstructionSet) (names : OpcodeNames) (masks : List Masks) (type_sets : List TypeSetParts) (constraints : List Constraint) (entries : List OpcodeConstraints) (lists : List (List Constraint))
+    (needed : AreSetsByNeed d type_sets) (stand : StandForSets masks type_sets) (named : names.names ≡ names_of d) (formatted : AreFormatNames d.formats d.instructions names.formats) (counted : length entries ≡ length d.instructions)
+    (holds : (k : ℕ) (b : Builder) → IsAt d k b → IsHeldAt d.vars d.formats type_sets constraints entries k b) (added : AreAdded d.vars d.formats d.instructions type_sets constraints entries lists) where
+  pub parts_made : HoldDeclared d (contents_of names masks constraints entries)
+  parts_made = record {
+    names = named;
+    formats = formatted;
+    type_sets = record { sets = type_sets; are_needed = needed; stand = stand };
+    operand_constraints = are_overlapped d type_sets (contents_of names masks constraints entries) constraints entries lists stand refl refl counted added;
+    count = length-map entries entry_of ∙ counted;
+    holds = λ k b at. instruction_held d.vars d.formats type_sets d.instructions (contents_of names masks constraints entries) constraints entries stand refl refl k b (holds k b at);
+  }
+
+  pub tables_made : (tables : TableContents) → tables ≡ contents_of names masks constraints entries → AreNameSlots 1 names.names names.slots → AreTablesOf d tables
+  tables_made tables made slots =
+      let h = parts_made in
+      subst (AreTablesOf d) (sym made) (record {
+        names = h.names;
+        formats = h.formats;
+        opcode_slots = slots;
+        type_sets = h.type_sets;
+        operand_constraints = h.operand_constraints;
+        count = h.count;
+        holds = h.holds;
+      })

@@ -7,7 +7,9 @@ use Rattle.meta_lists.proofs.Places.{get_stays, get_right, get_cases}
 use Rattle.meta_typevar.specs.Registry.{HoldTypeSets}
 use Rattle.meta_inst.specs.InstructionSet.{InstructionSet}
 use Rattle.meta_inst.specs.Which.{Which, both}
-use Rattle.meta_meaning.specs.Tables.{TableContents, OpcodeNumbers, NumberConstraint, NumberPasses, PassesAt, ControlNumberFits, Allows, at_opcode, result_count, value_count}
+use Rattle.meta_typevar.specs.Masks.{ContainsNumber}
+use Rattle.meta_typevar.specs.declared.masks.Masks.{Masks}
+use Rattle.meta_meaning.specs.Tables.{TableContents, OpcodeNumbers, NumberConstraint, NumberPasses, SetContains, PassesAt, ControlNumberFits, Allows, at_opcode, result_count, value_count}
 use Rattle.meta_opcode_tables.specs.TablesOf.{AreTablesOf, AcceptsOpcode}
 use Rattle.meta_opcode_tables.specs.Constraint.{number_constraint_of}
 use Rattle.meta_opcode_tables.specs.Contents.{AllPass}
@@ -91,3 +93,14 @@ one_refused tables c offset numbers k n at fails all = fails (all k n at)
 -- behind its end a list of constraints has none
 pub none_mapped : (xs : List Constraint) (place : ℕ) → length xs ≤ place → slice_get (map number_constraint_of xs) place ≡ None
 none_mapped xs place past = slice_get_past (map number_constraint_of xs) place (subst (λ n. n ≤ place) (sym (length-map xs number_constraint_of)) past)
+
+-- the masks at a place decide whether the type set there contains a number
+pub contains_read : (tables : TableContents) (place n : ℕ) (masks : Masks) (r : Bool) → slice_get tables.type_sets place ≡ Some masks → IsTrue r ↔ ContainsNumber masks n → IsTrue r ↔ SetContains tables place n
+contains_read tables place n masks r at told = (
+  (λ t. record { masks = masks; is_set = at; contains = told.0 t }),
+  (λ s. told.1 (subst (λ m. ContainsNumber m n) (same_Some s.masks masks (sym s.is_set ∙ at)) s.contains)),
+)
+
+-- where there is no type set none contains it
+pub contains_none : (tables : TableContents) (place n : ℕ) (read : List Masks) → read ≡ tables.type_sets → length read ≤ place → IsTrue false ↔ SetContains tables place n
+contains_none tables place n read is past = refused (λ s. let none : slice_get tables.type_sets place ≡ None = slice_get_past tables.type_sets place (subst (λ (xs : List Masks). length xs ≤ place) is past) in let e : None ≡ Some s.masks = sym none ∙ s.is_set in cc)

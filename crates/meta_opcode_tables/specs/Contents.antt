@@ -1,16 +1,15 @@
 -- Tables as the code keeps them, and what stands there for an opcode.
 --     contents_of names type_sets operand_constraints constraints     the tables that are kept as these lists
---     AreIndexed names entries                                        each entry has a name of its own, which the slots find
+--     AreKept tables                                                  what kept tables meet
 --     IsOpcode tables op                                              op is an opcode of the tables
 use Rattle.std.specs.Prelude.{◌≡◌, ◌<◌, ◌≤◌, ◌+◌, ℕ, List, length, map, slice_get, Contains, Option, None, Some}
-use Rattle.meta_types.specs.SharedNames.{AreDifferentNames}
 use Rattle.meta_typevar.specs.declared.masks.Masks.{Masks}
 use Rattle.meta_inst.specs.Which.{Which}
 use Rattle.meta_meaning.specs.Tables.{TableContents, at_opcode, PassesAt}
 use Rattle.meta_opcode_tables.specs.declared.constraint.Constraint.{Constraint}
 use Rattle.meta_opcode_tables.specs.declared.constraint.OpcodeConstraints.{OpcodeConstraints}
 use Rattle.meta_opcode_tables.specs.Constraint.{number_constraint_of, entry_of}
-use Rattle.meta_unique.specs.NameSlots.{AreNameSlots}
+use Rattle.meta_opcode_tables.specs.WellFormed.{IsWellFormedOpcodes}
 
 -- what tables have of names: by opcode the name and the name of the format, and the slots of the names
 pub record OpcodeNames : Type 0 where
@@ -29,15 +28,10 @@ contents_of names type_sets operand_constraints constraints = record {
   entries = map entry_of constraints;
 }
 
--- there are as many names and names of formats as entries, at most 4,095; no name stands twice, and the slots are those of the
--- names, one of them vacant
-pub record AreIndexed (names : OpcodeNames) (constraints : List OpcodeConstraints) : Type 0 where
-  pub named : length names.names ≡ length constraints
-  pub formatted : length names.formats ≡ length constraints
-  pub few : length constraints ≤ 4095
-  pub different : AreDifferentNames names.names
-  pub slots : AreNameSlots 1 names.names names.slots
-  pub vacant : Contains names.slots None
+-- the tables are well-formed, and one of the slots is vacant
+pub record AreKept (tables : TableContents) : Type 0 where
+  pub well_formed : IsWellFormedOpcodes tables
+  pub vacant : Contains tables.opcode_slots None
 
 -- op is one of the opcodes of the tables, which are numbered from 1
 abbrev pub IsOpcode : TableContents → ℕ → Type 0

@@ -2,6 +2,8 @@ pub mod Constraint
 pub mod Demand
 pub mod ConstraintLists
 pub mod Entries
+pub mod MaskParts
+pub mod WellFormed
 pub mod Contents
 pub mod TablesOf
 pub mod Found

@@ -238,6 +238,13 @@ impl OpcodeConstraints {
         self.flags / 8 % 2 == 1
     }
 
+    /// Whether the designated operand's variable controls, and the control doesn't stand at the first result too.
+    pub(crate) fn first_result_differs(self) -> bool
+        ensures { IsTrue result ↔ (self.flags / 16 % 2 ≡ 1) }
+    {
+        self.flags / 16 % 2 == 1
+    }
+
     /// How many value inputs there are.
     pub(crate) fn value_count(self) -> usize
         ensures { result ≡ value_count self.flags }

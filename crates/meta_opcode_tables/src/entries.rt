@@ -1,4 +1,4 @@
-ghost use Rattle.std.specs.Prelude.{◌≡◌, ◌↔◌, ◌<◌, ◌≤◌, ◌+◌, ◌/◌, ◌%◌, ◌^◌, ℕ, List, Bool, false, IsTrue, IfOk, OnOk, IfSome, length, slice_get, take, Some};
+ghost use Rattle.std.specs.Prelude.{◌≡◌, ◌↔◌, ◌<◌, ◌≤◌, ◌+◌, ◌/◌, ◌%◌, ◌^◌, ℕ, List, Bool, false, IsTrue, IfOk, OnOk, IfSome, length, slice_get, take, All, Some};
 ghost use Rattle.meta_typevar.specs.Registry.{sets_of, variable_at, IsRegistry};
 ghost use Rattle.meta_typevar.specs.declared.content.TypeVarContent.{TypeVarContent};
 ghost use Rattle.meta_inst.specs.Builder.{Builder};
@@ -119,6 +119,7 @@ fn entry_of(
     ensures added { IfOk result (λ e. IsAdded vars.now (instruction_of_operands vars.now instruction.now.value_operands) type_sets.now constraints.old constraints.new e) }
     ensures stays { OnOk result (StaysIn constraints.old constraints.new) }
     ensures count { OnOk result (length constraints.new ≤ length constraints.old + 14) }
+    ensures byte { IfOk result (λ e. e.flags < 256) }
 {
     let operands = instruction.value_operands();
     let control = instruction.ctrl_typevar();
@@ -182,6 +183,7 @@ pub(crate) fn entries(
     requires valid { IsValid built.now.declared.set }
     requires fits { Fits built.now.declared.set.vars built.now.declared.set.formats built.now.declared.set.instructions }
     ensures count { IfOk result (λ r. length r.entries.items ≡ length built.now.declared.set.instructions) }
+    ensures bytes { IfOk result (λ r. All (λ e. e.flags < 256) r.entries.items) }
     ensures holds { IfOk result (λ r. (k : ℕ) (b : Builder) → IsAt built.now.declared.set k b → IsHeldAt built.now.declared.set.vars built.now.declared.set.formats built.now.type_sets r.constraints.items r.entries.items k b) }
     ensures added { IfOk result (λ r. (lists : List (List Constraint)) × AreAdded built.now.declared.set.vars built.now.declared.set.formats built.now.declared.set.instructions built.now.type_sets r.constraints.items r.entries.items lists) }
 {

@@ -1,10 +1,14 @@
-ghost use Rattle.std.specs.Prelude.{◌≡◌, ◌↔◌, ℕ, List, Option, IsTrue};
+ghost use Rattle.std.specs.Prelude.{◌≡◌, ◌↔◌, ◌<◌, ℕ, List, Option, IsTrue, All};
 ghost use Rattle.meta_typevar.specs.Registry.{HoldTypeSets};
 ghost use Rattle.meta_inst.specs.InstructionSet.{InstructionSet};
-ghost use Rattle.meta_meaning.specs.Tables.{TableContents, Allows};
+ghost use Rattle.meta_typevar.specs.declared.masks.Masks.{Masks};
+ghost use Rattle.meta_inst.specs.Faults.{IsValid};
+ghost use Rattle.meta_meaning.specs.Tables.{TableContents, OpcodeNumbers, Allows};
 ghost use Rattle.meta_opcode_tables.specs.TablesOf.{AreTablesOf, AcceptsOpcode};
 ghost use Rattle.meta_opcode_tables.specs.ConstraintLists.{same_constraint};
+ghost use Rattle.meta_opcode_tables.specs.WellFormed.{IsWellFormedOpcodes, HaveParts};
 ghost use Rattle.meta_opcode_tables.specs.declared.constraint.Constraint.{Constraint};
+ghost use Rattle.meta_opcode_tables.specs.declared.constraint.OpcodeConstraints.{OpcodeConstraints};
 
 /// The tables mean the declarations: where they are those of declarations whose variables have sets of types, the decoding
 /// allows exactly those numbers, of all numbers, that the declarations accept.
@@ -15,4 +19,15 @@ pub fn tables_mean_the_declarations()
 /// Two operand constraints compare equal exactly where they are the same.
 pub fn equal_constraints()
     ensures { (x y : Constraint) → (IsTrue (same_constraint x y) ↔ x ≡ y) }
+{}
+
+/// Tables of valid declarations, whose variables have sets of types, are well-formed, where their flags are eight bits, as they
+/// always are in `OpcodeTables`.
+pub fn tables_of_valid_declarations_are_well_formed()
+    ensures { (d : InstructionSet) (tables : TableContents) → IsValid d → HoldTypeSets d.vars → AreTablesOf d tables → All (λ (e : OpcodeNumbers). e.flags < 256) tables.entries → IsWellFormedOpcodes tables }
+{}
+
+/// The slots follow from the names, so that parts have one well-formed table at most.
+pub fn one_table_has_the_parts()
+    ensures { (names formats : List (List ℕ)) (type_sets : List Masks) (operand_constraints : List Constraint) (constraints : List OpcodeConstraints) (one other : TableContents) → IsWellFormedOpcodes one → IsWellFormedOpcodes other → HaveParts one names formats type_sets operand_constraints constraints → HaveParts other names formats type_sets operand_constraints constraints → one ≡ other }
 {}

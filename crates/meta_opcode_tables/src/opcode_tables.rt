@@ -2,13 +2,13 @@ ghost use Rattle.std.specs.Prelude.{◌≡◌, ◌≢◌, ◌↔◌, ◌≤◌, 
 ghost use Rattle.meta_lists.specs.First.{IsFirst};
 ghost use Rattle.meta_types.specs.DerivedFunc.{function_of};
 ghost use Rattle.meta_types.specs.Function.{StepsNumbers};
-ghost use Rattle.meta_types.specs.SharedNames.{AreDifferentNames};
 ghost use Rattle.meta_typevar.specs.Registry.{HoldTypeSets};
 ghost use Rattle.meta_inst.specs.InstructionSet.{InstructionSet};
 ghost use Rattle.meta_inst.specs.Which.{both};
 ghost use Rattle.meta_meaning.specs.Tables.{TableContents, at_opcode, Allows, SetContains, ControlNumberFits, NumberPasses, PassesAt};
 ghost use Rattle.meta_opcode_tables.specs.TablesOf.{AreTablesOf, AcceptsOpcode};
 ghost use Rattle.meta_opcode_tables.specs.Constraint.{number_constraint_of, entry_of};
+ghost use Rattle.meta_opcode_tables.specs.WellFormed.{AreWellFormedParts, IsWellFormedOpcodes};
 ghost use Rattle.meta_opcode_tables.specs.Contents.{contents_of, IsOpcode, IsOpcodeNamed, AllPass};
 ghost use Rattle.meta_opcode_tables.specs.ConstraintLists.{same_constraint};
 ghost use Rattle.meta_unique.specs.NameSlots.{AreNameSlots, NameAnswers, IsNameLookup};
@@ -31,7 +31,7 @@ use std::sync::ledger::Ledger;
 
 /// The tables of an instruction set: by opcode its name, the name of its format and its constraints, the type sets and the
 /// one list of operand constraints that these refer to, and the slots by which a name is looked up (this project's own).
-/// Opcodes are numbered from 1.
+/// Opcodes are numbered from 1. They are well-formed: what they refer to is there.
 #[derive(Debug, Drop)]
 pub struct OpcodeTables {
     names: Vec<Text>,
@@ -44,13 +44,13 @@ pub struct OpcodeTables {
 
 impl Model for OpcodeTables {
     ghost use Rattle.meta_meaning.specs.Tables.{TableContents};
-    ghost use Rattle.meta_opcode_tables.specs.Contents.{contents_of, AreIndexed};
+    ghost use Rattle.meta_opcode_tables.specs.Contents.{contents_of, AreKept};
 
     ghost Value = { TableContents };
 
     ghost view = { λ t. contents_of (record { names = t.names.items; formats = t.formats.items; slots = t.opcode_slots.items }) t.type_sets.items t.operand_constraints.items t.constraints.items };
 
-    ghost invariant = { λ t. AreIndexed (record { names = t.names.items; formats = t.formats.items; slots = t.opcode_slots.items }) t.constraints.items };
+    ghost invariant = { λ t. AreKept (contents_of (record { names = t.names.items; formats = t.formats.items; slots = t.opcode_slots.items }) t.type_sets.items t.operand_constraints.items t.constraints.items) };
 }
 
 /// The number of the first opcode.
@@ -85,6 +85,7 @@ impl OpcodeTables {
     /// declarations infer. The only error is want of memory.
     pub fn of(alloc: Global, built: &Built<'_>) -> Result<OpcodeTables, AllocError>
         ensures tables { IfOk result (λ t. AreTablesOf built.now.declared.set t) }
+        ensures well_formed { IfOk result IsWellFormedOpcodes }
         ensures acceptance { IfOk result (λ t. (op : ℕ) (c e : Option ℕ) (rs vs : List ℕ) → (Allows t op c e rs vs ↔ AcceptsOpcode built.now.declared.set op c e rs vs)) }
         ensures inference { IfOk result (λ t. (op : ℕ) (c e : Option ℕ) (numbers : List ℕ) → (GivesResults t op c e numbers ↔ InfersOpcode built.now.declared.set op c e numbers)) }
     {
@@ -104,8 +105,8 @@ impl OpcodeTables {
         )
     }
 
-    /// The tables with these parts, the names, the names of the formats and the constraints by opcode. No name stands twice.
-    fn new(
+    /// The tables with these parts, the names, the names of the formats and the constraints by opcode.
+    pub(crate) fn new(
         alloc: Global,
         names: Vec<Text>,
         formats: Vec<Text>,
@@ -113,12 +114,10 @@ impl OpcodeTables {
         operand_constraints: Vec<Constraint>,
         constraints: Vec<OpcodeConstraints>,
     ) -> Result<OpcodeTables, AllocError>
-        requires named { length names.items ≡ length constraints.items }
-        requires formatted { length formats.items ≡ length constraints.items }
-        requires few { length constraints.items ≤ 4095 }
-        requires different { AreDifferentNames names.items }
+        requires { AreWellFormedParts names.items formats.items type_sets.items (map number_constraint_of operand_constraints.items) (map entry_of constraints.items) }
         ensures parts { IfOk result (λ t. t ≡ contents_of (record { names = names.items; formats = formats.items; slots = t.opcode_slots }) type_sets.items operand_constraints.items constraints.items) }
         ensures slots { IfOk result (λ t. AreNameSlots 1 names.items t.opcode_slots) }
+        ensures well_formed { IfOk result IsWellFormedOpcodes }
     {
         let opcode_slots = opcode_slots(alloc, &names)?;
         Ok(OpcodeTables {
@@ -136,6 +135,7 @@ impl OpcodeTables {
         ensures count { result ≡ length self.now.entries }
         ensures named { length self.now.names ≡ length self.now.entries }
         ensures few { length self.now.entries ≤ 4095 }
+        ensures well_formed { IsWellFormedOpcodes self.now }
     {
         self.constraints.len() as u16
     }

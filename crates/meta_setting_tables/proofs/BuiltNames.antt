@@ -1,11 +1,12 @@
 -- The entries of a group that is built of a valid declaration have different names.
-use Rattle.std.proofs.Common.{◌≡◌, ◌⊎◌, inl, inr, ⊎_elim, ℕ, ◌+◌, zero, suc, Bool, true, false, not, cond, List, [], ◌∷◌, ◌++◌, length, map, slice_get, Some, refl, sym, ap, ◌∙◌, subst, arith}
+use Rattle.std.proofs.Common.{◌≡◌, ◌⊎◌, inl, inr, ⊎_elim, ℕ, ◌+◌, ◌<◌, zero, suc, Bool, true, false, not, cond, List, [], ◌∷◌, ◌++◌, length, map, slice_get, Some, refl, sym, ap, ◌∙◌, subst, arith}
 use Rattle.std.specs.Prelude.{filter}
+use Rattle.std.proofs.lemmas.Bool.{cases_order}
 use Rattle.std.proofs.lemmas.List.{map-append}
 use Rattle.std.proofs.lemmas.Option.{slice_get_within, same_Some}
 use Rattle.meta_lists.proofs.Places.{get_cases}
 use Rattle.meta_lists.proofs.Mapped.{get_map, get_mapped}
-use Rattle.meta_types.specs.SharedNames.{AreDifferentNames}
+use Rattle.meta_types.specs.SharedNames.{SharesName, AreDistinct, AreDifferentNames}
 use Rattle.meta_settings.specs.GroupDeclaration.{SettingDeclaration, PresetDeclaration, GroupDeclaration, Entry, is_bool, has_own_byte, booleans_among, others_among, start_of, setting_entry, preset_entry, entries_of, names_of}
 use Rattle.meta_settings.specs.GroupFaults.{DuplicateRule, OfEntry, IsValidGroup}
 use Rattle.meta_settings.specs.Layout.{PlacedSetting, BuiltPreset}
@@ -14,7 +15,7 @@ use Rattle.meta_settings.specs.TurnedOn.{built_preset, presets_after, built_pres
 use Rattle.meta_setting_tables.specs.FoundSetting.{entry_names}
 use Rattle.meta_types.proofs.SharedNames.{distinct_differ}
 use Rattle.meta_setting_tables.proofs.Joining.{filter_from}
-use Rattle.meta_setting_tables.proofs.BuiltGroups.{entry_setting, entry_preset}
+use Rattle.meta_setting_tables.proofs.BuiltGroups.{entry_setting, entry_preset, setting_from_declared, preset_from_declared}
 
 -- ---- names that are apart
 
@@ -50,19 +51,63 @@ apart_append xs ys first second across i j n e f = go (get_cases xs ys i n e) (g
     go (inr a) (inl b) = absurd (across j a.0 n b a.2)
     go (inr a) (inr b) = let same = second a.0 b.0 n a.2 b.2 in let x = a.1 in let y = b.1 in omega (arith, same, x, y)
 
+-- of distinct names no two are shared
+module _ (names : List (List ℕ)) (distinct : AreDistinct names) where
+  none_earlier : (n j k : ℕ) (a b : List ℕ) → j < n → j < k → slice_get names j ≡ Some a → slice_get names k ≡ Some b → SharesName a b → ⊥
+  none_earlier zero j k a b l before at_j at_k shares = omega arith
+  none_earlier (suc n) j k a b l before at_j at_k shares = distinct k j (record {
+    name = b;
+    earlier = a;
+    is_name = at_k;
+    is_earlier = at_j;
+    before = before;
+    shares = shares;
+    first = λ i other less there s. none_earlier n i k other b (omega arith) (omega arith) there at_k s;
+  })
+
+  two_apart : (j k : ℕ) (a b : List ℕ) → slice_get names j ≡ Some a → slice_get names k ≡ Some b → SharesName a b → j ≡ k
+  two_apart j k a b at_j at_k shares = elim (cases_order j k) [
+    | inl same ↦ same
+    | inr other ↦ elim other [
+      | inl before ↦ absurd (none_earlier (suc j) j k a b (omega arith) before at_j at_k shares)
+      | inr after ↦ absurd (none_earlier (suc k) k j b a (omega arith) after at_k at_j (turned shares))
+    ]
+  ]
+    where
+      turned : SharesName a b → SharesName b a
+      turned (inl e) = inl (sym e)
+      turned (inr e) = inr (sym e)
+
 -- ---- names of what is declared
 
 module _ (d : GroupDeclaration) (valid : IsValidGroup d) where
-  declared_apart : AreDifferentNames (names_of d)
-  declared_apart = distinct_differ (names_of d) (λ k j shared.
+  declared_distinct : AreDistinct (names_of d)
+  declared_distinct k j shared =
       let entry = get_mapped (λ (x : Entry). x.name) (entries_of d) k shared.name shared.is_name in
-      valid 0 (OfEntry k DuplicateRule) _ (entry.0, entry.1, (j, refl, shared)))
+      valid 0 (OfEntry k DuplicateRule) _ (entry.0, entry.1, (j, refl, shared))
+
+  declared_apart : AreDifferentNames (names_of d)
+  declared_apart = distinct_differ (names_of d) declared_distinct
 
   setting_named : (k : ℕ) (s : SettingDeclaration) → slice_get d.settings k ≡ Some s → slice_get (names_of d) k ≡ Some s.name
   setting_named k s e = get_map (λ (x : Entry). x.name) (entries_of d) k (setting_entry s) (entry_setting d valid k s e)
 
   preset_named : (k : ℕ) (p : PresetDeclaration) → slice_get d.presets k ≡ Some p → slice_get (names_of d) (length d.settings + k) ≡ Some p.name
   preset_named k p e = get_map (λ (x : Entry). x.name) (entries_of d) (length d.settings + k) (preset_entry p) (entry_preset d valid k p e)
+
+  -- the name of a built entry is that of a declared one
+  declared_name : (e : ℕ) (n : List ℕ) → slice_get (entry_names (built_of d)) e ≡ Some n → (k : ℕ) × (slice_get (names_of d) k ≡ Some n)
+  declared_name e n at = go (get_cases (map (λ (s : PlacedSetting). s.name) (laid_out d)) (map (λ (p : BuiltPreset). p.name) (built_presets d.presets)) e n at)
+    where
+      go : (slice_get (map (λ (s : PlacedSetting). s.name) (laid_out d)) e ≡ Some n) ⊎ ((j : ℕ) × (e ≡ length (map (λ (s : PlacedSetting). s.name) (laid_out d)) + j) × (slice_get (map (λ (p : BuiltPreset). p.name) (built_presets d.presets)) j ≡ Some n)) → (k : ℕ) × (slice_get (names_of d) k ≡ Some n)
+      go (inl own) =
+          let s = get_mapped (λ (s : PlacedSetting). s.name) (laid_out d) e n own in
+          let f = setting_from_declared d e s.0 s.1 in
+          (f.place, setting_named f.place f.declared f.there ∙ ap Some (sym (ap (λ (s : PlacedSetting). s.name) f.is) ∙ s.2))
+      go (inr other) =
+          let p = get_mapped (λ (p : BuiltPreset). p.name) (built_presets d.presets) other.0 n other.2 in
+          let f = preset_from_declared d.presets other.0 p.0 p.1 in
+          (length d.settings + f.place, preset_named f.place f.declared f.there ∙ ap Some (sym f.name ∙ p.2))
 
   settings_apart : AreDifferentNames (map (λ (s : SettingDeclaration). s.name) d.settings)
   settings_apart i j n e f =
@@ -136,3 +181,13 @@ built_names d valid =
     (λ own. preset_apart d valid has_own_byte i j n own f)
     (λ other. preset_apart d valid is_bool other.0 j n other.2 f)
     (get_cases others booleans i n e)))
+
+pub built_distinct : (d : GroupDeclaration) → IsValidGroup d → AreDistinct (entry_names (built_of d))
+built_distinct d valid k j shared =
+    let m = declared_name d valid j shared.earlier shared.is_earlier in
+    let n = declared_name d valid k shared.name shared.is_name in
+    let before = shared.before in
+    let one : m.0 ≡ n.0 = two_apart (names_of d) (declared_distinct d valid) m.0 n.0 shared.earlier shared.name m.1 n.1 shared.shares in
+    let same : shared.earlier ≡ shared.name = same_Some shared.earlier shared.name (sym m.1 ∙ ap (slice_get (names_of d)) one ∙ n.1) in
+    let place : j ≡ k = built_names d valid j k shared.name (shared.is_earlier ∙ ap Some same) shared.is_name in
+    omega (arith, before, place)

@@ -1,5 +1,5 @@
 -- Default bytes, joined setting by setting.
-use Rattle.std.proofs.Common.{◌≡◌, ◌≢◌, ℕ, ◌+◌, ◌-◌, ◌/◌, ◌%◌, ◌^◌, ◌<◌, max, zero, suc, Bool, true, false, cond, List, [], ◌∷◌, ◌++◌, length, take, slice_get, slice_set, get_or, Some, ◌⊎◌, refl, sym, ap, ◌∙◌, subst, inl, inr, arith}
+use Rattle.std.proofs.Common.{◌≡◌, ◌≢◌, ℕ, ◌+◌, ◌-◌, ◌/◌, ◌%◌, ◌^◌, ◌<◌, ◌≤◌, max, zero, suc, Bool, true, false, cond, List, [], ◌∷◌, ◌++◌, length, take, slice_get, slice_set, get_or, Some, ◌⊎◌, refl, sym, ap, ◌∙◌, subst, inl, inr, arith}
 use Rattle.std.specs.Prelude.{fold, filter}
 use Rattle.std.specs.Int.{bit_at}
 use Rattle.std.specs.Int.RustNames.{bit_or}
@@ -191,3 +191,42 @@ module _ (g : Layout) (built : IsBuiltLayout g) (sized : IsSized g.settings g.bo
       holds = elim (placed k s e) [ inl own ↦ hold_own k s e own.0 own.1 | inr bit ↦ hold_bit k bit.0 s e bit.1 bit.3 ];
     };
   }
+
+-- ---- the bits of a byte
+
+-- a bit that is on came from one of the defaults
+on_from : (i z : ℕ) (xs : List PlacedSetting) → bit_at (fold (λ joined (s : PlacedSetting). bit_or joined (default_byte_of s)) z xs) i ≡ 1 → (bit_at z i ≡ 1) ⊎ ((k : ℕ) × ((s : PlacedSetting) × (slice_get xs k ≡ Some s) × (bit_at (default_byte_of s) i ≡ 1)))
+on_from i z [] on = inl on
+on_from i z (x ∷ xs) on = go (on_from i (bit_or z (default_byte_of x)) xs on)
+  where
+    own : (cases : (bit_at z i ≡ 1) ⊎ (bit_at z i ≡ 1 → ⊥)) → bit_at (bit_or z (default_byte_of x)) i ≡ 1 → (bit_at z i ≡ 1) ⊎ (bit_at (default_byte_of x) i ≡ 1)
+    own (inl e) h = inl e
+    own (inr n) h = inr (max_other (bit_at z i) (bit_at (default_byte_of x) i) (bit_at (bit_or z (default_byte_of x)) i) (bit_at_or z (default_byte_of x) i) h n (bit_at-lt z i))
+      where
+        max_other : (a b m : ℕ) → m ≡ max a b → m ≡ 1 → (a ≡ 1 → ⊥) → a < 2 → b ≡ 1
+        max_other a b m e one n l = omega arith
+
+    first : (bit_at z i ≡ 1) ⊎ (bit_at (default_byte_of x) i ≡ 1) → (bit_at z i ≡ 1) ⊎ ((k : ℕ) × ((s : PlacedSetting) × (slice_get (x ∷ xs) k ≡ Some s) × (bit_at (default_byte_of s) i ≡ 1)))
+    first (inl e) = inl e
+    first (inr e) = inr (0, (x, refl, e))
+
+    go : (bit_at (bit_or z (default_byte_of x)) i ≡ 1) ⊎ ((k : ℕ) × ((s : PlacedSetting) × (slice_get xs k ≡ Some s) × (bit_at (default_byte_of s) i ≡ 1))) → (bit_at z i ≡ 1) ⊎ ((k : ℕ) × ((s : PlacedSetting) × (slice_get (x ∷ xs) k ≡ Some s) × (bit_at (default_byte_of s) i ≡ 1)))
+    go (inl e) = first (own (cases_eq (bit_at z i) 1) e)
+    go (inr h) = inr (suc h.0, h.1)
+
+-- only bits of booleans are on in a byte behind those of the enums and numbers
+pub boolean_on : (g : Layout) → IsBuiltLayout g → IsSized g.settings g.bool_start_byte_offset g.settings_size → (byte bit : ℕ) → g.bool_start_byte_offset ≤ byte → bit_at (joined_at byte g.settings) bit ≡ 1 → (j : ℕ) × (j < length (booleans_in g)) × (byte ≡ g.bool_start_byte_offset + j / 8) × (bit ≡ j % 8)
+boolean_on g built sized byte bit behind on = go (on_from bit 0 (filter (is_in_byte byte) g.settings) on)
+  where
+    go : (bit_at 0 bit ≡ 1) ⊎ ((k : ℕ) × ((s : PlacedSetting) × (slice_get (filter (is_in_byte byte) g.settings) k ≡ Some s) × (bit_at (default_byte_of s) bit ≡ 1))) → (j : ℕ) × (j < length (booleans_in g)) × (byte ≡ g.bool_start_byte_offset + j / 8) × (bit ≡ j % 8)
+    go (inl zero_on) = let off = bit_at-zero bit in absurd (omega (arith, zero_on, off))
+    go (inr h) =
+        let from = filter_from (is_in_byte byte) g.settings h.0 h.1.0 h.1.1 in
+        let same = eqb-true h.1.0.byte_offset byte from.2 in
+        elim (placed g built sized from.0 h.1.0 from.1) [
+          | inl own ↦ let l = own.0 in let b = own.1.byte_is in absurd (omega (arith, same, l, b, behind))
+          | inr at ↦ let b = at.3.byte_is in elim (cases_eq bit (at.0 % 8)) [
+            | inl is ↦ (at.0, at.2, omega (arith, same, b), is)
+            | inr differ ↦ let off = other_bit h.1.0 (g.bool_start_byte_offset + at.0 / 8) (at.0 % 8) at.3 bit differ in let is = h.1.2 in absurd (omega (arith, off, is))
+          ]
+        ]

@@ -8,5 +8,13 @@ pub mod DescribedSoFar
 pub mod Joining
 pub mod Masking
 pub mod WholeGroup
+pub mod Telling
 pub mod BuiltGroups
 pub mod BuiltNames
+pub mod Everywhere
+pub mod EnumeratorsBuilt
+pub mod WellFormedTables
+pub mod Inside
+pub mod Counted
+pub mod SameSlots
+pub mod FromParts

@@ -1,22 +1,20 @@
 -- All the tables of a group.
-use Rattle.std.proofs.Common.{◌≡◌, ⊎_elim, ℕ, ◌+◌, ◌*◌, ◌<◌, ◌≤◌, List, ◌++◌, length, length-append, take, map, slice_get, Some, refl, sym, ap, ◌∙◌, subst, arith}
-use Rattle.std.proofs.Math.Nat.{mul-le-mul_right, mod-lt}
+use Rattle.std.proofs.Common.{◌≡◌, ⊎_elim, ℕ, ◌+◌, ◌<◌, ◌≤◌, List, ◌++◌, length, length-append, take, map, slice_get, Some, sym, ap, ◌∙◌, subst, arith}
 use Rattle.std.proofs.lemmas.List.{length-map, map-append}
 use Rattle.std.proofs.lemmas.Option.{slice_get_within, same_Some}
-use Rattle.meta_lists.proofs.Places.{get_left, get_right, get_cases, get_there}
-use Rattle.meta_settings.specs.declared.setting.BoolSetting.{BoolSetting}
-use Rattle.meta_settings.specs.declared.setting.SpecificSetting.{SpecificSetting}
-use Rattle.meta_settings.specs.declared.setting.SpecificSetting.TheVariants.{Bool as ABool, Enum as AnEnum, Num as ANum}
+use Rattle.meta_lists.proofs.Places.{get_left, get_right}
+use Rattle.meta_settings.specs.declared.setting.SpecificSetting.TheVariants.{Bool as ABool, Enum as AnEnum}
 use Rattle.meta_settings.specs.Layout.{PlacedSetting, BuiltPreset, Layout, IsSized}
-use Rattle.meta_setting_tables.specs.declared.descriptor.Detail.{Detail}
 use Rattle.meta_setting_tables.specs.declared.descriptor.Descriptor.{Descriptor}
 use Rattle.meta_setting_tables.specs.BuiltLayout.{HaveNumbers, IsBuiltLayout}
-use Rattle.meta_setting_tables.specs.Descriptor.{IsDetailOf, DescribesSetting, DescribesEntry, preset_descriptor}
+use Rattle.meta_setting_tables.specs.EnumeratorList.{enumerators_of}
+use Rattle.meta_setting_tables.specs.Descriptor.{DescribesSetting, DescribesEntry, preset_descriptor}
 use Rattle.meta_setting_tables.specs.DefaultBytes.{AreDefaultsOf}
 use Rattle.meta_setting_tables.specs.PresetMasks.{ArePresetMasks}
 use Rattle.meta_setting_tables.specs.FoundSetting.{entry_names, entry_count}
-use Rattle.meta_setting_tables.specs.GroupTables.{names_in, IsInside}
-use Rattle.meta_setting_tables.proofs.Joining.{placed, byte_inside}
+use Rattle.meta_unique.specs.NameSlots.{AreNameSlots}
+use Rattle.meta_setting_tables.specs.GroupTables.{GroupContents, names_in, AreTablesOfGroup}
+use Rattle.meta_setting_tables.proofs.Joining.{placed}
 
 -- the enums are among the first 255 settings
 pub enum_early : (g : Layout) → IsBuiltLayout g → IsSized g.settings g.bool_start_byte_offset g.settings_size → g.settings_size ≤ 255 → (k : ℕ) (s : PlacedSetting) (values : List (List ℕ)) → slice_get g.settings k ≡ Some s → s.specific ≡ AnEnum values → (k < 255) × HaveNumbers values
@@ -25,7 +23,7 @@ enum_early g built sized small k s values at is = (
       (λ own. let l = own.0 in let size = sized.bytes in omega (arith, l, size))
       (λ bit. let bad : ABool bit.3.boolean ≡ AnEnum values = sym bit.3.is_boolean ∙ is in absurd (cc))
       (placed g built sized k s at),
-  built.enums k s values at is,
+  (let good = (built.enums k s values at is).good in record { some = good.some; few = good.few }),
 )
 
 -- what the descriptors say, those of the settings and those of the presets
@@ -34,6 +32,17 @@ pub record AreDescribed (g : Layout) (enumerators : List (List ℕ)) (settings p
   pub described : (k : ℕ) (s : PlacedSetting) (d : Descriptor) → slice_get g.settings k ≡ Some s → slice_get settings k ≡ Some d → DescribesSetting enumerators (take k g.settings) s d
   pub preset_names : names_in presets ≡ map (λ (p : BuiltPreset). p.name) g.presets
   pub preset_described : (k : ℕ) (p : BuiltPreset) → slice_get g.presets k ≡ Some p → slice_get presets k ≡ Some (preset_descriptor g.settings_size k p)
+
+-- they are described where what was read of the group is
+pub described_as : (g : Layout) (enumerators : List (List ℕ)) (settings presets : List Descriptor) (own : List PlacedSetting) (own_presets : List BuiltPreset) (size : ℕ) → own ≡ g.settings → own_presets ≡ g.presets → size ≡ g.settings_size
+    → names_in settings ≡ map (λ (s : PlacedSetting). s.name) own → ((k : ℕ) (s : PlacedSetting) (d : Descriptor) → slice_get own k ≡ Some s → slice_get settings k ≡ Some d → DescribesSetting enumerators (take k own) s d)
+    → names_in presets ≡ map (λ (p : BuiltPreset). p.name) own_presets → ((k : ℕ) (p : BuiltPreset) → slice_get own_presets k ≡ Some p → slice_get presets k ≡ Some (preset_descriptor size k p)) → AreDescribed g enumerators settings presets
+described_as g enumerators settings presets own own_presets size e f s names described preset_names preset_described = record {
+  names = names ∙ ap (map (λ (s : PlacedSetting). s.name)) e;
+  described = λ k s d at there. subst (λ (w : List PlacedSetting). DescribesSetting enumerators (take k w) s d) e (described k s d (ap (λ (w : List PlacedSetting). slice_get w k) e ∙ at) there);
+  preset_names = preset_names ∙ ap (map (λ (p : BuiltPreset). p.name)) f;
+  preset_described = λ k p at. preset_described k p (ap (λ (w : List BuiltPreset). slice_get w k) f ∙ at) ∙ ap (λ n. Some (preset_descriptor n k p)) s;
+}
 
 module _ (g : Layout) (enumerators : List (List ℕ)) (settings presets ds : List Descriptor) (h : AreDescribed g enumerators settings presets) (joined : ds ≡ settings ++ presets) where
   setting_count : length settings ≡ length g.settings
@@ -58,42 +67,15 @@ module _ (g : Layout) (enumerators : List (List ℕ)) (settings presets ds : Lis
         same_Some d (preset_descriptor g.settings_size k p) (sym at ∙ here);
   }
 
-  module _ (built : IsBuiltLayout g) (sized : IsSized g.settings g.bool_start_byte_offset g.settings_size) where
-    -- a boolean's bit
-    bit_small : (k : ℕ) (s : PlacedSetting) (b : BoolSetting) → slice_get g.settings k ≡ Some s → s.specific ≡ ABool b → b.bit_offset < 8
-    bit_small k s b at is = ⊎_elim
-        (λ own. absurd (own.1.no_boolean b is))
-        (λ bit.
-        let same : ABool bit.3.boolean ≡ ABool b = sym bit.3.is_boolean ∙ is in
-        let one : bit.3.boolean ≡ b = cc in
-        let eight : 0 < 8 = omega arith in let low = mod-lt bit.0 eight in
-        let place = sym (ap (λ (b : BoolSetting). b.bit_offset) one) ∙ bit.3.bit_is in omega (arith, low, place))
-        (placed g built sized k s at)
-
-    inside_as : (size masks offset : ℕ) (before : List PlacedSetting) (x : SpecificSetting) (detail : Detail) → offset < size → ((b : BoolSetting) → x ≡ ABool b → b.bit_offset < 8) → IsDetailOf enumerators before x detail → IsInside size masks offset detail
-    inside_as size masks offset before (ABool b) detail l small is = subst (IsInside size masks offset) (sym is) (l, small b refl)
-    inside_as size masks offset before (AnEnum values) detail l small is = subst (IsInside size masks offset) (sym is.is) l
-    inside_as size masks offset before (ANum default) detail l small is = subst (IsInside size masks offset) (sym is) l
-
-    pub inside_are : (defaults masks : List ℕ) → AreDefaultsOf g defaults → ArePresetMasks g masks → (e : ℕ) (d : Descriptor) → slice_get ds e ≡ Some d → IsInside (length defaults) (length masks) d.offset d.detail
-    inside_are defaults masks def mask e d at = ⊎_elim
-        (λ own.
-        let count = setting_count in
-        let l = slice_get_within settings e d own in
-        let s = get_there g.settings e (omega (arith, l, count)) in
-        let describes = h.described e s.0 d s.1 own in
-        let b = byte_inside g built sized e s.0 s.1 in
-        let size = def.size in
-        let offset = describes.offset in
-        inside_as (length defaults) (length masks) d.offset (take e g.settings) s.0.specific d.detail (omega (arith, b, size, offset)) (λ x is. bit_small e s.0 x s.1 is) describes.detail)
-        (λ behind.
-        let count = preset_count in
-        let l = slice_get_within presets behind.0 d behind.2 in
-        let p = get_there g.presets behind.0 (omega (arith, l, count)) in
-        let is : d ≡ preset_descriptor g.settings_size behind.0 p.0 = same_Some d (preset_descriptor g.settings_size behind.0 p.0) (sym behind.2 ∙ h.preset_described behind.0 p.0 p.1) in
-        let room : (behind.0 + 1) * g.settings_size ≤ length g.presets * g.settings_size = mul-le-mul_right g.settings_size (omega (arith, l, count)) in
-        let all = mask.size in
-        let size = def.size in
-        let fits : behind.0 * g.settings_size + length defaults ≤ length masks = omega (arith, room, all, size) in
-        subst (λ (x : Descriptor). IsInside (length defaults) (length masks) x.offset x.detail) (sym is) fits)
-        (get_cases settings presets e d (ap (λ w. slice_get w e) (sym joined) ∙ at))
+  -- with their enumerators, bytes and slots they are the tables of the group
+  pub tables_are : (t : GroupContents) → t.name ≡ g.name → t.descriptors ≡ ds → t.enumerators ≡ enumerators → enumerators ≡ enumerators_of g.settings → AreDefaultsOf g t.defaults → ArePresetMasks g t.preset_masks → AreNameSlots 0 (names_in t.descriptors) t.slots → AreTablesOfGroup g t
+  tables_are t name own copied are defaults masks slots = record {
+    name = name;
+    count = ap length own ∙ count_is;
+    names = ap names_in own ∙ names_are;
+    entries = λ e d at. subst (λ (w : List (List ℕ)). DescribesEntry g w e d) (sym copied) (entries_are e d (ap (λ (w : List Descriptor). slice_get w e) (sym own) ∙ at));
+    enumerators = copied ∙ are;
+    defaults = defaults;
+    masks = masks;
+    slots = subst (λ w. AreNameSlots 0 w t.slots) (ap names_in own ∙ names_are) slots;
+  }

@@ -1,7 +1,7 @@
 -- The tables of a group of settings.
 --     GroupContents                    what they hold
 --     AreTablesOfGroup g t             they are those of the group
-use Rattle.std.specs.Prelude.{ℕ, ◌≡◌, ◌+◌, ◌≤◌, ◌<◌, Bool, true, false, List, length, map, slice_get, Option, Some, None, Contains}
+use Rattle.std.specs.Prelude.{ℕ, ◌≡◌, ◌+◌, ◌≤◌, ◌<◌, Bool, true, false, List, length, map, slice_get, Option, Some, None}
 use Rattle.std.specs.Int.{bit_at}
 use Rattle.meta_settings.specs.Layout.{PlacedSetting, BuiltPreset, Layout}
 use Rattle.meta_setting_tables.specs.declared.descriptor.Detail.{Detail}
@@ -39,15 +39,6 @@ IsInside size masks offset (ABool bit) = (offset < size) × (bit < 8)
 IsInside size masks offset (AnEnum last enumerators) = offset < size
 IsInside size masks offset ANum = offset < size
 IsInside size masks offset Preset = offset + size ≤ masks
-
--- What all such tables keep: the slots are those of the names, with one vacant; the setting bytes can be counted in 8 bits;
--- and each setting has its byte, and each preset its masks.
-pub record AreKept (descriptors : List Descriptor) (defaults masks : List ℕ) (slots : List (Option ℕ)) : Type 0 where
-  pub few : length descriptors ≤ 65535
-  pub sized : length defaults ≤ 255
-  pub slotted : AreNameSlots 0 (names_in descriptors) slots
-  pub vacant : Contains slots None
-  pub inside : (e : ℕ) (d : Descriptor) → slice_get descriptors e ≡ Some d → IsInside (length defaults) (length masks) d.offset d.detail
 
 -- the tables are those of the group
 pub record AreTablesOfGroup (g : Layout) (t : GroupContents) : Type 0 where

@@ -6,3 +6,6 @@ pub mod FoundSetting
 pub mod BuiltLayout
 pub mod Descriptor
 pub mod GroupTables
+pub mod WellFormed
+pub mod Shape
+pub mod Parts

@@ -1,4 +1,4 @@
-ghost use Rattle.std.specs.Prelude.{◌≡◌, ◌<◌, ℕ, length, slice_get, Some, IfOk};
+ghost use Rattle.std.specs.Prelude.{◌≡◌, ◌<◌, ℕ, length, slice_get, Some, IfOk, All};
 ghost use Rattle.meta_settings.specs.Layout.{PlacedSetting};
 ghost use Rattle.meta_setting_tables.specs.BuiltLayout.{IsBuiltLayout};
 ghost use Rattle.meta_setting_tables.specs.DefaultBytes.{joined_at, AreDefaultsOf};
@@ -19,6 +19,7 @@ fn join_defaults(bytes: &mut [u8], settings: &[Setting])
     requires zero { (byte : ℕ) → byte < length bytes.old → slice_get bytes.old byte ≡ Some 0 }
     requires within { (k : ℕ) (s : PlacedSetting) → slice_get settings.now k ≡ Some s → s.byte_offset < length bytes.old }
     ensures joined { (byte : ℕ) → byte < length bytes.old → slice_get bytes.new byte ≡ Some (joined_at byte settings.now) }
+    ensures bytes { All (λ b. b < 256) bytes.new }
 {
     for setting in settings {
         bytes[setting.byte_offset() as usize] |= setting.default_byte();
@@ -28,7 +29,8 @@ fn join_defaults(bytes: &mut [u8], settings: &[Setting])
 /// The default bytes of the group: one a setting byte, with the declared defaults joined.
 pub(crate) fn default_bytes(alloc: Global, group: &SettingGroup) -> Result<Vec<u8>, AllocError>
     requires { IsBuiltLayout group.now }
-    ensures { IfOk result (λ v. AreDefaultsOf group.now v.items) }
+    ensures defaults { IfOk result (λ v. AreDefaultsOf group.now v.items) }
+    ensures bytes { IfOk result (λ v. All (λ b. b < 256) v.items) }
 {
     let mut bytes = zeros(alloc, group.settings_size())?;
     join_defaults(&mut bytes, group.settings());

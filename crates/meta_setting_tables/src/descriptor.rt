@@ -1,5 +1,6 @@
 ghost use Rattle.std.specs.Prelude.{◌≡◌, ◌↔◌, IsTrue};
 ghost use Rattle.meta_setting_tables.specs.declared.descriptor.Detail.TheVariants.{Preset};
+ghost use Rattle.meta_setting_tables.specs.WellFormed.{has_own_byte, is_boolean};
 
 use meta_types::Text;
 
@@ -34,6 +35,26 @@ impl Detail {
             Detail::Enum { .. } => false,
             Detail::Num => false,
             Detail::Preset => true,
+        }
+    }
+
+    /// Whether it is an enum or a number, which have a byte of their own.
+    pub(crate) fn has_own_byte(self) -> bool
+        ensures { result ≡ has_own_byte self }
+    {
+        match self {
+            Detail::Bool { .. } | Detail::Preset => false,
+            Detail::Enum { .. } | Detail::Num => true,
+        }
+    }
+
+    /// Whether it is a boolean.
+    pub(crate) fn is_boolean(self) -> bool
+        ensures { result ≡ is_boolean self }
+    {
+        match self {
+            Detail::Bool { .. } => true,
+            Detail::Enum { .. } | Detail::Num | Detail::Preset => false,
         }
     }
 }

@@ -9,11 +9,14 @@ ghost use Rattle.meta_setting_tables.specs.EnumeratorList.{enumerators_of, value
 ghost use Rattle.meta_unique.specs.NameSlots.{AreNameSlots, NameAnswers, IsNameLookup};
 ghost use Rattle.meta_setting_tables.specs.FoundSetting.{entry_names, entry_count, FindsEntry};
 ghost use Rattle.meta_setting_tables.specs.PresetMasks.{AreJoined};
+ghost use Rattle.meta_setting_tables.specs.WellFormed.{IsWellFormedGroup};
+ghost use Rattle.meta_setting_tables.specs.Parts.{HasParts, AreGoodParts};
 ghost use Rattle.meta_setting_tables.specs.GroupTables.{names_in, IsInside, IsPresetIn, AreTablesOfGroup, default_in, AnswersDefault, Applies};
 
 use super::default_bytes::default_bytes;
 use super::descriptor::{Descriptor, Detail};
 use super::enumerators::Enumerators;
+use super::parts::GroupParts;
 use super::preset_masks::{join, preset_masks};
 use super::same::{same_bytes, same_descriptors};
 use meta_settings::{Preset, Setting, SettingGroup, SpecificSetting};
@@ -36,13 +39,14 @@ pub struct GroupTables {
 }
 
 impl Model for GroupTables {
-    ghost use Rattle.meta_setting_tables.specs.GroupTables.{GroupContents, AreKept};
+    ghost use Rattle.meta_setting_tables.specs.GroupTables.{GroupContents};
+    ghost use Rattle.meta_setting_tables.specs.WellFormed.{AreKept};
 
     ghost Value = { GroupContents };
 
     ghost view = { λ t. record { name = t.name; descriptors = t.descriptors.items; enumerators = t.enumerators.items; defaults = t.defaults.items; preset_masks = t.preset_masks.items; slots = t.slots.items } };
 
-    ghost invariant = { λ t. AreKept t.descriptors.items t.defaults.items t.preset_masks.items t.slots.items };
+    ghost invariant = { λ t. AreKept (record { name = t.name; descriptors = t.descriptors.items; enumerators = t.enumerators.items; defaults = t.defaults.items; preset_masks = t.preset_masks.items; slots = t.slots.items }) };
 }
 
 /// What an entry is by default whose descriptor points inside these default bytes.
@@ -184,7 +188,8 @@ impl GroupTables {
     /// The tables of a group. The only error is want of memory. Each group that `SettingGroupBuilder::build` answers has them.
     pub fn of(alloc: Global, group: &SettingGroup) -> Result<GroupTables, AllocError>
         requires { IsBuiltLayout group.now }
-        ensures { IfOk result (λ t. AreTablesOfGroup group.now t) }
+        ensures tables { IfOk result (λ t. AreTablesOfGroup group.now t) }
+        ensures well_formed { IfOk result IsWellFormedGroup }
     {
         let size = group.settings_size();
         let mut enumerators = Enumerators::new(alloc);
@@ -198,6 +203,23 @@ impl GroupTables {
             preset_masks: preset_masks(alloc, group)?,
             slots: entry_slots(alloc, descriptors.as_slice())?,
             descriptors,
+        })
+    }
+
+    /// The tables with these parts, which well-formed tables can have.
+    pub(crate) fn with_parts(alloc: Global, parts: GroupParts) -> Result<GroupTables, AllocError>
+        requires { AreGoodParts parts }
+        ensures parts { IfOk result (HasParts parts) }
+        ensures well_formed { IfOk result IsWellFormedGroup }
+    {
+        let slots = entry_slots(alloc, parts.descriptors.as_slice())?;
+        Ok(GroupTables {
+            name: parts.name,
+            descriptors: parts.descriptors,
+            enumerators: parts.enumerators,
+            defaults: parts.defaults,
+            preset_masks: parts.preset_masks,
+            slots,
         })
     }
 
@@ -242,6 +264,7 @@ impl GroupTables {
     pub fn descriptors(&self) -> &[Descriptor]
         ensures entries { result.now ≡ self.now.descriptors }
         ensures few { length result.now ≤ 65535 }
+        ensures well_formed { IsWellFormedGroup self.now }
     {
         self.descriptors.as_slice()
     }

@@ -4,12 +4,20 @@
 
 mod default_bytes;
 mod descriptor;
+mod entries;
 mod enumerators;
 mod group_laws;
 mod group_tables;
+mod names;
+mod parts;
 mod preset_masks;
 mod same;
+mod setting_bytes;
+mod shape;
 
 pub use descriptor::{Descriptor, Detail};
-pub use group_laws::built_groups_have_tables;
+pub use group_laws::{
+    built_groups_have_tables, built_groups_have_well_formed_tables, one_group_has_the_parts,
+};
 pub use group_tables::GroupTables;
+pub use parts::{GroupParts, group_from_parts};

@@ -1,25 +1,26 @@
 use Rattle.std.proofs.Common.{rules, ap, ◌∙◌}
 use Rattle.meta_meaning.specs.Tables.{TableContents}
 use Rattle.meta_unique.proofs.Finding.{lookup_read}
+use Rattle.meta_types.proofs.SharedNames.{distinct_differ}
 use Rattle.meta_opcode_tables.proofs.Finding.{look_up}
 use Rattle.meta_opcode_tables.proofs.Naming.{first_named, none_named, finds_declared}
 use Rattle.meta_opcode_tables.proofs.opcode_tables.OpcodeTables.find_opcode_counted.Goals as goal
 
 pub returns-clause-found : goal.returns-clause-found
 returns-clause-found g c =
-    let here = look_up _ _ _ _ _ _ _ _ c.self.view_is c.self.invariant.different c.self.invariant.slots c.deref.ensures.value c.simple_hash.ensures (λ op told says. search rules) c.probe_counted.ensures.lookup.1 in
+    let here = look_up _ _ _ _ _ _ _ _ c.self.view_is (distinct_differ _ c.self.invariant.well_formed.parts.distinct) c.self.invariant.well_formed.slots c.deref.ensures.value c.simple_hash.ensures (λ op told says. search rules) c.probe_counted.ensures.lookup.1 in
     first_named _ _ _ here.0 here.1
 
 pub returns-clause-finds : goal.returns-clause-finds
 returns-clause-finds g c =
-    (look_up _ _ _ _ _ _ _ _ c.self.view_is c.self.invariant.different c.self.invariant.slots c.deref.ensures.value c.simple_hash.ensures (λ op told says. search rules) c.probe_counted.ensures.lookup.1).1
+    (look_up _ _ _ _ _ _ _ _ c.self.view_is (distinct_differ _ c.self.invariant.well_formed.parts.distinct) c.self.invariant.well_formed.slots c.deref.ensures.value c.simple_hash.ensures (λ op told says. search rules) c.probe_counted.ensures.lookup.1).1
 
 pub returns-clause-none : goal.returns-clause-none
 returns-clause-none g c = none_named _ _ _ (returns-clause-finds g c)
 
 pub returns-clause-findings : goal.returns-clause-findings
 returns-clause-findings g c = λ d h.
-    let here = look_up _ _ _ _ _ _ _ _ c.self.view_is c.self.invariant.different c.self.invariant.slots c.deref.ensures.value c.simple_hash.ensures (λ op told says. search rules) c.probe_counted.ensures.lookup.1 in
+    let here = look_up _ _ _ _ _ _ _ _ c.self.view_is (distinct_differ _ c.self.invariant.well_formed.parts.distinct) c.self.invariant.well_formed.slots c.deref.ensures.value c.simple_hash.ensures (λ op told says. search rules) c.probe_counted.ensures.lookup.1 in
     finds_declared d _ _ _ here.0 here.1 h
 
 pub returns-clause-steps : goal.returns-clause-steps

@@ -1,4 +1,4 @@
-use Rattle.std.proofs.Common.{◌<◌, ◌∙◌, arith}
+use Rattle.std.proofs.Common.{◌∙◌, arith}
 use Rattle.std.proofs.lemmas.List.{length-set}
 use Rattle.meta_opcode_tables.proofs.Inferring.{refused_place, all_given, more_given, rest_stays, same_rest}
 use Rattle.meta_opcode_tables.proofs.opcode_tables.OpcodeTables.infer_into.Goals as goal

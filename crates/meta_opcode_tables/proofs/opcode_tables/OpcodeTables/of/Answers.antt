@@ -1,17 +1,18 @@
-use Rattle.std.proofs.lemmas.List.{length-map}
 use Rattle.std.proofs.lemmas.Result.{IfOk-weaker}
 use Rattle.meta_typevar.specs.Registry.{HoldTypeSets}
-use Rattle.std.proofs.Common.{◌≡◌, length, map, arith, ap, sym, ◌∙◌, subst, List}
+use Rattle.std.proofs.Common.{◌≡◌, ◌<◌, map, ap, ◌∙◌, List, []}
+use Rattle.std.proofs.lemmas.List.Elements.{All-map}
 use Rattle.meta_lists.proofs.Results.{both_ok}
-use Rattle.meta_types.specs.SharedNames.{AreDifferentNames}
 use Rattle.meta_inst.specs.Builder.{Builder}
 use Rattle.meta_declared.specs.AllDeclared.{Declared}
 use Rattle.meta_opcode_tables.specs.TablesOf.{AreTablesOf}
-use Rattle.meta_opcode_tables.proofs.Made.{tables_made}
+use Rattle.meta_opcode_tables.proofs.Made.{parts_made, tables_made}
+use Rattle.meta_opcode_tables.proofs.Valid.{valid_parts}
 use Rattle.meta_opcode_tables.proofs.Decoded.{tables_of_mean}
 use Rattle.meta_opcode_tables.proofs.Inferring.{results_of_mean}
-use Rattle.meta_declared.proofs.FirstFault.{few_opcodes}
-use Rattle.meta_declared.proofs.DifferentNames.{different_names}
+use Rattle.meta_meaning.specs.Tables.{OpcodeNumbers}
+use Rattle.meta_opcode_tables.specs.Constraint.{entry_of}
+use Rattle.meta_opcode_tables.specs.Contents.{OpcodeNames, contents_of}
 use Rattle.meta_opcode_tables.proofs.opcode_tables.OpcodeTables.of.Goals as goal
 use Rattle.meta_opcode_tables.proofs.opcode_tables.OpcodeTables.of.Goals.{In_ok-names, In_ok-format_names}
 
@@ -31,30 +32,23 @@ entries-requires-clause-fits c = rw c.declarations-declarations.ensures.declarat
 pub copied_formats-requires : goal.copied_formats-requires
 copied_formats-requires c = rw (c.formats.ensures.formats, c.instructions-instructions.ensures.instructions) (λ k b at. (c.instructions-instructions.ensures.fits k b at).format)
 
-pub new-requires-clause-few : goal.new-requires-clause-few
-new-requires-clause-few c =
-    let few = few_opcodes c.args.built.now.declared.set c.declarations-declarations.ensures.valid.set in
-    let counted = c.in_ok-parts.ensures.count in
-    omega arith
-
-pub new-requires-clause-different : goal.new-requires-clause-different
-new-requires-clause-different c =
+pub new-requires : goal.new-requires
+new-requires c =
+    let d = c.args.built.now.declared.set in
+    let typed : HoldTypeSets d.vars = rw c.declarations-declarations.ensures.declarations at c.vars.ensures.sets in
     let same = instructions_are _ _ c.args.built.now.declared c.instructions-instructions.ensures.instructions c.declarations-declarations.ensures.declarations in
-    subst AreDifferentNames (sym (c.in_ok-names.ensures ∙ ap (map (λ (b : Builder). b.name)) same))
-    (different_names c.args.built.now.declared.set c.declarations-declarations.ensures.valid.set)
-
-pub new-requires-clause-named : goal.new-requires-clause-named
-new-requires-clause-named c =
-    let same = instructions_are _ _ c.args.built.now.declared c.instructions-instructions.ensures.instructions c.declarations-declarations.ensures.declarations in
-    let names = ap length c.in_ok-names.ensures ∙ length-map c.instructions-instructions.result.now (λ (b : Builder). b.name) ∙ ap (length {A = Builder}) same in
-    names ∙ sym c.in_ok-parts.ensures.count
-
-pub new-requires-clause-formatted : goal.new-requires-clause-formatted
-new-requires-clause-formatted c =
-    let formats = c.in_ok-format_names.ensures.count in
-    let counted = c.in_ok-parts.ensures.count in
-    let same = ap (length {A = Builder}) (instructions_are _ _ c.args.built.now.declared c.instructions-instructions.ensures.instructions c.declarations-declarations.ensures.declarations) in
-    omega arith
+    let names : OpcodeNames = record { names = c.in_ok-names.names.items; formats = c.in_ok-format_names.format_names.items; slots = [] } in
+    let masks = c.in_ok-masks.masks.items in
+    let constraints = c.in_ok-parts.parts.constraints.items in
+    let entries = c.in_ok-parts.parts.entries.items in
+    valid_parts d (contents_of names masks constraints entries) c.declarations-declarations.ensures.valid.set typed
+    (All-map (λ (e : OpcodeNumbers). e.flags < 256) entry_of entries c.in_ok-parts.ensures.bytes)
+    (parts_made d names masks c.args.built.now.type_sets constraints entries c.in_ok-parts.ensures.added.0
+    c.type_sets.ensures.needed
+    (rw c.type_sets.ensures.type_sets at c.in_ok-masks.ensures)
+    (c.in_ok-names.ensures ∙ ap (map (λ (b : Builder). b.name)) same)
+    (rw (c.formats.ensures.formats, c.declarations-declarations.ensures.declarations, same) at c.in_ok-format_names.ensures)
+    c.in_ok-parts.ensures.count c.in_ok-parts.ensures.holds c.in_ok-parts.ensures.added.1)
 
 pub returns-clause-tables : goal.returns-clause-tables
 returns-clause-tables c =
@@ -62,16 +56,15 @@ returns-clause-tables c =
     let same = instructions_are _ _ c.args.built.now.declared c.instructions-instructions.ensures.instructions c.declarations-declarations.ensures.declarations in
     both_ok c.new.result _ _ (AreTablesOf d)
     (λ t parts slots.
-    tables_made d (record { names = c.in_ok-names.names.items; formats = c.in_ok-format_names.format_names.items; slots = t.opcode_slots }) c.in_ok-masks.masks.items c.args.built.now.type_sets c.in_ok-parts.parts.constraints.items c.in_ok-parts.parts.entries.items c.in_ok-parts.ensures.added.0 t
-    parts
+    tables_made d (record { names = c.in_ok-names.names.items; formats = c.in_ok-format_names.format_names.items; slots = t.opcode_slots }) c.in_ok-masks.masks.items c.args.built.now.type_sets c.in_ok-parts.parts.constraints.items c.in_ok-parts.parts.entries.items c.in_ok-parts.ensures.added.0
     c.type_sets.ensures.needed
     (rw c.type_sets.ensures.type_sets at c.in_ok-masks.ensures)
     (c.in_ok-names.ensures ∙ ap (map (λ (b : Builder). b.name)) same)
     (rw (c.formats.ensures.formats, c.declarations-declarations.ensures.declarations, same) at c.in_ok-format_names.ensures)
-    slots
     c.in_ok-parts.ensures.count
     c.in_ok-parts.ensures.holds
-    c.in_ok-parts.ensures.added.1)
+    c.in_ok-parts.ensures.added.1
+    t parts slots)
     c.new.ensures.parts c.new.ensures.slots
 
 pub returns-clause-acceptance : goal.returns-clause-acceptance

@@ -1,5 +1,5 @@
-use Rattle.std.proofs.Common.{◌≡◌, List, Some, None, slice_get, map, ap, ◌∙◌, sym, refl}
-use Rattle.std.proofs.lemmas.Option.{slice_get_read, slice_get_past}
+use Rattle.std.proofs.Common.{List, slice_get, map, ap, ◌∙◌, sym, refl}
+use Rattle.std.proofs.lemmas.Option.{slice_get_read}
 use Rattle.meta_lists.proofs.Mapped.{get_map}
 use Rattle.meta_meaning.specs.Tables.{TableContents, NumberConstraint}
 use Rattle.meta_opcode_tables.specs.Constraint.{number_constraint_of}

@@ -3,6 +3,7 @@ use Rattle.std.specs.Prelude.{slice_get}
 use Rattle.std.proofs.lemmas.Option.{slice_get_past, slice_get_within}
 use Rattle.meta_setting_tables.specs.GroupTables.{GroupContents}
 use Rattle.meta_setting_tables.proofs.EntriesRead.{default_at, answers_default, read_at, answered_at, some_entry}
+use Rattle.meta_setting_tables.proofs.Inside.{inside_of}
 use Rattle.meta_setting_tables.proofs.group_tables.GroupTables.default_value.Goals as goal
 
 pub default_of-requires : goal.default_of-requires
@@ -10,7 +11,7 @@ default_of-requires c =
     let d = c.in_ok-get.field-0.now in
     let h = c.in_ok-get.ensures.lookup in
     let at = read_at c.self.inside.descriptors.items _ c.args.index d c.deref-2.ensures.value h.3.0 (h.3.1 d) in
-    (length c.self.inside.preset_masks.items, rw (sym c.deref.ensures.value) at c.self.invariant.inside c.args.index d at)
+    (length c.self.inside.preset_masks.items, rw (sym c.deref.ensures.value) at (inside_of _ c.self.invariant.well_formed c.args.index d at))
 
 pub returns-clause-entry : goal.returns-clause-entry
 returns-clause-entry c =

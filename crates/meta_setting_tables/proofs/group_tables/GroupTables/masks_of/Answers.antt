@@ -4,6 +4,7 @@ use Rattle.std.proofs.lemmas.List.{length-take, length-drop}
 use Rattle.std.proofs.lemmas.Option.{slice_get_past, same_Some}
 use Rattle.meta_setting_tables.specs.GroupTables.{GroupContents, IsInside}
 use Rattle.meta_setting_tables.proofs.EntriesRead.{read_at}
+use Rattle.meta_setting_tables.proofs.Inside.{inside_of}
 use Rattle.meta_setting_tables.proofs.group_tables.GroupTables.masks_of.Goals as goal
 
 pub returns-in_err-descriptor-clause-none : goal.returns-in_err-descriptor-clause-none
@@ -40,8 +41,19 @@ returns-clause-size c =
     let d = c.in_ok-descriptor.descriptor.now in
     let at = read_at c.self.inside.descriptors.items c.deref.result.now c.args.preset d c.deref.ensures.value h.3.0 (h.3.1 d) in
     let inside : d.offset + length c.self.inside.defaults.items ≤ length c.self.inside.preset_masks.items =
-    subst (IsInside (length c.self.inside.defaults.items) (length c.self.inside.preset_masks.items) d.offset) (c.if-not-is_preset.ensures.0 refl) (c.self.invariant.inside c.args.preset d at) in
+    subst (IsInside (length c.self.inside.defaults.items) (length c.self.inside.preset_masks.items) d.offset) (c.if-not-is_preset.ensures.0 refl) (inside_of _ c.self.invariant.well_formed c.args.preset d at) in
     let size : c.len.result ≡ length c.self.inside.defaults.items = c.len.ensures ∙ c.self.inside.defaults.ok.0 in
     let same = ap (λ (t : GroupContents). length t.defaults) c.self.view_is in
     let masks = ap length c.deref-2.ensures.value in
     omega (arith, length-take ((d.offset + c.len.result) - d.offset) (drop d.offset c.deref-2.result.now), length-drop d.offset c.deref-2.result.now)
+
+pub slice_bounds-result-end : goal.slice_bounds-result-end
+slice_bounds-result-end c =
+    let h = c.in_ok-descriptor.ensures.lookup in
+    let d = c.in_ok-descriptor.descriptor.now in
+    let at = read_at c.self.inside.descriptors.items c.deref.result.now c.args.preset d c.deref.ensures.value h.3.0 (h.3.1 d) in
+    let inside : d.offset + length c.self.inside.defaults.items ≤ length c.self.inside.preset_masks.items =
+    subst (IsInside (length c.self.inside.defaults.items) (length c.self.inside.preset_masks.items) d.offset) (c.if-not-is_preset.ensures.0 refl) (inside_of _ c.self.invariant.well_formed c.args.preset d at) in
+    let size : c.len.result ≡ length c.self.inside.defaults.items = c.len.ensures ∙ c.self.inside.defaults.ok.0 in
+    let masks = ap length c.deref-2.ensures.value in
+    omega arith

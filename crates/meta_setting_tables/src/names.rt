@@ -1,0 +1,97 @@
+ghost use Rattle.std.specs.Prelude.{◌≡◌, ◌↔◌, IfOk, IsTrue, All};
+ghost use Rattle.meta_types.specs.Name.{IsName};
+ghost use Rattle.meta_types.specs.SharedNames.{AreDistinct};
+ghost use Rattle.meta_settings.specs.GroupFaults.{IsPlainByte};
+ghost use Rattle.meta_setting_tables.specs.declared.descriptor.Descriptor.{Descriptor};
+ghost use Rattle.meta_setting_tables.specs.GroupTables.{names_in};
+ghost use Rattle.meta_setting_tables.specs.WellFormed.{AreWellNamed};
+
+use super::descriptor::Descriptor;
+use meta_types::{EarlierNames, Text, is_name};
+use std::alloc::{AllocError, Global};
+
+/// Whether a description may have this byte.
+fn is_plain_byte(c: u8) -> bool
+    ensures { IsTrue result ↔ IsPlainByte c }
+{
+    (0x20..=0x7e).contains(&c) && c != b'"' && c != b'\\'
+}
+
+/// Whether a description needs no escape.
+fn is_plain(text: &Text) -> bool
+    ensures { IsTrue result ↔ All IsPlainByte text.now }
+{
+    text.as_bytes().iter().all(|c| is_plain_byte(*c))
+}
+
+/// Whether all of these are names.
+fn are_names(texts: &[Text]) -> bool
+    ensures { IsTrue result ↔ All IsName texts.now }
+{
+    texts.iter().all(|text| is_name(text))
+}
+
+/// Whether the entries have names.
+fn have_names(entries: &[Descriptor]) -> bool
+    ensures { IsTrue result ↔ All (λ (d : Descriptor). IsName d.name) entries.now }
+{
+    entries.iter().all(|entry| is_name(&entry.name))
+}
+
+/// Whether the descriptions of the entries need no escape.
+fn have_plain_descriptions(entries: &[Descriptor]) -> bool
+    ensures { IsTrue result ↔ All (λ (d : Descriptor). All IsPlainByte d.description) entries.now }
+{
+    entries.iter().all(|entry| is_plain(&entry.description))
+}
+
+/// Whether no two of the names are the same or have the same camel case.
+pub(crate) fn are_distinct(alloc: Global, names: &[Text]) -> Result<bool, AllocError>
+    ensures { IfOk result (λ b. IsTrue b ↔ AreDistinct names.now) }
+{
+    let mut earlier = EarlierNames::new(alloc);
+    for name in names {
+        if earlier.add(alloc, name)?.is_some() {
+            return Ok(false);
+        }
+    }
+    Ok(true)
+}
+
+/// Whether no two of the entries have the same name or the same camel case.
+fn have_distinct_names(alloc: Global, entries: &[Descriptor]) -> Result<bool, AllocError>
+    ensures { IfOk result (λ b. IsTrue b ↔ AreDistinct (names_in entries.now)) }
+{
+    let mut earlier = EarlierNames::new(alloc);
+    for entry in entries {
+        if earlier.add(alloc, &entry.name)?.is_some() {
+            return Ok(false);
+        }
+    }
+    Ok(true)
+}
+
+/// Whether the group, the entries and the enumerators have names, no description needs an escape, and no two entries share a
+/// name.
+pub(crate) fn are_well_named(
+    alloc: Global,
+    name: &Text,
+    entries: &[Descriptor],
+    enumerators: &[Text],
+) -> Result<bool, AllocError>
+    ensures { IfOk result (λ b. IsTrue b ↔ AreWellNamed name.now entries.now enumerators.now) }
+{
+    if !is_name(name) {
+        return Ok(false);
+    }
+    if !have_names(entries) {
+        return Ok(false);
+    }
+    if !are_names(enumerators) {
+        return Ok(false);
+    }
+    if !have_plain_descriptions(entries) {
+        return Ok(false);
+    }
+    have_distinct_names(alloc, entries)
+}

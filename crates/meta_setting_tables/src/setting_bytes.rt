@@ -1,0 +1,107 @@
+ghost use Rattle.std.specs.Prelude.{◌≡◌, ◌↔◌, ◌≤◌, ◌<◌, ◌*◌, ◌+◌, ℕ, length, slice_get, Some, IsTrue, All};
+ghost use Rattle.meta_setting_tables.specs.declared.descriptor.Descriptor.{Descriptor};
+ghost use Rattle.meta_setting_tables.specs.WellFormed.{IsBooleanBit, HoldsBooleansAlone, HasFirstValue, AreGoodDefaults, AreGoodMasks};
+ghost use Rattle.meta_setting_tables.specs.Shape.{IsShapeOf, IsSmall};
+
+use super::descriptor::{Descriptor, Detail};
+use super::shape::Shape;
+
+/// Whether one of the booleans has this bit, below 8, of this byte.
+fn is_boolean_bit(shape: &Shape, byte: usize, bit: u8) -> bool
+    requires byte { byte ≤ 255 }
+    requires bit { bit < 8 }
+    ensures { IsTrue result ↔ IsBooleanBit shape.now.own_bytes shape.now.booleans byte bit }
+{
+    let Some(behind) = byte.checked_sub(shape.own_bytes) else {
+        return false;
+    };
+    behind * 8 + usize::from(bit) < shape.booleans
+}
+
+/// Whether only bits of booleans are on in this value of a byte.
+fn holds_booleans_alone(shape: &Shape, byte: usize, value: u8) -> bool
+    requires { byte ≤ 255 }
+    ensures { IsTrue result ↔ HoldsBooleansAlone shape.now.own_bytes shape.now.booleans byte value }
+{
+    for bit in 0..8u8 {
+        if value >> bit & 1 == 1 && !is_boolean_bit(shape, byte, bit) {
+            return false;
+        }
+    }
+    true
+}
+
+/// Whether the default is the first value, if the entry is an enum.
+fn has_first_value(defaults: &[u8], entry: &Descriptor) -> bool
+    ensures { IsTrue result ↔ HasFirstValue defaults.now entry.now.offset entry.now.detail }
+{
+    match entry.detail {
+        Detail::Bool { .. } => true,
+        Detail::Enum { .. } => defaults.get(entry.offset as usize) == Some(&0),
+        Detail::Num => true,
+        Detail::Preset => true,
+    }
+}
+
+/// Whether the defaults of the enums are their first values.
+fn have_first_values(defaults: &[u8], entries: &[Descriptor]) -> bool
+    ensures { IsTrue result ↔ All (λ (d : Descriptor). HasFirstValue defaults.now d.offset d.detail) entries.now }
+{
+    entries.iter().all(|entry| has_first_value(defaults, entry))
+}
+
+/// Whether in the default bytes behind those of the enums and numbers only bits of booleans are on.
+fn are_boolean_bytes(shape: &Shape, defaults: &[u8]) -> bool
+    requires { length defaults.now ≤ 255 }
+    ensures { IsTrue result ↔ ((byte b : ℕ) → shape.now.own_bytes ≤ byte → slice_get defaults.now byte ≡ Some b → HoldsBooleansAlone shape.now.own_bytes shape.now.booleans byte b) }
+{
+    for byte in shape.own_bytes..defaults.len() {
+        if !holds_booleans_alone(shape, byte, defaults[byte]) {
+            return false;
+        }
+    }
+    true
+}
+
+/// Whether these can be the default bytes of the entries, of which these are the counts.
+pub(crate) fn are_good_defaults(shape: &Shape, entries: &[Descriptor], defaults: &[u8]) -> bool
+    requires small { IsSmall shape.now }
+    requires shape { IsShapeOf entries.now shape.now }
+    ensures { IsTrue result ↔ AreGoodDefaults entries.now defaults.now }
+{
+    if defaults.len() != shape.bytes {
+        return false;
+    }
+    if !have_first_values(defaults, entries) {
+        return false;
+    }
+    are_boolean_bytes(shape, defaults)
+}
+
+/// Whether only bits of booleans are on in the masks, one a setting byte for each preset in turn.
+fn are_boolean_masks(shape: &Shape, masks: &[u8]) -> bool
+    requires { shape.now.bytes ≤ 255 }
+    ensures { IsTrue result ↔ ((k byte m : ℕ) → byte < shape.now.bytes → slice_get masks.now (k * shape.now.bytes + byte) ≡ Some m → HoldsBooleansAlone shape.now.own_bytes shape.now.booleans byte m) }
+{
+    if shape.bytes == 0 {
+        return true;
+    }
+    for at in 0..masks.len() {
+        if !holds_booleans_alone(shape, at % shape.bytes, masks[at]) {
+            return false;
+        }
+    }
+    true
+}
+
+/// Whether these can be the masks of the presets among the entries, of which these are the counts.
+pub(crate) fn are_good_masks(shape: &Shape, entries: &[Descriptor], masks: &[u8]) -> bool
+    requires small { IsSmall shape.now }
+    requires shape { IsShapeOf entries.now shape.now }
+    ensures { IsTrue result ↔ AreGoodMasks entries.now masks.now }
+{
+    if masks.len() != shape.presets * shape.bytes {
+        return false;
+    }
+    are_boolean_masks(shape, masks)
+}

@@ -1,0 +1,56 @@
+ghost use Rattle.std.specs.Prelude.{◌≡◌, ◌≤◌, length};
+ghost use Rattle.meta_setting_tables.specs.WellFormed.{own_byte_count, boolean_count};
+ghost use Rattle.meta_setting_tables.specs.Shape.{IsShapeOf};
+
+use super::descriptor::Descriptor;
+
+/// How many entries of each kind a group has.
+#[derive(Debug, Drop)]
+pub(crate) struct Shape {
+    /// Its enums and numbers, which have a byte each.
+    pub own_bytes: usize,
+    /// Its booleans.
+    pub booleans: usize,
+    /// Its presets.
+    pub presets: usize,
+    /// The bytes that its settings take: eight booleans share one.
+    pub bytes: usize,
+}
+
+/// How many of the entries are enums and numbers.
+fn own_bytes_in(entries: &[Descriptor]) -> usize
+    ensures { result ≡ own_byte_count entries.now }
+{
+    entries
+        .iter()
+        .filter(|entry| entry.detail.has_own_byte())
+        .count()
+}
+
+/// How many of the entries are booleans.
+fn booleans_in(entries: &[Descriptor]) -> usize
+    ensures { result ≡ boolean_count entries.now }
+{
+    entries
+        .iter()
+        .filter(|entry| entry.detail.is_boolean())
+        .count()
+}
+
+impl Shape {
+    /// The counts of these entries, of which each that is no setting is a preset.
+    #[tactic(auto, using(crate::proofs::Inside::all_kinds))]
+    pub(crate) fn of(entries: &[Descriptor]) -> Shape
+        requires { length entries.now ≤ 65535 }
+        ensures { IsShapeOf entries.now result }
+    {
+        let own_bytes = own_bytes_in(entries);
+        let booleans = booleans_in(entries);
+        Shape {
+            own_bytes,
+            booleans,
+            presets: entries.len() - own_bytes - booleans,
+            bytes: own_bytes + (booleans + 7) / 8,
+        }
+    }
+}
