@@ -1,0 +1,188 @@
+-- Instructions that were made stay so where the variables grow, and one more is made.
+use Rattle.std.proofs.Common.{◌≡◌, ⊎_elim, ◌+◌, ◌<◌, ◌≤◌, ℕ, List, [], ◌∷◌, ◌++◌, length, slice_get, None, Some, codes, refl, sym, ap, subst, ◌∙◌, arith, length-append}
+use Rattle.std.specs.List.{AllZip}
+use Rattle.std.proofs.lemmas.Option.{slice_get_within}
+use Rattle.meta_lists.proofs.Places.{get_stays, get_left, get_beside}
+use Rattle.meta_lists.proofs.Pushed.{get_pushed_below, last}
+use Rattle.meta_lists.proofs.Pairs.{pairs_imply}
+use Rattle.meta_typevar.specs.Variable.{Variable}
+use Rattle.meta_typevar.specs.Registry.{variable_of, set_at, coded_of, coded_at, root_content, IsKept}
+use Rattle.meta_typevar.specs.declared.content.TypeVarContent.{TypeVarContent}
+use Rattle.meta_operands.specs.declared.operand.Operand.{Operand}
+use Rattle.meta_operands.specs.declared.format.InstructionFormat.{InstructionFormat}
+use Rattle.meta_inst.specs.Builder.{Builder, inputs_of, outputs_of}
+use Rattle.meta_inst.specs.Marks.{no_marks}
+use Rattle.meta_inst.specs.InstructionSet.{Fits}
+use Rattle.meta_settings.specs.GroupDeclaration.{GroupDeclaration}
+use Rattle.meta_declared.specs.AllDeclared.{Declared}
+use Rattle.meta_synth.specs.declared.shape.Shape.{Shape}
+use Rattle.meta_synth.specs.declared.shape.Shape.TheVariants.{Bare, Copying, Comparing, Widening}
+use Rattle.meta_synth.specs.Shapes.{inputs_for, outputs_for, format_of, all_formats}
+use Rattle.meta_synth.specs.Seeds.{seed_of, shape_of, set_of_seed, name_of_number}
+use Rattle.meta_synth.specs.Synth.{IsValueOf, Extends, IsInstruction, AreInstructions, IsSynth}
+use Rattle.meta_synth.proofs.Valued.{are_of}
+
+-- ---- a root
+
+-- what is kept of the root of this seed
+abbrev pub root_of : ℕ → ℕ → TypeVarContent
+root_of seed x = root_content (codes "X") [] (set_of_seed seed) x
+
+module _ (old new : List TypeVarContent) (seed x : ℕ) (at : x ≡ length old) (added : new ≡ old ++ root_of seed (length old) ∷ []) where
+  pub new_root : IsKept new x (root_of seed x)
+  new_root = subst (λ k. IsKept new k (root_of seed k)) (sym at) (last old new (root_of seed (length old)) added (length old) refl)
+
+pub root_coded : (vars : List TypeVarContent) (seed x : ℕ) → IsKept vars x (root_of seed x) → coded_at vars x ≡ set_of_seed seed
+root_coded vars seed x kept = ap (λ o. coded_of vars (variable_of x o)) kept ∙ ap set_at kept
+
+-- ---- more variables
+
+value_stays : (vars more : List TypeVarContent) (p : List ℕ × Variable) (o : Operand) → IsValueOf vars p o → IsValueOf (vars ++ more) p o
+value_stays vars more p o h =
+    let of : h.number < length vars = h.of in
+    record {
+      name = h.name;
+      doc = h.doc;
+      number = h.number;
+      of = omega (arith, of, length-append vars more);
+      variable = ap (variable_of h.number) (get_left vars more h.number of) ∙ h.variable;
+      fields = h.fields;
+      field_name = h.field_name;
+      rust_type = h.rust_type;
+      kind_doc = h.kind_doc;
+    }
+
+values_stay : {vars new : List TypeVarContent} {m : ℕ} (ps : List (List ℕ × Variable)) (os : List Operand) → Extends m vars new → AllZip (IsValueOf vars) ps os → AllZip (IsValueOf new) ps os
+values_stay {vars = vars} ps os grows h = subst (λ all. AllZip (IsValueOf all) ps os) (sym grows.is) (pairs_imply (IsValueOf vars) (IsValueOf (vars ++ grows.more)) (value_stays vars grows.more) ps os h)
+
+kept_stays : {vars new : List TypeVarContent} {m : ℕ} (x : ℕ) (c : TypeVarContent) → Extends m vars new → IsKept vars x c → IsKept new x c
+kept_stays {vars} x c grows kept = subst (λ all. IsKept all x c) (sym grows.is) (get_stays vars grows.more x c kept)
+
+instruction_stays : {vars new : List TypeVarContent} {m : ℕ} (n number x : ℕ) (b : Builder) → Extends m vars new → IsInstruction vars n number x b → IsInstruction new n number x b
+instruction_stays n number x b grows h = record {
+  root = kept_stays x (root_of (seed_of n number) x) grows h.root;
+  name = h.name;
+  doc = h.doc;
+  format = h.format;
+  inputs = values_stay (inputs_for (shape_of (seed_of n number)) x) (inputs_of b) grows h.inputs;
+  outputs = values_stay (outputs_for (shape_of (seed_of n number)) x) (outputs_of b) grows h.outputs;
+  marks = h.marks;
+  second = h.second;
+}
+
+-- how many variables there are then, at most
+pub extends_count : {m : ℕ} {old new : List TypeVarContent} → Extends m old new → length new ≤ length old + m
+extends_count {m} {old} {new} g =
+    let few : length g.more ≤ m = g.few in
+    let all : length new ≡ length old + length g.more = ap length g.is ∙ length-append old g.more in
+    omega (arith, few, all)
+
+-- ---- one instruction
+
+-- an instruction of these parts
+abbrev pub builder_of : ℕ → Shape → List Operand → List Operand → Builder
+builder_of number shape inputs outputs = record { name = name_of_number number; doc = []; format = format_of shape; operands_in = Some inputs; operands_out = Some outputs; marks = no_marks; second = None }
+
+pub is_made : {now new : List TypeVarContent} {n number seed x y : ℕ} {shape : Shape} {inputs outputs : List Operand} {b : Builder}
+    → seed ≡ seed_of n number → shape ≡ shape_of seed → x ≡ y → IsKept now x (root_of seed x) → Extends 1 now new
+    → AllZip (IsValueOf new) (inputs_for shape x) inputs → AllZip (IsValueOf new) (outputs_for shape x) outputs
+    → b ≡ builder_of number shape inputs outputs → IsInstruction new n number y b
+is_made {now} {new} {n} {number} {seed} {x} {y} {shape} {inputs} {outputs} {b} is_seed is_shape at kept grows ins outs is =
+    let shaped : shape ≡ shape_of (seed_of n number) = is_shape ∙ ap shape_of is_seed in
+    subst (IsInstruction new n number y) (sym is) (subst (λ k. IsInstruction new n number k (builder_of number shape inputs outputs)) at (record {
+      root = subst (λ s. IsKept new x (root_of s x)) is_seed (kept_stays x (root_of seed x) grows kept);
+      name = refl;
+      doc = refl;
+      format = ap format_of shaped;
+      inputs = subst (λ s. AllZip (IsValueOf new) (inputs_for s x) inputs) shaped ins;
+      outputs = subst (λ s. AllZip (IsValueOf new) (outputs_for s x) outputs) shaped outs;
+      marks = refl;
+      second = refl;
+    }))
+
+-- ---- all of them
+
+pub none_yet : {vars : List TypeVarContent} {n : ℕ} {all : List Builder} → all ≡ [] → AreInstructions vars n all
+none_yet {vars} {n} e = subst (AreInstructions vars n) (sym e) (record {
+  roots = [];
+  one_each = refl;
+  each = λ k x b at _. absurd (nothing k x at);
+  own = λ j k x at _. absurd (nothing j x at);
+})
+  where
+    nothing : (k x : ℕ) → slice_get [] k ≡ Some x → ⊥
+    nothing k x e = cc
+
+pub one_more : {vars new : List TypeVarContent} {n number : ℕ} {all made : List Builder} {b : Builder}
+    → AreInstructions vars n all → Extends 2 vars new → number ≡ length all + 1 → IsInstruction new n number (length vars) b → made ≡ all ++ b ∷ [] → AreInstructions new n made
+one_more {vars} {new} {n} {number} {all} {made} {b} are grows numbered is pushed = subst (AreInstructions new n) (sym pushed) (record {
+  roots = are.roots ++ length vars ∷ [];
+  one_each = omega (arith, length-append are.roots (length vars ∷ []), length-append all (b ∷ []), are.one_each);
+  each = λ k x c at_root at.
+      ⊎_elim
+      (λ r. ⊎_elim
+      (λ i. instruction_stays n (k + 1) x c grows (are.each k x c r.1 i.1))
+      (λ i. absurd (omega (arith, r.0, i.0, are.one_each)))
+      (get_pushed_below all b k c at))
+      (λ r. ⊎_elim
+      (λ i. absurd (omega (arith, r.0, i.0, are.one_each)))
+      (λ i.
+      let place : number ≡ k + 1 = omega (arith, numbered, i.0) in
+      subst (IsInstruction new n (k + 1) x) i.1 (subst (λ y. IsInstruction new n (k + 1) y b) r.1 (subst (λ m. IsInstruction new n m (length vars) b) place is)))
+      (get_pushed_below all b k c at))
+      (get_pushed_below are.roots (length vars) k x at_root);
+  own = λ j k x a c.
+      ⊎_elim
+      (λ r. ⊎_elim
+      (λ s. are.own j k x r.1 s.1)
+      (λ s. absurd (omega (arith, s.1, before j x r.1)))
+      (get_pushed_below are.roots (length vars) k x c))
+      (λ r. ⊎_elim
+      (λ s. absurd (omega (arith, r.1, before k x s.1)))
+      (λ s. omega (arith, r.0, s.0))
+      (get_pushed_below are.roots (length vars) k x c))
+      (get_pushed_below are.roots (length vars) j x a);
+})
+  where
+    -- earlier roots are among the earlier variables
+    before : (k x : ℕ) → slice_get are.roots k ≡ Some x → x < length vars
+    before k x at =
+        let c = get_beside are.roots all k x are.one_each at in
+        slice_get_within vars x (root_of (seed_of n (k + 1)) x) (are.each k x c.0 at c.1).root
+
+-- ---- they fit
+
+three : (shape : Shape) → format_of shape < 3
+three Bare = omega arith
+three Copying = omega arith
+three Comparing = omega arith
+three Widening = omega arith
+
+pub all_fit : {vars : List TypeVarContent} {formats : List InstructionFormat} {n : ℕ} {all : List Builder} → formats ≡ all_formats → AreInstructions vars n all → Fits vars formats all
+all_fit {vars} {formats} {n} {all} are_formats are k b at =
+    let root = get_beside all are.roots k b (sym are.one_each) at in
+    let is = are.each k root.0 b root.1 at in
+    let below : format_of (shape_of (seed_of n (k + 1))) < 3 = three (shape_of (seed_of n (k + 1))) in
+    let many : length formats ≡ 3 = ap length are_formats in
+    record {
+      format = omega (arith, below, many, is.format);
+      outputs = are_of vars (outputs_for (shape_of (seed_of n (k + 1))) root.0) (outputs_of b) is.outputs;
+      inputs = are_of vars (inputs_for (shape_of (seed_of n (k + 1))) root.0) (inputs_of b) is.inputs;
+      second = λ s e. absurd (no_second s (sym is.second ∙ e));
+    }
+  where
+    no_second : (s : ℕ) → None ≡ Some s → ⊥
+    no_second s e = cc
+
+-- ---- the declarations
+
+pub synth_made : {groups : List GroupDeclaration} {vars : List TypeVarContent} {formats : List InstructionFormat} {all : List Builder} {n : ℕ} {d : Declared}
+    → d ≡ record { set = record { vars = vars; formats = formats; instructions = all }; groups = groups } → groups ≡ []
+    → formats ≡ all_formats → AreInstructions vars n all → length all ≡ 255 → length vars ≤ 510 → IsSynth n d
+synth_made {n = n} e none are_formats are count few = subst (IsSynth n) (sym e) (record {
+  formats = are_formats;
+  instructions = are;
+  count = count;
+  few = few;
+  groups = none;
+})

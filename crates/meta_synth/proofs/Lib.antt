@@ -1,0 +1,9 @@
+mod Naming
+mod Choosing
+mod Few
+mod Valued
+mod Controlled
+mod Valid
+mod Growing
+mod Counted
+mod Summed

@@ -1,0 +1,24 @@
+use Rattle.std.proofs.Common.{◌∙◌, sym, ap, subst, Some}
+use Rattle.std.specs.Bool.{IsTrue}
+use Rattle.meta_types.specs.Function.{Narrower}
+use Rattle.meta_typevar.specs.Image.{can_derive}
+use Rattle.meta_inst.specs.Builder.{Builder}
+use Rattle.meta_synth.proofs.Choosing.{can_narrow}
+use Rattle.meta_synth.proofs.Growing.{new_root, root_coded, is_made}
+use Rattle.meta_synth.proofs.instructions.instruction.Goals as goal
+
+pub values_of-requires-clause-derivable : goal.values_of-requires-clause-derivable
+values_of-requires-clause-derivable c = λ e.
+    let kept = new_root c.args.vars.now c.add_root.new.vars c.seed_of-seed.result c.in_ok-x.x c.in_ok-x.ensures.number c.in_ok-x.ensures.added in
+    subst (λ s. IsTrue (can_derive Narrower s)) (sym (root_coded c.add_root.new.vars c.seed_of-seed.result c.in_ok-x.x kept))
+    (can_narrow c.seed_of-seed.result (sym c.shape_of-shape.ensures ∙ e))
+
+pub returns-clause-instruction : goal.returns-clause-instruction
+returns-clause-instruction c =
+    let kept = new_root c.args.vars.now c.add_root.new.vars c.seed_of-seed.result c.in_ok-x.x c.in_ok-x.ensures.number c.in_ok-x.ensures.added in
+    is_made {seed = c.seed_of-seed.result} {x = c.in_ok-x.x} {shape = c.shape_of-shape.result} {inputs = c.in_ok-values.values.inputs.items} {outputs = c.in_ok-values.values.outputs.items}
+    c.seed_of-seed.ensures c.shape_of-shape.ensures c.in_ok-x.ensures.number kept
+    c.in_ok-values.ensures.grows c.in_ok-values.ensures.inputs c.in_ok-values.ensures.outputs
+    (c.operands_out.ensures
+    ∙ ap (λ (b : Builder). record b { operands_out = Some c.in_ok-values.values.outputs.items })
+    (c.operands_in-builder.ensures ∙ ap (λ (b : Builder). record b { operands_in = Some c.in_ok-values.values.inputs.items }) c.in_ok-builder.ensures))

@@ -1,0 +1,4 @@
+pub mod Shapes
+pub mod Seeds
+pub mod Synth
+pub mod Summary
