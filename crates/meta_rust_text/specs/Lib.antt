@@ -1,1 +1,2 @@
 pub mod TypesText
+pub mod InstructionsText

@@ -1,0 +1,6 @@
+-- texts in angle brackets
+mod Angles
+-- the variables of operands
+mod OperandVariables
+-- the operands of built instructions
+mod BuiltOperands

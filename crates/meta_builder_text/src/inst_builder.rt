@@ -1,0 +1,73 @@
+ghost use Rattle.std.specs.Prelude.{◌≡◌, ◌++◌, OnOk, string_bytes};
+ghost use Rattle.meta_operands.specs.Operand.{variables_of};
+ghost use Rattle.meta_inst.specs.Operands.{AreOf};
+ghost use Rattle.meta_builder_text.specs.InstBuilder.{head_text, method_end, inst_builder_text};
+
+use super::arguments::arguments;
+use super::body::push_body;
+use super::method_docs::push_method_docs;
+use super::results::result_type;
+use super::type_parameters::type_parameters;
+use meta_inst::InstructionContent;
+use meta_operands::InstructionFormat;
+use meta_typevar::TypeVars;
+use std::alloc::{AllocError, Global};
+
+/// Adds the head of a method of this name, with its type parameters, its arguments and the type of what it gives.
+#[tactic(auto, unfolding(crate::specs::InstBuilder::head_text))]
+fn push_head(
+    out: &mut String,
+    name: &str,
+    parameters: &str,
+    arguments: &str,
+    given: &str,
+) -> Result<(), AllocError>
+    ensures { OnOk result (string_bytes out.new ≡ string_bytes out.old ++ head_text name.now parameters.now arguments.now given.now) }
+{
+    write!(
+        out,
+        "    #[allow(non_snake_case, reason = \"generated code\")]
+    fn {name}{parameters}({arguments}) -> {given} {{
+"
+    )
+}
+
+/// Adds the end of a method.
+#[tactic(auto, unfolding(crate::specs::InstBuilder::method_end))]
+fn push_method_end(out: &mut String) -> Result<(), AllocError>
+    ensures { OnOk result (string_bytes out.new ≡ string_bytes out.old ++ method_end) }
+{
+    out.push_str("    }\n")
+}
+
+/// Adds the method that builds the instruction, which is of this format (`gen_inst_builder` of `gen_inst.rs`). The variables of
+/// its operands are of the registry.
+///
+/// An instruction that is built has a control of the registry, and an operand wherever its format designates one. Of a control
+/// that isn't of the registry, and of an operand that isn't there, no name is written.
+#[tactic(auto, unfolding(crate::specs::InstBuilder::inst_builder_text))]
+pub fn push_inst_builder(
+    alloc: Global,
+    out: &mut String,
+    vars: &TypeVars,
+    instruction: &InstructionContent,
+    format: &InstructionFormat,
+) -> Result<(), AllocError>
+    requires inputs { AreOf vars.now (variables_of instruction.now.operands_in) }
+    requires outputs { AreOf vars.now (variables_of instruction.now.operands_out) }
+    ensures { OnOk result (string_bytes out.new ≡ string_bytes out.old ++ inst_builder_text vars.now instruction.now format.now) }
+{
+    let parameters = type_parameters(alloc, instruction.operands_in())?;
+    let arguments = arguments(alloc, vars, instruction, format)?;
+    let given = result_type(alloc, instruction.value_results().len())?;
+    push_method_docs(alloc, out, vars, instruction)?;
+    push_head(
+        out,
+        instruction.snake_name(),
+        parameters.as_str(),
+        arguments.as_str(),
+        given.as_str(),
+    )?;
+    push_body(alloc, out, vars, instruction, format)?;
+    push_method_end(out)
+}

@@ -1,0 +1,173 @@
+ghost use Rattle.std.specs.Prelude.{◌≡◌, ◌++◌, ◌<◌, ℕ, Some, IfOk, OnOk, length, string_bytes};
+ghost use Rattle.std.specs.List.{flat_map};
+ghost use Rattle.meta_operands.specs.Operand.{variable_of, variables_of};
+ghost use Rattle.meta_inst.specs.Operands.{AreOf};
+ghost use Rattle.meta_builder_text.specs.MethodDocs.{control_line, control_doc, block_docs, raw_block_doc, operand_line, input_docs, inputs_docs, outputs_docs, titled, method_docs};
+
+use super::arguments::asked_control;
+use super::operands::{operand_doc, variable_doc, variable_name};
+use meta_constructors_text::{first_line, push_doc_heading, push_doc_item, push_doc_line};
+use meta_inst::InstructionContent;
+use meta_operands::Operand;
+use meta_typevar::{TypeVar, TypeVars};
+use std::alloc::{AllocError, Global};
+
+/// Adds the line on a control of this name.
+#[tactic(auto, unfolding(crate::specs::MethodDocs::control_line))]
+fn push_control_line(out: &mut String, name: &str, doc: &str) -> Result<(), AllocError>
+    ensures { OnOk result (string_bytes out.new ≡ string_bytes out.old ++ control_line name.now doc.now) }
+{
+    write!(out, "    /// - {name} (controlling type variable): {doc}\n")
+}
+
+/// Adds the line on the control, where it is an argument.
+#[tactic(auto, unfolding(crate::specs::MethodDocs::control_doc))]
+fn push_control_doc(
+    out: &mut String,
+    vars: &TypeVars,
+    control: Option<TypeVar>,
+) -> Result<(), AllocError>
+    ensures { OnOk result (string_bytes out.new ≡ string_bytes out.old ++ control_doc vars.now control) }
+{
+    match control {
+        Some(tv) => push_control_line(out, variable_name(vars, tv), variable_doc(vars, tv)),
+        None => Ok(()),
+    }
+}
+
+/// Adds the lines on a block of this name and on what is passed to it.
+#[tactic(auto, unfolding(crate::specs::MethodDocs::block_docs))]
+fn push_block_docs(out: &mut String, name: &str) -> Result<(), AllocError>
+    ensures { OnOk result (string_bytes out.new ≡ string_bytes out.old ++ block_docs name.now) }
+{
+    write!(
+        out,
+        "    /// - {name}_label: Destination basic block
+    /// - {name}_args: Block arguments
+"
+    )
+}
+
+/// Adds the line on a block without arguments.
+#[tactic(auto, unfolding(crate::specs::MethodDocs::raw_block_doc))]
+fn push_raw_block_doc(out: &mut String) -> Result<(), AllocError>
+    ensures { OnOk result (string_bytes out.new ≡ string_bytes out.old ++ raw_block_doc) }
+{
+    out.push_str("    /// - block: raw basic block\n")
+}
+
+/// Adds the line on an output, or on an input that is no block.
+fn push_operand_line(out: &mut String, vars: &TypeVars, operand: &Operand) -> Result<(), AllocError>
+    requires { (tv : ℕ) → variable_of operand.now ≡ Some tv → tv < length vars.now }
+    ensures { OnOk result (string_bytes out.new ≡ string_bytes out.old ++ operand_line vars.now operand.now) }
+{
+    push_doc_item(out, operand.name.as_str(), operand_doc(vars, operand))
+}
+
+/// Adds the lines on the arguments for an input.
+#[tactic(auto, unfolding(crate::specs::MethodDocs::input_docs))]
+fn push_input_docs(out: &mut String, vars: &TypeVars, operand: &Operand) -> Result<(), AllocError>
+    requires { (tv : ℕ) → variable_of operand.now ≡ Some tv → tv < length vars.now }
+    ensures { OnOk result (string_bytes out.new ≡ string_bytes out.old ++ input_docs vars.now operand.now) }
+{
+    if operand.kind.is_block() {
+        return push_block_docs(out, operand.name.as_str());
+    }
+    if operand.kind.is_raw_block() {
+        return push_raw_block_doc(out);
+    }
+    push_operand_line(out, vars, operand)
+}
+
+/// Adds the lines on the arguments for the inputs.
+fn push_each_input(
+    out: &mut String,
+    vars: &TypeVars,
+    operands: &[Operand],
+) -> Result<(), AllocError>
+    requires { AreOf vars.now (variables_of operands.now) }
+    ensures { OnOk result (string_bytes out.new ≡ string_bytes out.old ++ flat_map (input_docs vars.now) operands.now) }
+{
+    for operand in operands {
+        push_input_docs(out, vars, operand)?;
+    }
+    Ok(())
+}
+
+/// Adds the lines on the outputs.
+fn push_each_output(
+    out: &mut String,
+    vars: &TypeVars,
+    operands: &[Operand],
+) -> Result<(), AllocError>
+    requires { AreOf vars.now (variables_of operands.now) }
+    ensures { OnOk result (string_bytes out.new ≡ string_bytes out.old ++ flat_map (operand_line vars.now) operands.now) }
+{
+    for operand in operands {
+        push_operand_line(out, vars, operand)?;
+    }
+    Ok(())
+}
+
+/// The lines on all arguments but the builder.
+#[tactic(auto, unfolding(crate::specs::MethodDocs::inputs_docs))]
+fn inputs_docs(
+    alloc: Global,
+    vars: &TypeVars,
+    instruction: &InstructionContent,
+) -> Result<String, AllocError>
+    requires { AreOf vars.now (variables_of instruction.now.operands_in) }
+    ensures { IfOk result (λ text. string_bytes text ≡ inputs_docs vars.now instruction.now) }
+{
+    let mut out = String::new(alloc);
+    let control = asked_control(instruction.polymorphic_info());
+    push_control_doc(&mut out, vars, control)?;
+    push_each_input(&mut out, vars, instruction.operands_in())?;
+    Ok(out)
+}
+
+/// The lines on the outputs.
+#[tactic(auto, unfolding(crate::specs::MethodDocs::outputs_docs))]
+fn outputs_docs(
+    alloc: Global,
+    vars: &TypeVars,
+    instruction: &InstructionContent,
+) -> Result<String, AllocError>
+    requires { AreOf vars.now (variables_of instruction.now.operands_out) }
+    ensures { IfOk result (λ text. string_bytes text ≡ outputs_docs vars.now instruction.now) }
+{
+    let mut out = String::new(alloc);
+    push_each_output(&mut out, vars, instruction.operands_out())?;
+    Ok(out)
+}
+
+/// Adds a list of this title with these lines, where there are lines.
+#[tactic(auto, unfolding(crate::specs::MethodDocs::titled))]
+fn push_titled(out: &mut String, title: &str, lines: &str) -> Result<(), AllocError>
+    ensures { OnOk result (string_bytes out.new ≡ string_bytes out.old ++ titled title.now lines.now) }
+{
+    if lines.is_empty() {
+        return Ok(());
+    }
+    push_doc_heading(out, title)?;
+    out.push_str(lines)
+}
+
+/// Adds the documentation of the instruction, of the arguments and of the outputs.
+#[tactic(auto, unfolding(crate::specs::MethodDocs::method_docs))]
+pub(crate) fn push_method_docs(
+    alloc: Global,
+    out: &mut String,
+    vars: &TypeVars,
+    instruction: &InstructionContent,
+) -> Result<(), AllocError>
+    requires inputs { AreOf vars.now (variables_of instruction.now.operands_in) }
+    requires outputs { AreOf vars.now (variables_of instruction.now.operands_out) }
+    ensures { OnOk result (string_bytes out.new ≡ string_bytes out.old ++ method_docs vars.now instruction.now) }
+{
+    let inputs = inputs_docs(alloc, vars, instruction)?;
+    let outputs = outputs_docs(alloc, vars, instruction)?;
+    push_doc_line(out, first_line(instruction.doc().as_str()))?;
+    push_titled(out, "Inputs", inputs.as_str())?;
+    push_titled(out, "Outputs", outputs.as_str())
+}

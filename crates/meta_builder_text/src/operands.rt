@@ -1,0 +1,77 @@
+ghost use Rattle.std.specs.Prelude.{◌≡◌, ◌<◌, ℕ, Some, length};
+ghost use Rattle.std.specs.List.{list_any};
+ghost use Rattle.meta_inst.specs.FormatMatch.{is_block_operand};
+ghost use Rattle.meta_operands.specs.Operand.{variable_of};
+ghost use Rattle.meta_builder_text.specs.Operands.{is_converted, is_mem_flags, name_at, variable_name, variable_doc, operand_doc};
+
+use meta_constructors_text::first_line;
+use meta_operands::Operand;
+use meta_typevar::{TypeVar, TypeVars};
+
+/// Whether the argument for the operand is converted to the operand's type: it is an immediate, and no block.
+pub(crate) fn is_converted(operand: &Operand) -> bool
+    ensures { result ≡ is_converted operand.now }
+{
+    !operand.kind.is_block() && (!operand.kind.is_raw_block() && operand.is_immediate())
+}
+
+/// Whether the operand is flags of a memory access, which are stored outside of the instruction.
+pub(crate) fn is_mem_flags(operand: &Operand) -> bool
+    ensures { result ≡ is_mem_flags operand.now }
+{
+    operand.kind.rust_type.as_str() == "ir::MemFlags"
+}
+
+/// Whether some operand is a block that is branched to with arguments.
+pub(crate) fn has_block(operands: &[Operand]) -> bool
+    ensures { result ≡ list_any is_block_operand operands.now }
+{
+    operands.iter().any(|o| o.kind.is_block())
+}
+
+/// Whether some operand is flags of a memory access.
+pub(crate) fn has_mem_flags(operands: &[Operand]) -> bool
+    ensures { result ≡ list_any is_mem_flags operands.now }
+{
+    operands.iter().any(|o| is_mem_flags(o))
+}
+
+/// The name of the operand at this place, counted from 0, and nothing where there is none.
+pub(crate) fn name_at(operands: &[Operand], place: usize) -> &str
+    ensures { result.now ≡ name_at operands.now place }
+{
+    match operands.get(place) {
+        Some(operand) => operand.name.as_str(),
+        None => "",
+    }
+}
+
+/// The name of the variable, and nothing where it isn't of the registry.
+pub(crate) fn variable_name(vars: &TypeVars, tv: TypeVar) -> &str
+    ensures { result.now ≡ variable_name vars.now tv }
+{
+    if !vars.is_of(tv) {
+        return "";
+    }
+    vars.content(tv).name.as_str()
+}
+
+/// The documentation of the variable as it is printed, and nothing where it isn't of the registry.
+#[tactic(auto, unfolding(crate::specs::Operands::variable_doc))]
+pub(crate) fn variable_doc(vars: &TypeVars, tv: TypeVar) -> &str
+    ensures { result.now ≡ variable_doc vars.now tv }
+{
+    if !vars.is_of(tv) {
+        return first_line("");
+    }
+    first_line(vars.content(tv).doc.as_str())
+}
+
+/// The documentation of the operand as it is printed. Its variable, where it is a value, is of the registry.
+#[tactic(auto, unfolding(crate::specs::Operands::operand_doc))]
+pub(crate) fn operand_doc<'a>(vars: &'a TypeVars, operand: &'a Operand) -> &'a str
+    requires { (tv : ℕ) → variable_of operand.now ≡ Some tv → tv < length vars.now }
+    ensures { result.now ≡ operand_doc vars.now operand.now }
+{
+    first_line(operand.doc(vars))
+}

@@ -1,0 +1,4 @@
+-- texts, piece by piece
+mod Pieces
+-- the operands of an instruction
+mod Inputs

@@ -1,0 +1,4 @@
+pub mod Docs
+pub mod Arguments
+pub mod Constructor
+pub mod ImmBuilders

@@ -1,0 +1,12 @@
+pub mod Held
+pub mod EntityWord
+pub mod MethodLines
+pub mod Members
+pub mod ReadMethods
+pub mod EqMethod
+pub mod HashMethod
+pub mod Rebuilt
+pub mod DeepCloneMethod
+pub mod MapMethod
+pub mod Arms
+pub mod DataImpl

@@ -1,0 +1,37 @@
+ghost use Rattle.std.specs.Prelude.{◌≡◌, ◌++◌, OnOk, string_bytes};
+ghost use Rattle.meta_data_text.specs.MethodLines.{method_end, spaced_end, arm_end};
+
+use std::alloc::AllocError;
+
+/// Adds the end of a method.
+#[tactic(auto, unfolding(crate::specs::MethodLines::method_end))]
+pub(crate) fn push_method_end(out: &mut String) -> Result<(), AllocError>
+    ensures { OnOk result (string_bytes out.new ≡ string_bytes out.old ++ method_end) }
+{
+    out.push_str(
+        "        }
+    }
+",
+    )
+}
+
+/// Adds the end of a method, and an empty line.
+#[tactic(auto, unfolding(crate::specs::MethodLines::spaced_end))]
+pub(crate) fn push_spaced_end(out: &mut String) -> Result<(), AllocError>
+    ensures { OnOk result (string_bytes out.new ≡ string_bytes out.old ++ spaced_end) }
+{
+    out.push_str(
+        "        }
+    }
+
+",
+    )
+}
+
+/// Adds the end of an arm that is a block.
+#[tactic(auto, unfolding(crate::specs::MethodLines::arm_end))]
+pub(crate) fn push_arm_end(out: &mut String) -> Result<(), AllocError>
+    ensures { OnOk result (string_bytes out.new ≡ string_bytes out.old ++ arm_end) }
+{
+    out.push_str("            }\n")
+}

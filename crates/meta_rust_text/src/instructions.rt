@@ -1,0 +1,49 @@
+ghost use Rattle.std.specs.Prelude.{◌≡◌, ◌≤◌, ◌++◌, OnOk, IfOk, IsErrOf, string_bytes};
+ghost use Rattle.meta_rust_text.specs.InstructionsText.{instructions_text};
+ghost use Rattle.meta_text.specs.Outside.{Rose, with_more, TookPart};
+
+use meta_data_text::push_data_impl;
+use meta_declared::Built;
+use meta_opcodes_text::{formats_in_use, push_data, push_formats, push_opcodes};
+use meta_text::{Sink, WriteError, write_whole};
+use std::alloc::{AllocError, Global};
+
+/// The text of instructions as Rust source (`gen_formats`, `gen_instruction_data`, `gen_instruction_data_impl` and `gen_opcodes`
+/// of `gen_inst.rs`, without the two tables that stand in the text of tables): the formats in use, the data of an instruction
+/// of each with its methods, and the opcodes with theirs.
+///
+/// The text is made in one pass over the instructions and one a method over the formats, and the only error is want of memory.
+#[tactic(auto, unfolding(crate::specs::InstructionsText::instructions_text))]
+pub fn instructions_text(alloc: Global, built: &Built<'_>) -> Result<String, AllocError>
+    ensures { IfOk result (λ text. string_bytes text ≡ instructions_text built.now) }
+{
+    let mut text = String::new(alloc);
+    let formats = formats_in_use(alloc, built)?;
+    push_formats(alloc, &mut text, built)?;
+    push_data(alloc, &mut text, built)?;
+    push_data_impl(alloc, &mut text, formats.as_slice())?;
+    text.push_str("\n")?;
+    push_opcodes(&mut text, built)?;
+    Ok(text)
+}
+
+/// Writes the text of instructions to the sink, as `instructions_text` makes it.
+///
+/// `OutOfMemory` comes before anything is written. After `WriteFault`, which comes only where a write failed, the sink took a
+/// front of the text.
+pub fn write_instructions<K: Sink>(
+    alloc: Global,
+    built: &Built<'_>,
+    sink: &mut K,
+) -> Result<(), WriteError>
+    ensures ok { OnOk result (K.taken sink.new ≡ with_more (K.taken sink.old) (instructions_text built.now)) }
+    ensures in_part { IsErrOf result WriteError.WriteFault → TookPart (instructions_text built.now) (K.taken sink.old) (K.taken sink.new) }
+    ensures memory { IsErrOf result WriteError.OutOfMemory → sink.new ≡ sink.old }
+    ensures fault { IsErrOf result WriteError.WriteFault → Rose (K.faults sink.old) (K.faults sink.new) }
+    ensures counted { K.faults sink.old ≤ K.faults sink.new }
+{
+    match instructions_text(alloc, built) {
+        Ok(text) => write_whole(sink, text.as_bytes()),
+        Err(_) => Err(WriteError::OutOfMemory),
+    }
+}

@@ -1,0 +1,89 @@
+-- The getters of the settings of a group.
+--     getter_text s       the getter of a setting
+--     getters_text g      those of a group
+use Rattle.std.specs.Prelude.{ℕ, List, [], ◌∷◌, ◌++◌, codes}
+use Rattle.std.specs.List.{flat_map}
+use Rattle.std.specs.Fmt.{decimal}
+use Rattle.std.specs.Str.{trim}
+use Rattle.meta_types.specs.CamelCase.{camel_case_of}
+use Rattle.meta_text.specs.Lines.{at, text_of}
+use Rattle.meta_settings.specs.declared.setting.SpecificSetting.{SpecificSetting}
+use Rattle.meta_settings.specs.declared.setting.SpecificSetting.TheVariants.{Bool, Enum, Num}
+use Rattle.meta_settings.specs.Layout.{PlacedSetting, Layout}
+use Rattle.meta_settings_text.specs.ValueText.{arms_text}
+
+-- ---- a getter
+
+-- that of the boolean of this number: it asks for the boolean by its number
+unfoldable pub bool_getter : List ℕ → List ℕ → ℕ → List ℕ
+bool_getter doc name number = text_of (
+    at 1 (codes "/// " ∷ (doc ∷ []))
+    ∷ (at 1 (codes "pub fn " ∷ (name ∷ (codes "(&self) -> bool {" ∷ [])))
+    ∷ (at 2 (codes "self.numbered_predicate(" ∷ (decimal number ∷ (codes ")" ∷ [])))
+    ∷ (at 1 (codes "}" ∷ []) ∷ []))))
+
+-- that of the number in this byte
+unfoldable pub number_getter : List ℕ → List ℕ → ℕ → List ℕ
+number_getter doc name byte = text_of (
+    at 1 (codes "/// " ∷ (doc ∷ []))
+    ∷ (at 1 (codes "pub fn " ∷ (name ∷ (codes "(&self) -> u8 {" ∷ [])))
+    ∷ (at 2 (codes "self.bytes[" ∷ (decimal byte ∷ (codes "]" ∷ [])))
+    ∷ (at 1 (codes "}" ∷ []) ∷ []))))
+
+-- the lines around the arms of that of the enum `ty` in this byte: a byte that gives no value is told by a panic
+unfoldable pub enum_getter_head : List ℕ → List ℕ → List ℕ → ℕ → List ℕ
+enum_getter_head doc name ty byte = text_of (
+    at 1 (codes "/// " ∷ (doc ∷ []))
+    ∷ (at 1 (codes "pub fn " ∷ (name ∷ (codes "(&self) -> " ∷ (ty ∷ (codes " {" ∷ [])))))
+    ∷ (at 2 (codes "match self.bytes[" ∷ (decimal byte ∷ (codes "] {" ∷ []))) ∷ [])))
+
+unfoldable pub enum_getter_end : List ℕ
+enum_getter_end = text_of (at 3 (codes "_ => panic!(\"Invalid enum value\")," ∷ []) ∷ (at 2 (codes "}" ∷ []) ∷ (at 1 (codes "}" ∷ []) ∷ [])))
+
+-- that of the enum: the bytes from 0 on give its values, in order
+unfoldable pub enum_getter_parts : List ℕ → List ℕ → List ℕ → ℕ → List (List ℕ) → List ℕ
+enum_getter_parts doc name ty byte values = enum_getter_head doc name ty byte ++ (arms_text ty 0 values ++ enum_getter_end)
+
+abbrev pub enum_getter : List ℕ → List ℕ → ℕ → List (List ℕ) → List ℕ
+enum_getter doc name byte values = enum_getter_parts doc name (camel_case_of name) byte values
+
+-- that of a setting of this name in this byte, by what it is
+abbrev pub getter_of : List ℕ → List ℕ → ℕ → SpecificSetting → List ℕ
+getter_of doc name byte (Bool b) = bool_getter doc name b.predicate_number
+getter_of doc name byte (Enum values) = enum_getter doc name byte values
+getter_of doc name byte (Num default) = number_getter doc name byte
+
+-- that of a setting: its documentation is the description, without white space at both ends
+unfoldable pub getter_text : PlacedSetting → List ℕ
+getter_text s = getter_of (trim s.description) s.name s.byte_offset s.specific
+
+-- ---- the getters of a group
+
+unfoldable pub getters_head : List ℕ
+getters_head = text_of (
+    at 0 (codes "/// User-defined settings." ∷ [])
+    ∷ (at 0 (codes "#[allow(dead_code, reason = \"generated code\")]" ∷ [])
+    ∷ (at 0 (codes "impl Flags {" ∷ []) ∷ [])))
+
+unfoldable pub getters_end : List ℕ
+getters_end = text_of (at 0 (codes "}" ∷ []) ∷ [])
+
+-- the getter of booleans by their numbers, eight to a byte from this byte on
+unfoldable pub predicate_lines : ℕ → List ℕ
+predicate_lines start = text_of (
+    at 1 (codes "/// Dynamic numbered predicate getter." ∷ [])
+    ∷ (at 1 (codes "fn numbered_predicate(&self, p: usize) -> bool {" ∷ [])
+    ∷ (at 2 (codes "self.bytes[" ∷ (decimal start ∷ (codes " + p / 8] & (1 << (p % 8)) != 0" ∷ [])))
+    ∷ (at 1 (codes "}" ∷ []) ∷ []))))
+
+-- the same where there are settings, and nothing where there are none
+abbrev pub predicate_of : ℕ → List PlacedSetting → List ℕ
+predicate_of start [] = []
+predicate_of start (s ∷ ss) = predicate_lines start
+
+unfoldable pub predicate_text : Layout → List ℕ
+predicate_text g = predicate_of g.bool_start_byte_offset g.settings
+
+-- the getter by numbers, and those of the settings, in order
+unfoldable pub getters_text : Layout → List ℕ
+getters_text g = getters_head ++ (predicate_text g ++ (flat_map getter_text g.settings ++ getters_end))

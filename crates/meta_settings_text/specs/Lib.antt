@@ -1,0 +1,5 @@
+pub mod FlagsText
+pub mod ValueText
+pub mod EnumText
+pub mod GetterText
+pub mod SettingsText
