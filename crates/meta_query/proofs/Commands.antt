@@ -1,27 +1,36 @@
 -- The commands and their words.
-use Rattle.std.proofs.Common.{◌≡◌, ℕ, List, [], ◌∷◌, arith, refl, ap}
+use Rattle.std.proofs.Common.{◌≡◌, ℕ, ◌*◌, ◌+◌, ◌==◌, if◌then◌else◌, List, [], ◌∷◌, refl, sym, ap, ◌∙◌}
 use Rattle.meta_query.specs.Command.{words_of}
 use Rattle.meta_query.specs.declared.command.Command.{Command}
-use Rattle.meta_query.specs.declared.command.Command.TheVariants.{Query, Tables, Types}
+use Rattle.meta_query.specs.declared.command.Command.TheVariants.{Query, Tables, Types, Settings, Instructions, Builder}
 
--- the second letter of a word, and of the first word
-abbrev letter_in : List ℕ → ℕ
-letter_in [] = 0
-letter_in (a ∷ []) = 0
-letter_in (a ∷ b ∷ letters) = b
+-- the first two letters of a word as a number, and those of the first word
+abbrev letters_in : List ℕ → ℕ
+letters_in [] = 0
+letters_in (a ∷ []) = 0
+letters_in (a ∷ b ∷ letters) = a * 256 + b
 
-abbrev letter : List (List ℕ) → ℕ
-letter [] = 0
-letter (word ∷ words) = letter_in word
+abbrev letters : List (List ℕ) → ℕ
+letters [] = 0
+letters (word ∷ words) = letters_in word
+
+-- the command whose name begins with these
+abbrev command_at : ℕ → Command
+command_at n =
+    if n == 29045 then Query else
+    if n == 29793 then Tables else
+    if n == 29817 then Types else
+    if n == 29541 then Settings else
+    if n == 26990 then Instructions else Builder
+
+command_of_words : (c : Command) → command_at (letters (words_of c)) ≡ c
+command_of_words Query = refl
+command_of_words Tables = refl
+command_of_words Types = refl
+command_of_words Settings = refl
+command_of_words Instructions = refl
+command_of_words Builder = refl
 
 -- two commands have different words
 pub same_command : (c d : Command) → words_of c ≡ words_of d → c ≡ d
-same_command Query Query e = refl
-same_command Query Tables e = let f : 117 ≡ 97 = ap letter e in absurd (omega (arith, f))
-same_command Query Types e = let f : 117 ≡ 121 = ap letter e in absurd (omega (arith, f))
-same_command Tables Query e = let f : 97 ≡ 117 = ap letter e in absurd (omega (arith, f))
-same_command Tables Tables e = refl
-same_command Tables Types e = let f : 97 ≡ 121 = ap letter e in absurd (omega (arith, f))
-same_command Types Query e = let f : 121 ≡ 117 = ap letter e in absurd (omega (arith, f))
-same_command Types Tables e = let f : 121 ≡ 97 = ap letter e in absurd (omega (arith, f))
-same_command Types Types e = refl
+same_command c d e = sym (command_of_words c) ∙ ap (λ words. command_at (letters words)) e ∙ command_of_words d

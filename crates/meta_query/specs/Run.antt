@@ -1,38 +1,61 @@
 -- What a run does, by how it ended.
-use Rattle.std.specs.Prelude.{◌≡◌, ◌≢◌, ℕ, ◌≤◌, ◌⊎◌, ⊤, List, [], ◌++◌, length, Option, Some}
+use Rattle.std.specs.Prelude.{◌≡◌, ◌≢◌, ℕ, ◌≤◌, ◌⊎◌, ⊤, List, [], ◌++◌, length, map, Option, Some}
 use Rattle.meta_types.specs.declared.fault.DefinitionError.{DefinitionError}
 use Rattle.meta_text.specs.Outside.{Rose, with_front, with_more, NothingLeft, longest_input, TookPart}
 use Rattle.meta_declared.specs.AllDeclared.{Declared, ShowsFirst, AreValid}
 use Rattle.meta_gen.specs.WholeTables.{WholeTables, AreWholeTablesOf}
 use Rattle.meta_table_text.specs.TableText.{table_text}
 use Rattle.meta_table_text.specs.declared.version.Version.TheVariants.{Three}
+use Rattle.meta_settings.specs.LaidOut.{built_of}
+use Rattle.meta_declared.specs.BuiltDeclarations.{BuiltDeclarations, AreBuilt}
+use Rattle.meta_settings_text.specs.SettingsText.{settings_text}
+use Rattle.meta_builder_text.specs.BuilderText.{builder_text}
 use Rattle.meta_rust_text.specs.TypesText.{types_text}
+use Rattle.meta_rust_text.specs.InstructionsText.{instructions_text}
 use Rattle.meta_query.specs.Command.{words_of, IsCommand}
 use Rattle.meta_query.specs.declared.command.Command.{Command}
-use Rattle.meta_query.specs.declared.command.Command.TheVariants.{Query, Tables, Types}
-use Rattle.meta_query.specs.Lines.{lines_of}
-use Rattle.meta_query.specs.Answer.{IsTableReply, AreWrittenAnswers, IsOutput, refusal}
+use Rattle.meta_query.specs.declared.command.Command.TheVariants.{Query, Tables, Types, Settings, Instructions, Builder}
+use Rattle.meta_query.specs.Answer.{IsOutput, refusal}
 use Rattle.meta_query.specs.declared.status.Status.{Status}
 use Rattle.meta_query.specs.declared.status.Status.TheVariants.{Done, Refused, Usage, ReadFault, TooLong, OutOfMemory}
 
 -- ---- what a command answers
 
+-- the text of what is built of the declarations
+abbrev pub IsBuiltText : (BuiltDeclarations → List ℕ) → Declared → List ℕ → Type 0
+IsBuiltText text d output = (b : BuiltDeclarations) × AreBuilt b × (b.declared ≡ d) × (output ≡ text b)
+
 -- The output of a command over declarations: of `query` the answer to each line of the input, of `tables` the text of the tables of
--- the declarations, and of `types` the text of the types. No other command than `query` has an input.
+-- the declarations, of `types` the text of the types, of `settings` that of their groups of settings, and of `instructions` and
+-- `builder` the texts of what is built of them. No other command than `query` has an input.
 abbrev pub IsOutputOf : Declared → Command → List ℕ → List ℕ → Type 0
 IsOutputOf d Query input output = IsOutput d input output
 IsOutputOf d Tables input output = (input ≡ []) × (t : WholeTables) × AreWholeTablesOf d t × (output ≡ table_text Three t)
 IsOutputOf d Types input output = (input ≡ []) × (output ≡ types_text)
+IsOutputOf d Settings input output = (input ≡ []) × (output ≡ settings_text (map built_of d.groups))
+IsOutputOf d Instructions input output = (input ≡ []) × IsBuiltText instructions_text d output
+IsOutputOf d Builder input output = (input ≡ []) × IsBuiltText builder_text d output
+
+-- the command has an input
+abbrev pub HasInput : Command → Type 0
+HasInput Query = ⊤
+HasInput Tables = ⊥
+HasInput Types = ⊥
+HasInput Settings = ⊥
+HasInput Instructions = ⊥
+HasInput Builder = ⊥
 
 -- after the command was answered nothing is left where it has an input
 abbrev pub IsReadOut : Command → Option (List ℕ) → Type 0
-IsReadOut Query left = NothingLeft left
-IsReadOut Tables left = ⊤
-IsReadOut Types left = ⊤
+IsReadOut command left = HasInput command → NothingLeft left
 
 -- the command writes a text, and has no input
 abbrev pub WritesText : Command → Type 0
-WritesText command = command ≢ Query
+WritesText command = HasInput command → ⊥
+
+-- the words are a command that has an input
+abbrev pub IsReading : List (List ℕ) → Type 0
+IsReading words = (command : Command) × (words ≡ words_of command) × HasInput command
 
 -- The words are a command. Its input was read whole, and the sink took its output whole: what it answers as the declarations,
 -- which are valid, mean.
@@ -75,33 +98,6 @@ pub record IsAnsweredInPart (d : Declared) (words : List (List ℕ)) (left left'
 -- after these nothing was written
 abbrev pub WritesNothing : Status → Type 0
 WritesNothing status = (status ≡ Usage) ⊎ ((status ≡ ReadFault) ⊎ ((status ≡ TooLong) ⊎ (status ≡ OutOfMemory)))
-
--- ---- by tables
-
--- the output of a command by tables: of `query` their answers to the lines of the input, of `tables` their text
-abbrev pub IsTableOutput : WholeTables → Command → List ℕ → List ℕ → Type 0
-IsTableOutput tables Query input output = AreWrittenAnswers (IsTableReply tables) (lines_of input) output
-IsTableOutput tables Tables input output = (input ≡ []) × (output ≡ table_text Three tables)
-IsTableOutput tables Types input output = (input ≡ []) × (output ≡ types_text)
-
--- the input of the command was read whole, and the sink took its output by the tables whole
-pub record IsWritten (tables : WholeTables) (command : Command) (left left' taken taken' : Option (List ℕ)) : Type 0 where
-  pub input : List ℕ
-  pub output : List ℕ
-  pub read : left ≡ with_front input left'
-  pub end : IsReadOut command left'
-  pub within : length input ≤ longest_input
-  pub answers : IsTableOutput tables command input output
-  pub took : taken' ≡ with_more taken output
-
--- the input of the command was read whole, and the sink took a part of its output by the tables, and not all
-pub record IsWrittenInPart (tables : WholeTables) (command : Command) (left left' taken taken' : Option (List ℕ)) : Type 0 where
-  pub input : List ℕ
-  pub output : List ℕ
-  pub read : left ≡ with_front input left'
-  pub end : IsReadOut command left'
-  pub answers : IsTableOutput tables command input output
-  pub took : TookPart output taken taken'
 
 -- ---- what a command does, where nothing fails
 

@@ -1,7 +1,5 @@
 -- How a run ended.
-use Rattle.std.specs.Prelude.{ℕ, Result, Ok, Err}
-use Rattle.meta_text.specs.declared.whole.WriteError.{WriteError}
-use Rattle.meta_text.specs.declared.whole.WriteError.TheVariants as errors
+use Rattle.std.specs.Prelude.{ℕ}
 use Rattle.meta_query.specs.declared.status.Status.{Status}
 use Rattle.meta_query.specs.declared.status.Status.TheVariants.{Done, Refused, Usage, ReadFault, WriteFault, OutOfMemory, TooLong}
 
@@ -14,9 +12,3 @@ code_of ReadFault = 3
 code_of WriteFault = 4
 code_of OutOfMemory = 5
 code_of TooLong = 6
-
--- how a run ended that wrote a text
-abbrev pub status_of_write : Result (Unit {0}) WriteError → Status
-status_of_write (Ok _) = Done
-status_of_write (Err errors.WriteFault) = WriteFault
-status_of_write (Err errors.OutOfMemory) = OutOfMemory

@@ -13,6 +13,12 @@ pub enum Command {
     Tables,
     /// `types`: to write the text of the types.
     Types,
+    /// `settings`: to write the text of the groups of settings.
+    Settings,
+    /// `instructions`: to write the text of the instructions.
+    Instructions,
+    /// `builder`: to write the text of the builder of instructions.
+    Builder,
 }
 
 impl Command {
@@ -40,6 +46,15 @@ impl Command {
         }
         if name == b"types".as_slice() {
             return Some(Command::Types);
+        }
+        if name == b"settings".as_slice() {
+            return Some(Command::Settings);
+        }
+        if name == b"instructions".as_slice() {
+            return Some(Command::Instructions);
+        }
+        if name == b"builder".as_slice() {
+            return Some(Command::Builder);
         }
         None
     }

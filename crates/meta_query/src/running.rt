@@ -1,21 +1,19 @@
-ghost use Rattle.std.specs.Prelude.{◌≡◌, ◌≢◌, ◌≤◌, ◌++◌, ◌⊎◌, ℕ, List, length, IfOk, IsTrue, ◌↔◌, Some};
+ghost use Rattle.std.specs.Prelude.{◌≡◌, ◌≢◌, ◌≤◌, ◌⊎◌, [], length, IfOk, OnOk, IsErrOf, IsTrue, ◌↔◌, string_bytes};
 ghost use Rattle.meta_types.specs.declared.fault.DefinitionError.{DefinitionError};
-ghost use Rattle.meta_text.specs.Outside.{Rose, with_more, longest_input, GaveMore, GaveAtMost, TookPart};
+ghost use Rattle.meta_text.specs.Outside.{Rose, with_front, with_more, longest_input, GaveMore, GaveAtMost, TookPart};
 ghost use Rattle.meta_declared.specs.AllDeclared.{AreValid};
 ghost use Rattle.meta_query.specs.Answer.{refusal};
 ghost use Rattle.meta_query.specs.Command.{words_of, IsCommand};
 ghost use Rattle.meta_query.specs.declared.command.Command.{Command};
-ghost use Rattle.meta_query.specs.declared.command.Command.TheVariants.{Query};
-ghost use Rattle.meta_query.specs.Run.{WritesText, IsAnsweredWhole, IsRefusedWhole, IsRefusedInPart, IsAnsweredInPart, IsWritten, IsWrittenInPart, WritesNothing, AnswersInput, WritesTexts, RefusesDeclarations};
-ghost use Rattle.meta_query.specs.Status.{status_of_write};
+ghost use Rattle.meta_query.specs.Run.{HasInput, WritesText, IsReading, IsReadOut, IsOutputOf, IsAnsweredWhole, IsRefusedWhole, IsRefusedInPart, IsAnsweredInPart, WritesNothing, AnswersInput, WritesTexts, RefusesDeclarations};
 
 use super::answer::answers;
 use super::command::Command;
 use super::status::Status;
-use meta_gen::{Declarations, Tables, generate, one_first_fault};
-use meta_rust_text::write_types;
-use meta_table_text::write_tables;
-use meta_text::{ReadError, Sink, Source, WriteError, read_whole, write_whole};
+use meta_gen::{Built, Declarations, build_all, one_first_fault, tables_of};
+use meta_rust_text::{builder_text, instructions_text, settings_text, types_text};
+use meta_table_text::{Version, table_text};
+use meta_text::{ReadError, Sink, Source, read_whole, write_whole};
 use meta_types::{DefinitionError, Text};
 use std::alloc::{AllocError, Global};
 
@@ -61,26 +59,81 @@ fn refuse<K: Sink>(alloc: Global, fault: &DefinitionError, sink: &mut K) -> Stat
     }
 }
 
-/// Answers the whole input of the source by the tables, and writes the answers once all are there.
-fn query<S: Source, K: Sink>(alloc: Global, tables: &Tables, source: &mut S, sink: &mut K) -> Status
-    ensures done { result ≡ Status.Done → IsWritten tables.now Query (S.left source.old) (S.left source.new) (K.taken sink.old) (K.taken sink.new) }
-    ensures in_part { result ≡ Status.WriteFault → IsWrittenInPart tables.now Query (S.left source.old) (S.left source.new) (K.taken sink.old) (K.taken sink.new) }
-    ensures read_fault { result ≡ Status.ReadFault → Rose (S.faults source.old) (S.faults source.new) }
+/// The input of a command: all that the source has left, for a command that has one, and nothing for others.
+fn read_input<S: Source>(
+    alloc: Global,
+    command: Command,
+    source: &mut S,
+) -> Result<Vec<u8>, ReadError>
+    ensures read { IfOk result (λ input. S.left source.old ≡ with_front input.items (S.left source.new)) }
+    ensures end { OnOk result (IsReadOut command (S.left source.new)) }
+    ensures within { IfOk result (λ input. length input.items ≤ longest_input) }
+    ensures no_input { WritesText command → IfOk result (λ input. input.items ≡ []) }
+    ensures unread { WritesText command → source.new ≡ source.old }
+    ensures read_fault { IsErrOf result ReadError.ReadFault → HasInput command × Rose (S.faults source.old) (S.faults source.new) }
+    ensures too_long { IsErrOf result ReadError.TooLong → HasInput command × GaveMore longest_input (S.left source.old) (S.left source.new) }
+    ensures else_within { ¬ IsErrOf result ReadError.TooLong → GaveAtMost longest_input (S.left source.old) (S.left source.new) }
+    ensures counted { S.faults source.old ≤ S.faults source.new }
+{
+    match command {
+        Command::Query => read_whole(alloc, source),
+        Command::Tables
+        | Command::Types
+        | Command::Settings
+        | Command::Instructions
+        | Command::Builder => Ok(Vec::new(alloc)),
+    }
+}
+
+/// The output of a command over what was built of declarations, for this input.
+fn output_of(
+    alloc: Global,
+    command: Command,
+    built: &Built<'_>,
+    input: &[u8],
+) -> Result<String, AllocError>
+    requires { WritesText command → input.now ≡ [] }
+    ensures { IfOk result (λ output. IsOutputOf built.now.declared command input.now (string_bytes output)) }
+{
+    let _declarations = built.declarations();
+    match command {
+        Command::Query => answers(alloc, &tables_of(alloc, built)?, input),
+        Command::Tables => table_text(alloc, Version::Three, &tables_of(alloc, built)?),
+        Command::Types => types_text(alloc),
+        Command::Settings => settings_text(alloc, built.groups()),
+        Command::Instructions => instructions_text(alloc, built),
+        Command::Builder => builder_text(alloc, built),
+    }
+}
+
+/// Reads the input of the command, and writes its output once all is there.
+fn answer<S: Source, K: Sink>(
+    alloc: Global,
+    command: Command,
+    built: &Built<'_>,
+    source: &mut S,
+    sink: &mut K,
+) -> Status
+    ensures done { result ≡ Status.Done → IsAnsweredWhole built.now.declared (words_of command) (S.left source.old) (S.left source.new) (K.taken sink.old) (K.taken sink.new) }
+    ensures in_part { result ≡ Status.WriteFault → IsAnsweredInPart built.now.declared (words_of command) (S.left source.old) (S.left source.new) (K.taken sink.old) (K.taken sink.new) }
+    ensures read_fault { result ≡ Status.ReadFault → HasInput command × Rose (S.faults source.old) (S.faults source.new) }
     ensures write_fault { result ≡ Status.WriteFault → Rose (K.faults sink.old) (K.faults sink.new) }
-    ensures too_long { result ≡ Status.TooLong → GaveMore longest_input (S.left source.old) (S.left source.new) }
+    ensures too_long { result ≡ Status.TooLong → HasInput command × GaveMore longest_input (S.left source.old) (S.left source.new) }
     ensures else_within { result ≢ Status.TooLong → GaveAtMost longest_input (S.left source.old) (S.left source.new) }
+    ensures unread { WritesText command → source.new ≡ source.old }
     ensures untouched { WritesNothing result → sink.new ≡ sink.old }
     ensures only { (result ≢ Status.Refused) × (result ≢ Status.Usage) }
     ensures read_counted { S.faults source.old ≤ S.faults source.new }
     ensures write_counted { K.faults sink.old ≤ K.faults sink.new }
 {
-    let input = match read_whole(alloc, source) {
+    let _declarations = built.declarations();
+    let input = match read_input(alloc, command, source) {
         Ok(input) => input,
         Err(ReadError::ReadFault) => return Status::ReadFault,
         Err(ReadError::TooLong) => return Status::TooLong,
         Err(ReadError::OutOfMemory) => return Status::OutOfMemory,
     };
-    let Ok(output) = answers(alloc, tables, &input) else {
+    let Ok(output) = output_of(alloc, command, built, &input) else {
         return Status::OutOfMemory;
     };
     match write_whole(sink, output.as_bytes()) {
@@ -89,47 +142,10 @@ fn query<S: Source, K: Sink>(alloc: Global, tables: &Tables, source: &mut S, sin
     }
 }
 
-/// How a run ended that wrote a text.
-fn ended(written: Result<(), WriteError>) -> Status
-    ensures { result ≡ status_of_write written }
-{
-    match written {
-        Ok(()) => Status::Done,
-        Err(WriteError::WriteFault) => Status::WriteFault,
-        Err(WriteError::OutOfMemory) => Status::OutOfMemory,
-    }
-}
-
-/// Does what the command asks, by the tables.
-fn answer<S: Source, K: Sink>(
-    alloc: Global,
-    command: Command,
-    tables: &Tables,
-    source: &mut S,
-    sink: &mut K,
-) -> Status
-    ensures done { result ≡ Status.Done → IsWritten tables.now command (S.left source.old) (S.left source.new) (K.taken sink.old) (K.taken sink.new) }
-    ensures in_part { result ≡ Status.WriteFault → IsWrittenInPart tables.now command (S.left source.old) (S.left source.new) (K.taken sink.old) (K.taken sink.new) }
-    ensures read_fault { result ≡ Status.ReadFault → (command ≡ Query) × Rose (S.faults source.old) (S.faults source.new) }
-    ensures write_fault { result ≡ Status.WriteFault → Rose (K.faults sink.old) (K.faults sink.new) }
-    ensures too_long { result ≡ Status.TooLong → (command ≡ Query) × GaveMore longest_input (S.left source.old) (S.left source.new) }
-    ensures else_within { result ≢ Status.TooLong → GaveAtMost longest_input (S.left source.old) (S.left source.new) }
-    ensures unread { WritesText command → source.new ≡ source.old }
-    ensures untouched { WritesNothing result → sink.new ≡ sink.old }
-    ensures only { (result ≢ Status.Refused) × (result ≢ Status.Usage) }
-    ensures read_counted { S.faults source.old ≤ S.faults source.new }
-    ensures write_counted { K.faults sink.old ≤ K.faults sink.new }
-{
-    match command {
-        Command::Query => query(alloc, tables, source, sink),
-        Command::Tables => ended(write_tables(alloc, tables, sink)),
-        Command::Types => ended(write_types(alloc, sink)),
-    }
-}
-
 /// Runs a command over declarations: reads the source, and writes to the sink (this project's own). The words are those
 /// after the program's name: `query` answers each line of the input, by the tables alone, `tables` writes the text of the tables,
-/// and `types` that of the types.
+/// `types` that of the types, `settings` that of the groups of settings, `instructions` that of the instructions, and `builder` that
+/// of their builder.
 ///
 /// The order is: the words; the declarations, which are refused by the first fault that they show; for `query` the whole input; all
 /// that is answered, in memory; the writes. `Status` says how it ended, and `OutOfMemory` may come in any case.
@@ -151,12 +167,12 @@ pub fn run<S: Source, K: Sink>(
 
     ensures done { result ≡ Status.Done → IsAnsweredWhole declarations.now words.now (S.left source.old) (S.left source.new) (K.taken sink.old) (K.taken sink.new) }
     ensures refused { result ≡ Status.Refused → IsCommand words.now × IsRefusedWhole declarations.now (K.taken sink.old) (K.taken sink.new) }
-    ensures read_fault { result ≡ Status.ReadFault → (words.now ≡ words_of Query) × AreValid declarations.now × Rose (S.faults source.old) (S.faults source.new) }
+    ensures read_fault { result ≡ Status.ReadFault → IsReading words.now × AreValid declarations.now × Rose (S.faults source.old) (S.faults source.new) }
     ensures write_fault { result ≡ Status.WriteFault → IsCommand words.now × Rose (K.faults sink.old) (K.faults sink.new) }
     ensures written_in_part { result ≡ Status.WriteFault
         → IsRefusedInPart declarations.now (K.taken sink.old) (K.taken sink.new)
         ⊎ IsAnsweredInPart declarations.now words.now (S.left source.old) (S.left source.new) (K.taken sink.old) (K.taken sink.new) }
-    ensures too_long { result ≡ Status.TooLong → (words.now ≡ words_of Query) × AreValid declarations.now × GaveMore longest_input (S.left source.old) (S.left source.new) }
+    ensures too_long { result ≡ Status.TooLong → IsReading words.now × AreValid declarations.now × GaveMore longest_input (S.left source.old) (S.left source.new) }
     ensures else_within { result ≢ Status.TooLong → GaveAtMost longest_input (S.left source.old) (S.left source.new) }
 
     ensures untouched { WritesNothing result → sink.new ≡ sink.old }
@@ -170,8 +186,8 @@ pub fn run<S: Source, K: Sink>(
     let Some(command) = Command::parse(words) else {
         return Status::Usage;
     };
-    match generate(alloc, declarations) {
-        Ok(tables) => answer(alloc, command, &tables, source, sink),
+    match build_all(alloc, declarations) {
+        Ok(built) => answer(alloc, command, &built, source, sink),
         Err(fault) => refuse(alloc, &fault, sink),
     }
 }

@@ -1,4 +1,4 @@
-// Writes the tables of the shared instruction set, or answers the query lines of the standard input over it.
+// Writes the texts of the shared instruction set, or answers the query lines of the standard input over it.
 #![tactic(auto)]
 
 mod command;
@@ -16,6 +16,9 @@ Writes the tables of the shared instructions and settings of Cranelift to standa
 
 Usage: meta_query_cli tables          the tables as text
        meta_query_cli types           the constants of types as text
+       meta_query_cli settings        the settings as Rust source
+       meta_query_cli instructions    the formats, opcodes and data of instructions as Rust source
+       meta_query_cli builder         the builder of instructions as Rust source
        meta_query_cli query < FILE    an answer to each line of standard input
 
 A line is `accept NAME CONTROL RESULTS VALUES`: whether the instruction takes these types, with `-` where there is none.

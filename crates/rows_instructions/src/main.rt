@@ -13,6 +13,7 @@ mod on_instructions;
 mod on_variables;
 mod session;
 mod sets;
+mod texts;
 mod variables;
 mod words;
 

@@ -30,10 +30,12 @@ enum Asked {
     Order,
     Has,
     Fits,
+    Many,
+    Texts,
 }
 
 /// What such a line asks by its first word.
-const WORDS: [(&str, Asked); 27] = [
+const WORDS: [(&str, Asked); 29] = [
     ("ints", Asked::Ints),
     ("derive", Asked::Derive),
     ("type", Asked::Type),
@@ -61,6 +63,8 @@ const WORDS: [(&str, Asked); 27] = [
     ("order", Asked::Order),
     ("has", Asked::Has),
     ("fits", Asked::Fits),
+    ("many", Asked::Many),
+    ("texts", Asked::Texts),
 ];
 
 impl<'l> Session<'l> {
@@ -94,6 +98,8 @@ impl<'l> Session<'l> {
             Asked::Order => self.order(case),
             Asked::Has => self.has(case),
             Asked::Fits => self.fits(case),
+            Asked::Many => self.many(case),
+            Asked::Texts => self.texts(case),
         }
     }
 }

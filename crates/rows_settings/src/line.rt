@@ -29,12 +29,14 @@ pub(crate) enum Asked {
     Names,
     /// Which settings and presets of a built group equal, and hash as, which of the same group that is built once more.
     Alike,
+    /// The text of so many of the groups that were built last.
+    Text,
     /// Which settings of a built group are of this sort, with this default or these values.
     Which,
 }
 
 /// The words that ask.
-pub(crate) const ASKED: [(&str, Asked); 17] = [
+pub(crate) const ASKED: [(&str, Asked); 18] = [
     ("group", Asked::Group),
     ("bool", Asked::Entry(Sort::Bool)),
     ("num", Asked::Entry(Sort::Num)),
@@ -51,6 +53,7 @@ pub(crate) const ASKED: [(&str, Asked); 17] = [
     ("has", Asked::Has),
     ("names", Asked::Names),
     ("alike", Asked::Alike),
+    ("text", Asked::Text),
     ("which", Asked::Which),
 ];
 

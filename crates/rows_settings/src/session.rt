@@ -4,6 +4,7 @@ use crate::declared::Declared;
 use crate::line::{ASKED, Asked, Line};
 use crate::named::nothing_named;
 use meta_settings::{SettingGroup, TargetIsa};
+use meta_settings_text::settings_text;
 use meta_types::Text;
 use rows_words::{Case, Trouble, found};
 use std::alloc::{AllocError, Global};
@@ -94,6 +95,16 @@ impl Session {
         }
     }
 
+    /// Writes the text of so many of the groups that were built last, the first of which is the shared one.
+    fn write_text(&self, count: &str, case: &mut Case<'_>) {
+        let built = self.built.len();
+        let from = built - built.min(case.number_of(count));
+        match settings_text(self.alloc, &self.built[from..]) {
+            Ok(text) => case.text(text.as_str()),
+            Err(_) => case.refuse(Trouble::OutOfMemory),
+        }
+    }
+
     /// Writes whether the preset of a group is one of another.
     fn write_has(&self, line: &Line<'_>, case: &mut Case<'_>) {
         let (Ok(group), Ok(other)) = (self.group(line.name), self.group(line.third)) else {
@@ -133,6 +144,7 @@ impl Session {
             Asked::Nothing => case.debugged(&nothing_named(self.alloc)),
             Asked::Build => self.build(line, case),
             Asked::Target => self.write_target(line.name, case),
+            Asked::Text => self.write_text(line.name, case),
             Asked::Has => self.write_has(line, case),
             asked => match self.group(line.name) {
                 Ok(group) => self.write_of(group, asked, line, case),

@@ -1,9 +1,21 @@
 //! Runs, over the shared declarations, the words of each line of standard input, and writes what the run writes and the line
 //! `status N`.
 //!
-//! A line that begins with `#` goes through unchanged. A line `version N` asks for the text of the tables in that version.
+//! A line that begins with `#` goes through unchanged. A line `version N` asks for the text of the tables in that version, and
+//! `dump` for what the shared instruction set is, as tables whose columns are parted by tabs.
 #![tactic(auto)]
 
+mod dump;
+mod formats;
+mod instructions;
+mod kinds;
+mod names;
+mod roots;
+mod settings;
+mod shared;
+mod tables;
+
+use dump::write_all;
 use meta_gen::{Declarations, Tables, generate};
 use meta_query::{Status, run};
 use meta_shared_ops::define;
@@ -41,6 +53,13 @@ fn write_version(rt: &HostRuntime, tables: &Tables, version: Version) -> io::Res
     io::writer(rt).write_all(text.as_bytes())
 }
 
+/// Writes what the shared instruction set is.
+fn write_dump(rt: &HostRuntime, declarations: &Declarations, tables: &Tables) -> io::Result<()> {
+    let mut text = String::new(rt.alloc());
+    write_all(&mut text, rt.alloc(), declarations, tables)?;
+    io::writer(rt).write_all(text.as_bytes())
+}
+
 /// Answers a line.
 fn answer_line(
     rt: &HostRuntime,
@@ -49,6 +68,7 @@ fn answer_line(
     line: &str,
 ) -> io::Result<()> {
     match line {
+        "dump" => write_dump(rt, declarations, tables),
         "version 1" => write_version(rt, tables, Version::One),
         "version 2" => write_version(rt, tables, Version::Two),
         "version 3" => write_version(rt, tables, Version::Three),

@@ -1,0 +1,28 @@
+use Rattle.std.proofs.Common.{refl, sym, subst, string_bytes}
+use Rattle.std.specs.Prelude.{IfOk}
+use Rattle.std.proofs.lemmas.Result.{IfOk-weaker}
+use Rattle.meta_query.specs.Lines.{lines_of}
+use Rattle.meta_query.specs.Run.{HasInput, IsOutputOf}
+use Rattle.meta_query.proofs.Meant.{answers_mean}
+use Rattle.meta_query.proofs.running.output_of.Goals as goal
+
+pub returns-in_ok-tables_of-in-Query : goal.returns-in_ok-tables_of-in-Query
+returns-in_ok-tables_of-in-Query c =
+    let d = c.args.built.now.declared in
+    let tables = c.in_ok-tables_of-in-Query.ensures in
+    subst (λ x. IfOk c.answers-in-Query.result (λ output. IsOutputOf d x c.args.input.now (string_bytes output))) (sym c.in-Query.is)
+    (IfOk-weaker c.answers-in-Query.result _ _ (λ output h. answers_mean d _ tables.tables tables.acceptance tables.inference (lines_of c.args.input.now) (string_bytes output) h) c.answers-in-Query.ensures)
+
+pub returns-in-Instructions : goal.returns-in-Instructions
+returns-in-Instructions c =
+    let d = c.args.built.now.declared in
+    let empty = c.requires (λ h. subst HasInput c.in-Instructions.is h) in
+    subst (λ x. IfOk c.instructions_text.result (λ output. IsOutputOf d x c.args.input.now (string_bytes output))) (sym c.in-Instructions.is)
+    (IfOk-weaker c.instructions_text.result _ _ (λ output e. (empty, (c.args.built.now, c.declarations-declarations.ensures.built, refl, e))) c.instructions_text.ensures)
+
+pub returns-in-Builder : goal.returns-in-Builder
+returns-in-Builder c =
+    let d = c.args.built.now.declared in
+    let empty = c.requires (λ h. subst HasInput c.in-Builder.is h) in
+    subst (λ x. IfOk c.builder_text.result (λ output. IsOutputOf d x c.args.input.now (string_bytes output))) (sym c.in-Builder.is)
+    (IfOk-weaker c.builder_text.result _ _ (λ output e. (empty, (c.args.built.now, c.declarations-declarations.ensures.built, refl, e))) c.builder_text.ensures)
