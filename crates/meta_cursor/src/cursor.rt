@@ -1,0 +1,220 @@
+ghost use Rattle.std.specs.Prelude.{◌≡◌, ◌<◌, ◌^◌, ◌/◌, ◌%◌, ◌+◌, ◌*◌, ◌==◌, ℕ, List, [], ◌∷◌, ◌++◌, IsTrue, IfOk, All, false, length, map, drop, slice_index};
+ghost use Rattle.std.specs.Char.{is_ascii_digit};
+ghost use Rattle.std.specs.Fmt.{decimal, digit_glyph};
+ghost use Rattle.std.specs.List.{flat_map, position_or_len};
+ghost use Rattle.std.specs.Str.{IsAscii, IsUtf8};
+ghost use Rattle.meta_cursor.specs.Spans.{lacks, begins_with, is_line};
+
+use meta_types::Text;
+use std::alloc::{AllocError, Global};
+use std::marker::Model;
+use std::str;
+
+/// What is left of a text (this project's own).
+#[derive(Drop)]
+pub struct Cursor<'t> {
+    left: &'t [u8],
+}
+
+impl<'t> Model for Cursor<'t> {
+    ghost use Rattle.std.specs.Prelude.{List, ℕ};
+
+    ghost Value = { List ℕ };
+
+    ghost view = { λ c. c.left.now };
+}
+
+/// The place of the first byte `stop`, and the length of the text where it has none.
+fn end_of(text: &[u8], stop: u8) -> usize
+    ensures { result ≡ position_or_len (λ c. c == stop) text.now }
+{
+    text.iter().position(|c| *c == stop).unwrap_or(text.len())
+}
+
+impl<'t> Cursor<'t> {
+    /// At the front of the text.
+    pub fn new(text: &'t [u8]) -> Cursor<'t>
+        ensures { result ≡ text.now }
+    {
+        Cursor { left: text }
+    }
+
+    /// How many bytes are left.
+    pub fn len(&self) -> usize
+        ensures { result ≡ length self.now }
+    {
+        self.left.len()
+    }
+
+    /// Skips so many bytes, or all where fewer are left.
+    pub fn skip(&mut self, count: usize)
+        ensures { self.new ≡ drop count self.old }
+    {
+        let count = self.left.len().min(count);
+        self.left = self.left.split_at(count).1;
+    }
+
+    /// Skips as many bytes as the text has.
+    pub fn pass(&mut self, text: &str)
+        ensures { (rest : List ℕ) → self.old ≡ text.now ++ rest → self.new ≡ rest }
+    {
+        self.skip(text.len());
+    }
+
+    /// Reads what stands up to the next byte `stop`, which stays, behind as many bytes as the text has.
+    pub fn until(&mut self, before: &str, stop: u8) -> &'t [u8]
+        ensures { (item rest : List ℕ) → IsTrue (lacks stop item) → IsTrue (begins_with stop rest) → self.old ≡ before.now ++ (item ++ rest) → (result.now ≡ item) × (self.new ≡ rest) }
+    {
+        self.pass(before);
+        let (item, left) = self.left.split_at(end_of(self.left, stop));
+        self.left = left;
+        item
+    }
+}
+
+/// The number with these decimal digits, and 0 where they aren't those of a number.
+fn number_of(digits: &[u8]) -> usize
+    ensures { (n : ℕ) → n < 2 ^ 64 → digits.now ≡ decimal n → result ≡ n }
+{
+    match str::from_utf8(digits) {
+        Ok(text) => text.parse::<usize>().unwrap_or(0),
+        Err(_) => 0,
+    }
+}
+
+/// The text that these bytes are, and an empty one where they aren't UTF-8.
+fn text_of(alloc: Global, bytes: &[u8]) -> Result<Text, AllocError>
+    ensures { IfOk result (λ t. IsUtf8 bytes.now → t ≡ bytes.now) }
+{
+    match str::from_utf8(bytes) {
+        Ok(text) => Text::new(alloc, text),
+        Err(_) => Text::new(alloc, ""),
+    }
+}
+
+/// The value of a digit up to `f`, and 0 of any other byte.
+fn value_of(digit: u8) -> u8
+    ensures value { (d : ℕ) → d < 16 → digit ≡ digit_glyph false d → result ≡ d }
+    ensures small { result < 16 }
+{
+    match digit {
+        b'0'..=b'9' => digit - b'0',
+        b'a'..=b'f' => digit - b'a' + 10,
+        _ => 0,
+    }
+}
+
+impl<'t> Cursor<'t> {
+    /// The byte at this place of what is left, and 0 where there is none.
+    pub fn byte_at(&self, place: usize) -> u8
+        ensures { result ≡ slice_index self.now place }
+    {
+        match self.left.get(place) {
+            Some(byte) => *byte,
+            None => 0,
+        }
+    }
+
+    /// Reads the number up to the next byte `stop`, which isn't a digit and stays, behind as many bytes as the text has.
+    pub fn number(&mut self, before: &str, stop: u8) -> usize
+        ensures { (n : ℕ) (rest : List ℕ) → n < 2 ^ 64 → is_ascii_digit stop ≡ false → IsTrue (begins_with stop rest) → self.old ≡ before.now ++ (decimal n ++ rest) → (result ≡ n) × (self.new ≡ rest) }
+    {
+        number_of(self.until(before, stop))
+    }
+
+    /// As `number`, where the number has 8 bits.
+    pub fn number_u8(&mut self, before: &str, stop: u8) -> u8
+        ensures { (n : ℕ) (rest : List ℕ) → n < 2 ^ 8 → is_ascii_digit stop ≡ false → IsTrue (begins_with stop rest) → self.old ≡ before.now ++ (decimal n ++ rest) → (result ≡ n) × (self.new ≡ rest) }
+    {
+        u8::try_from(self.number(before, stop)).unwrap_or(0)
+    }
+
+    /// As `number`, where the number has 16 bits.
+    pub fn number_u16(&mut self, before: &str, stop: u8) -> u16
+        ensures { (n : ℕ) (rest : List ℕ) → n < 2 ^ 16 → is_ascii_digit stop ≡ false → IsTrue (begins_with stop rest) → self.old ≡ before.now ++ (decimal n ++ rest) → (result ≡ n) × (self.new ≡ rest) }
+    {
+        u16::try_from(self.number(before, stop)).unwrap_or(0)
+    }
+
+    /// As `number`, where the number has 32 bits.
+    pub fn number_u32(&mut self, before: &str, stop: u8) -> u32
+        ensures { (n : ℕ) (rest : List ℕ) → n < 2 ^ 32 → is_ascii_digit stop ≡ false → IsTrue (begins_with stop rest) → self.old ≡ before.now ++ (decimal n ++ rest) → (result ≡ n) × (self.new ≡ rest) }
+    {
+        u32::try_from(self.number(before, stop)).unwrap_or(0)
+    }
+
+    /// Reads the text up to the next byte `stop`, which stays, behind as many bytes as the text before has.
+    pub fn text(&mut self, alloc: Global, before: &str, stop: u8) -> Result<Text, AllocError>
+        ensures { IfOk result (λ t. (item rest : List ℕ) → IsAscii item → IsTrue (lacks stop item) → IsTrue (begins_with stop rest) → self.old ≡ before.now ++ (item ++ rest) → (t ≡ item) × (self.new ≡ rest)) }
+    {
+        text_of(alloc, self.until(before, stop))
+    }
+
+    /// Reads a digit up to `f`.
+    fn digit(&mut self) -> u8
+        ensures value { (d : ℕ) (rest : List ℕ) → d < 16 → self.old ≡ digit_glyph false d ∷ rest → (result ≡ d) × (self.new ≡ rest) }
+        ensures small { result < 16 }
+    {
+        let digit = value_of(self.byte_at(0));
+        self.skip(1);
+        digit
+    }
+
+    /// Reads a byte of two hexadecimal digits, behind as many bytes as the text has.
+    pub fn hex(&mut self, before: &str) -> u8
+        ensures { (n : ℕ) (rest : List ℕ) → n < 256 → self.old ≡ before.now ++ digit_glyph false (n / 16) ∷ (digit_glyph false (n % 16) ∷ rest) → (result ≡ n) × (self.new ≡ rest) }
+    {
+        self.pass(before);
+        let high = self.digit();
+        let low = self.digit();
+        high * 16 + low
+    }
+
+    /// Reads a binary digit.
+    fn bit(&mut self) -> u8
+        ensures value { (d : ℕ) (rest : List ℕ) → d < 2 → self.old ≡ digit_glyph false d ∷ rest → (result ≡ d) × (self.new ≡ rest) }
+        ensures small { result < 2 }
+    {
+        self.digit() % 2
+    }
+
+    /// Reads four binary digits.
+    fn four_bits(&mut self) -> u8
+        ensures value { (a b c d : ℕ) (rest : List ℕ) → a < 2 → b < 2 → c < 2 → d < 2 → self.old ≡ digit_glyph false a ∷ (digit_glyph false b ∷ (digit_glyph false c ∷ (digit_glyph false d ∷ rest))) → (result ≡ 8 * a + 4 * b + 2 * c + d) × (self.new ≡ rest) }
+        ensures small { result < 16 }
+    {
+        let eight = self.bit();
+        let four = self.bit();
+        let two = self.bit();
+        let one = self.bit();
+        8 * eight + 4 * four + 2 * two + one
+    }
+
+    /// Reads a byte of eight binary digits, behind as many bytes as the text has.
+    pub fn binary(&mut self, before: &str) -> u8
+        ensures { (n : ℕ) (rest : List ℕ) → n < 256 → self.old ≡ before.now ++ (map (λ place. digit_glyph false (n / place % 2)) (128 ∷ (64 ∷ (32 ∷ (16 ∷ (8 ∷ (4 ∷ (2 ∷ (1 ∷ [])))))))) ++ rest) → (result ≡ n) × (self.new ≡ rest) }
+    {
+        self.pass(before);
+        let high = self.four_bits();
+        let low = self.four_bits();
+        16 * high + low
+    }
+
+    /// Skips the next line, with its end.
+    pub fn skip_line(&mut self)
+        ensures { (line rest : List ℕ) → IsTrue (is_line line) → self.old ≡ line ++ rest → self.new ≡ rest }
+    {
+        let end = end_of(self.left, b'\n');
+        self.skip(end);
+        self.skip(1);
+    }
+
+    /// Skips so many lines, with their ends, or all where fewer are left.
+    pub fn skip_lines(&mut self, count: usize)
+        ensures { (lines : List (List ℕ)) (rest : List ℕ) → All (λ line. IsTrue (is_line line)) lines → count ≡ length lines → self.old ≡ flat_map (λ line. line) lines ++ rest → self.new ≡ rest }
+    {
+        for _ in 0..self.len().min(count) {
+            self.skip_line();
+        }
+    }
+}

@@ -1,0 +1,7 @@
+pub mod Shown
+pub mod Words
+pub mod Some
+pub mod EntryLines
+pub mod OpcodeLists
+pub mod ShownGroup
+pub mod Readable

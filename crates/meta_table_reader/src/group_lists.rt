@@ -1,0 +1,123 @@
+ghost use Rattle.std.specs.Prelude.{◌≡◌, ◌<◌, ◌^◌, ◌*◌, ℕ, List, ◌++◌, Option, IfOk, OnOk, All, length, count_by};
+ghost use Rattle.std.specs.List.{flat_map};
+ghost use Rattle.meta_types.specs.Name.{IsName};
+ghost use Rattle.meta_setting_tables.specs.declared.descriptor.Descriptor.{Descriptor};
+ghost use Rattle.meta_table_text.specs.GroupItems.{pair_text};
+ghost use Rattle.meta_table_text.specs.GroupText.{enumerators_text, descriptors_text, slots_text, is_preset, masks_from, preset_text, presets_text};
+ghost use Rattle.meta_table_reader.specs.ShownGroup.{IsByte, IsShownDescriptor, AreShownMasksOf, AreShownPresets};
+
+use super::item::items;
+use super::lists::list_count;
+use meta_cursor::Cursor;
+use meta_gen::{Descriptor, Detail};
+use meta_types::Text;
+use std::alloc::{AllocError, Global};
+
+/// Reads the list of the enumerators.
+pub(crate) fn enumerators(alloc: Global, cursor: &mut Cursor) -> Result<Vec<Text>, AllocError>
+    ensures { IfOk result (λ v. (names : List (List ℕ)) (rest : List ℕ) → length names < 2 ^ 16 → All IsName names → cursor.old ≡ enumerators_text names ++ rest → (v.items ≡ names) × (cursor.new ≡ rest)) }
+{
+    let count = list_count(cursor, "static ENUMERATORS: [&str; ");
+    let names = items::<Text>(alloc, cursor, count)?;
+    cursor.pass("];\n");
+    Ok(names)
+}
+
+/// Reads the list of the entries.
+pub(crate) fn descriptors(alloc: Global, cursor: &mut Cursor) -> Result<Vec<Descriptor>, AllocError>
+    ensures { IfOk result (λ v. (ds : List Descriptor) (rest : List ℕ) → length ds < 2 ^ 16 → All IsShownDescriptor ds → cursor.old ≡ descriptors_text ds ++ rest → (v.items ≡ ds) × (cursor.new ≡ rest)) }
+{
+    let count = list_count(cursor, "static DESCRIPTORS: [detail::Descriptor; ");
+    let entries = items::<Descriptor>(alloc, cursor, count)?;
+    cursor.pass("];\n");
+    Ok(entries)
+}
+
+/// Skips the list of the slots of the names, which follow from the names.
+pub(crate) fn skip_slots(cursor: &mut Cursor)
+    ensures { (slots : List (Option ℕ)) (rest : List ℕ) → length slots < 2 ^ 64 → cursor.old ≡ slots_text slots ++ rest → cursor.new ≡ rest }
+{
+    let count = list_count(cursor, "static HASH_TABLE: [u16; ");
+    cursor.skip_lines(count);
+    cursor.pass("];\n");
+}
+
+/// Reads the line of a pair, of which the value is the mask.
+fn pair(cursor: &mut Cursor) -> u8
+    ensures { (mask : ℕ) (rest : List ℕ) → IsByte mask → cursor.old ≡ pair_text mask ++ rest → (result ≡ mask) × (cursor.new ≡ rest) }
+{
+    let mask = cursor.binary("    (0b");
+    cursor.binary(", 0b");
+    cursor.pass("),\n");
+    mask
+}
+
+/// Adds the masks of so many pairs.
+fn push_masks(masks: &mut Vec<u8>, cursor: &mut Cursor, count: usize) -> Result<(), AllocError>
+    ensures { OnOk result ((ms : List ℕ) (rest : List ℕ) → All IsByte ms → count ≡ length ms → cursor.old ≡ flat_map pair_text ms ++ rest → (masks.new.items ≡ masks.old.items ++ ms) × (cursor.new ≡ rest)) }
+{
+    for _ in 0..cursor.len().min(count) {
+        masks.push(pair(cursor))?;
+    }
+    Ok(())
+}
+
+/// Reads the lines of so many presets, each with so many masks.
+fn preset_lines(
+    alloc: Global,
+    cursor: &mut Cursor,
+    presets: usize,
+    size: usize,
+) -> Result<Vec<u8>, AllocError>
+    ensures { IfOk result (λ v. (booleans ds : List Descriptor) (masks rest : List ℕ) → All IsShownDescriptor booleans → All IsShownDescriptor ds → All (AreShownMasksOf size masks) ds → presets ≡ length ds → cursor.old ≡ flat_map (preset_text booleans size masks) ds ++ rest → (v.items ≡ flat_map (λ (d : Descriptor). masks_from size masks d.offset) ds) × (cursor.new ≡ rest)) }
+{
+    let mut masks = Vec::new(alloc);
+    for _ in 0..presets {
+        push_masks(&mut masks, cursor, size)?;
+        cursor.skip_line();
+    }
+    Ok(masks)
+}
+
+/// Whether the entry is a preset.
+fn is_preset(entry: &Descriptor) -> bool
+    ensures { result ≡ is_preset entry.now.detail }
+{
+    match entry.detail {
+        Detail::Bool { .. } | Detail::Enum { .. } | Detail::Num => false,
+        Detail::Preset => true,
+    }
+}
+
+/// How many of the entries are presets.
+fn preset_count(entries: &[Descriptor]) -> usize
+    ensures { result ≡ count_by (λ (d : Descriptor). is_preset d.detail) entries.now }
+{
+    entries.iter().filter(|d| is_preset(d)).count()
+}
+
+/// Of so many pairs, how many each of so many presets has.
+fn size_of(pairs: usize, presets: usize) -> usize
+    ensures { (size : ℕ) → 0 < presets → pairs ≡ presets * size → result ≡ size }
+{
+    if presets == 0 {
+        return 0;
+    }
+    pairs / presets
+}
+
+/// Reads the masks of the presets among the entries.
+pub(crate) fn preset_masks(
+    alloc: Global,
+    cursor: &mut Cursor,
+    entries: &[Descriptor],
+) -> Result<Vec<u8>, AllocError>
+    ensures { IfOk result (λ v. (size : ℕ) (masks rest : List ℕ) → All IsShownDescriptor entries.now → AreShownPresets entries.now size masks → cursor.old ≡ presets_text entries.now size masks ++ rest → (v.items ≡ masks) × (cursor.new ≡ rest)) }
+{
+    let pairs = list_count(cursor, "static PRESETS: [(u8, u8); ");
+    let presets = preset_count(entries);
+    let size = size_of(pairs, presets);
+    let masks = preset_lines(alloc, cursor, presets, size)?;
+    cursor.pass("];\n");
+    Ok(masks)
+}

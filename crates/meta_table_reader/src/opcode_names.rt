@@ -1,0 +1,42 @@
+ghost use Rattle.std.specs.Prelude.{◌≡◌, ℕ, List, ◌++◌, IfOk, All, length};
+ghost use Rattle.meta_types.specs.Name.{IsName};
+ghost use Rattle.meta_meaning.specs.Tables.{TableContents};
+ghost use Rattle.meta_table_text.specs.OpcodeText.{each_opcode, format_line};
+ghost use Rattle.meta_table_text.specs.TableText.{formats_part};
+ghost use Rattle.meta_table_reader.specs.Shown.{AreNamed};
+
+use super::lists::list_count;
+use meta_cursor::Cursor;
+use meta_types::Text;
+use std::alloc::{AllocError, Global};
+
+/// By opcode, the name and the name of the format.
+#[derive(Drop)]
+pub(crate) struct OpcodeNames {
+    pub(crate) names: Vec<Text>,
+    pub(crate) formats: Vec<Text>,
+}
+
+/// Reads the lines of the formats of so many opcodes.
+fn format_lines(alloc: Global, cursor: &mut Cursor, count: usize) -> Result<OpcodeNames, AllocError>
+    ensures { IfOk result (λ r. (t : TableContents) (rest : List ℕ) → All IsName t.names → All IsName t.formats → count ≡ length t.names → count ≡ length t.formats → cursor.old ≡ each_opcode (format_line t) count ++ rest → (r.names.items ≡ t.names) × (r.formats.items ≡ t.formats) × (cursor.new ≡ rest)) }
+{
+    let mut names = Vec::new(alloc);
+    let mut formats = Vec::new(alloc);
+    for _ in 0..cursor.len().min(count) {
+        formats.push(cursor.text(alloc, "    InstructionFormat::", b',')?)?;
+        names.push(cursor.text(alloc, ", // ", b'\n')?)?;
+        cursor.pass("\n");
+    }
+    Ok(OpcodeNames { names, formats })
+}
+
+/// Reads the list of the formats.
+pub(crate) fn opcode_names(alloc: Global, cursor: &mut Cursor) -> Result<OpcodeNames, AllocError>
+    ensures { IfOk result (λ r. (t : TableContents) (rest : List ℕ) → AreNamed t → cursor.old ≡ formats_part t ++ rest → (r.names.items ≡ t.names) × (r.formats.items ≡ t.formats) × (cursor.new ≡ rest)) }
+{
+    let count = list_count(cursor, "const OPCODE_FORMAT: [InstructionFormat; ");
+    let names = format_lines(alloc, cursor, count)?;
+    cursor.pass("];\n");
+    Ok(names)
+}

@@ -1,0 +1,115 @@
+ghost use Rattle.std.specs.Prelude.{◌≡◌, ℕ, List, ◌↔◌, IfOk, IfSome, IfNone, IsErrOf, IsTrue};
+ghost use Rattle.meta_gen.specs.Parts.{HasParts};
+ghost use Rattle.meta_gen.specs.WholeTables.{WholeTables};
+ghost use Rattle.meta_table_text.specs.Fits.{Fits};
+ghost use Rattle.meta_table_text.specs.TableText.{table_text};
+ghost use Rattle.meta_table_reader.specs.Readable.{AreShown, IsReadIn, Reads};
+ghost use Rattle.meta_table_reader.specs.declared.reading.TextError.TheVariants.{OutOfMemory};
+
+use super::groups::groups;
+use super::opcode_parts::{opcode_parts, version_of};
+use meta_cursor::Cursor;
+use meta_gen::{TableParts, Tables, one_table_has_all_parts, tables_from_parts};
+use meta_table_text::{Version, fits, table_text};
+use std::alloc::{AllocError, Global};
+use thiserror::Error;
+
+/// Why no tables are read from a text (this project's own).
+#[derive(Clone, Copy, Debug, Drop, PartialEq, Eq, Error)]
+pub enum TextError {
+    /// There are no well-formed tables whose text it is, in any version that they fit.
+    #[error("Refused")]
+    Refused,
+    /// No memory was found for what is read.
+    #[error("OutOfMemory")]
+    OutOfMemory,
+}
+
+/// What the text shows of tables. It is what they are made of where it is their text in this version, and else it says nothing.
+fn table_parts(alloc: Global, text: &[u8], version: Version) -> Result<TableParts, AllocError>
+    ensures { IfOk result (λ parts. (t : WholeTables) → AreShown version t → text.now ≡ table_text version t → HasParts parts t) }
+{
+    let mut cursor = Cursor::new(text);
+    let opcodes = opcode_parts(alloc, &mut cursor, version)?;
+    let groups = groups(alloc, &mut cursor)?;
+    Ok(TableParts {
+        names: opcodes.names.names,
+        formats: opcodes.names.formats,
+        type_sets: opcodes.type_sets,
+        operand_constraints: opcodes.operand_constraints,
+        constraints: opcodes.constraints,
+        groups,
+    })
+}
+
+/// Whether the text is that of the tables in the version, which they fit.
+fn is_text_of(
+    alloc: Global,
+    version: Version,
+    text: &[u8],
+    tables: &Tables,
+) -> Result<bool, AllocError>
+    ensures { IfOk result (λ is. IsTrue is ↔ (Fits version tables.now × (text.now ≡ table_text version tables.now))) }
+{
+    if !fits(version, tables) {
+        return Ok(false);
+    }
+    let written = table_text(alloc, version, tables)?;
+    Ok(written.as_bytes() == text)
+}
+
+/// The tables, and `None` exactly where they don't fit the version or the text isn't theirs in it.
+fn accepted(
+    alloc: Global,
+    version: Version,
+    text: &[u8],
+    tables: Tables,
+) -> Result<Option<Tables>, AllocError>
+    ensures some { IfOk result (λ o. IfSome o (λ t. (t ≡ tables) × Fits version tables × (text.now ≡ table_text version tables))) }
+    ensures none { IfOk result (λ o. IfNone o (Fits version tables → text.now ≡ table_text version tables → ⊥)) }
+{
+    let is_text = is_text_of(alloc, version, text, &tables)?;
+    if !is_text {
+        return Ok(None);
+    }
+    Ok(Some(tables))
+}
+
+/// The tables that the text reads as, if it is that of tables in the version, which its first line names.
+fn read_in(alloc: Global, version: Version, text: &[u8]) -> Result<Option<Tables>, AllocError>
+    ensures some { IfOk result (λ o. IfSome o (IsReadIn version text.now)) }
+    ensures none { IfOk result (λ o. IfNone o ((t : WholeTables) → ¬ IsReadIn version text.now t)) }
+{
+    one_table_has_all_parts();
+    let parts = table_parts(alloc, text, version)?;
+    match tables_from_parts(alloc, parts)? {
+        Some(tables) => accepted(alloc, version, text, tables),
+        None => Ok(None),
+    }
+}
+
+/// The tables that the text reads as, and `None` exactly where it reads as none.
+fn read(alloc: Global, text: &[u8]) -> Result<Option<Tables>, AllocError>
+    ensures some { IfOk result (λ o. IfSome o (Reads text.now)) }
+    ensures none { IfOk result (λ o. IfNone o ((t : WholeTables) → ¬ Reads text.now t)) }
+{
+    let cursor = Cursor::new(text);
+    let version = version_of(&cursor);
+    read_in(alloc, version, text)
+}
+
+/// Reads the text of tables, in any version that they fit (this project's own).
+///
+/// `Refused` comes exactly where the text reads as no tables: no line is named. It costs one pass over the text, and what it costs to
+/// make the tables of what was read and to write their text again, which is compared. What is read takes memory in proportion to the
+/// text.
+pub fn read_tables(alloc: Global, text: &[u8]) -> Result<Tables, TextError>
+    ensures found { IfOk result (λ t. Reads text.now t) }
+    ensures refused { IsErrOf result TextError.Refused → (t : WholeTables) → ¬ Reads text.now t }
+{
+    match read(alloc, text) {
+        Ok(Some(tables)) => Ok(tables),
+        Ok(None) => Err(TextError::Refused),
+        Err(_) => Err(TextError::OutOfMemory),
+    }
+}
