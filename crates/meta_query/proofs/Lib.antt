@@ -1,15 +1,4 @@
-mod PieceLemmas
-mod LineLemmas
-mod NameLemmas
-mod TypeNumbers
-mod QuestionLemmas
-pub mod InferenceLemmas
-mod QueryLemmas
-mod AnswerLemmas
-mod SettingLines
-mod LineParts
-mod Meant
 mod Commands
+mod Marks
+mod Told
 mod Runs
-mod OneInference
-mod OneOutput

@@ -3,12 +3,11 @@ use Rattle.std.proofs.Common.{◌≡◌, ◌≢◌, ◌<◌, ◌≤◌, ℕ, Lis
 use Rattle.std.proofs.lemmas.List.{append-nil}
 use Rattle.meta_types.specs.declared.fault.DefinitionError.{DefinitionError}
 use Rattle.meta_declared.specs.AllDeclared.{Declared, ShowsFirst, AreValid}
-use Rattle.meta_text.specs.Outside.{Rose, with_front, with_more, NothingLeft, longest_input, GaveMore, TookPart}
-use Rattle.meta_query.specs.Answer.{IsOutput, refusal}
-use Rattle.meta_query.specs.Command.{words_of, IsCommand}
+use Rattle.meta_text.specs.Outside.{Rose, with_front, with_more, NothingLeft, longest_input, GaveMore}
+use Rattle.meta_query.specs.Command.{AreWordsOf, IsCommand}
 use Rattle.meta_query.specs.declared.command.Command.{Command}
-use Rattle.meta_query.specs.declared.command.Command.TheVariants.{Query, Tables, Types, Settings, Instructions, Builder}
-use Rattle.meta_query.specs.Run.{IsOutputOf, HasInput, IsReadOut, IsReading, WritesText, IsAnsweredWhole, IsAnsweredInPart, IsRefusedWhole, AnswersInput, WritesTexts, RefusesDeclarations}
+use Rattle.meta_query.specs.declared.command.Command.TheVariants.{Query, Recheck, Tables, Types, Settings, Instructions, Builder, Synth}
+use Rattle.meta_query.specs.Run.{refusal, IsOutputOf, HasInput, IsReadOut, IsReading, WritesText, IsAnsweredWhole, IsAnsweredInPart, IsRefusedWhole, AnswersInput, WritesTexts, RefusesDeclarations}
 use Rattle.meta_query.specs.declared.status.Status.{Status}
 use Rattle.meta_query.specs.declared.status.Status.TheVariants.{Done, Refused, Usage, ReadFault, WriteFault, OutOfMemory, TooLong}
 use Rattle.meta_query.proofs.Commands.{same_command}
@@ -37,15 +36,17 @@ gave_within input left' few h = within left' h.given
 -- a command that writes a text has no input
 no_input : (d : Declared) (command : Command) (input output : List ℕ) → WritesText command → IsOutputOf d command input output → input ≡ []
 no_input d Query input output text h = absurd (text tt)
+no_input d Recheck input output text h = absurd (text tt)
 no_input d Tables input output text h = h.0
 no_input d Types input output text h = h.0
 no_input d Settings input output text h = h.0
 no_input d Instructions input output text h = h.0
 no_input d Builder input output text h = h.0
+no_input d (Synth n) input output text h = h.0
 
 -- a command that writes a text has other words than one that has an input
-reads_nothing : (words : List (List ℕ)) (command : Command) → WritesText command → words ≡ words_of command → IsReading words → ⊥
-reads_nothing words command text is reading = text (subst HasInput (same_command reading.0 command (sym reading.1 ∙ is)) reading.2)
+reads_nothing : (words : List (List ℕ)) (command : Command) → WritesText command → AreWordsOf command words → IsReading words → ⊥
+reads_nothing words command text is reading = text (subst HasInput (same_command reading.0 command words reading.1 is) reading.2)
 
 -- what was answered by equal words over equal declarations
 module _ (d e : Declared) (words others : List (List ℕ)) (left left' taken taken' : Option (List ℕ)) (same : d ≡ e) (is : others ≡ words) where
@@ -66,30 +67,30 @@ pub record Causes (d : Declared) (words : List (List ℕ)) (left left' taken tak
 
 -- where declarations show one first fault at most, and valid ones show none
 module _ (one_fault : (d : Declared) (e f : DefinitionError) → ShowsFirst d e → ShowsFirst d f → e ≡ f) (no_fault : (d : Declared) (e : DefinitionError) → AreValid d → ShowsFirst d e → ⊥) (d : Declared) (words : List (List ℕ)) (left left' taken taken' : Option (List ℕ)) (reads reads' writes writes' : ℕ) where
-  -- queries over valid declarations are answered
+  -- an input over valid declarations is answered
   pub headline : (status : Status) → Causes d words left left' taken taken' reads reads' writes writes' status → AnswersInput d words left reads reads' taken taken' writes writes' status
-  headline Done causes command valid memory input before told few no_read taken_is no_write =
+  headline Done causes command has is valid memory input before told few no_read taken_is no_write =
       let h = causes.done refl in
-      let same : h.command ≡ Query = same_command h.command Query (sym h.is_command ∙ command) in
-      let end : NothingLeft left' = subst (λ c. IsReadOut c left') same h.end tt in
+      let same : h.command ≡ command = same_command h.command command words h.is_command is in
+      let end : NothingLeft left' = subst (λ c. IsReadOut c left') same h.end has in
       let all = read_all input h.input left' (sym told ∙ h.read) end in
-      let answers : IsOutput d h.input h.output = subst (λ c. IsOutputOf d c h.input h.output) same h.answers in
-      (refl, h.output, subst (λ i. IsOutput d i h.output) all answers, h.took ∙ ap (λ t. with_more t h.output) taken_is)
-  headline Refused causes command valid memory input before told few no_read taken_is no_write =
+      let answers : IsOutputOf d command h.input h.output = subst (λ c. IsOutputOf d c h.input h.output) same h.answers in
+      (refl, h.output, subst (λ i. IsOutputOf d command i h.output) all answers, h.took ∙ ap (λ t. with_more t h.output) taken_is)
+  headline Refused causes command has is valid memory input before told few no_read taken_is no_write =
       let h = causes.refused refl in
       absurd (no_fault d h.fault valid h.first)
-  headline Usage causes command valid memory input before told few no_read taken_is no_write = absurd (causes.usage refl (Query, command))
-  headline ReadFault causes command valid memory input before told few no_read taken_is no_write = absurd (no_read (causes.read refl).2)
-  headline WriteFault causes command valid memory input before told few no_read taken_is no_write = absurd (no_write (causes.write refl))
-  headline OutOfMemory causes command valid memory input before told few no_read taken_is no_write = absurd (memory refl)
-  headline TooLong causes command valid memory input before told few no_read taken_is no_write =
+  headline Usage causes command has is valid memory input before told few no_read taken_is no_write = absurd (causes.usage refl (command, is))
+  headline ReadFault causes command has is valid memory input before told few no_read taken_is no_write = absurd (no_read (causes.read refl).2)
+  headline WriteFault causes command has is valid memory input before told few no_read taken_is no_write = absurd (no_write (causes.write refl))
+  headline OutOfMemory causes command has is valid memory input before told few no_read taken_is no_write = absurd (memory refl)
+  headline TooLong causes command has is valid memory input before told few no_read taken_is no_write =
       absurd (gave_within input left' few (subst (λ l. GaveMore longest_input l left') told (causes.long refl).2))
 
   -- their texts are written
   pub texts : (status : Status) → Causes d words left left' taken taken' reads reads' writes writes' status → WritesTexts d words taken taken' writes writes' status
   texts Done causes command text is valid memory before taken_is no_write =
       let h = causes.done refl in
-      let same : h.command ≡ command = same_command h.command command (sym h.is_command ∙ is) in
+      let same : h.command ≡ command = same_command h.command command words h.is_command is in
       let answers : IsOutputOf d command h.input h.output = subst (λ c. IsOutputOf d c h.input h.output) same h.answers in
       (refl, h.output, subst (λ i. IsOutputOf d command i h.output) (no_input d command h.input h.output text answers) answers, h.took ∙ ap (λ t. with_more t h.output) taken_is)
   texts Refused causes command text is valid memory before taken_is no_write =
@@ -127,7 +128,7 @@ of_usage d words left left' taken taken' reads reads' writes writes' no_command 
 }
 
 -- after a command over declarations that are valid
-pub of_answer : (d : Declared) (words : List (List ℕ)) (left left' taken taken' : Option (List ℕ)) (reads reads' writes writes' : ℕ) (status : Status) (command : Command) → words ≡ words_of command → AreValid d → (status ≢ Refused) × (status ≢ Usage) → (status ≡ Done → IsAnsweredWhole d words left left' taken taken') → (status ≡ ReadFault → HasInput command × Rose reads reads') → (status ≡ WriteFault → Rose writes writes') → (status ≡ TooLong → HasInput command × GaveMore longest_input left left') → Causes d words left left' taken taken' reads reads' writes writes' status
+pub of_answer : (d : Declared) (words : List (List ℕ)) (left left' taken taken' : Option (List ℕ)) (reads reads' writes writes' : ℕ) (status : Status) (command : Command) → AreWordsOf command words → AreValid d → (status ≢ Refused) × (status ≢ Usage) → (status ≡ Done → IsAnsweredWhole d words left left' taken taken') → (status ≡ ReadFault → HasInput command × Rose reads reads') → (status ≡ WriteFault → Rose writes writes') → (status ≡ TooLong → HasInput command × GaveMore longest_input left left') → Causes d words left left' taken taken' reads reads' writes writes' status
 of_answer d words left left' taken taken' reads reads' writes writes' status command is valid only done read write long = record {
   usage = λ e. absurd (only.1 e);
   done = done;

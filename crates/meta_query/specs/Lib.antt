@@ -1,12 +1,5 @@
-pub mod Lines
-pub mod Words
-pub mod TypeNumber
-pub mod Question
 pub mod Command
-pub mod Inference
-pub mod Query
-pub mod SettingLine
-pub mod Reply
 pub mod Status
-pub mod Answer
+pub mod Recheck
+pub mod Synthesis
 pub mod Run

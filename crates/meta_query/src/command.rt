@@ -1,7 +1,8 @@
-ghost use Rattle.std.specs.Prelude.{◌≡◌, ◌≢◌, IfSome, IfNone};
+ghost use Rattle.std.specs.Prelude.{◌≡◌, ◌≢◌, [], ◌∷◌, IfSome, IfNone, ℕ};
 ghost use Rattle.meta_query.specs.declared.command.Command.{Command};
-ghost use Rattle.meta_query.specs.Command.{name_of, words_of};
+ghost use Rattle.meta_query.specs.Command.{name_of, words_behind, AreWordsOf};
 
+use super::synthesis::number_in;
 use meta_types::Text;
 
 /// What `run` is asked to do (this project's own).
@@ -9,6 +10,8 @@ use meta_types::Text;
 pub enum Command {
     /// `query`: to answer each line of the input.
     Query,
+    /// `recheck`: to read the text of tables in the input, and to answer the queries behind it by the tables that were read.
+    Recheck,
     /// `tables`: to write the table text of the declarations.
     Tables,
     /// `types`: to write the text of the types.
@@ -19,27 +22,34 @@ pub enum Command {
     Instructions,
     /// `builder`: to write the text of the builder of instructions.
     Builder,
+    /// `synth N`: to write in one line what the tables of the declarations hold that are made from the number.
+    Synth(u32),
 }
 
 impl Command {
-    /// The command that the words are, and `None` exactly where they are none. Each command is one word.
+    /// The command that the words are, and `None` exactly where they are none. Each command is one word, but for `synth N`: its number
+    /// is decimal, has no zero before it, and is at most 4,294,967,295.
     pub fn parse(words: &[Text]) -> Option<Command>
-        ensures some { IfSome result (λ c. words.now ≡ words_of c) }
-        ensures none { IfNone result ((c : Command) → words.now ≢ words_of c) }
+        ensures some { IfSome result (λ c. AreWordsOf c words.now) }
+        ensures none { IfNone result ((c : Command) → ¬ AreWordsOf c words.now) }
     {
         match words {
             [word] => Command::named(word.as_bytes()),
+            [word, number] => Command::numbered(word, number),
             _ => None,
         }
     }
 
-    /// The command of this name.
+    /// The command of this name, which has no number.
     fn named(name: &[u8]) -> Option<Command>
-        ensures some { IfSome result (λ c. name.now ≡ name_of c) }
-        ensures none { IfNone result ((c : Command) → name.now ≢ name_of c) }
+        ensures some { IfSome result (λ c. (name.now ≡ name_of c) × (words_behind c ≡ [])) }
+        ensures none { IfNone result ((c : Command) → words_behind c ≡ [] → name.now ≢ name_of c) }
     {
         if name == b"query".as_slice() {
             return Some(Command::Query);
+        }
+        if name == b"recheck".as_slice() {
+            return Some(Command::Recheck);
         }
         if name == b"tables".as_slice() {
             return Some(Command::Tables);
@@ -57,5 +67,17 @@ impl Command {
             return Some(Command::Builder);
         }
         None
+    }
+
+    /// The command of this name and this number.
+    fn numbered(name: &Text, number: &Text) -> Option<Command>
+        ensures some { IfSome result (λ c. AreWordsOf c (name.now ∷ number.now ∷ [])) }
+        ensures none { IfNone result ((c : Command) → ¬ AreWordsOf c (name.now ∷ number.now ∷ [])) }
+    {
+        if name.as_bytes() != b"synth".as_slice() {
+            return None;
+        }
+        let n = number_in(number)?;
+        Some(Command::Synth(n))
     }
 }

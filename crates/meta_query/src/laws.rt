@@ -1,19 +1,15 @@
 ghost use Rattle.std.specs.Prelude.{◌≡◌, ℕ, List};
-ghost use Rattle.meta_declared.specs.AllDeclared.{Declared, AreValid};
-ghost use Rattle.meta_query.specs.Answer.{IsOutput};
-ghost use Rattle.meta_query.specs.Command.{words_of};
+ghost use Rattle.meta_query.specs.Command.{AreWordsOf};
+ghost use Rattle.meta_query.specs.Recheck.{IsCut};
 ghost use Rattle.meta_query.specs.declared.command.Command.{Command};
-
-use meta_gen::built_groups_have_tables;
-
-/// Valid declarations answer an input with one output at most.
-pub fn one_output()
-    ensures { (d : Declared) (input a b : List ℕ) → AreValid d → IsOutput d input a → IsOutput d input b → a ≡ b }
-{
-    built_groups_have_tables();
-}
 
 /// Words are those of one command at most.
 pub fn one_command()
-    ensures { (c d : Command) → words_of c ≡ words_of d → c ≡ d }
+    ensures { (c d : Command) (words : List (List ℕ)) → AreWordsOf c words → AreWordsOf d words → c ≡ d }
+{}
+
+/// An input of `recheck` is cut in one way: it has one text and one list of queries.
+pub fn one_cut()
+    ensures { (input text queries other_text other_queries : List ℕ) → IsCut input text queries → IsCut input other_text other_queries
+        → (text ≡ other_text) × (queries ≡ other_queries) }
 {}

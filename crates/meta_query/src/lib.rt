@@ -1,28 +1,24 @@
-//! Query lines: the lines of an input, what a line asks, and the replies.
+//! The commands over declarations: `run` reads the input of a command and writes its output.
+//!
+//! `query` answers each line of the input, `recheck` reads the text of tables and answers by them, `synth` tells of the tables of
+//! declarations that are made from a number, and the others write a text. What tables answer is of `meta_answers`, whose names stand
+//! here too.
 #![tactic(auto)]
 
-mod answer;
 mod command;
-mod inference;
 mod laws;
-mod lines;
-mod pieces;
-mod query;
-mod question;
-mod reply;
-mod results;
+mod queries;
+mod recheck;
 mod running;
-mod setting_line;
 mod status;
-mod type_name;
+mod synthesis;
 
-pub use answer::answer_line;
 pub use command::Command;
-pub use inference::Inference;
-pub use laws::{one_command, one_output};
-pub use lines::Lines;
-pub use query::{Query, asks_one_query};
-pub use question::{Question, asks_one_question};
-pub use reply::Reply;
+pub use laws::{one_command, one_cut};
+pub use meta_answers::{
+    Inference, Lines, Query, Question, Reply, answer_line, asks_one_query, asks_one_question,
+    one_output, push_answers,
+};
+pub use meta_synth::synth;
 pub use running::run;
 pub use status::Status;

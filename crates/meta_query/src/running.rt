@@ -2,14 +2,16 @@ ghost use Rattle.std.specs.Prelude.{◌≡◌, ◌≢◌, ◌≤◌, ◌⊎◌, 
 ghost use Rattle.meta_types.specs.declared.fault.DefinitionError.{DefinitionError};
 ghost use Rattle.meta_text.specs.Outside.{Rose, with_front, with_more, longest_input, GaveMore, GaveAtMost, TookPart};
 ghost use Rattle.meta_declared.specs.AllDeclared.{AreValid};
-ghost use Rattle.meta_query.specs.Answer.{refusal};
-ghost use Rattle.meta_query.specs.Command.{words_of, IsCommand};
+ghost use Rattle.meta_answers.specs.Answer.{IsOutput};
+ghost use Rattle.meta_query.specs.Command.{words_of, HasNumber, AreWordsOf, IsCommand};
 ghost use Rattle.meta_query.specs.declared.command.Command.{Command};
-ghost use Rattle.meta_query.specs.Run.{HasInput, WritesText, IsReading, IsReadOut, IsOutputOf, IsAnsweredWhole, IsRefusedWhole, IsRefusedInPart, IsAnsweredInPart, WritesNothing, AnswersInput, WritesTexts, RefusesDeclarations};
+ghost use Rattle.meta_query.specs.Run.{refusal, HasInput, WritesText, IsReading, IsReadOut, IsOutputOf, IsAnsweredWhole, IsRefusedWhole, IsRefusedInPart, IsAnsweredInPart, WritesNothing, NeverRises, AnswersInput, WritesTexts, RefusesDeclarations};
 
-use super::answer::answers;
 use super::command::Command;
+use super::recheck::recheck;
 use super::status::Status;
+use super::synthesis::synth_line;
+use meta_answers::{answers_mean, push_answers};
 use meta_gen::{Built, Declarations, build_all, one_first_fault, tables_of};
 use meta_rust_text::{builder_text, instructions_text, settings_text, types_text};
 use meta_table_text::{Version, table_text};
@@ -76,13 +78,25 @@ fn read_input<S: Source>(
     ensures counted { S.faults source.old ≤ S.faults source.new }
 {
     match command {
-        Command::Query => read_whole(alloc, source),
+        Command::Query | Command::Recheck => read_whole(alloc, source),
         Command::Tables
         | Command::Types
         | Command::Settings
         | Command::Instructions
-        | Command::Builder => Ok(Vec::new(alloc)),
+        | Command::Builder
+        | Command::Synth(_) => Ok(Vec::new(alloc)),
     }
+}
+
+/// The answers of the tables of what was built to an input.
+fn answers(alloc: Global, built: &Built<'_>, input: &[u8]) -> Result<String, AllocError>
+    ensures { IfOk result (λ output. IsOutput built.now.declared input.now (string_bytes output)) }
+{
+    answers_mean();
+    let tables = tables_of(alloc, built)?;
+    let mut output = String::new(alloc);
+    push_answers(alloc, &mut output, &tables, input)?;
+    Ok(output)
 }
 
 /// The output of a command over what was built of declarations, for this input.
@@ -97,12 +111,14 @@ fn output_of(
 {
     let _declarations = built.declarations();
     match command {
-        Command::Query => answers(alloc, &tables_of(alloc, built)?, input),
+        Command::Query => answers(alloc, built, input),
+        Command::Recheck => recheck(alloc, &tables_of(alloc, built)?, input),
         Command::Tables => table_text(alloc, Version::Three, &tables_of(alloc, built)?),
         Command::Types => types_text(alloc),
         Command::Settings => settings_text(alloc, built.groups()),
         Command::Instructions => instructions_text(alloc, built),
         Command::Builder => builder_text(alloc, built),
+        Command::Synth(n) => synth_line(alloc, n),
     }
 }
 
@@ -114,6 +130,7 @@ fn answer<S: Source, K: Sink>(
     source: &mut S,
     sink: &mut K,
 ) -> Status
+    requires { HasNumber command }
     ensures done { result ≡ Status.Done → IsAnsweredWhole built.now.declared (words_of command) (S.left source.old) (S.left source.new) (K.taken sink.old) (K.taken sink.new) }
     ensures in_part { result ≡ Status.WriteFault → IsAnsweredInPart built.now.declared (words_of command) (S.left source.old) (S.left source.new) (K.taken sink.old) (K.taken sink.new) }
     ensures read_fault { result ≡ Status.ReadFault → HasInput command × Rose (S.faults source.old) (S.faults source.new) }
@@ -143,12 +160,13 @@ fn answer<S: Source, K: Sink>(
 }
 
 /// Runs a command over declarations: reads the source, and writes to the sink (this project's own). The words are those
-/// after the program's name: `query` answers each line of the input, by the tables alone, `tables` writes the text of the tables,
-/// `types` that of the types, `settings` that of the groups of settings, `instructions` that of the instructions, and `builder` that
-/// of their builder.
+/// after the program's name: `query` answers each line of the input, by the tables alone; `recheck` reads the text of tables, says
+/// whether they are those of the declarations, and answers the queries behind it by the tables that were read; `tables` writes the
+/// text of the tables, `types` that of the types, `settings` that of the groups of settings, `instructions` that of the instructions,
+/// and `builder` that of their builder; `synth N` writes what the tables of the declarations hold that are made from the number.
 ///
-/// The order is: the words; the declarations, which are refused by the first fault that they show; for `query` the whole input; all
-/// that is answered, in memory; the writes. `Status` says how it ended, and `OutOfMemory` may come in any case.
+/// The order is: the words; the declarations, which are refused by the first fault that they show; for `query` and `recheck` the
+/// whole input; all that is answered, in memory; the writes. `Status` says how it ended, and `OutOfMemory` may come in any case.
 pub fn run<S: Source, K: Sink>(
     alloc: Global,
     words: &[Text],
@@ -156,7 +174,8 @@ pub fn run<S: Source, K: Sink>(
     source: &mut S,
     sink: &mut K,
 ) -> Status
-    // Each query over valid declarations is answered as they mean, their texts are written, and others are refused.
+    // Each query over valid declarations is answered as they mean, and each table text is compared with their tables and its queries
+    // answered by the tables that it reads as; their texts are written; and others are refused.
     ensures headline { AnswersInput declarations.now words.now (S.left source.old) (S.faults source.old) (S.faults source.new) (K.taken sink.old) (K.taken sink.new) (K.faults sink.old) (K.faults sink.new) result }
     ensures texts { WritesTexts declarations.now words.now (K.taken sink.old) (K.taken sink.new) (K.faults sink.old) (K.faults sink.new) result }
     ensures refuses { RefusesDeclarations declarations.now words.now (K.taken sink.old) (K.taken sink.new) (K.faults sink.old) (K.faults sink.new) result }
@@ -178,9 +197,13 @@ pub fn run<S: Source, K: Sink>(
     ensures untouched { WritesNothing result → sink.new ≡ sink.old }
     ensures usage_unread { result ≡ Status.Usage → source.new ≡ source.old }
     ensures refused_unread { result ≡ Status.Refused → source.new ≡ source.old }
-    ensures text_unread { (command : Command) → WritesText command → words.now ≡ words_of command → source.new ≡ source.old }
+    ensures text_unread { (command : Command) → WritesText command → AreWordsOf command words.now → source.new ≡ source.old }
     ensures read_counted { S.faults source.old ≤ S.faults source.new }
     ensures write_counted { K.faults sink.old ≤ K.faults sink.new }
+
+    // A source that never fails is never said to, and neither is such a sink.
+    ensures unfailing_source { NeverRises S.faults → result ≢ Status.ReadFault }
+    ensures unfailing_sink { NeverRises K.faults → result ≢ Status.WriteFault }
 {
     one_first_fault();
     let Some(command) = Command::parse(words) else {

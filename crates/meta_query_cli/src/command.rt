@@ -34,7 +34,7 @@ pub(crate) fn about(status: Status) -> Option<&'static str>
     match status {
         Status::Done => None,
         Status::Refused => Some("the declarations are refused"),
-        Status::Usage => Some("the words are no command: try tables, query, or --help"),
+        Status::Usage => Some("the words are no command: --help has the commands"),
         Status::ReadFault => Some("standard input could not be read"),
         Status::WriteFault => Some("standard output could not be written"),
         Status::OutOfMemory => Some("out of memory"),

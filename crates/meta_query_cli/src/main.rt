@@ -20,6 +20,9 @@ Usage: meta_query_cli tables          the tables as text
        meta_query_cli instructions    the formats, opcodes and data of instructions as Rust source
        meta_query_cli builder         the builder of instructions as Rust source
        meta_query_cli query < FILE    an answer to each line of standard input
+       meta_query_cli recheck < FILE  same, different or refused, as what the text of tables in standard input reads as;
+                                      then the answers of those tables to the lines behind the line `// Queries.`
+       meta_query_cli synth N         a line on the tables of the declarations that are made from a number
 
 A line is `accept NAME CONTROL RESULTS VALUES`: whether the instruction takes these types, with `-` where there is none.
 A line `infer NAME CONTROL` asks for the types of its results.

@@ -1,4 +1,5 @@
 use rows_declaring::Sort;
+use rows_edits::Each;
 
 /// What a line declares.
 #[derive(Clone, Copy)]
@@ -62,6 +63,8 @@ pub(crate) enum Asked {
     New,
     /// Keeps the tables of the case for a comparison.
     Keep,
+    /// `edit VERSION`: begins a text that lines edit, and that stands before the input of the next run, with that of the tables.
+    Edit,
     /// `source STEP FAIL`: how the source of this case behaves.
     Source,
     /// `sink ROOM STEP FAIL`: how its sink does.
@@ -70,6 +73,11 @@ pub(crate) enum Asked {
     Of(Of),
     /// `sets COUNT FORMAT` declares, and `sets` asks.
     Sets,
+    /// `line_fronts FROM TO`, `fronts FROM TO`, `changes FROM TO`: what the fronts of the edited text that end with a line, all its
+    /// fronts, or it with one byte changed read as, from the one place up to the other.
+    Readings(Each),
+    /// `parts CHANGES`: what the parts of the tables make, after changes, as `name PLACE NAME`.
+    Parts,
     /// Whether the tables of the case are the same as those that were kept.
     Same,
     /// `ok`, or the line of the fault.
@@ -82,16 +90,17 @@ pub(crate) enum Asked {
     Question,
     /// `run WORDS < INPUT`: how a run ends.
     Run,
-    /// `reads COUNT < INPUT`, `writes COUNT < INPUT`: how runs end of which each read, or each write, fails in turn.
+    /// `reads COUNT WORDS < INPUT`, `writes COUNT WORDS < INPUT`: how runs end of which each read, or each write, fails in turn.
     Reads,
     Writes,
 }
 
 /// What a line says by its first word.
-pub(crate) const ASKED: [(&str, Asked); 50] = [
+pub(crate) const ASKED: [(&str, Asked); 55] = [
     ("", Asked::Nothing),
     ("new", Asked::New),
     ("keep", Asked::Keep),
+    ("edit", Asked::Edit),
     ("source", Asked::Source),
     ("sink", Asked::Sink),
     ("var", Asked::Declares(Declares::Var)),
@@ -130,6 +139,10 @@ pub(crate) const ASKED: [(&str, Asked); 50] = [
     ("setting_slots", Asked::Of(Of::SettingSlots)),
     ("settings_found", Asked::Of(Of::SettingsFound)),
     ("apply", Asked::Of(Of::Apply)),
+    ("line_fronts", Asked::Readings(Each::Line)),
+    ("fronts", Asked::Readings(Each::Front)),
+    ("changes", Asked::Readings(Each::Change)),
+    ("parts", Asked::Parts),
     ("same", Asked::Same),
     ("generate", Asked::Generate),
     ("codes", Asked::Codes),

@@ -8,8 +8,10 @@ use super::opcode_answers::{
     write_opcode, write_opcodes, write_sets, write_slots,
 };
 use super::outside::{Fails, Outside, Ran, run_over};
+use super::read_back::reads_back;
 use super::table_text::write_text;
 use meta_gen::{Declarations, Tables, generate};
+use meta_query::Status;
 use meta_types::{DefinitionError, Text};
 use rows_words::{Case, Trouble};
 use std::alloc::{AllocError, Global};
@@ -138,7 +140,24 @@ impl Generated {
         }
     }
 
-    /// Writes how a run of these words over the input ends. Where queries are done, the answers are held against those of the tables.
+    /// Whether the text of the tables reads back as the same, with the answers of a run that is done.
+    fn reads_back(&self, alloc: Global, ran: &Ran, input: &[u8]) -> Result<bool, Trouble> {
+        match &self.tables {
+            Ok(tables) if ran.status == Status::Done => {
+                reads_back(
+                    alloc,
+                    &self.declarations,
+                    tables,
+                    input,
+                    ran.taken.as_slice(),
+                )
+            }
+            _ => Ok(true),
+        }
+    }
+
+    /// Writes how a run of these words over the input ends. Where queries are done, the answers are held against those of the tables,
+    /// and against those of the tables that their text reads back as.
     pub(crate) fn run(
         &self,
         alloc: Global,
@@ -150,6 +169,8 @@ impl Generated {
         let ran = run_over(alloc, outside, &self.declarations, words, input)?;
         if is_query(words) && self.differs(alloc, &ran, input)? {
             case.text("not by the tables");
+        } else if is_query(words) && !self.reads_back(alloc, &ran, input)? {
+            case.text("not by their text");
         } else {
             ran.write(case);
         }
@@ -167,7 +188,7 @@ impl Generated {
         input: &[u8],
         case: &mut Case<'_>,
     ) -> Result<(), Trouble> {
-        for failing in 0..case.number() {
+        for failing in 0..fails.runs() {
             if failing > 0 {
                 case.text("; ");
             }

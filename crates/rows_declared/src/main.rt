@@ -6,14 +6,15 @@
 
 mod asked;
 mod declared;
-mod escapes;
 mod generated;
 mod group_answers;
 mod groups;
 mod instructions;
 mod opcode_answers;
 mod outside;
+mod parts;
 mod questions;
+mod read_back;
 mod session;
 mod table_text;
 mod variables;

@@ -1,8 +1,8 @@
-use super::escapes::write_bytes;
 use meta_gen::{Declarations, Tables};
 use meta_query::{Lines, Status, answer_line, run};
 use meta_text::{MemorySink, MemorySource, ReadOutcome, Source};
 use meta_types::Text;
+use rows_edits::write_bytes;
 use rows_words::{Case, Trouble};
 use std::alloc::{AllocError, Global};
 
@@ -17,11 +17,20 @@ pub(crate) struct Outside {
     pub(crate) failing_write: u64,
 }
 
-/// Which calls fail.
+/// Which calls fail in turn, and in how many runs.
 #[derive(Clone, Copy)]
 pub(crate) enum Fails {
-    Read,
-    Write,
+    Read(u64),
+    Write(u64),
+}
+
+impl Fails {
+    /// In how many runs.
+    pub(crate) fn runs(self) -> u64 {
+        match self {
+            Fails::Read(runs) | Fails::Write(runs) => runs,
+        }
+    }
 }
 
 impl Outside {
@@ -40,8 +49,8 @@ impl Outside {
     pub(crate) fn failing(self, fails: Fails, number: u64) -> Outside {
         let mut outside = self;
         match fails {
-            Fails::Read => outside.failing_read = number,
-            Fails::Write => outside.failing_write = number,
+            Fails::Read(_) => outside.failing_read = number,
+            Fails::Write(_) => outside.failing_write = number,
         }
         outside
     }
@@ -167,7 +176,10 @@ impl Ran {
         tables: &Tables,
         input: &[u8],
     ) -> Result<bool, AllocError> {
+        if self.status != Status::Done {
+            return Ok(true);
+        }
         let answers = answers_of(alloc, tables, input)?;
-        Ok(self.status != Status::Done || self.taken.as_slice() == answers.as_slice())
+        Ok(self.taken.as_slice() == answers.as_slice())
     }
 }

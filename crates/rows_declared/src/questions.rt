@@ -1,5 +1,5 @@
-use super::escapes::write_bytes;
 use meta_query::{Lines, Question, Reply, Status};
+use rows_edits::write_bytes;
 use rows_words::{Case, Trouble};
 use std::alloc::{AllocError, Global};
 

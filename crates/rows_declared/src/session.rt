@@ -1,22 +1,25 @@
 use super::asked::{ASKED, Asked, Declares, Of};
 use super::declared::Declared;
-use super::escapes::decoded;
 use super::generated::Generated;
 use super::outside::{Fails, Outside};
+use super::parts::write_made;
 use super::questions::{write_codes, write_count, write_lines, write_question};
 use meta_gen::Tables;
 use meta_types::Text;
+use rows_edits::{Each, Edited, decoded, write_readings};
 use rows_words::{Case, Trouble, found};
 use std::alloc::{AllocError, Global};
 use std::mem;
 
-/// The cases that are read: what is declared, what is asked of it once something is, and tables that are kept for a comparison.
+/// The cases that are read: what is declared, what is asked of it once something is, tables that are kept for a
+/// comparison, and a text that lines edit.
 #[derive(Drop)]
 pub(crate) struct Session<'l> {
     alloc: Global,
     declared: Declared<'l>,
     generated: Option<Generated>,
     kept: Option<Tables>,
+    edited: Edited,
     outside: Outside,
 }
 
@@ -46,6 +49,7 @@ impl<'l> Session<'l> {
             declared: Declared::new(alloc),
             generated: None,
             kept: None,
+            edited: Edited::new(alloc),
             outside: Outside::well(),
         }
     }
@@ -109,18 +113,21 @@ impl<'l> Session<'l> {
     /// Writes how a run ends, or runs that fail.
     fn run(&mut self, asked: Asked, input: &str, case: &mut Case<'l>) -> Result<(), Trouble> {
         let (alloc, outside) = (self.alloc, self.outside);
-        let input = decoded(alloc, input)?;
-        let words = match asked {
-            Asked::Run => run_words(alloc, case.rest())?,
-            _ => run_words(alloc, &["query"])?,
+        let input = self.edited.input(input)?;
+        let count = match asked {
+            Asked::Run => 0,
+            _ => case.number(),
         };
+        let words = run_words(alloc, case.rest())?;
         let generated = self.generated()?;
         match asked {
             Asked::Reads => {
-                generated.run_failing(alloc, outside, Fails::Read, &words, &input, case)
+                let fails = Fails::Read(count);
+                generated.run_failing(alloc, outside, fails, &words, &input, case)
             }
             Asked::Writes => {
-                generated.run_failing(alloc, outside, Fails::Write, &words, &input, case)
+                let fails = Fails::Write(count);
+                generated.run_failing(alloc, outside, fails, &words, &input, case)
             }
             _ => generated.run(alloc, outside, &words, &input, case),
         }
@@ -144,6 +151,36 @@ impl<'l> Session<'l> {
         Ok(())
     }
 
+    /// Begins a text that lines edit with that of the tables of the case, in the version with the next number.
+    fn begin_text(&mut self, case: &mut Case<'l>) -> Result<(), Trouble> {
+        let number = case.number();
+        let mut edited = mem::replace(&mut self.edited, Edited::new(self.alloc));
+        edited.begin(self.generated()?.tables()?, number)?;
+        self.edited = edited;
+        Ok(())
+    }
+
+    /// Writes what the texts read as that are made of the edited one.
+    fn write_readings(&mut self, each: Each, case: &mut Case<'l>) -> Result<(), Trouble> {
+        let alloc = self.alloc;
+        let edited = mem::replace(&mut self.edited, Edited::new(alloc));
+        write_readings(
+            alloc,
+            self.generated()?.tables()?,
+            edited.as_bytes(),
+            each,
+            case,
+        );
+        self.edited = edited;
+        Ok(())
+    }
+
+    /// Takes the tables of the case apart, and writes what the changed parts make.
+    fn write_made(&mut self, case: &mut Case<'l>) -> Result<(), Trouble> {
+        let alloc = self.alloc;
+        write_made(alloc, self.generated()?.tables()?, case)
+    }
+
     /// Writes `ok`, or the line of the fault.
     fn write_outcome(&mut self, case: &mut Case<'l>) -> Result<(), Trouble> {
         let alloc = self.alloc;
@@ -156,6 +193,7 @@ impl<'l> Session<'l> {
         match asked {
             Asked::New => self.begin(),
             Asked::Keep => self.keep()?,
+            Asked::Edit => self.begin_text(case)?,
             Asked::Source => self.set_source(case),
             Asked::Sink => self.set_sink(case),
             Asked::Declares(declares) => self.declared.declare(self.alloc, declares, case),
@@ -174,6 +212,8 @@ impl<'l> Session<'l> {
                 Ok(())
             }
             Asked::Generate => self.write_outcome(case),
+            Asked::Readings(each) => self.write_readings(each, case),
+            Asked::Parts => self.write_made(case),
             Asked::Codes => {
                 write_codes(case);
                 Ok(())
@@ -191,7 +231,12 @@ impl<'l> Session<'l> {
             asked => asked,
         };
         match asked {
-            Asked::New | Asked::Keep | Asked::Source | Asked::Sink | Asked::Declares(_) => {
+            Asked::New
+            | Asked::Keep
+            | Asked::Edit
+            | Asked::Source
+            | Asked::Sink
+            | Asked::Declares(_) => {
                 self.take(asked, case)?;
                 Ok(false)
             }
@@ -214,11 +259,20 @@ impl<'l> Session<'l> {
         Ok(())
     }
 
-    /// Adds the answer to a line, if it asks, or the line where it is a comment. An input stands behind ` < `.
+    /// Adds the answer to a line, if it asks, or the line where it is a comment.
     fn answer_line(&mut self, line: &'l str, answers: &mut String) -> Result<(), AllocError> {
         if line.starts_with('#') {
             return writeln!(answers, "{line}");
         }
+        match self.edited.edit(line) {
+            Ok(true) => Ok(()),
+            Ok(false) => self.answer_words(line, answers),
+            Err(_) => answers.push_str("no case\n"),
+        }
+    }
+
+    /// Adds the answer to a line of words, if it asks. An input stands behind ` < `.
+    fn answer_words(&mut self, line: &'l str, answers: &mut String) -> Result<(), AllocError> {
         let (words, input) = line.split_once(" < ").unwrap_or((line, ""));
         let mut case = Case::of(self.alloc, words)?;
         let asks = match self.answer(input, &mut case) {

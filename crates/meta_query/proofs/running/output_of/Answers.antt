@@ -1,17 +1,15 @@
 use Rattle.std.proofs.Common.{refl, sym, subst, string_bytes}
 use Rattle.std.specs.Prelude.{IfOk}
 use Rattle.std.proofs.lemmas.Result.{IfOk-weaker}
-use Rattle.meta_query.specs.Lines.{lines_of}
 use Rattle.meta_query.specs.Run.{HasInput, IsOutputOf}
-use Rattle.meta_query.proofs.Meant.{answers_mean}
 use Rattle.meta_query.proofs.running.output_of.Goals as goal
 
-pub returns-in_ok-tables_of-in-Query : goal.returns-in_ok-tables_of-in-Query
-returns-in_ok-tables_of-in-Query c =
+pub returns-in_ok-tables_of-in-Recheck : goal.returns-in_ok-tables_of-in-Recheck
+returns-in_ok-tables_of-in-Recheck c =
     let d = c.args.built.now.declared in
-    let tables = c.in_ok-tables_of-in-Query.ensures in
-    subst (λ x. IfOk c.answers-in-Query.result (λ output. IsOutputOf d x c.args.input.now (string_bytes output))) (sym c.in-Query.is)
-    (IfOk-weaker c.answers-in-Query.result _ _ (λ output h. answers_mean d _ tables.tables tables.acceptance tables.inference (lines_of c.args.input.now) (string_bytes output) h) c.answers-in-Query.ensures)
+    let tables = c.in_ok-tables_of-in-Recheck.ensures.tables in
+    subst (λ x. IfOk c.recheck-in-Recheck.result (λ output. IsOutputOf d x c.args.input.now (string_bytes output))) (sym c.in-Recheck.is)
+    (IfOk-weaker c.recheck-in-Recheck.result _ _ (λ output h. (_, tables, h)) c.recheck-in-Recheck.ensures)
 
 pub returns-in-Instructions : goal.returns-in-Instructions
 returns-in-Instructions c =

@@ -1,8 +1,0 @@
-use Rattle.std.proofs.Common.{ℕ, List, ◌++◌, string_bytes}
-use Rattle.meta_query.specs.Lines.{lines_of}
-use Rattle.meta_query.specs.Answer.{IsTableReply, AreWrittenAnswers}
-use Rattle.meta_query.proofs.answer.answers.Given as goal
-
--- whatever answers the lines that are left completes what was written
-abbrev pub invariant-loop-line : goal.invariant-loop-line
-invariant-loop-line l = (rest : List ℕ) → AreWrittenAnswers (IsTableReply l.tables) l.line-iterator rest → AreWrittenAnswers (IsTableReply l.tables) (lines_of l.fn.input) (string_bytes l.out ++ rest)

@@ -1,8 +1,0 @@
-use Rattle.std.proofs.Common.{sym, ap, ◌∙◌, map}
-use Rattle.meta_types.specs.TypeParts.{number_of}
-use Rattle.meta_query.specs.Question.{Question}
-use Rattle.meta_query.proofs.QuestionLemmas.{numbers_back}
-use Rattle.meta_query.proofs.question.Question.results.Goals as goal
-
-pub returns : goal.returns
-returns c = c.deref.ensures.value ∙ sym (numbers_back c.self.inside.results.items c.self.invariant.1) ∙ ap (λ (q : Question). map number_of q.results) c.self.view_is

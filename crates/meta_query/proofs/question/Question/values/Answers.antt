@@ -1,8 +1,0 @@
-use Rattle.std.proofs.Common.{sym, ap, ◌∙◌, map}
-use Rattle.meta_types.specs.TypeParts.{number_of}
-use Rattle.meta_query.specs.Question.{Question}
-use Rattle.meta_query.proofs.QuestionLemmas.{numbers_back}
-use Rattle.meta_query.proofs.question.Question.values.Goals as goal
-
-pub returns : goal.returns
-returns c = c.deref.ensures.value ∙ sym (numbers_back c.self.inside.values.items c.self.invariant.2) ∙ ap (λ (q : Question). map number_of q.values) c.self.view_is

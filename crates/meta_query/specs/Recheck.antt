@@ -1,0 +1,83 @@
+-- What `recheck` reads and answers.
+--     IsCut input text queries              the input is a text and the queries behind it
+--     IsAnswerBy tables text queries out    what is said of the text beside these tables, and the answers of the tables that it reads as
+--     IsRecheckOf tables input out          the output for the whole input
+use Rattle.std.specs.Prelude.{◌≡◌, ◌≢◌, ℕ, ◌+◌, ◌⊎◌, Bool, true, false, List, [], ◌∷◌, ◌++◌, length, take, drop, slice_get, Some, codes}
+use Rattle.meta_lists.specs.First.{IsFirst}
+use Rattle.meta_gen.specs.WholeTables.{WholeTables}
+use Rattle.meta_table_reader.specs.Readable.{Reads}
+use Rattle.meta_answers.specs.Lines.{lines_of}
+use Rattle.meta_answers.specs.Answer.{IsTableReply, AreWrittenAnswers}
+
+-- ---- the input is cut
+
+-- the line before the queries, with its LF
+abbrev pub mark : List ℕ
+mark = codes "// Queries." ++ 10 ∷ []
+
+-- a line begins at the place: it is the first, or LF stands before it
+abbrev pub BeginsLine : List ℕ → ℕ → Type 0
+BeginsLine input at = (at ≡ 0) ⊎ ((before : ℕ) × (at ≡ before + 1) × (slice_get input before ≡ Some 10))
+
+-- at the place stands a line that is the mark
+pub record IsMarkAt (input : List ℕ) (at : ℕ) : Type 0 where
+  pub begins : BeginsLine input at
+  pub behind : List ℕ
+  pub is : drop at input ≡ mark ++ behind
+
+-- the text ends before the first mark, and the queries are what stands behind it
+pub record IsCutAt (input : List ℕ) (at : ℕ) (text queries : List ℕ) : Type 0 where
+  pub first : IsFirst (IsMarkAt input) at
+  pub text_is : text ≡ take at input
+  pub queries_are : queries ≡ drop (at + length mark) input
+
+-- there is no mark: all is text, and there are no queries
+pub record IsUncut (input text queries : List ℕ) : Type 0 where
+  pub no_mark : (at : ℕ) → IsMarkAt input at → ⊥
+  pub text_is : text ≡ input
+  pub queries_are : queries ≡ []
+
+-- the input is this text and these queries
+abbrev pub IsCut : List ℕ → List ℕ → List ℕ → Type 0
+IsCut input text queries = ((at : ℕ) × IsCutAt input at text queries) ⊎ IsUncut input text queries
+
+-- ---- what is answered
+
+-- what is said of tables that were read: that they are the ones of the declarations, or others
+abbrev pub line_of : Bool → List ℕ
+line_of true = codes "same" ++ 10 ∷ []
+line_of false = codes "different" ++ 10 ∷ []
+
+-- what is said of a text that reads as no tables
+abbrev pub refused_line : List ℕ
+refused_line = codes "refused" ++ 10 ∷ []
+
+-- the line, and behind it what the tables answer to the lines of the queries, by the tables alone
+pub record IsTold (line : List ℕ) (t : WholeTables) (queries out : List ℕ) : Type 0 where
+  pub answers : List ℕ
+  pub are_answers : AreWrittenAnswers (IsTableReply t) (lines_of queries) answers
+  pub is : out ≡ line ++ answers
+
+-- the text reads as other tables, and these answer
+pub record AreOthersTold (tables : WholeTables) (text queries out : List ℕ) : Type 0 where
+  pub read : WholeTables
+  pub reads : Reads text read
+  pub others : read ≢ tables
+  pub told : IsTold (line_of false) read queries out
+
+-- the text reads as no tables, and that alone is said
+pub record IsRefused (text out : List ℕ) : Type 0 where
+  pub reads_none : (t : WholeTables) → Reads text t → ⊥
+  pub is : out ≡ refused_line
+
+-- `same` and the answers where the text reads as the tables, `different` and the answers of the tables that were read where it reads
+-- as others, and `refused` alone where it reads as none
+abbrev pub IsAnswerBy : WholeTables → List ℕ → List ℕ → List ℕ → Type 0
+IsAnswerBy tables text queries out = (Reads text tables × IsTold (line_of true) tables queries out) ⊎ (AreOthersTold tables text queries out ⊎ IsRefused text out)
+
+-- the output for an input: the answer to its text and its queries
+pub record IsRecheckOf (tables : WholeTables) (input out : List ℕ) : Type 0 where
+  pub text : List ℕ
+  pub queries : List ℕ
+  pub cut : IsCut input text queries
+  pub answer : IsAnswerBy tables text queries out

@@ -1,0 +1,50 @@
+ghost use Rattle.std.specs.Prelude.{◌≡◌, IfOk, string_bytes};
+ghost use Rattle.meta_query.specs.Recheck.{line_of, IsTold, IsRecheckOf, refused_line};
+
+use super::queries::cut_queries;
+use meta_answers::push_answers;
+use meta_gen::Tables;
+use meta_table_reader::{TextError, read_tables};
+use std::alloc::{AllocError, Global};
+
+/// What is said of tables that were read: that they are the ones that they were compared with, or others.
+fn line_of(same: bool) -> &'static str
+    ensures { result.now ≡ line_of same }
+{
+    match same {
+        true => "same\n",
+        false => "different\n",
+    }
+}
+
+/// The line, and the answers of the tables to the queries.
+fn told(alloc: Global, line: &str, tables: &Tables, queries: &[u8]) -> Result<String, AllocError>
+    ensures { IfOk result (λ out. IsTold line.now tables.now queries.now (string_bytes out)) }
+{
+    let mut out = String::new(alloc);
+    out.push_str(line)?;
+    push_answers(alloc, &mut out, tables, queries)?;
+    Ok(out)
+}
+
+/// Reads the text of tables and the queries behind it: says whether the tables that were read are these, and answers the queries by
+/// the tables that were read. A text that reads as no tables is refused, and then nothing is answered.
+pub(crate) fn recheck(alloc: Global, tables: &Tables, input: &[u8]) -> Result<String, AllocError>
+    ensures { IfOk result (λ out. IsRecheckOf tables.now input.now (string_bytes out)) }
+{
+    let parts = cut_queries(input);
+    match read_tables(alloc, parts.text) {
+        Ok(read) => told(alloc, line_of(read.same(tables)), &read, parts.queries),
+        Err(TextError::Refused) => refused(alloc),
+        Err(TextError::OutOfMemory) => Err(AllocError),
+    }
+}
+
+/// What is said of a text that reads as no tables.
+fn refused(alloc: Global) -> Result<String, AllocError>
+    ensures { IfOk result (λ out. string_bytes out ≡ refused_line) }
+{
+    let mut out = String::new(alloc);
+    out.push_str("refused\n")?;
+    Ok(out)
+}

@@ -1,0 +1,35 @@
+ghost use Rattle.std.specs.Prelude.{◌≡◌, ◌≢◌, ◌<◌, ◌^◌, ℕ, IfOk, IfSome, IfNone, string_bytes};
+ghost use Rattle.std.specs.Fmt.{decimal};
+ghost use Rattle.meta_query.specs.Synthesis.{IsSynthOutput};
+
+use itoa::Buffer;
+use meta_gen::generate;
+use meta_synth::{summary, synth};
+use meta_types::Text;
+use std::alloc::{AllocError, Global};
+
+/// The number that a word writes: decimal, with no zero before it, at most 4,294,967,295.
+pub(crate) fn number_in(word: &Text) -> Option<u32>
+    ensures some { IfSome result (λ n. word.now ≡ decimal n) }
+    ensures none { IfNone result ((n : ℕ) → n < 2 ^ 32 → word.now ≢ decimal n) }
+{
+    let text = word.as_str();
+    match text.parse::<u32>() {
+        Ok(number) if Buffer::new().format(number) == text => Some(number),
+        _ => None,
+    }
+}
+
+/// The summary of the tables of the declarations of a number, with LF.
+pub(crate) fn synth_line(alloc: Global, n: u32) -> Result<String, AllocError>
+    ensures { IfOk result (λ out. IsSynthOutput n (string_bytes out)) }
+{
+    let declarations = synth(alloc, n)?;
+    let _variables = declarations.vars();
+    let Ok(tables) = generate(alloc, &declarations) else {
+        return Err(AllocError);
+    };
+    let mut line = summary(alloc, n, &tables)?;
+    line.push_str("\n")?;
+    Ok(line)
+}

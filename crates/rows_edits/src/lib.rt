@@ -1,0 +1,11 @@
+//! What the programs of rows share that read texts of tables back: bytes that are written with escapes, edits of a text, and what
+//! many texts read as. What these do is seen in the stored runs of those programs.
+#![tactic(auto)]
+
+mod edited;
+mod escapes;
+mod readings;
+
+pub use edited::{Edited, text_in};
+pub use escapes::{decoded, write_bytes};
+pub use readings::{Each, write_readings};

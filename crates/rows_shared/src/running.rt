@@ -1,0 +1,43 @@
+ghost use Rattle.std.specs.Prelude.{◌≢◌};
+ghost use Rattle.meta_query.specs.declared.status.Status.{Status};
+
+use meta_gen::Declarations;
+use meta_query::{Status, run};
+use meta_text::{NeverFails, StdSink};
+use meta_types::Text;
+use std::alloc::{AllocError, Global};
+use std::io;
+
+/// Words, a text each.
+pub(crate) fn texts_of_words(alloc: Global, words: &[&str]) -> Result<Vec<Text>, AllocError> {
+    let mut texts = Vec::new(alloc);
+    for word in words {
+        texts.push(Text::new(alloc, word)?)?;
+    }
+    Ok(texts)
+}
+
+/// Runs these words over a source of an input and a sink that never fail.
+pub(crate) fn run_unfailing(
+    alloc: Global,
+    words: &[Text],
+    declarations: &Declarations,
+    source: &mut NeverFails,
+    sink: &mut NeverFails,
+) -> Status
+    ensures no_fault { (result ≢ Status.ReadFault) × (result ≢ Status.WriteFault) }
+{
+    run(alloc, words, declarations, source, sink)
+}
+
+/// Runs these words over an input, and writes what the run writes.
+pub(crate) fn run_words(
+    rt: &HostRuntime,
+    words: &[Text],
+    declarations: &Declarations,
+    input: Vec<u8>,
+) -> Status {
+    let mut source = NeverFails::new(input);
+    let mut sink = StdSink::new(io::writer(rt));
+    run(rt.alloc(), words, declarations, &mut source, &mut sink)
+}
