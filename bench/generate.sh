@@ -8,12 +8,9 @@
 # of three such measurements the least counts. The status is 1 where a run fails, and 125 where the program couldn't be built.
 set -u
 
-crate=$(cd "$(dirname "$0")/.." && pwd)/crates/meta_bench || exit 125
-if ! log=$(cd "$crate" && rt run -- instructions 1 1 2>&1 < /dev/null); then
-    printf '%s\n' "$log" >&2
-    exit 125
-fi
-program=$crate/out/meta_bench
+. "$(dirname "$0")/programs.sh"
+
+built meta_bench instructions 1 1
 
 # The seconds of processor time that a run takes which ends with this status, for a subject, its size, and how many calls there are.
 seconds() {

@@ -8,14 +8,10 @@
 # fails, and 125 where the program couldn't be built.
 set -u
 
-top=$(cd "$(dirname "$0")/.." && pwd) || exit 125
+. "$(dirname "$0")/programs.sh"
+
 queries=$top/bench/queries.txt
-crate=$top/crates/meta_query_cli
-if ! log=$(cd "$crate" && rt run -- --version 2>&1 < /dev/null); then
-    printf '%s\n' "$log" >&2
-    exit 125
-fi
-program=$crate/out/meta_query_cli
+built meta_query_cli --version
 folder=$(mktemp -d) || exit 1
 trap 'rm -rf "$folder"' EXIT
 
@@ -35,14 +31,6 @@ least() {
     for _ in 1 2 3 4 5; do
         seconds "$1" || return 1
     done | sort -n | awk 'NR == 1 { best = $1 } END { if (NR != 5) exit 1; print best }'
-}
-
-# The instructions of a run over an input, with these words.
-counted() {
-    input=$1
-    shift
-    valgrind --tool=callgrind --callgrind-out-file=/dev/null "$program" "$@" < "$input" 2>&1 > /dev/null |
-        awk '/Collected/ { print $NF; found = 1 } END { exit !found }'
 }
 
 # 1 MiB is the longest input: as often as it takes all lines.
@@ -65,10 +53,10 @@ awk -v start="$start" -v half="$half" -v whole="$whole" -v a="$half_time" -v b="
 }'
 
 command -v valgrind > /dev/null || exit 0
-defined=$(counted "$folder/none") || exit 1
-start=$(counted "$folder/none" query) || exit 1
-half_count=$(counted "$folder/half" query) || exit 1
-whole_count=$(counted "$folder/whole" query) || exit 1
+defined=$(counted "$folder/none" "$program") || exit 1
+start=$(counted "$folder/none" "$program" query) || exit 1
+half_count=$(counted "$folder/half" "$program" query) || exit 1
+whole_count=$(counted "$folder/whole" "$program" query) || exit 1
 awk -v defined="$defined" -v start="$start" -v half="$half" -v whole="$whole" -v a="$half_count" -v b="$whole_count" 'BEGIN {
     printf "to declare: %.0f instructions\n", defined
     printf "to generate: %.0f instructions\n", start - defined

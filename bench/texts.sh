@@ -1,44 +1,38 @@
 #!/bin/sh
-# Counts the instructions of the processor that the texts take at two sizes, of which one is about twice the other, and those and
-# the time of one run of each command over the shared declarations:
+# Counts the instructions of the processor that the texts take to be made and to be read, at two sizes, of which one is about twice
+# the other, and those and the time of one run of each command over the shared declarations:
 #   bench/texts.sh
-# The programs `meta_bench`, `rows_instructions` and `meta_query_cli` are proved and built first where that is still to be done.
-# Counted is by `valgrind --tool=callgrind`. `meta_bench tables N TIMES` declares N instructions, makes their tables once, and their
-# text so many times; what one text takes is half the difference between a run of three and a run of one. The texts of Rust are
-# those of N instructions of two values, which `rows_instructions` reads: a run that writes the text, less one that builds the same
-# and writes none. Of a command are told the instructions of a run over no input, which declares and builds too, and for `query`
-# and `tables` makes the tables, and the processor time of a run, of twenty. The status is 1 where a run fails, and 125 where a
-# program couldn't be built.
+# The programs `meta_bench`, `rows_instructions`, `rows_declared` and `meta_query_cli` are proved and built first where that is still
+# to be done. Counted is by `valgrind --tool=callgrind`.
+#
+# `meta_bench tables N TIMES` declares N instructions, makes their tables once, and their text so many times; what one text takes is
+# half the difference between a run of three and a run of one. The texts of Rust are those of N instructions of two values, which
+# `rows_instructions` reads: a run that writes the text, less one that builds the same and writes none. Read are the shared text, the
+# longest text of instructions of seven inputs that an input has room for, and that of half as many: a run of `recheck` over the text,
+# less one over nothing, beside a run of `cat` over it, less one over nothing. Of a command are told the instructions of a run over no
+# input, which declares and builds too, and for `query`, `tables` and `recheck` makes the tables, and the processor time of a run, of
+# twenty.
+#
+# The status is 1 where a run fails, and 125 where a program couldn't be built.
 set -u
 
-crates=$(cd "$(dirname "$0")/.." && pwd)/crates || exit 125
+. "$(dirname "$0")/programs.sh"
 
-# Proves and builds a program where that is still to be done, by a run with these words.
-built() {
-    crate=$1
-    shift
-    if ! log=$(cd "$crates/$crate" && rt run -- "$@" 2>&1 < /dev/null); then
-        printf '%s\n' "$log" >&2
-        return 1
-    fi
-}
-
-built meta_bench tables 1 1 || exit 125
-built rows_instructions || exit 125
-built meta_query_cli --version || exit 125
-
-# The instructions of a run of a program with these words over no input.
-counted() {
-    program=$crates/$1/out/$1
-    shift
-    valgrind --tool=callgrind --callgrind-out-file=/dev/null "$program" "$@" < /dev/null 2>&1 > /dev/null |
-        awk '/Collected/ { print $NF; found = 1 } END { exit !found }'
-}
+built meta_bench tables 1 1
+bench=$program
+built rows_instructions
+rows=$program
+built rows_declared
+declaring=$program
+built meta_query_cli --version
+folder=$(mktemp -d) || exit 1
+trap 'rm -rf "$folder"' EXIT
+processor
 
 # The instructions of one text of so many instructions.
 text_of() {
-    one=$(counted meta_bench tables "$1" 1) || return 1
-    three=$(counted meta_bench tables "$1" 3) || return 1
+    one=$(counted /dev/null "$bench" tables "$1" 1) || return 1
+    three=$(counted /dev/null "$bench" tables "$1" 3) || return 1
     printf '%.0f\n' "$(((three - one) / 2))"
 }
 
@@ -61,8 +55,13 @@ declared() {
 
 # The instructions of a run of `rows_instructions` over such lines.
 counted_over() {
-    declared "$1" "$2" | valgrind --tool=callgrind --callgrind-out-file=/dev/null "$crates/rows_instructions/out/rows_instructions" 2>&1 > /dev/null |
-        awk '/Collected/ { print $NF; found = 1 } END { exit !found }'
+    declared "$1" "$2" > "$folder/declared"
+    counted "$folder/declared" "$rows"
+}
+
+# The bytes that such a run writes.
+bytes_over() {
+    declared "$1" "$2" | "$rows" | wc -c
 }
 
 for text in instructions builder; do
@@ -70,7 +69,7 @@ for text in instructions builder; do
     for count in $few $many; do
         none=$(counted_over "$count" "") || exit 1
         all=$(counted_over "$count" $text) || exit 1
-        bytes=$(($(declared "$count" $text | "$crates/rows_instructions/out/rows_instructions" | wc -c) - $(declared "$count" "" | "$crates/rows_instructions/out/rows_instructions" | wc -c)))
+        bytes=$(($(bytes_over "$count" $text) - $(bytes_over "$count" "")))
         printf '%s %s: %s bytes, %s instructions\n' $text "$count" "$bytes" "$((all - none))"
         grown="$grown $((all - none))"
     done
@@ -78,15 +77,46 @@ for text in instructions builder; do
         '{ printf "%s: %.2f times the size, %.2f times the instructions\n", text, many / few, $2 / $1 }'
 done
 
+# The text of the tables of so many instructions of seven inputs and one output.
+text_of_tables() {
+    awk -v count="$1" 'BEGIN {
+        print "new\nformat S Seven vvvvvvv\nvar Int ints 8..128"
+        for (k = 0; k < count; k++) print "inst i" k " S Int,Int,Int,Int,Int,Int,Int Int"
+        print "text 3"
+    }' | "$declaring" | sed 's/\\n/\n/g' | sed '$d'
+}
+
+# What it takes to read a text of the tables, and what `cat` takes, which copies the same bytes: for all of it, and a byte.
+read_again() {
+    bytes=$(wc -c < "$2")
+    taken=$(($(counted "$2" "$program" recheck) - $(counted /dev/null "$program" recheck)))
+    copied=$(($(counted "$2" cat) - $(counted /dev/null cat)))
+    awk -v what="$1" -v says="$("$program" recheck < "$2")" -v bytes="$bytes" -v taken="$taken" -v copied="$copied" 'BEGIN {
+        printf "reading %s, %s: %d bytes, %.0f instructions, %.2f a byte; cat: %.0f, %.2f a byte\n", what, says, bytes, taken, taken / bytes, copied, copied / bytes
+    }'
+}
+
+"$program" tables < /dev/null > "$folder/shared"
+read_again 'the shared text' "$folder/shared"
+most=2200
+text_of_tables $most > "$folder/most"
+while [ "$(wc -c < "$folder/most")" -gt 1048576 ]; do
+    most=$((most - 1))
+    text_of_tables $most > "$folder/most"
+done
+text_of_tables $((most / 2)) > "$folder/half"
+read_again "$((most / 2)) instructions" "$folder/half"
+read_again "$most instructions" "$folder/most"
+
 # The processor seconds of twenty runs of a command over no input.
 seconds() {
     sh -c 'n=0; while [ $n -lt 20 ]; do "$1" "$2" < /dev/null > /dev/null || exit 1; n=$((n + 1)); done; times' sh \
-        "$crates/meta_query_cli/out/meta_query_cli" "$1" |
+        "$program" "$1" |
         awk 'NR == 2 { gsub(/m/, " "); gsub(/s/, ""); print $1 * 60 + $2 + $3 * 60 + $4 }'
 }
 
-for command in query types tables settings instructions builder; do
-    written=$(counted meta_query_cli $command) || exit 1
+for command in query recheck types tables settings instructions builder; do
+    written=$(counted /dev/null "$program" $command) || exit 1
     taken=$(seconds $command) || exit 1
     awk -v command=$command -v all="$written" -v taken="$taken" \
         'BEGIN { printf "%s: %.0f instructions, %.1f ms\n", command, all, taken * 50 }'

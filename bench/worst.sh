@@ -2,22 +2,20 @@
 # Counts the instructions of the processor that `generate` takes for declarations which are made to be dear, at two sizes each,
 # which are 1023 and 2047 instructions where the words say no others:
 #   bench/worst.sh [SMALL LARGE]
-# Lists of 14 constraints that share nothing (`apart`); such lists with ten constraints in front that all have (`fronts`); lists
-# of 13 constraints that ask for the control, and one of a set that no other list has (`free`); and instructions that have a format
-# each, of three immediates (`formats`). The program `rows_declared` reads the declarations. It is proved and built first where
-# that is still to be done. Counted is by `valgrind --tool=callgrind`: a run that declares and generates, less one that declares.
-# Of thousands of instructions that takes minutes. The status is 1 where a run fails, and 125 where the program couldn't be built.
+# Lists of 14 constraints that share nothing (`apart`); such lists with ten constraints in front that all have (`fronts`); and lists
+# of 13 constraints that ask for the control, and one of a set that no other list has (`free`). The program `rows_declared` reads the
+# declarations. It is proved and built first where that is still to be done. Counted is by `valgrind --tool=callgrind`: a run that
+# declares and generates, less one that declares. The processor seconds are those of the run that generates, the least of three. Of
+# thousands of instructions that takes minutes. bench/hostile.sh has names that collide, and formats. The status is 1 where a run
+# fails, and 125 where the program couldn't be built.
 set -u
+
+. "$(dirname "$0")/programs.sh"
 
 few=${1:-1023}
 many=${2:-2047}
 
-crate=$(cd "$(dirname "$0")/.." && pwd)/crates/rows_declared || exit 125
-if ! log=$(cd "$crate" && rt run 2>&1 < /dev/null); then
-    printf '%s\n' "$log" >&2
-    exit 125
-fi
-program=$crate/out/rows_declared
+built rows_declared
 folder=$(mktemp -d) || exit 1
 trap 'rm -rf "$folder"' EXIT
 
@@ -40,7 +38,6 @@ declared() {
     }
     # The inputs stand before the outputs, whose constraints come first.
     function turned(words,    both) { split(words, both, " "); return both[2] " " both[1] }
-    function letter(k, number) { return substr("acdefghijklnopqs", digit(k, 16, number) + 1, 1) }
     BEGIN {
         print "new\nformat S Seven vvvvvvv\nvar X " types(0) "\none m f128"
         split("i8 i16 i32 i64 i128 f16 f32 f64", names, " ")
@@ -49,18 +46,8 @@ declared() {
             if (kind == "apart") print "inst i" k " S " turned(operands(k, 1))
             if (kind == "fronts") print "inst i" k " S " turned(operands(k, 10))
             if (kind == "free") print "var F" k " " types(k) "\ninst i" k " S X,X,X,X,X,X,F" k " X,X,X,X,X,X,X"
-            if (kind == "formats") {
-                a = letter(k, 0); b = letter(k, 1); c = letter(k, 2)
-                print "format k" k " F" k " " a b c "\ninst i" k " k" k " " a "," b "," c " -"
-            }
         }
     }'
-}
-
-# The instructions of a run over an input.
-counted() {
-    valgrind --tool=callgrind --callgrind-out-file=/dev/null "$program" < "$1" 2>&1 > /dev/null |
-        awk '/Collected/ { print $NF; found = 1 } END { exit !found }'
 }
 
 # The instructions of `generate` over so many instructions of a kind.
@@ -68,15 +55,17 @@ generated() {
     declared "$1" "$2" > "$folder/declared" || return 1
     { cat "$folder/declared" && printf 'generate\n'; } > "$folder/generated"
     [ "$("$program" < "$folder/generated")" = ok ] || return 1
-    less=$(counted "$folder/declared") || return 1
-    all=$(counted "$folder/generated") || return 1
-    printf '%.0f\n' "$((all - less))"
+    less=$(counted "$folder/declared" "$program") || return 1
+    all=$(counted "$folder/generated" "$program") || return 1
+    taken=$(least "$folder/generated" "$program") || return 1
+    printf '%.0f %s\n' "$((all - less))" "$taken"
 }
 
-for kind in apart fronts free formats; do
+processor
+for kind in apart fronts free; do
     small=$(generated "$kind" "$few") || exit 1
     large=$(generated "$kind" "$many") || exit 1
-    printf '%s %s: %s instructions\n%s %s: %s instructions\n' "$kind" "$few" "$small" "$kind" "$many" "$large"
-    awk -v kind="$kind" -v few="$few" -v many="$many" -v small="$small" -v large="$large" \
+    printf '%s %s: %s instructions, %s s\n' "$kind" "$few" "${small% *}" "${small#* }" "$kind" "$many" "${large% *}" "${large#* }"
+    awk -v kind="$kind" -v few="$few" -v many="$many" -v small="${small% *}" -v large="${large% *}" \
         'BEGIN { printf "%s: %.2f times the size, %.2f times the instructions\n", kind, many / few, large / small }'
 done
