@@ -1,8 +1,12 @@
 -- Formats in use are found by their marks, their names and their structures.
-use Rattle.std.proofs.Common.{◌≡◌, ◌≢◌, ℕ, ◌<◌, ◌⊎◌, inl, inr, zero, suc, Bool, true, false, cond, MatchBool, List, [], ◌∷◌, ◌++◌, length, replicate, set, slice_get, Option, Some, None, Bor, refl, sym, ap, ◌∙◌, subst, arith, length-set}
+use Rattle.std.proofs.Common.{Ordering, ◌≡◌, ◌≢◌, ℕ, ◌<◌, ◌⊎◌, inl, inr, zero, suc, Bool, true, false, cond, MatchBool, List, [], ◌∷◌, ◌++◌, length, replicate, set, slice_get, Option, Some, None, Bor, refl, sym, ap, ◌∙◌, subst, arith, length-set}
 use Rattle.std.proofs.lemmas.List.{length-replicate}
 use Rattle.std.proofs.lemmas.Option.{slice_get_within, same_Some}
+use Rattle.std.specs.Ordering.{nat_cmp, is_eq}
+use Rattle.std.specs.Cmp.Lexicographic.{slice_cmp}
 use Rattle.std.specs.HashMap.{get}
+use Rattle.std.specs.BTreeMap.{get as get_ordered}
+use Rattle.std.proofs.lemmas.Map.Text.{is_eq-slice_cmp}
 use Rattle.meta_lists.proofs.Pushed.{get_pushed, stays, last}
 use Rattle.meta_operands.specs.Texts.{same_text}
 use Rattle.meta_operands.specs.Structure.{structure_of, same_structure}
@@ -103,16 +107,20 @@ module _ {K : Type 0} (has : UsedFormat → K → Type 0) (same : K → K → Bo
   places_more : ArePlaces has more look_up'
   places_more = record { sound = sound_more; complete = complete_more }
 
-abbrev pub same_name : Bor (List ℕ) → Bor (List ℕ) → Bool
+abbrev same_name : Bor (List ℕ) → Bor (List ℕ) → Bool
 same_name a b = same_text a.now b.now
 
-pub one_named : (formats : List InstructionFormat) (used more : List UsedFormat) (new : UsedFormat) (x : InstructionFormat) (key : Bor (List ℕ)) (n : ℕ) (look_up look_up' : Bor (List ℕ) → Option ℕ) → more ≡ used ++ new ∷ [] → slice_get formats new.id ≡ Some x → key.now ≡ x.name → n ≡ length used → look_up key ≡ None → ((q : Bor (List ℕ)) → look_up' q ≡ cond (same_name key q) (Some n) (look_up q)) → ArePlaces (HasName formats) used look_up → ArePlaces (HasName formats) more look_up'
+-- names are ordered by their bytes
+abbrev pub name_order : Bor (List ℕ) → Bor (List ℕ) → Ordering
+name_order a b = slice_cmp nat_cmp a.now b.now
+
+pub one_named : (formats : List InstructionFormat) (used more : List UsedFormat) (new : UsedFormat) (x : InstructionFormat) (key : Bor (List ℕ)) (n : ℕ) (look_up look_up' : Bor (List ℕ) → Option ℕ) → more ≡ used ++ new ∷ [] → slice_get formats new.id ≡ Some x → key.now ≡ x.name → n ≡ length used → look_up key ≡ None → ((q : Bor (List ℕ)) → look_up' q ≡ cond (is_eq (name_order key q)) (Some n) (look_up q)) → ArePlaces (HasName formats) used look_up → ArePlaces (HasName formats) more look_up'
 one_named formats used more new x key n look_up look_up' pushed at is len absent gains places =
     places_more (HasName formats) same_name used more new pushed key
     (λ q h. record { format = x; at = at; is = sym is ∙ (texts_Decides key.now q.now).0 h })
     (λ q h. (texts_Decides key.now q.now).1 (is ∙ ap (λ (f : InstructionFormat). f.name) (same_Some x h.format (sym at ∙ h.at)) ∙ h.is))
     (λ g q h e. record { format = h.format; at = h.at; is = h.is ∙ sym ((texts_Decides key.now q.now).0 e) })
-    n len look_up look_up' places absent gains
+    n len look_up look_up' places absent (λ q. gains q ∙ ap (λ b. cond b (Some n) (look_up q)) (is_eq-slice_cmp key.now q.now))
 
 pub one_structured : (used more : List UsedFormat) (new : UsedFormat) (key : FormatStructure) (n : ℕ) (look_up look_up' : FormatStructure → Option ℕ) → more ≡ used ++ new ∷ [] → new.structure ≡ key → n ≡ length used → look_up key ≡ None → ((q : FormatStructure) → look_up' q ≡ cond (same_structure key q) (Some n) (look_up q)) → ArePlaces HasStructure used look_up → ArePlaces HasStructure more look_up'
 one_structured used more new key n look_up look_up' pushed is len absent gains places =
@@ -147,13 +155,13 @@ module _ (f : FormatsInUse) (i : AreIndexed f) (new : UsedFormat) (t : IsOfTable
       o = i.of_table place g at
 
   -- one that clashes with none has a name and a structure of its own
-  pub new_name : ClashesWithNone f.formats.now f.used.items new.id → get same_name f.by_name name ≡ None
-  new_name none = not_found (HasName f.formats.now) f.used.items (get same_name f.by_name) name i.named (λ place h. none place h.format h.at (clash_by_name place h))
+  pub new_name : ClashesWithNone f.formats.now f.used.items new.id → get_ordered name_order f.by_name name ≡ None
+  new_name none = not_found (HasName f.formats.now) f.used.items (get_ordered name_order f.by_name) name i.named (λ place h. none place h.format h.at (clash_by_name place h))
 
   pub new_structure : ClashesWithNone f.formats.now f.used.items new.id → get same_structure f.by_structure new.structure ≡ None
   new_structure none = not_found HasStructure f.used.items (get same_structure f.by_structure) new.structure i.structured (λ place h. none place h.format h.at (clash_by_structure place h))
 
-  module _ (one other : Option ℕ) (one_is : one ≡ get same_name f.by_name name) (other_is : other ≡ get same_structure f.by_structure new.structure) where
+  module _ (one other : Option ℕ) (one_is : one ≡ get_ordered name_order f.by_name name) (other_is : other ≡ get same_structure f.by_structure new.structure) where
     pub none_clashes : (one ≡ None) × (other ≡ None) → ClashesWithNone f.formats.now f.used.items new.id
     none_clashes none k g at c = elim (shared k g at c) [
       | inl h ↦ let e = i.named.complete name k h in let a = none.0 in absurd (cc)

@@ -1,8 +1,10 @@
 -- Formats in use, and how each is found among them.
 use Rattle.std.specs.Prelude.{◌≡◌, ◌⊎◌, ◌≤◌, ℕ, Bool, MatchBool, List, length, slice_get, Option, Some}
 use Rattle.std.specs.Borrow.{Bor}
+use Rattle.std.specs.Ordering.{nat_cmp}
+use Rattle.std.specs.Cmp.Lexicographic.{slice_cmp}
 use Rattle.std.specs.HashMap.{get}
-use Rattle.meta_operands.specs.Texts.{same_text}
+use Rattle.std.specs.BTreeMap.{get as get_ordered}
 use Rattle.meta_operands.specs.Structure.{same_structure}
 use Rattle.meta_operands.specs.declared.format.InstructionFormat.{InstructionFormat}
 use Rattle.meta_operands.specs.declared.structure.FormatStructure.{FormatStructure}
@@ -40,7 +42,7 @@ HasStructure used structure = used.structure ≡ structure
 pub record AreIndexed (f : FormatsInUse) : Type 0 where
   pub of_table : AreOfTable f.formats.now f.used.items
   pub marked : AreMarked f.formats.now f.used.items f.is_used.items
-  pub named : ArePlaces (HasName f.formats.now) f.used.items (get (λ a b. same_text a.now b.now) f.by_name)
+  pub named : ArePlaces (HasName f.formats.now) f.used.items (get_ordered (λ a b. slice_cmp nat_cmp a.now b.now) f.by_name)
   pub structured : ArePlaces HasStructure f.used.items (get same_structure f.by_structure)
 
 -- the first of two places, where there is one

@@ -6,7 +6,7 @@ use super::formats::UsedFormat;
 use meta_operands::{FormatId, FormatStructure, FormatTable};
 use meta_types::Text;
 use std::alloc::{AllocError, Global};
-use std::collections::HashMap;
+use std::collections::{BTreeMap, HashMap};
 
 /// Formats in use, no two of which clash, and how each is found among them.
 #[derive(Drop)]
@@ -16,7 +16,7 @@ pub(crate) struct FormatsInUse<'f> {
     // Whether each format of the table is among them.
     is_used: Vec<bool>,
     // The place of each, by its name and by its structure.
-    by_name: HashMap<&'f Text, usize>,
+    by_name: BTreeMap<&'f Text, usize>,
     by_structure: HashMap<FormatStructure, usize>,
 }
 
@@ -43,7 +43,7 @@ impl<'f> FormatsInUse<'f> {
             formats,
             used: Vec::new(alloc),
             is_used: vec![in alloc; false; formats.len()]?,
-            by_name: HashMap::new(alloc),
+            by_name: BTreeMap::new(alloc),
             by_structure: HashMap::new(alloc),
         })
     }

@@ -1,4 +1,4 @@
-ghost use Rattle.std.specs.Prelude.{◌≡◌, ◌↔◌, ◌⊎◌, ◌≤◌, List, ◌++◌, ◌∷◌, [], ◌<◌, ℕ, IsTrue, MatchBool, OnOk, IfOk, IfSome, nat_eq, IfNone, length, slice_get, take, Some};
+ghost use Rattle.std.specs.Prelude.{◌≡◌, ◌↔◌, ◌⊎◌, ◌≤◌, List, ◌++◌, ◌∷◌, [], ◌<◌, ℕ, IsTrue, MatchBool, OnOk, IfOk, IfSome, IfNone, length, slice_get, take, Some};
 ghost use Rattle.meta_typevar.specs.declared.content.TypeVarContent.{TypeVarContent};
 ghost use Rattle.meta_typevar.specs.Registry.{sets_of, variable_at, IsRegistry};
 ghost use Rattle.meta_operands.specs.Operand.{variables_of};
@@ -9,7 +9,8 @@ ghost use Rattle.meta_inst.specs.Content.{control_kept, operand_list};
 ghost use Rattle.meta_inst.specs.Control.{IsBadlyDerived};
 ghost use Rattle.meta_inst.specs.Which.{both};
 ghost use Rattle.meta_inst.specs.FoundControl.{IsFoundIn, MayNot, control_in, IsBadAt, IsFirstBadAt, IsOf};
-ghost use Rattle.std.specs.HashMap.{get};
+ghost use Rattle.std.specs.Ordering.{nat_cmp};
+ghost use Rattle.std.specs.BTreeMap.{get};
 ghost use Rattle.meta_inst.specs.Operands.{AreInputCounts, AreOf, SecondIsOf, second_in, IsAlone, HasOneType, LetsControl, CanControl, Uses, UsesNowhere, IsNoSecond, HasSeveralTypes, AllHaveOneType, instruction_of_operands, designated_number, first_number};
 
 use super::builder::InstructionBuilder;
@@ -86,7 +87,7 @@ fn stands_alone(variables: &[TypeVar], from: usize, place: usize) -> bool
 
 /// The counts of the inputs, where there are more than an instruction may have.
 fn counted_inputs(alloc: Global, inputs: &[TypeVar]) -> Result<Option<InputCounts>, AllocError>
-    ensures { IfOk result (λ o. IfSome o (λ c. AreInputCounts inputs.now (get nat_eq c.counts))) }
+    ensures { IfOk result (λ o. IfSome o (λ c. AreInputCounts inputs.now (get nat_cmp c.counts))) }
 {
     if inputs.len() <= MAX_OPERANDS {
         return Ok(None);
@@ -321,15 +322,16 @@ pub struct Operands {
 }
 
 impl Model for Operands {
-    ghost use Rattle.std.specs.Prelude.{◌≤◌, nat_eq, length, drop, IfSome};
-    ghost use Rattle.std.specs.HashMap.{get};
+    ghost use Rattle.std.specs.Prelude.{◌≤◌, length, drop, IfSome};
+    ghost use Rattle.std.specs.Ordering.{nat_cmp};
+    ghost use Rattle.std.specs.BTreeMap.{get};
     ghost use Rattle.meta_inst.specs.Operands.{OperandList, AreInputCounts};
 
     ghost Value = { OperandList };
 
     ghost view = { λ o. record { variables = o.variables.items; result_count = o.result_count; designated = o.designated; begins_with_value = o.begins_with_value; second = o.second } };
 
-    ghost invariant = { λ o. (o.result_count ≤ length o.variables.items) × IfSome o.input_counts (λ c. AreInputCounts (drop o.result_count o.variables.items) (get nat_eq c.counts)) };
+    ghost invariant = { λ o. (o.result_count ≤ length o.variables.items) × IfSome o.input_counts (λ c. AreInputCounts (drop o.result_count o.variables.items) (get nat_cmp c.counts)) };
 }
 
 impl Operands {

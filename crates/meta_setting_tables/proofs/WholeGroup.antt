@@ -48,12 +48,6 @@ module _ (g : Layout) (enumerators : List (List ℕ)) (settings presets ds : Lis
   setting_count : length settings ≡ length g.settings
   setting_count = sym (length-map settings (λ (d : Descriptor). d.name)) ∙ ap length h.names ∙ length-map g.settings (λ (s : PlacedSetting). s.name)
 
-  preset_count : length presets ≡ length g.presets
-  preset_count = sym (length-map presets (λ (d : Descriptor). d.name)) ∙ ap length h.preset_names ∙ length-map g.presets (λ (p : BuiltPreset). p.name)
-
-  pub count_is : length ds ≡ entry_count g
-  count_is = let both = ap length joined ∙ length-append settings presets in let a = setting_count in let b = preset_count in omega (arith, both, a, b)
-
   pub names_are : names_in ds ≡ entry_names g
   names_are = ap names_in joined ∙ map-append (λ (d : Descriptor). d.name) settings presets ∙ ap (λ w. w ++ names_in presets) h.names ∙ ap (λ w. map (λ (s : PlacedSetting). s.name) g.settings ++ w) h.preset_names
 
@@ -67,15 +61,21 @@ module _ (g : Layout) (enumerators : List (List ℕ)) (settings presets ds : Lis
         same_Some d (preset_descriptor g.settings_size k p) (sym at ∙ here);
   }
 
-  -- with their enumerators, bytes and slots they are the tables of the group
-  pub tables_are : (t : GroupContents) → t.name ≡ g.name → t.descriptors ≡ ds → t.enumerators ≡ enumerators → enumerators ≡ enumerators_of g.settings → AreDefaultsOf g t.defaults → ArePresetMasks g t.preset_masks → AreNameSlots 0 (names_in t.descriptors) t.slots → AreTablesOfGroup g t
-  tables_are t name own copied are defaults masks slots = record {
-    name = name;
-    count = ap length own ∙ count_is;
-    names = ap names_in own ∙ names_are;
-    entries = λ e d at. subst (λ (w : List (List ℕ)). DescribesEntry g w e d) (sym copied) (entries_are e d (ap (λ (w : List Descriptor). slice_get w e) (sym own) ∙ at));
-    enumerators = copied ∙ are;
-    defaults = defaults;
-    masks = masks;
-    slots = subst (λ w. AreNameSlots 0 w t.slots) (ap names_in own ∙ names_are) slots;
-  }
+-- descriptors that have the names of the entries are as many
+pub named_count : (g : Layout) (ds : List Descriptor) → names_in ds ≡ entry_names g → length ds ≡ entry_count g
+named_count g ds names = sym (length-map ds (λ (d : Descriptor). d.name)) ∙ ap length names ∙ length-append (map (λ (s : PlacedSetting). s.name) g.settings) (map (λ (p : BuiltPreset). p.name) g.presets)
+    ∙ ap (λ n. n + length (map (λ (p : BuiltPreset). p.name) g.presets)) (length-map g.settings (λ (s : PlacedSetting). s.name)) ∙ ap (λ n. length g.settings + n) (length-map g.presets (λ (p : BuiltPreset). p.name))
+
+-- what describes the entries of a group is, with its enumerators, bytes and slots, the tables of the group
+pub tables_are : (g : Layout) (t : GroupContents) → t.name ≡ g.name → names_in t.descriptors ≡ entry_names g → ((e : ℕ) (d : Descriptor) → slice_get t.descriptors e ≡ Some d → DescribesEntry g t.enumerators e d)
+    → t.enumerators ≡ enumerators_of g.settings → AreDefaultsOf g t.defaults → ArePresetMasks g t.preset_masks → AreNameSlots 0 (names_in t.descriptors) t.slots → AreTablesOfGroup g t
+tables_are g t name names entries are defaults masks slots = record {
+  name = name;
+  count = named_count g t.descriptors names;
+  names = names;
+  entries = entries;
+  enumerators = are;
+  defaults = defaults;
+  masks = masks;
+  slots = subst (λ w. AreNameSlots 0 w t.slots) names slots;
+}

@@ -1,14 +1,15 @@
-ghost use Rattle.std.specs.Prelude.{◌≡◌, ◌↔◌, ◌+◌, ◌++◌, ◌≤◌, ◌<◌, ℕ, List, [], length, map, take, drop, slice_get, slice_index_or, option_map, Contains, Some, None, false, IsTrue, IsSome, IfSome, IfNone, IfOk, OnOk};
+ghost use Rattle.std.specs.Prelude.{◌≡◌, ◌↔◌, ◌+◌, ◌++◌, ◌≤◌, ◌<◌, ℕ, List, [], length, map, take, drop, slice_get, slice_index_or, option_map, Contains, All, Some, None, false, IsTrue, IsSome, IfSome, IfNone, IfOk, OnOk};
 ghost use Rattle.meta_types.specs.SharedNames.{AreDifferentNames};
 ghost use Rattle.meta_settings.specs.declared.setting.SpecificSetting.TheVariants.{Enum};
-ghost use Rattle.meta_settings.specs.Layout.{PlacedSetting, BuiltPreset, Layout};
+ghost use Rattle.meta_settings.specs.Layout.{PlacedSetting, BuiltPreset, Layout, IsSized};
 ghost use Rattle.meta_setting_tables.specs.declared.descriptor.Descriptor.{Descriptor};
 ghost use Rattle.meta_setting_tables.specs.BuiltLayout.{HaveNumbers, IsBuiltLayout};
 ghost use Rattle.meta_setting_tables.specs.Descriptor.{IsDetailOf, DescribesSetting, DescribesEntry, setting_descriptor, preset_descriptor};
 ghost use Rattle.meta_setting_tables.specs.EnumeratorList.{enumerators_of, values_of, with_values, HasGrown};
 ghost use Rattle.meta_unique.specs.NameSlots.{AreNameSlots, NameAnswers, IsNameLookup};
 ghost use Rattle.meta_setting_tables.specs.FoundSetting.{entry_names, entry_count, FindsEntry};
-ghost use Rattle.meta_setting_tables.specs.PresetMasks.{AreJoined};
+ghost use Rattle.meta_setting_tables.specs.DefaultBytes.{AreDefaultsOf};
+ghost use Rattle.meta_setting_tables.specs.PresetMasks.{AreJoined, ArePresetMasks};
 ghost use Rattle.meta_setting_tables.specs.WellFormed.{IsWellFormedGroup};
 ghost use Rattle.meta_setting_tables.specs.Parts.{HasParts, AreGoodParts};
 ghost use Rattle.meta_setting_tables.specs.GroupTables.{names_in, IsInside, IsPresetIn, AreTablesOfGroup, default_in, AnswersDefault, Applies};
@@ -171,6 +172,71 @@ fn joined(
     Ok(first)
 }
 
+/// The descriptors of the entries of a group, in order, where the values of enums are added to the enumerators, which were empty.
+fn descriptors_of<'g>(
+    alloc: Global,
+    group: &'g SettingGroup,
+    enumerators: &mut Enumerators<'g>,
+) -> Result<Vec<Descriptor>, AllocError>
+    requires built { IsBuiltLayout group.now }
+    requires empty { enumerators.old ≡ [] }
+    ensures sized { IsSized group.now.settings group.now.bool_start_byte_offset group.now.settings_size }
+    ensures small { group.now.settings_size ≤ 255 }
+    ensures enumerators { OnOk result (enumerators.new ≡ enumerators_of group.now.settings) }
+    ensures names { IfOk result (λ v. names_in v.items ≡ entry_names group.now) }
+    ensures entries { IfOk result (λ v. (e : ℕ) (d : Descriptor) → slice_get v.items e ≡ Some d → DescribesEntry group.now enumerators.new e d) }
+{
+    let size = group.settings_size();
+    let settings = describe_settings(alloc, group.settings(), enumerators)?;
+    let presets = describe_presets(alloc, group.presets(), size)?;
+    joined(settings, presets)
+}
+
+/// The descriptors of a group, and the values that those of its enums point to.
+#[derive(Drop)]
+struct DescribedEntries {
+    descriptors: Vec<Descriptor>,
+    enumerators: Vec<Text>,
+}
+
+/// The descriptors of the entries of a group, with the values of its enums.
+fn described(alloc: Global, group: &SettingGroup) -> Result<DescribedEntries, AllocError>
+    requires { IsBuiltLayout group.now }
+    ensures sized { IsSized group.now.settings group.now.bool_start_byte_offset group.now.settings_size }
+    ensures small { group.now.settings_size ≤ 255 }
+    ensures enumerators { IfOk result (λ d. d.enumerators.items ≡ enumerators_of group.now.settings) }
+    ensures names { IfOk result (λ d. names_in d.descriptors.items ≡ entry_names group.now) }
+    ensures entries { IfOk result (λ d. (e : ℕ) (own : Descriptor) → slice_get d.descriptors.items e ≡ Some own → DescribesEntry group.now d.enumerators.items e own) }
+{
+    let mut enumerators = Enumerators::new(alloc);
+    let descriptors = descriptors_of(alloc, group, &mut enumerators)?;
+    Ok(DescribedEntries {
+        enumerators: enumerators.copied(alloc)?,
+        descriptors,
+    })
+}
+
+/// The default bytes of a group, and the masks of its presets.
+#[derive(Drop)]
+struct SettingBytes {
+    defaults: Vec<u8>,
+    preset_masks: Vec<u8>,
+}
+
+/// The default bytes of a group, with the masks of its presets.
+fn bytes(alloc: Global, group: &SettingGroup) -> Result<SettingBytes, AllocError>
+    requires { IsBuiltLayout group.now }
+    ensures defaults { IfOk result (λ b. AreDefaultsOf group.now b.defaults.items) }
+    ensures bytes { IfOk result (λ b. All (λ n. n < 256) b.defaults.items) }
+    ensures masks { IfOk result (λ b. ArePresetMasks group.now b.preset_masks.items) }
+{
+    let defaults = default_bytes(alloc, group)?;
+    Ok(SettingBytes {
+        preset_masks: preset_masks(alloc, group)?,
+        defaults,
+    })
+}
+
 /// The slots of the names of the entries.
 fn entry_slots(alloc: Global, descriptors: &[Descriptor]) -> Result<Vec<Option<u16>>, AllocError>
     requires { length descriptors.now ≤ 65535 }
@@ -191,18 +257,16 @@ impl GroupTables {
         ensures tables { IfOk result (λ t. AreTablesOfGroup group.now t) }
         ensures well_formed { IfOk result IsWellFormedGroup }
     {
-        let size = group.settings_size();
-        let mut enumerators = Enumerators::new(alloc);
-        let settings = describe_settings(alloc, group.settings(), &mut enumerators)?;
-        let presets = describe_presets(alloc, group.presets(), size)?;
-        let descriptors = joined(settings, presets)?;
+        let described = described(alloc, group)?;
+        let slots = entry_slots(alloc, described.descriptors.as_slice())?;
+        let bytes = bytes(alloc, group)?;
         Ok(GroupTables {
             name: group.name().copy(alloc)?,
-            enumerators: enumerators.copied(alloc)?,
-            defaults: default_bytes(alloc, group)?,
-            preset_masks: preset_masks(alloc, group)?,
-            slots: entry_slots(alloc, descriptors.as_slice())?,
-            descriptors,
+            descriptors: described.descriptors,
+            enumerators: described.enumerators,
+            defaults: bytes.defaults,
+            preset_masks: bytes.preset_masks,
+            slots,
         })
     }
 

@@ -19,8 +19,9 @@ use meta_types::{DerivedFunc, Text, ValueType};
 use std::alloc::{AllocError, Global};
 use std::marker::Model;
 
-/// A type variable, as its number in a registry (`cdsl/typevar.rs`, where it is a pointer).
-#[derive(Clone, Copy, Debug, PartialEq, Eq, Hash)]
+/// A type variable, as its number in a registry (`cdsl/typevar.rs`, where it is a pointer). Variables are ordered by their
+/// numbers (this project's own).
+#[derive(Clone, Copy, Debug, PartialEq, Eq, Hash, PartialOrd, Ord)]
 pub struct TypeVar {
     number: u32,
 }
