@@ -24,7 +24,7 @@ set -u
 
 built meta_bench tables 1 1
 bench=$program
-built rows_declared
+built rows
 rows=$program
 built meta_query_cli --version
 processor
@@ -83,8 +83,8 @@ class Took:
 
 
 def rows(lines, **how):
-    """What a run of the rows over these lines takes."""
-    return Took([ROWS], "".join(line + "\n" for line in lines), **how)
+    """What a run of the rows over these lines, which declare, takes."""
+    return Took([ROWS], "".join(line + "\n" for line in ["%% declared", *lines]), **how)
 
 
 def over(lines, *asked, also_generate=True):

@@ -2,12 +2,12 @@
 # Counts the instructions of the processor that the texts take to be made and to be read, at two sizes, of which one is about twice
 # the other, and those and the time of one run of each command over the shared declarations:
 #   bench/texts.sh
-# The programs `meta_bench`, `rows_instructions`, `rows_declared` and `meta_query_cli` are proved and built first where that is still
-# to be done. Counted is by `valgrind --tool=callgrind`.
+# The programs `meta_bench`, `rows` and `meta_query_cli` are proved and built first where that is still to be done. Counted is by
+# `valgrind --tool=callgrind`.
 #
 # `meta_bench tables N TIMES` declares N instructions, makes their tables once, and their text so many times; what one text takes is
 # half the difference between a run of three and a run of one. The texts of Rust are those of N instructions of two values, which
-# `rows_instructions` reads: a run that writes the text, less one that builds the same and writes none. Read are the shared text, the
+# `rows` reads: a run that writes the text, less one that builds the same and writes none. Read are the shared text, the
 # longest text of instructions of seven inputs that an input has room for, and that of half as many: a run of `recheck` over the text,
 # less one over nothing, beside a run of `cat` over it, less one over nothing. Of a command are told the instructions of a run over no
 # input, which declares and builds too, and for `query`, `tables` and `recheck` makes the tables, and the processor time of a run, of
@@ -20,10 +20,8 @@ set -u
 
 built meta_bench tables 1 1
 bench=$program
-built rows_instructions
+built rows
 rows=$program
-built rows_declared
-declaring=$program
 built meta_query_cli --version
 folder=$(mktemp -d) || exit 1
 trap 'rm -rf "$folder"' EXIT
@@ -47,13 +45,13 @@ awk -v few="$few" -v many="$many" -v small="$small" -v large="$large" \
 # So many instructions of two values, as lines, and the texts that are asked for.
 declared() {
     awk -v count="$1" -v texts="$2" 'BEGIN {
-        print "ints N 8 64 1 | An integer.\nformat Two value value"
+        print "%% instructions\nints N 8 64 1 | An integer.\nformat Two value value"
         for (k = 0; k < count; k++) print "given i" k " Two N,N N - | An instruction."
         print "texts " texts
     }'
 }
 
-# The instructions of a run of `rows_instructions` over such lines.
+# The instructions of a run of `rows` over such lines.
 counted_over() {
     declared "$1" "$2" > "$folder/declared"
     counted "$folder/declared" "$rows"
@@ -80,10 +78,10 @@ done
 # The text of the tables of so many instructions of seven inputs and one output.
 text_of_tables() {
     awk -v count="$1" 'BEGIN {
-        print "new\nformat S Seven vvvvvvv\nvar Int ints 8..128"
+        print "%% declared\nnew\nformat S Seven vvvvvvv\nvar Int ints 8..128"
         for (k = 0; k < count; k++) print "inst i" k " S Int,Int,Int,Int,Int,Int,Int Int"
         print "text 3"
-    }' | "$declaring" | sed 's/\\n/\n/g' | sed '$d'
+    }' | "$rows" | sed 's/\\n/\n/g' | sed '$d'
 }
 
 # What it takes to read a text of the tables, and what `cat` takes, which copies the same bytes: for all of it, and a byte.

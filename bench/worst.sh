@@ -3,7 +3,7 @@
 # which are 1023 and 2047 instructions where the words say no others:
 #   bench/worst.sh [SMALL LARGE]
 # Lists of 14 constraints that share nothing (`apart`); such lists with ten constraints in front that all have (`fronts`); and lists
-# of 13 constraints that ask for the control, and one of a set that no other list has (`free`). The program `rows_declared` reads the
+# of 13 constraints that ask for the control, and one of a set that no other list has (`free`). The program `rows` reads the
 # declarations. It is proved and built first where that is still to be done. Counted is by `valgrind --tool=callgrind`: a run that
 # declares and generates, less one that declares. The processor seconds are those of the run that generates, the least of three. Of
 # thousands of instructions that takes minutes. bench/hostile.sh has names that collide, and formats. The status is 1 where a run
@@ -15,7 +15,7 @@ set -u
 few=${1:-1023}
 many=${2:-2047}
 
-built rows_declared
+built rows
 folder=$(mktemp -d) || exit 1
 trap 'rm -rf "$folder"' EXIT
 
@@ -39,7 +39,7 @@ declared() {
     # The inputs stand before the outputs, whose constraints come first.
     function turned(words,    both) { split(words, both, " "); return both[2] " " both[1] }
     BEGIN {
-        print "new\nformat S Seven vvvvvvv\nvar X " types(0) "\none m f128"
+        print "%% declared\nnew\nformat S Seven vvvvvvv\nvar X " types(0) "\none m f128"
         split("i8 i16 i32 i64 i128 f16 f32 f64", names, " ")
         for (k = 1; k <= 8; k++) print "one d" k - 1 " " names[k]
         for (k = 0; k < count; k++) {

@@ -7,7 +7,7 @@ use meta_types::Text;
 const MOST_INSTRUCTIONS: u16 = 4095;
 
 /// What is declared, and how much of it.
-#[derive(Clone, Copy, Debug, PartialEq, Eq)]
+#[derive(Clone, Copy)]
 pub(crate) enum Subject {
     /// So many instructions.
     Instructions(u16),
@@ -20,7 +20,7 @@ pub(crate) enum Subject {
 }
 
 /// What the words ask for: that `generate` is called so many times over one subject, or that the text is made so many times.
-#[derive(Clone, Copy, Debug, PartialEq, Eq)]
+#[derive(Clone, Copy)]
 pub(crate) struct Command {
     pub(crate) subject: Subject,
     pub(crate) times: u32,

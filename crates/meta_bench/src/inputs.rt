@@ -12,7 +12,7 @@ use meta_typevar::{TypeVar, TypeVars};
 use std::alloc::{AllocError, Global};
 
 /// The fault that an instruction of many inputs shows.
-#[derive(Clone, Copy, Debug, PartialEq, Eq)]
+#[derive(Clone, Copy, PartialEq, Eq)]
 pub(crate) enum Shown {
     /// Its format has no inputs.
     FormatMismatch,

@@ -63,9 +63,9 @@ fn instruction(
     ensures { IfOk result (λ b. (vars : List TypeVarContent) (formats : List InstructionFormat) → tv < length vars → format < length formats → FitsBuilder vars formats b) }
 {
     let (name, doc) = (numbered(alloc, number)?, Text::new(alloc, "")?);
+    let (inputs, outputs) = (operands(alloc, tv, 7)?, operands(alloc, tv, 1)?);
     let builder = InstructionBuilder::new(alloc, name, doc, format);
-    let builder = builder.operands_in(operands(alloc, tv, 7)?);
-    Ok(builder.operands_out(operands(alloc, tv, 1)?))
+    Ok(builder.operands_in(inputs).operands_out(outputs))
 }
 
 /// Adds an instruction at the end.

@@ -83,15 +83,26 @@ fn about(alloc: Global, command: &Command, tables: &Tables) -> Result<String, Al
     }
 }
 
+/// Makes the tables of the declarations, or their text, as often as the command says, and tells what they hold.
+fn measured_over(
+    alloc: Global,
+    command: &Command,
+    declarations: &Declarations,
+) -> Result<String, DefinitionError>
+    requires { 0 < command.now.times }
+{
+    let times = match command.subject {
+        Subject::Tables(_) => 1,
+        _ => command.times,
+    };
+    let tables = generated(alloc, declarations, times)?;
+    Ok(about(alloc, command, &tables)?)
+}
+
 /// Declares the subject once, makes its tables, or their text, as often as the command says, and tells what they hold.
 pub(crate) fn measured(alloc: Global, command: &Command) -> Result<String, DefinitionError>
     requires { 0 < command.now.times }
 {
     let declarations = declared(alloc, command.subject)?;
-    let times = match command.subject {
-        Subject::Tables(_) => 1,
-        _ => command.times,
-    };
-    let tables = generated(alloc, &declarations, times)?;
-    Ok(about(alloc, command, &tables)?)
+    measured_over(alloc, command, &declarations)
 }

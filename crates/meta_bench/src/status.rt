@@ -4,7 +4,7 @@ ghost use Rattle.meta_types.specs.declared.fault.DefinitionError.TheVariants.{Ou
 use meta_types::DefinitionError;
 
 /// How a run ended.
-#[derive(Clone, Copy, Debug, PartialEq, Eq)]
+#[derive(Clone, Copy)]
 pub(crate) enum Status {
     /// The tables were made, and what they hold was printed.
     Done,

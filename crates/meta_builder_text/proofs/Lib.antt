@@ -4,3 +4,4 @@ mod Angles
 mod OperandVariables
 -- the operands of built instructions
 mod BuiltOperands
+mod After

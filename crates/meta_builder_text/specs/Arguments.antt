@@ -25,7 +25,7 @@ each_behind f before (o ∷ others) = f before o ++ each_behind f (before ++ o �
 abbrev pub parameter_count : List Operand → ℕ
 parameter_count operands = count_by is_converted operands + (if list_any is_block_operand operands then 1 else 0)
 
--- the type parameter of an operand that is converted and has these before it: `T1`
+-- the type parameter of an operand that is converted and has these before it: a `T` and its number among the parameters, from 1
 unfoldable pub parameter_name : List Operand → List ℕ
 parameter_name before = codes "T" ++ decimal (parameter_count before + 1)
 
@@ -33,7 +33,7 @@ parameter_name before = codes "T" ++ decimal (parameter_count before + 1)
 abbrev pub taken_type : Operand → List ℕ
 taken_type o = if is_mem_flags o then codes "ir::MemFlagsData" else o.kind.rust_type
 
--- the bound of a type parameter of this name: `T1: Into<ir::TrapCode>`
+-- the bound of a type parameter of this name: that the argument converts into the Rust type of its kind, `: Into<ir::TrapCode>`
 unfoldable pub bound_text : List ℕ → List ℕ → List ℕ
 bound_text name converted = name ++ (codes ": Into<" ++ (converted ++ codes ">"))
 

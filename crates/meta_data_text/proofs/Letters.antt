@@ -1,5 +1,7 @@
 -- The snake case of a text, character by character.
-use Rattle.std.proofs.Common.{◌≡◌, ℕ, ◌/◌, ◌+◌, ◌<◌, ◌≤◌, ◌||◌, Bool, true, false, cond, ltb, List, [], ◌∷◌, ◌++◌, ap, ◌∙◌, sym, refl, arith, ⊎_elim, append_assoc}
+use Rattle.std.proofs.Common.{◌≡◌, ℕ, ◌/◌, ◌+◌, ◌<◌, ◌≤◌, ◌||◌, Bool, true, false, cond, ltb, List, [], ◌∷◌, ◌++◌, length, ap}
+use Rattle.std.proofs.Common.{◌∙◌, sym, refl, arith, ⊎_elim, append_assoc}
+use Rattle.std.proofs.lemmas.List.{append-nil, nil_from_length}
 use Rattle.std.proofs.lemmas.Str.{encode_ascii}
 use Rattle.std.proofs.lemmas.Str.Ascii.{lowercase_ascii}
 use Rattle.std.proofs.lemmas.Bool.Decides.{nat_tests}
@@ -66,3 +68,16 @@ pub snake_more : (old new mark : List ℕ) (later : Bool) (c letter : ℕ) (rest
     → new ++ snake_from (later || is_ascii_uppercase c) rest ≡ old ++ snake_from later (encode c ++ rest)
 snake_more old new mark later c letter rest written before small =
     rw (written, before, small, append_assoc, append_assoc) (ap (λ z. old ++ z) (sym (snake_from-char later c rest)))
+
+-- what is written and the snake case of what is left are the same text behind one more character
+pub snake_step : (old new name left rest letter : List ℕ) (later further capital : Bool) → old ++ snake_from later left ≡ name
+    → left ≡ letter ++ rest
+    → ((r : List ℕ) → new ++ snake_from (later || capital) r ≡ old ++ snake_from later (letter ++ r))
+    → further ≡ (later || capital) → new ++ snake_from further rest ≡ name
+snake_step old new name left rest letter later further capital here steps written is =
+    ap (λ b. new ++ snake_from b rest) is ∙ (written rest ∙ (ap (λ r. old ++ snake_from later r) (sym steps) ∙ here))
+
+-- where nothing is left, all is written
+pub snake_end : (old name left : List ℕ) (later : Bool) → old ++ snake_from later left ≡ name → length left ≡ 0 → old ≡ name
+snake_end old name left later here none = sym (append-nil old)
+    ∙ (ap (λ r. old ++ snake_from later r) (sym (nil_from_length left none)) ∙ here)

@@ -1,2 +1,3 @@
 mod LastPart
 mod Letters
+mod Pushed

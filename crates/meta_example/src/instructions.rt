@@ -55,9 +55,9 @@ fn instruction(
     ensures { IfOk result (λ b. b.second ≡ None) }
 {
     let (name, doc) = (Text::new(alloc, name)?, Text::new(alloc, doc)?);
+    let (inputs, outputs) = (operands(alloc, inputs)?, operands(alloc, outputs)?);
     let builder = InstructionBuilder::new(alloc, name, doc, format);
-    let builder = builder.operands_in(operands(alloc, inputs)?);
-    Ok(builder.operands_out(operands(alloc, outputs)?))
+    Ok(builder.operands_in(inputs).operands_out(outputs))
 }
 
 /// `a = constant imm`.

@@ -2,3 +2,4 @@ mod Commands
 mod Marks
 mod Told
 mod Runs
+mod Statuses

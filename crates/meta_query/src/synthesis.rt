@@ -1,9 +1,10 @@
 ghost use Rattle.std.specs.Prelude.{◌≡◌, ◌≢◌, ◌<◌, ◌^◌, ℕ, IfOk, IfSome, IfNone, string_bytes};
 ghost use Rattle.std.specs.Fmt.{decimal};
+ghost use Rattle.meta_synth.specs.Synth.{IsSynth};
 ghost use Rattle.meta_query.specs.Synthesis.{IsSynthOutput};
 
 use itoa::Buffer;
-use meta_gen::generate;
+use meta_gen::{Declarations, generate};
 use meta_synth::{summary, synth};
 use meta_types::Text;
 use std::alloc::{AllocError, Global};
@@ -20,16 +21,24 @@ pub(crate) fn number_in(word: &Text) -> Option<u32>
     }
 }
 
-/// The summary of the tables of the declarations of a number, with LF.
-pub(crate) fn synth_line(alloc: Global, n: u32) -> Result<String, AllocError>
+/// The summary of the tables of these declarations, which are those of the number, with LF.
+fn summary_line(alloc: Global, n: u32, declarations: &Declarations) -> Result<String, AllocError>
+    requires { IsSynth n declarations.now }
     ensures { IfOk result (λ out. IsSynthOutput n (string_bytes out)) }
 {
-    let declarations = synth(alloc, n)?;
     let _variables = declarations.vars();
-    let Ok(tables) = generate(alloc, &declarations) else {
+    let Ok(tables) = generate(alloc, declarations) else {
         return Err(AllocError);
     };
     let mut line = summary(alloc, n, &tables)?;
     line.push_str("\n")?;
     Ok(line)
+}
+
+/// The summary of the tables of the declarations of a number, with LF.
+pub(crate) fn synth_line(alloc: Global, n: u32) -> Result<String, AllocError>
+    ensures { IfOk result (λ out. IsSynthOutput n (string_bytes out)) }
+{
+    let declarations = synth(alloc, n)?;
+    summary_line(alloc, n, &declarations)
 }

@@ -13,7 +13,7 @@ use Rattle.meta_setting_tables.proofs.Inside.{all_kinds}
 use Rattle.meta_setting_tables.proofs.SameSlots.{same_name_slots}
 
 -- what is said of two things is said of what they are
-of_both : {A B : Type 0} (P : A → B → Type 0) {a a' : A} {b b' : B} → a ≡ a' → b ≡ b' → P a b → P a' b'
+pub of_both : {A B : Type 0} (P : A → B → Type 0) {a a' : A} {b b' : B} → a ≡ a' → b ≡ b' → P a b → P a' b'
 of_both P {a} {a'} {b} {b'} e f p = subst (λ y. P a' y) f (subst (λ x. P x b) e p)
 
 -- the counts of entries that keep the limits are small

@@ -5,7 +5,7 @@ ghost use Rattle.meta_setting_tables.specs.Shape.{IsShapeOf};
 use super::descriptor::Descriptor;
 
 /// How many entries of each kind a group has.
-#[derive(Debug, Drop)]
+#[derive(Drop)]
 pub(crate) struct Shape {
     /// Its enums and numbers, which have a byte each.
     pub own_bytes: usize,

@@ -7,3 +7,4 @@ mod Valid
 mod Growing
 mod Counted
 mod Summed
+mod Held

@@ -3,3 +3,4 @@ mod Given
 mod LineParts
 mod Taken
 mod Writing
+mod Fronts

@@ -5,11 +5,7 @@ use rows_words::{Case, found};
 use std::alloc::{AllocError, Global};
 
 /// Adds the answers to all lines, one a line.
-pub(crate) fn add_answers(
-    alloc: Global,
-    input: &str,
-    answers: &mut String,
-) -> Result<(), AllocError> {
+pub fn add_answers(alloc: Global, input: &str, answers: &mut String) -> Result<(), AllocError> {
     // Lists of texts outlive the lines that they come from.
     let mut lists = Lists::new(alloc);
     add_answers_with(alloc, &mut lists, input, answers)

@@ -40,33 +40,6 @@ fn entry_copies(alloc: Global, entries: &[Descriptor]) -> Result<Vec<Descriptor>
     Ok(all)
 }
 
-/// A copy of the parts of a group.
-fn group_copy(alloc: Global, group: &GroupParts) -> Result<GroupParts, AllocError> {
-    Ok(GroupParts {
-        name: group.name.copy(alloc)?,
-        descriptors: entry_copies(alloc, &group.descriptors)?,
-        enumerators: copies(alloc, &group.enumerators)?,
-        defaults: group.defaults.to_vec(alloc)?,
-        preset_masks: group.preset_masks.to_vec(alloc)?,
-    })
-}
-
-/// A copy of parts.
-fn copies_of_parts(alloc: Global, parts: &TableParts) -> Result<TableParts, AllocError> {
-    let mut groups = Vec::new(alloc);
-    for group in &parts.groups {
-        groups.push(group_copy(alloc, group)?)?;
-    }
-    Ok(TableParts {
-        names: copies(alloc, &parts.names)?,
-        formats: copies(alloc, &parts.formats)?,
-        type_sets: parts.type_sets.to_vec(alloc)?,
-        operand_constraints: parts.operand_constraints.to_vec(alloc)?,
-        constraints: parts.constraints.to_vec(alloc)?,
-        groups,
-    })
-}
-
 /// The parts of a group of tables.
 fn group_parts(alloc: Global, tables: &Tables, group: usize) -> Result<GroupParts, Trouble> {
     let parts = (
@@ -329,16 +302,17 @@ fn edited_parts(
     Ok(parts)
 }
 
-/// Takes tables apart, changes the parts by the words that are left, and writes what the parts make.
+/// Takes tables apart, changes the parts by the words that are left, and writes what the parts make, all together and each alone.
 pub(crate) fn write_made(
     alloc: Global,
     tables: &Tables,
     case: &mut Case<'_>,
 ) -> Result<(), Trouble> {
-    let parts = edited_parts(alloc, tables, case)?;
-    let each = copies_of_parts(alloc, &parts)?;
-    let made = made(alloc, tables, parts)?;
-    if makes_each(alloc, each)? == (made == "not well-formed") {
+    let taken = case.taken();
+    let made = made(alloc, tables, edited_parts(alloc, tables, case)?)?;
+    case.go_back(taken);
+    let each = makes_each(alloc, edited_parts(alloc, tables, case)?)?;
+    if each == (made == "not well-formed") {
         return Err(Trouble::Differ);
     }
     case.text(made);

@@ -1,5 +1,5 @@
-//! What the programs of rows share that declare: type sets, variables, kinds of operands, formats and instructions by words, and
-//! entries of groups of settings. What these do is seen in the stored runs of those programs.
+//! What the libraries of rows share that declare: type sets, variables, kinds of operands, formats and instructions by words, and
+//! entries of groups of settings. What these do is seen in the stored run of `rows`.
 #![tactic(auto)]
 
 mod operands;

@@ -1,5 +1,5 @@
-//! What the programs of rows share that read texts of tables back: bytes that are written with escapes, edits of a text, and what
-//! many texts read as. What these do is seen in the stored runs of those programs.
+//! What the libraries of rows share that read texts of tables back: bytes that are written with escapes, edits of a text, and what
+//! many texts read as. What these do is seen in the stored run of `rows`.
 #![tactic(auto)]
 
 mod edited;

@@ -30,21 +30,22 @@ pub(crate) fn equal_sets(alloc: Global, case: &mut Case<'_>) {
 
 impl<'l> Session<'l> {
     /// `equal_variables X Y`: whether two variables are equal; of equal ones whether the first is equal to the other had by
-    /// reference, and whether they hash equally.
+    /// reference, and whether they hash equally; of others whether the first comes before the other.
     pub(crate) fn equal_variables(&self, case: &mut Case<'l>) {
         let (Some(one), Some(other)) = (self.next_variable(case), self.next_variable(case)) else {
             return;
         };
         let referred = TypeVar::from(&other);
         case.field("equal ", &(one == other));
-        if one == other {
-            case.field(" referred ", &(one == referred));
-            let hash = hash_of(&one);
-            case.field(
-                " hashes ",
-                &(hash == hash_of(&other) && hash == hash_of(&referred)),
-            );
+        if one != other {
+            return case.field(" before ", &(one < other));
         }
+        case.field(" referred ", &(one == referred));
+        let hash = hash_of(&one);
+        case.field(
+            " hashes ",
+            &(hash == hash_of(&other) && hash == hash_of(&referred)),
+        );
     }
 
     /// `parent X FUNCTION Y`: whether the parent of a variable is Y by the function, and whether it hashes as that does.

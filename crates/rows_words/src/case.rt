@@ -45,6 +45,16 @@ impl<'l> Case<'l> {
         &words[taken..]
     }
 
+    /// How many words are taken.
+    pub fn taken(&self) -> usize {
+        self.taken
+    }
+
+    /// Goes back to where so many words were taken.
+    pub fn go_back(&mut self, taken: usize) {
+        self.taken = taken;
+    }
+
     /// Whether there are words that aren't taken.
     pub fn has_more(&self) -> bool {
         self.taken < self.words.len()

@@ -1,5 +1,5 @@
-//! What the programs of rows share: the words of their lines, the answers that they write, and why a line has no answer. What
-//! these do is seen in the stored runs of those programs.
+//! What the libraries of rows share: the words of their lines, the answers that they write, and why a line has no answer. What
+//! these do is seen in the stored run of `rows`.
 #![tactic(auto)]
 
 mod case;

@@ -1,6 +1,6 @@
-use Rattle.std.proofs.Common.{◌≡◌, ◌≢◌, Result, Ok, Err, length, ℕ, ◌+◌, ◌<◌, ◌∙◌, ap, sym, refl, subst, arith}
+use Rattle.std.proofs.Common.{◌≡◌, ◌≢◌, Result, Ok, Err, IfOk, length, ℕ, ◌+◌, ◌<◌, ◌∙◌, ap, sym, refl, subst, arith}
 use Rattle.std.specs.List.{slice_get}
-use Rattle.std.specs.Result.{IfErr, IsErrAnd}
+use Rattle.std.specs.Result.{IsErr, IfErr, IsErrAnd}
 use Rattle.std.proofs.lemmas.Bool.{false≢true}
 use Rattle.meta_types.specs.declared.fault.Place.TheVariants.{Format as AtFormat}
 use Rattle.meta_types.specs.declared.fault.DefinitionError.{DefinitionError}
@@ -123,3 +123,91 @@ returns-in_err-structure-clause-refused c = λ vars start. no_fault c.from_resid
 
 pub returns-in_err-add-clause-refused : goal.returns-in_err-add-clause-refused
 returns-in_err-add-clause-refused c = λ vars start. no_fault c.from_residual-in_err-add.result _ c.from_residual-in_err-add.ensures.1
+
+-- after an error nothing is said of a value
+none_given : {T E : Type 0} (r : Result T E) (P : T → Type 0) → IsErr r → IfOk r P
+none_given (Ok x) P h = absurd (false≢true h)
+none_given (Err e) P h = tt
+
+pub returns-in_err-used-clause-refused : goal.returns-in_err-used-clause-refused
+returns-in_err-used-clause-refused c = λ vars start. no_fault c.from_residual.result _ c.from_residual.ensures.1
+
+pub returns-in_err-used-clause-clean : goal.returns-in_err-used-clause-clean
+returns-in_err-used-clause-clean c = λ vars start. none_given c.from_residual.result _ c.from_residual.ensures.0
+
+pub returns-in_err-used-clause-used : goal.returns-in_err-used-clause-used
+returns-in_err-used-clause-used c = λ vars. none_given c.from_residual.result _ c.from_residual.ensures.0
+
+pub returns-in_err-used-clause-of_table : goal.returns-in_err-used-clause-of_table
+returns-in_err-used-clause-of_table c = none_given c.from_residual.result _ c.from_residual.ensures.0
+
+pub returns-in_err-used-clause-apart : goal.returns-in_err-used-clause-apart
+returns-in_err-used-clause-apart c = none_given c.from_residual.result _ c.from_residual.ensures.0
+
+pub returns-then-not-is_name-clause-clean : goal.returns-then-not-is_name-clause-clean
+returns-then-not-is_name-clause-clean c = λ vars start. tt
+
+pub returns-then-not-is_name-clause-used : goal.returns-then-not-is_name-clause-used
+returns-then-not-is_name-clause-used c = λ vars. tt
+
+pub returns-then-not-is_name-clause-of_table : goal.returns-then-not-is_name-clause-of_table
+returns-then-not-is_name-clause-of_table c = tt
+
+pub returns-then-not-is_name-clause-apart : goal.returns-then-not-is_name-clause-apart
+returns-then-not-is_name-clause-apart c = tt
+
+pub returns-then-has_too_many_blocks-clause-clean : goal.returns-then-has_too_many_blocks-clause-clean
+returns-then-has_too_many_blocks-clause-clean c = λ vars start. tt
+
+pub returns-then-has_too_many_blocks-clause-used : goal.returns-then-has_too_many_blocks-clause-used
+returns-then-has_too_many_blocks-clause-used c = λ vars. tt
+
+pub returns-then-has_too_many_blocks-clause-of_table : goal.returns-then-has_too_many_blocks-clause-of_table
+returns-then-has_too_many_blocks-clause-of_table c = tt
+
+pub returns-then-has_too_many_blocks-clause-apart : goal.returns-then-has_too_many_blocks-clause-apart
+returns-then-has_too_many_blocks-clause-apart c = tt
+
+pub returns-in_err-structure-clause-clean : goal.returns-in_err-structure-clause-clean
+returns-in_err-structure-clause-clean c = λ vars start.
+    none_given c.from_residual-in_err-structure.result _ c.from_residual-in_err-structure.ensures.0
+
+pub returns-in_err-structure-clause-used : goal.returns-in_err-structure-clause-used
+returns-in_err-structure-clause-used c = λ vars.
+    none_given c.from_residual-in_err-structure.result _ c.from_residual-in_err-structure.ensures.0
+
+pub returns-in_err-structure-clause-of_table : goal.returns-in_err-structure-clause-of_table
+returns-in_err-structure-clause-of_table c =
+    none_given c.from_residual-in_err-structure.result _ c.from_residual-in_err-structure.ensures.0
+
+pub returns-in_err-structure-clause-apart : goal.returns-in_err-structure-clause-apart
+returns-in_err-structure-clause-apart c =
+    none_given c.from_residual-in_err-structure.result _ c.from_residual-in_err-structure.ensures.0
+
+pub returns-in-Some-clause-clean : goal.returns-in-Some-clause-clean
+returns-in-Some-clause-clean c = λ vars start. tt
+
+pub returns-in-Some-clause-used : goal.returns-in-Some-clause-used
+returns-in-Some-clause-used c = λ vars. tt
+
+pub returns-in-Some-clause-of_table : goal.returns-in-Some-clause-of_table
+returns-in-Some-clause-of_table c = tt
+
+pub returns-in-Some-clause-apart : goal.returns-in-Some-clause-apart
+returns-in-Some-clause-apart c = tt
+
+pub returns-in_err-add-clause-clean : goal.returns-in_err-add-clause-clean
+returns-in_err-add-clause-clean c = λ vars start.
+    none_given c.from_residual-in_err-add.result _ c.from_residual-in_err-add.ensures.0
+
+pub returns-in_err-add-clause-used : goal.returns-in_err-add-clause-used
+returns-in_err-add-clause-used c = λ vars. none_given c.from_residual-in_err-add.result _ c.from_residual-in_err-add.ensures.0
+
+pub returns-in_err-add-clause-of_table : goal.returns-in_err-add-clause-of_table
+returns-in_err-add-clause-of_table c = none_given c.from_residual-in_err-add.result _ c.from_residual-in_err-add.ensures.0
+
+pub returns-in_err-add-clause-apart : goal.returns-in_err-add-clause-apart
+returns-in_err-add-clause-apart c = none_given c.from_residual-in_err-add.result _ c.from_residual-in_err-add.ensures.0
+
+pub returns-clause-refused : goal.returns-clause-refused
+returns-clause-refused c = λ vars start. tt

@@ -1,7 +1,15 @@
-use Rattle.std.proofs.Common.{length, refl, rules}
+use Rattle.std.proofs.Common.{length, refl, sym, subst, Result, Ok, Err, IfOk}
+use Rattle.std.specs.Result.{IsErr}
+use Rattle.std.proofs.lemmas.Bool.{false≢true}
 use Rattle.std.proofs.lemmas.Option.{slice_get_read}
+use Rattle.meta_setting_tables.specs.NumberedTexts.{KeepsNumbers}
 use Rattle.meta_setting_tables.proofs.Enumerating.{kept_then, kept_added, numbers_next}
 use Rattle.meta_setting_tables.proofs.enumerators.numbers_of.Goals as goal
+
+-- after an error nothing is said of a value
+none_given : {T E : Type 0} (r : Result T E) (P : T → Type 0) → IsErr r → IfOk r P
+none_given (Ok x) P h = absurd (false≢true h)
+none_given (Err e) P h = tt
 
 pub loop-value-preserved : goal.loop-value-preserved
 loop-value-preserved c =
@@ -20,28 +28,29 @@ returns-in_err-push-clause-kept c =
     (kept_added c.loop-value.texts c.add.new.self c.value-item.result (λ i h. (c.in_ok-add.ensures.known i h).1) c.in_ok-add.ensures.added)
 
 pub returns-in_err-numbers-clause-numbers : goal.returns-in_err-numbers-clause-numbers
-returns-in_err-numbers-clause-numbers c = search rules
+returns-in_err-numbers-clause-numbers c = none_given c.from_residual.result _ c.from_residual.ensures.0
 
 pub returns-in_err-numbers-clause-different : goal.returns-in_err-numbers-clause-different
-returns-in_err-numbers-clause-different c = search rules
+returns-in_err-numbers-clause-different c = c.requires
 
 pub returns-in_err-add-clause-numbers : goal.returns-in_err-add-clause-numbers
-returns-in_err-add-clause-numbers c = search rules
+returns-in_err-add-clause-numbers c = none_given c.from_residual-in_err-add.result _ c.from_residual-in_err-add.ensures.0
 
 pub returns-in_err-add-clause-different : goal.returns-in_err-add-clause-different
-returns-in_err-add-clause-different c = search rules
+returns-in_err-add-clause-different c = c.in_err-add.ensures.different
 
 pub returns-in_err-add-clause-kept : goal.returns-in_err-add-clause-kept
-returns-in_err-add-clause-kept c = search rules
+returns-in_err-add-clause-kept c =
+    subst (KeepsNumbers c.args.texts.now) (sym c.in_err-add.ensures.err) c.loop-value.invariant.kept
 
 pub returns-in_err-push-clause-numbers : goal.returns-in_err-push-clause-numbers
-returns-in_err-push-clause-numbers c = search rules
+returns-in_err-push-clause-numbers c = none_given c.from_residual-in_err-push.result _ c.from_residual-in_err-push.ensures.0
 
 pub returns-in_err-push-clause-different : goal.returns-in_err-push-clause-different
-returns-in_err-push-clause-different c = search rules
+returns-in_err-push-clause-different c = c.in_ok-add.ensures.different
 
 pub returns-clause-different : goal.returns-clause-different
-returns-clause-different c = search rules
+returns-clause-different c = c.loop-value.invariant.different
 
 pub returns-clause-kept : goal.returns-clause-kept
-returns-clause-kept c = search rules
+returns-clause-kept c = c.loop-value.invariant.kept

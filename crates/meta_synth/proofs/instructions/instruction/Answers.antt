@@ -1,10 +1,11 @@
-use Rattle.std.proofs.Common.{◌∙◌, sym, ap, subst, Some}
+use Rattle.std.proofs.Common.{◌∙◌, sym, ap, subst, refl, Some, length}
 use Rattle.std.specs.Bool.{IsTrue}
 use Rattle.meta_types.specs.Function.{Narrower}
 use Rattle.meta_typevar.specs.Image.{can_derive}
 use Rattle.meta_inst.specs.Builder.{Builder}
 use Rattle.meta_synth.proofs.Choosing.{can_narrow}
-use Rattle.meta_synth.proofs.Growing.{new_root, root_coded, is_made}
+use Rattle.meta_synth.proofs.Growing.{new_root, root_of, root_coded, is_made}
+use Rattle.meta_synth.proofs.Held.{root_added, extends_after}
 use Rattle.meta_synth.proofs.instructions.instruction.Goals as goal
 
 pub values_of-requires-clause-derivable : goal.values_of-requires-clause-derivable
@@ -22,3 +23,12 @@ returns-clause-instruction c =
     (c.operands_out.ensures
     ∙ ap (λ (b : Builder). record b { operands_out = Some c.in_ok-values.values.outputs.items })
     (c.operands_in-builder.ensures ∙ ap (λ (b : Builder). record b { operands_in = Some c.in_ok-values.values.inputs.items }) c.in_ok-builder.ensures))
+
+pub values_of-requires-clause-root : goal.values_of-requires-clause-root
+values_of-requires-clause-root c =
+    let kept = new_root c.args.vars.now c.add_root.new.vars c.seed_of-seed.result c.in_ok-x.x c.in_ok-x.ensures.number c.in_ok-x.ensures.added in
+    root_added c.add_root.new.vars c.in_ok-x.x (root_of c.seed_of-seed.result c.in_ok-x.x) kept refl refl
+
+pub returns-clause-grows : goal.returns-clause-grows
+returns-clause-grows c = extends_after c.args.vars.now c.add_root.new.vars c.values_of.new.vars
+    (root_of c.seed_of-seed.result (length c.args.vars.now)) c.in_ok-x.ensures.added c.in_ok-values.ensures.grows

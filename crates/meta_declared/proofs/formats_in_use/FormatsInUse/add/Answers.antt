@@ -1,5 +1,7 @@
-use Rattle.std.proofs.Common.{◌≡◌, sym, ap, ◌∙◌, Bor, List, ℕ}
+use Rattle.std.proofs.Common.{◌≡◌, Result, Ok, Err, IfOk, refl, sym, ap, ◌∙◌, Bor, List, ℕ}
 use Rattle.std.proofs.lemmas.Option.{same_Some}
+use Rattle.std.proofs.lemmas.Bool.{false≢true}
+use Rattle.std.specs.Result.{IsErr}
 use Rattle.std.specs.HashMap.{get}
 use Rattle.meta_operands.specs.Structure.{structure_of, same_structure}
 use Rattle.meta_operands.specs.declared.format.InstructionFormat.{InstructionFormat}
@@ -25,3 +27,56 @@ returns-clause-indexed c =
       named = one_named f.formats.now f.used.items c.push.new.self.items new t.format name _ _ _ pushed t.at named place (new_name f i new t name named c.requires.apart) c.in_ok-insert.ensures.updates.0 i.named;
       structured = one_structured f.used.items c.push.new.self.items new _ _ _ _ pushed structure place (ap (get same_structure f.by_structure) (sym structure) ∙ new_structure f i new t name named c.requires.apart) c.in_ok-insert-2.ensures.updates.0 i.structured;
     }
+
+-- after an error nothing is said of a value
+none_given : {T E : Type 0} (r : Result T E) (P : T → Type 0) → IsErr r → IfOk r P
+none_given (Ok x) P h = absurd (false≢true h)
+none_given (Err e) P h = tt
+
+pub returns-in_err-push-clause-formats : goal.returns-in_err-push-clause-formats
+returns-in_err-push-clause-formats c = none_given c.from_residual.result _ c.from_residual.ensures.0
+
+pub returns-in_err-push-clause-added : goal.returns-in_err-push-clause-added
+returns-in_err-push-clause-added c = none_given c.from_residual.result _ c.from_residual.ensures.0
+
+pub returns-in_err-push-clause-indexed : goal.returns-in_err-push-clause-indexed
+returns-in_err-push-clause-indexed c = none_given c.from_residual.result _ c.from_residual.ensures.0
+
+pub returns-in_err-insert-clause-formats : goal.returns-in_err-insert-clause-formats
+returns-in_err-insert-clause-formats c = none_given c.from_residual-in_err-insert.result _ c.from_residual-in_err-insert.ensures.0
+
+pub returns-in_err-insert-clause-added : goal.returns-in_err-insert-clause-added
+returns-in_err-insert-clause-added c = none_given c.from_residual-in_err-insert.result _ c.from_residual-in_err-insert.ensures.0
+
+pub returns-in_err-insert-clause-indexed : goal.returns-in_err-insert-clause-indexed
+returns-in_err-insert-clause-indexed c = none_given c.from_residual-in_err-insert.result _ c.from_residual-in_err-insert.ensures.0
+
+pub returns-in_err-structure-clause-formats : goal.returns-in_err-structure-clause-formats
+returns-in_err-structure-clause-formats c =
+    none_given c.from_residual-in_err-structure.result _ c.from_residual-in_err-structure.ensures.0
+
+pub returns-in_err-structure-clause-added : goal.returns-in_err-structure-clause-added
+returns-in_err-structure-clause-added c =
+    none_given c.from_residual-in_err-structure.result _ c.from_residual-in_err-structure.ensures.0
+
+pub returns-in_err-structure-clause-indexed : goal.returns-in_err-structure-clause-indexed
+returns-in_err-structure-clause-indexed c =
+    none_given c.from_residual-in_err-structure.result _ c.from_residual-in_err-structure.ensures.0
+
+pub returns-in_err-insert-2-clause-formats : goal.returns-in_err-insert-2-clause-formats
+returns-in_err-insert-2-clause-formats c =
+    none_given c.from_residual-in_err-insert-2.result _ c.from_residual-in_err-insert-2.ensures.0
+
+pub returns-in_err-insert-2-clause-added : goal.returns-in_err-insert-2-clause-added
+returns-in_err-insert-2-clause-added c =
+    none_given c.from_residual-in_err-insert-2.result _ c.from_residual-in_err-insert-2.ensures.0
+
+pub returns-in_err-insert-2-clause-indexed : goal.returns-in_err-insert-2-clause-indexed
+returns-in_err-insert-2-clause-indexed c =
+    none_given c.from_residual-in_err-insert-2.result _ c.from_residual-in_err-insert-2.ensures.0
+
+pub returns-clause-formats : goal.returns-clause-formats
+returns-clause-formats c = refl
+
+pub returns-clause-added : goal.returns-clause-added
+returns-clause-added c = c.in_ok-push.ensures.items

@@ -1,0 +1,15 @@
+-- What is added to a text after what was added before.
+use Rattle.std.proofs.Common.{◌≡◌, ◌+◌, ℕ, List, ◌++◌, codes, refl, ap, ◌∙◌, append_assoc, add-one}
+use Rattle.meta_builder_text.specs.MethodBody.{parted_to}
+
+pub after : (old now new part other rest : List ℕ) → now ≡ old ++ part → part ≡ other → new ≡ now ++ rest
+    → new ≡ old ++ (other ++ rest)
+after old now new part other rest e same f = f ∙ (ap (λ t. t ++ rest) (e ∙ ap (λ t. old ++ t) same) ∙ append_assoc old other rest)
+
+-- one part more, behind a comma
+pub one_part : (f : ℕ → List ℕ) (n : ℕ) (old mid new : List ℕ) → old ≡ parted_to f n → mid ≡ old ++ codes ", "
+    → new ≡ mid ++ f (n + 1) → new ≡ parted_to f (n + 1)
+one_part f n old mid new is comma part =
+    let e : new ≡ parted_to f n ++ (codes ", " ++ f (n + 1)) = after old mid new (codes ", ") (codes ", ") (f (n + 1)) comma refl
+    part ∙ ap (λ t. t ++ (codes ", " ++ f (n + 1))) is in
+    rw add-one (rw add-one at e)

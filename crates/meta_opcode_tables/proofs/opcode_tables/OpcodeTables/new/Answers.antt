@@ -1,0 +1,31 @@
+use Rattle.std.proofs.Common.{refl, subst, List, ℕ}
+use Rattle.meta_unique.specs.NameSlots.{AreNameSlots}
+use Rattle.meta_opcode_tables.proofs.opcode_tables.OpcodeTables.new.Goals as goal
+
+pub returns-clause-slots : goal.returns-clause-slots
+returns-clause-slots c =
+    subst (λ (names : List
+    (List ℕ)). AreNameSlots 1 names c.in_ok-opcode_slots.opcode_slots.items) c.deref.ensures.value
+    c.in_ok-opcode_slots.ensures.slots
+
+pub returns-clause-well_formed : goal.returns-clause-well_formed
+returns-clause-well_formed c = record {
+  parts = c.requires;
+  slots = subst (λ (names : List
+      (List ℕ)). AreNameSlots 1 names c.in_ok-opcode_slots.opcode_slots.items) c.deref.ensures.value
+      c.in_ok-opcode_slots.ensures.slots;
+}
+
+pub invariant_of-result : goal.invariant_of-result
+invariant_of-result c = record {
+  well_formed = record {
+    parts = c.requires;
+    slots = subst (λ (names : List
+        (List ℕ)). AreNameSlots 1 names c.in_ok-opcode_slots.opcode_slots.items) c.deref.ensures.value
+        c.in_ok-opcode_slots.ensures.slots;
+  };
+  vacant = c.in_ok-opcode_slots.ensures.vacant;
+}
+
+pub returns-clause-parts : goal.returns-clause-parts
+returns-clause-parts c = refl

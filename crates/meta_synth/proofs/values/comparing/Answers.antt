@@ -1,0 +1,18 @@
+use Rattle.std.proofs.Common.{codes}
+use Rattle.meta_types.specs.Function.{AsTruthy}
+use Rattle.meta_synth.proofs.Held.{extends, within, two_of_root, one_derived}
+use Rattle.meta_synth.proofs.values.comparing.Goals as goal
+
+pub returns-clause-inputs : goal.returns-clause-inputs
+returns-clause-inputs c = two_of_root c.args.vars.now c.as_truthy.new.vars c.args.x c.in_ok-truthy.ensures.grows c.requires.of
+    c.requires.root (codes "x") (codes "y") c.in_ok-inputs.inputs.items (c.in_ok-inputs.ensures c.as_truthy.new.vars
+    (within c.args.vars.now c.as_truthy.new.vars c.args.x c.in_ok-truthy.ensures.grows c.requires.of c.requires.root))
+
+pub returns-clause-outputs : goal.returns-clause-outputs
+returns-clause-outputs c =
+    let made = c.in_ok-truthy.ensures.derives.answer in
+    one_derived c.args.vars.now c.as_truthy.new.vars c.args.x c.in_ok-truthy.truthy AsTruthy (codes "a")
+    c.in_ok-outputs.outputs.items c.requires.root made.1 (c.in_ok-outputs.ensures c.as_truthy.new.vars made.0)
+
+pub returns-clause-grows : goal.returns-clause-grows
+returns-clause-grows c = extends c.in_ok-truthy.ensures.grows

@@ -1,0 +1,30 @@
+//! Reads declarations and what is asked of them, case by case, and writes the answers: the first fault, what
+//! the tables hold, and what a run of the program writes and leaves.
+//!
+//! A line that begins with `#` goes through unchanged. `new` begins a case. `asked` has the words that a line begins with.
+#![tactic(auto)]
+
+mod asked;
+mod declared;
+mod generated;
+mod group_answers;
+mod groups;
+mod instructions;
+mod opcode_answers;
+mod outside;
+mod parts;
+mod questions;
+mod read_back;
+mod session;
+mod table_text;
+mod variables;
+mod words;
+
+use session::Session;
+use std::alloc::{AllocError, Global};
+
+/// Adds the answers to the lines.
+pub fn add_answers(alloc: Global, input: &str, answers: &mut String) -> Result<(), AllocError> {
+    let mut session = Session::new(alloc);
+    session.answer_lines(input, answers)
+}
