@@ -128,3 +128,7 @@ pub added_reference : (m n : BTreeMap (List ℕ) ℕ) (camel : List ℕ) (place 
 added_reference m n camel place old new r pushed is up none e keeps =
     subst (Keeps n) (sym (ap (map (λ q. q.now)) pushed ∙ map-append (λ q. q.now) old (r ∷ [])))
     (added_name m n camel r.now place (map (λ q. q.now) old) up none e keeps (is ∙ sym (length-map old (λ q. q.now))))
+
+-- the names that references point to, with one more
+pub added_view : (old new : List (Bor (List ℕ))) (names : List (List ℕ)) (r : Bor (List ℕ)) → new ≡ old ++ r ∷ [] → map (λ q. q.now) old ≡ names → map (λ q. q.now) new ≡ names ++ r.now ∷ []
+added_view old new names r pushed are = ap (map (λ q. q.now)) pushed ∙ map-append (λ q. q.now) old (r ∷ []) ∙ ap (λ xs. xs ++ r.now ∷ []) are

@@ -8,11 +8,13 @@ pub mod Typed
 pub mod Values
 pub mod OneAnswer
 mod Relating
+mod Rows
 mod ByNumber
 mod Listed
 mod Affixes
 mod Left
 mod Lanes
+mod LaneNames
 mod Endings
 mod EqualTypes
 mod Docs
@@ -23,3 +25,4 @@ pub mod NamesSoFar
 pub mod SharedNames
 -- the first fault
 pub mod FirstFault
+mod Writing

@@ -1,6 +1,8 @@
-ghost use Rattle.std.specs.Prelude.{◌≡◌, ◌++◌, IfOk};
+ghost use Rattle.std.specs.Prelude.{◌≡◌, ◌++◌, IfOk, Some};
+ghost use Rattle.std.specs.Fmt.{DisplaysOnOk, decimal};
 ghost use Rattle.meta_types.specs.Fault.{line_of, name_of, detail_text};
 ghost use Rattle.meta_types.specs.declared.fault.DefinitionError.TheVariants.{OutOfMemory};
+ghost use Rattle.meta_types.specs.declared.fault.Detail.TheVariants.{Two, At};
 
 use super::text::Text;
 use std::alloc::{AllocError, AllocFailed, Global};
@@ -87,6 +89,30 @@ enum Detail {
     AtAndOne(Place, u64),
 }
 
+/// Writes the text, and the number behind it.
+fn write_numbered<W: fmt::Write>(f: &mut fmt::Formatter<W>, text: &str, n: u64) -> fmt::Result
+    ensures { DisplaysOnOk W.write_str_gives f.old result (Some (text.now ++ decimal n)) f.new }
+{
+    f.write_str(text)?;
+    write!(f, "{n}")
+}
+
+/// Writes two numbers, each with a space before it.
+fn write_two<W: fmt::Write>(f: &mut fmt::Formatter<W>, a: u64, b: u64) -> fmt::Result
+    ensures { DisplaysOnOk W.write_str_gives f.old result (Some (detail_text (Two a b))) f.new }
+{
+    write_numbered(f, " ", a)?;
+    write_numbered(f, " ", b)
+}
+
+/// Writes a place with a space before it.
+fn write_place<W: fmt::Write>(f: &mut fmt::Formatter<W>, p: Place) -> fmt::Result
+    ensures { DisplaysOnOk W.write_str_gives f.old result (Some (detail_text (At p))) f.new }
+{
+    f.write_str(" ")?;
+    write!(f, "{p}")
+}
+
 impl fmt::Display for Place {
     ghost use Rattle.std.specs.Prelude.{Some};
     ghost use Rattle.meta_types.specs.Fault.{place_text};
@@ -95,10 +121,13 @@ impl fmt::Display for Place {
 
     fn fmt<W: fmt::Write>(&self, f: &mut fmt::Formatter<W>) -> fmt::Result {
         match self {
-            Place::Instruction(i) => write!(f, "instruction {i}"),
-            Place::Format(n) => write!(f, "format {n}"),
-            Place::Group(g) => write!(f, "group {g}"),
-            Place::Entry(g, e) => write!(f, "entry {g} {e}"),
+            Place::Instruction(i) => write_numbered(f, "instruction ", *i),
+            Place::Format(n) => write_numbered(f, "format ", *n),
+            Place::Group(g) => write_numbered(f, "group ", *g),
+            Place::Entry(g, e) => {
+                write_numbered(f, "entry ", *g)?;
+                write_numbered(f, " ", *e)
+            }
         }
     }
 }
@@ -113,11 +142,17 @@ impl fmt::Display for Detail {
     fn fmt<W: fmt::Write>(&self, f: &mut fmt::Formatter<W>) -> fmt::Result {
         match self {
             Detail::Nothing => Ok(()),
-            Detail::One(a) => write!(f, " {a}"),
-            Detail::Two(a, b) => write!(f, " {a} {b}"),
-            Detail::Four(a, b, c, d) => write!(f, " {a} {b} {c} {d}"),
-            Detail::At(p) => write!(f, " {p}"),
-            Detail::AtAndOne(p, a) => write!(f, " {p} {a}"),
+            Detail::One(a) => write_numbered(f, " ", *a),
+            Detail::Two(a, b) => write_two(f, *a, *b),
+            Detail::Four(a, b, c, d) => {
+                write_two(f, *a, *b)?;
+                write_two(f, *c, *d)
+            }
+            Detail::At(p) => write_place(f, *p),
+            Detail::AtAndOne(p, a) => {
+                write_place(f, *p)?;
+                write_numbered(f, " ", *a)
+            }
         }
     }
 }
@@ -189,19 +224,19 @@ impl DefinitionError {
         match self {
             DefinitionError::BadName(p) => Detail::At(*p),
             DefinitionError::DuplicateName(p, earlier) => Detail::AtAndOne(*p, *earlier),
-            DefinitionError::TooManyOpcodes(count) => Detail::One(*count),
-            DefinitionError::BadOutput(i, place) => Detail::Two(*i, *place),
-            DefinitionError::FormatMismatch(i) => Detail::One(*i),
-            DefinitionError::NoControl(i) => Detail::One(*i),
-            DefinitionError::BadSecond(i) => Detail::One(*i),
-            DefinitionError::BadDerivation(i, place) => Detail::Two(*i, *place),
-            DefinitionError::TooManyOperands(i, count) => Detail::Two(*i, *count),
-            DefinitionError::BadImmMethod(i) => Detail::One(*i),
-            DefinitionError::BadFormat(n) => Detail::One(*n),
-            DefinitionError::FormatClash(n, earlier) => Detail::Two(*n, *earlier),
-            DefinitionError::TooManyTypeSets(count) => Detail::One(*count),
-            DefinitionError::BadEnum(g, entry) => Detail::Two(*g, *entry),
-            DefinitionError::BadPreset(g, entry) => Detail::Two(*g, *entry),
+            DefinitionError::TooManyOpcodes(n)
+            | DefinitionError::FormatMismatch(n)
+            | DefinitionError::NoControl(n)
+            | DefinitionError::BadSecond(n)
+            | DefinitionError::BadImmMethod(n)
+            | DefinitionError::BadFormat(n)
+            | DefinitionError::TooManyTypeSets(n) => Detail::One(*n),
+            DefinitionError::BadOutput(n, m)
+            | DefinitionError::BadDerivation(n, m)
+            | DefinitionError::TooManyOperands(n, m)
+            | DefinitionError::FormatClash(n, m)
+            | DefinitionError::BadEnum(n, m)
+            | DefinitionError::BadPreset(n, m) => Detail::Two(*n, *m),
             DefinitionError::TooManySettings(g, bools, bytes, entries) => Detail::Four(
                 *g, *bools, *bytes, *entries,
             ),

@@ -172,15 +172,15 @@ impl LaneType {
         ensures { IfOk result (λ t. t ≡ doc_of (lane_parts self)) }
     {
         let bits = self.lane_bits();
-        let doc = match self {
-            LaneType::Int(_) => format!(in alloc; "An integer type with {bits} bits."),
-            LaneType::Float(_) => format!(in alloc; "A {bits}-bit floating point type."),
+        let (before, behind) = match self {
+            LaneType::Int(_) => ("An integer type with ", " bits."),
+            LaneType::Float(_) => ("A ", "-bit floating point type."),
         };
-        Ok(Text::of(doc?))
+        let doc = format!(in alloc; "{before}{bits}{behind}")?;
+        Ok(Text::of(doc))
     }
 
     /// The name, as `i32`.
-    #[tactic(auto, using(crate::proofs::Decimal::decimals))]
     pub(crate) fn name(self) -> &'static str
         ensures { result.now ≡ name_of (lane_parts self) }
     {

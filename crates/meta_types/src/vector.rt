@@ -1,5 +1,6 @@
-ghost use Rattle.std.specs.Prelude.{◌≡◌, IfOk, Contains, true};
-ghost use Rattle.meta_types.specs.TypeParts.{lane_counts, number_of};
+ghost use Rattle.std.specs.Prelude.{◌≡◌, ◌++◌, IfOk, Contains, Some, true, codes};
+ghost use Rattle.std.specs.Fmt.{DisplaysOnOk, decimal};
+ghost use Rattle.meta_types.specs.TypeParts.{lane_counts, number_of, name_of};
 ghost use Rattle.meta_types.specs.Lane.{lane_parts};
 ghost use Rattle.meta_types.specs.Vector.{lane_count, lanes_of, least_lanes_of, vector_parts, dynamic_parts};
 ghost use Rattle.meta_types.specs.TypeText.{doc_of};
@@ -170,6 +171,18 @@ impl fmt::Display for DynamicVectorType {
     }
 }
 
+/// Writes a vector as a programmer sees it, after the name of its kind.
+fn write_debug<W: fmt::Write>(
+    f: &mut fmt::Formatter<W>,
+    name: &str,
+    base: LaneType,
+    lanes: u64,
+) -> fmt::Result
+    ensures { DisplaysOnOk W.write_str_gives f.old result (Some (name.now ++ (codes "(base=" ++ (name_of (lane_parts base) ++ (codes ", lanes=" ++ (decimal lanes ++ codes ")")))))) f.new }
+{
+    write!(f, "{name}(base={base}, lanes={lanes})")
+}
+
 impl fmt::Debug for VectorType {
     ghost use Rattle.std.specs.Prelude.{Some};
     ghost use Rattle.meta_types.specs.TypeText.{debug_of};
@@ -178,9 +191,7 @@ impl fmt::Debug for VectorType {
     ghost debug_output = { λ v. Some (debug_of (vector_parts v)) };
 
     fn fmt<W: fmt::Write>(&self, f: &mut fmt::Formatter<W>) -> fmt::Result {
-        let base = self.base;
-        let lanes = self.lane_count();
-        write!(f, "VectorType(base={base}, lanes={lanes})")
+        write_debug(f, "VectorType", self.base, self.lane_count())
     }
 }
 
@@ -192,8 +203,6 @@ impl fmt::Debug for DynamicVectorType {
     ghost debug_output = { λ v. Some (debug_of (dynamic_parts v)) };
 
     fn fmt<W: fmt::Write>(&self, f: &mut fmt::Formatter<W>) -> fmt::Result {
-        let base = self.base;
-        let lanes = self.minimum_lane_count();
-        write!(f, "DynamicVectorType(base={base}, lanes={lanes})")
+        write_debug(f, "DynamicVectorType", self.base, self.minimum_lane_count())
     }
 }

@@ -1,6 +1,6 @@
 use Rattle.std.proofs.Common.{refl, sym, ◌∙◌, subst, rules}
 use Rattle.meta_types.specs.SharedNames.{Keeps}
-use Rattle.meta_types.proofs.KeptNames.{added_reference, unshared_name, shared_name}
+use Rattle.meta_types.proofs.KeptNames.{added_view, added_reference, unshared_name, shared_name}
 use Rattle.meta_types.proofs.earlier_names.EarlierNames.add.Goals as goal
 use Rattle.meta_types.proofs.earlier_names.EarlierNames.add.Goals.{in-Ok, in-Err}
 
@@ -66,3 +66,12 @@ returns-clause-shared c = search rules
 
 pub returns-clause-kept : goal.returns-clause-kept
 returns-clause-kept c = search rules
+
+pub invariant_of-self : goal.invariant_of-self
+invariant_of-self c = rw c.in_err-push.ensures.items c.self.invariant
+
+pub returns-clause-added : goal.returns-clause-added
+returns-clause-added c = elim c.match-insert.branch [
+  | in-Ok w ↦ rw w.result-is (w.self-is ∙ added_view _ _ _ c.args.name c.in_ok-push.ensures.items c.self.view_is)
+  | in-Err w ↦ rw w.result-is tt
+]
