@@ -14,3 +14,4 @@ pub mod Held
 pub mod SetText
 pub mod Typing
 pub mod EqualSets
+mod Writing

@@ -1,8 +1,9 @@
 ghost use Rattle.std.specs.Prelude.{◌≡◌, ◌≢◌, ◌-◌, ◌+◌, ◌^◌, ◌<◌, ◌↔◌, [], ◌∷◌, ◌++◌, length, IsTrue, slice_get, Some, ℕ, Ok, OnOk, OnErr, IfOk, IfSome, IfNone};
 ghost use Rattle.std.specs.List.{filter};
 ghost use Rattle.meta_typevar.specs.TypeSetParts.{IsTypeSet};
-ghost use Rattle.meta_typevar.specs.Registry.{is_root, root_content, coded_at, IsDerivation, IsRegistry};
-ghost use Rattle.meta_typevar.specs.Children.{IsChild};
+ghost use Rattle.meta_types.specs.DerivedFunc.{function_of};
+ghost use Rattle.meta_typevar.specs.Registry.{is_root, root_content, coded_at, derived_name, IsDerivation, IsRegistry};
+ghost use Rattle.meta_typevar.specs.Children.{IsChild, no_children};
 
 use super::chain::Chain;
 use super::children::Children;
@@ -118,7 +119,6 @@ impl TypeVars {
         let _masks = type_set.masks();
         let chain = Chain::new(self.allocator());
         let tv = TypeVar::of(self.contents.len() as u32);
-        self.children.push(Children::new())?;
         let content = TypeVarContent {
             name,
             doc,
@@ -127,13 +127,8 @@ impl TypeVars {
             root: tv,
             chain,
         };
-        match self.contents.push(content) {
-            Ok(()) => Ok(tv),
-            Err(_) => {
-                self.children.pop();
-                Err(AllocError)
-            }
-        }
+        push_both(&mut self.contents, &mut self.children, content)?;
+        Ok(tv)
     }
 
     /// What is to be kept of the variable that is derived from one of this registry by the function. The type set is its coded
@@ -150,10 +145,8 @@ impl TypeVars {
     {
         let alloc = self.allocator();
         let content = self.content(parent);
-        let function = derived_func.name();
-        let name = format!(in alloc; "{function}({})", content.name.as_str())?;
         Ok(TypeVarContent {
-            name: Text::new(alloc, name.as_str())?,
+            name: derived_name(alloc, derived_func, &content.name)?,
             doc: Text::new(alloc, "")?,
             base: Some(TypeVarParent {
                 type_var: parent,
@@ -183,16 +176,38 @@ impl TypeVars {
         // Its clause says that the set is one of types, which the registry keeps.
         let _masks = content.type_set.masks();
         let tv = TypeVar::of(self.contents.len() as u32);
-        self.children.push(Children::new())?;
-        match self.contents.push(content) {
-            Ok(()) => {
-                self.children[parent.index()].set(derived_func, tv.number());
-                Ok(tv)
-            }
-            Err(_) => {
-                self.children.pop();
-                Err(AllocError)
-            }
+        push_both(&mut self.contents, &mut self.children, content)?;
+        self.children[parent.index()].set(derived_func, tv.number());
+        Ok(tv)
+    }
+}
+
+/// Adds a variable from which nothing is derived yet. After an error both lists are as they were.
+fn push_both(
+    contents: &mut Vec<TypeVarContent>,
+    children: &mut Vec<Children>,
+    content: TypeVarContent,
+) -> Result<(), AllocError>
+    ensures content { OnOk result (contents.new.items ≡ contents.old.items ++ content ∷ []) }
+    ensures children { OnOk result (children.new.items ≡ children.old.items ++ no_children ∷ []) }
+    ensures content_stays { OnErr result (contents.new.items ≡ contents.old.items) }
+    ensures children_stay { OnErr result (children.new.items ≡ children.old.items) }
+{
+    children.push(Children::new())?;
+    match contents.push(content) {
+        Ok(()) => Ok(()),
+        Err(_) => {
+            children.pop();
+            Err(AllocError)
         }
     }
+}
+
+/// The name of what is derived by the function from a variable of this name: `lane_of(X)`.
+fn derived_name(alloc: Global, derived_func: DerivedFunc, parent: &Text) -> Result<Text, AllocError>
+    ensures { IfOk result (λ t. t ≡ derived_name (function_of derived_func) parent.now) }
+{
+    let function = derived_func.name();
+    let name = format!(in alloc; "{function}({})", parent.as_str())?;
+    Text::new(alloc, name.as_str())
 }
