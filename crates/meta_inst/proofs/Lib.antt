@@ -12,3 +12,5 @@ mod OwnFaults
 mod KeptControl
 mod Matching
 mod Counting
+mod Writing
+mod OnlyMemory

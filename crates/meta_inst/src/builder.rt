@@ -2,14 +2,16 @@ ghost use Rattle.std.specs.Prelude.{◌≡◌, ◌≢◌, ◌↔◌, ◌<◌, �
 ghost use Rattle.meta_inst.specs.Builder.{inputs_of, outputs_of};
 ghost use Rattle.meta_types.specs.declared.fault.DefinitionError.TheVariants.{OutOfMemory};
 ghost use Rattle.meta_typevar.specs.declared.content.TypeVarContent.{TypeVarContent};
-ghost use Rattle.meta_operands.specs.Operand.{variables_of};
+ghost use Rattle.meta_types.specs.CamelCase.{camel_case_of};
+ghost use Rattle.meta_operands.specs.Operand.{is_immediate_or_entityref_operand, variables_of};
 ghost use Rattle.meta_operands.specs.declared.format.InstructionFormat.{InstructionFormat};
 ghost use Rattle.meta_inst.specs.Marks.{no_marks, terminator, branch, returning};
 ghost use Rattle.meta_inst.specs.Operands.{AreOf, SecondIsOf};
 ghost use Rattle.meta_inst.specs.InstructionSet.{FitsBuilder, instruction_of_builder};
 ghost use Rattle.meta_inst.specs.FoundControl.{IsFound, IsOf, AreOperandsOf};
 ghost use Rattle.meta_inst.specs.InstructionFaults.{TakesNoImmediate, ControlRule, KeepsRulesBefore, IsFirstOwnFault, IsWellMade};
-ghost use Rattle.meta_inst.specs.Content.{operand_list, content_of, IsPolymorphicInfoOf};
+ghost use Rattle.meta_inst.specs.FormatMatch.{is_value_operand};
+ghost use Rattle.meta_inst.specs.Content.{places_where, operand_list, content_of, IsPolymorphicInfoOf};
 
 use super::checks::{bad_output, takes_no_immediate, too_many};
 use super::content::{InstructionContent, copied_operands, immediate_places, value_places};
@@ -33,6 +35,30 @@ pub struct InstructionBuilder {
     operands_out: Option<Vec<Operand>>,
     marks: Marks,
     second: Option<TypeVar>,
+}
+
+/// The texts of an instruction that is built.
+#[derive(Drop)]
+struct Texts {
+    name: Text,
+    camel_name: Text,
+    doc: Text,
+}
+
+/// The places of the operands of an instruction that is built: the values and the immediates among its inputs, and the values
+/// among its outputs.
+#[derive(Drop)]
+struct Places {
+    value_opnums: Vec<usize>,
+    imm_opnums: Vec<usize>,
+    value_results: Vec<usize>,
+}
+
+/// The operands of an instruction that is built.
+#[derive(Drop)]
+struct OperandLists {
+    inputs: Vec<Operand>,
+    outputs: Vec<Operand>,
 }
 
 impl Model for InstructionBuilder {
@@ -313,6 +339,43 @@ impl InstructionBuilder {
         None
     }
 
+    /// Its name, its name in camel case and its documentation, as texts of their own.
+    fn texts(&self, alloc: Global) -> Result<Texts, AllocError>
+        ensures name { IfOk result (λ t. t.name ≡ self.now.name) }
+        ensures camel_name { IfOk result (λ t. t.camel_name ≡ camel_case_of self.now.name) }
+        ensures doc { IfOk result (λ t. t.doc ≡ self.now.doc) }
+    {
+        Ok(Texts {
+            name: self.name.copy(alloc)?,
+            camel_name: camel_case(alloc, &self.name)?,
+            doc: self.doc.copy(alloc)?,
+        })
+    }
+
+    /// The places of its values and immediates.
+    fn places(&self, alloc: Global) -> Result<Places, AllocError>
+        ensures value_opnums { IfOk result (λ p. p.value_opnums.items ≡ places_where is_value_operand (inputs_of self.now)) }
+        ensures imm_opnums { IfOk result (λ p. p.imm_opnums.items ≡ places_where is_immediate_or_entityref_operand (inputs_of self.now)) }
+        ensures value_results { IfOk result (λ p. p.value_results.items ≡ places_where is_value_operand (outputs_of self.now)) }
+    {
+        Ok(Places {
+            value_opnums: value_places(alloc, self.inputs())?,
+            imm_opnums: immediate_places(alloc, self.inputs())?,
+            value_results: value_places(alloc, self.outputs())?,
+        })
+    }
+
+    /// Equal operands of their own.
+    fn operands(&self, alloc: Global) -> Result<OperandLists, AllocError>
+        ensures inputs { IfOk result (λ o. o.inputs.items ≡ inputs_of self.now) }
+        ensures outputs { IfOk result (λ o. o.outputs.items ≡ outputs_of self.now) }
+    {
+        Ok(OperandLists {
+            inputs: copied_operands(alloc, self.inputs())?,
+            outputs: copied_operands(alloc, self.outputs())?,
+        })
+    }
+
     /// What is built of the instruction, with its value operands and what is kept of its control.
     fn content(
         &self,
@@ -322,17 +385,20 @@ impl InstructionBuilder {
     ) -> Result<InstructionContent, AllocError>
         ensures { (formats : List InstructionFormat) → value_operands ≡ operand_list formats self.now → IfOk result (λ c. c ≡ content_of formats self.now polymorphic_info) }
     {
+        let texts = self.texts(alloc)?;
+        let places = self.places(alloc)?;
+        let operands = self.operands(alloc)?;
         Ok(InstructionContent {
-            name: self.name.copy(alloc)?,
-            camel_name: camel_case(alloc, &self.name)?,
-            doc: self.doc.copy(alloc)?,
-            operands_in: copied_operands(alloc, self.inputs())?,
-            operands_out: copied_operands(alloc, self.outputs())?,
+            name: texts.name,
+            camel_name: texts.camel_name,
+            doc: texts.doc,
+            operands_in: operands.inputs,
+            operands_out: operands.outputs,
             format: self.format,
             polymorphic_info,
-            value_opnums: value_places(alloc, self.inputs())?,
-            imm_opnums: immediate_places(alloc, self.inputs())?,
-            value_results: value_places(alloc, self.outputs())?,
+            value_opnums: places.value_opnums,
+            imm_opnums: places.imm_opnums,
+            value_results: places.value_results,
             marks: self.marks,
             value_operands,
         })

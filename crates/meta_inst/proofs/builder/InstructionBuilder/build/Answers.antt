@@ -1,8 +1,11 @@
-use Rattle.std.proofs.Common.{ap, sym, ◌∙◌}
+use Rattle.std.proofs.Common.{ap, sym, subst, ◌∙◌}
 use Rattle.meta_inst.specs.Built.{Built}
 use Rattle.meta_inst.specs.Content.{content_of}
+use Rattle.meta_inst.specs.FoundControl.{IsFound}
+use Rattle.meta_inst.specs.Instruction.{Instruction}
 use Rattle.meta_inst.specs.Operands.{instruction_of_operands}
 use Rattle.meta_inst.proofs.KeptControl.{info_of}
+use Rattle.meta_inst.proofs.OnlyMemory.{only_memory}
 use Rattle.meta_inst.proofs.builder.InstructionBuilder.build.Goals as goal
 
 pub returns-clause-control : goal.returns-clause-control
@@ -33,3 +36,16 @@ operands_fault-requires-clause-operands c = record {
 
 pub returns-in-Some-clause-refused : goal.returns-in-Some-clause-refused
 returns-in-Some-clause-refused c = λ other. c.in-Some.ensures.found c.args.vars.now
+
+pub operands_fault-requires-clause-found : goal.operands_fault-requires-clause-found
+operands_fault-requires-clause-found c =
+    subst (λ (i : Instruction). IsFound c.args.vars.now i c.control-control.result) (c.in_ok-operands.ensures.meaning c.args.vars.now) c.control-control.ensures.found
+
+pub operands_fault-requires-clause-control : goal.operands_fault-requires-clause-control
+operands_fault-requires-clause-control c = c.control-control.ensures.of_registry
+
+pub returns-in_err-operands-clause-refused : goal.returns-in_err-operands-clause-refused
+returns-in_err-operands-clause-refused c = only_memory c.from_residual.result _ c.from_residual.ensures.1
+
+pub returns-in_err-content-clause-refused : goal.returns-in_err-content-clause-refused
+returns-in_err-content-clause-refused c = only_memory c.from_residual-in_err-content.result _ c.from_residual-in_err-content.ensures.1
