@@ -46,8 +46,8 @@ impl Operand {
     {
         Ok(Operand {
             name: self.name.copy(alloc)?,
-            kind: self.kind.copy(alloc)?,
             doc: copy_doc(alloc, &self.doc)?,
+            kind: self.kind.copy(alloc)?,
         })
     }
 

@@ -1,7 +1,5 @@
 ghost use Rattle.std.specs.Prelude.{◌≡◌, ◌↔◌, IsTrue, IfOk, map};
-ghost use Rattle.std.proofs.Common.{rules};
 ghost use Rattle.std.specs.Cmp.{decided, partial_equiv_from_equiv};
-ghost use Rattle.std.specs.Cmp.Rules.{comparing};
 ghost use Rattle.std.specs.Hash.{same_Alike};
 ghost use Rattle.meta_operands.specs.Texts.{same_pairs, pairs_writes};
 ghost use Rattle.meta_operands.specs.Structure.{names_of_field, same_structure, structure_writes};
@@ -51,7 +49,7 @@ impl FieldNames {
 impl PartialEq for FieldNames {
     ghost eq = { same_pairs };
 
-    ghost laws = { Prim.search (comparing, rules) };
+    ghost laws = { partial_equiv_from_equiv (decided same_pairs pairs_Decides) };
 
     fn eq(&self, other: &FieldNames) -> bool {
         self.names == other.names
@@ -59,7 +57,7 @@ impl PartialEq for FieldNames {
 }
 
 impl Eq for FieldNames {
-    ghost laws = { Prim.search (comparing, rules) };
+    ghost laws = { decided same_pairs pairs_Decides };
 }
 
 impl Hash for FieldNames {
