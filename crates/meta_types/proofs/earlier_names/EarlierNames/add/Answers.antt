@@ -1,4 +1,5 @@
-use Rattle.std.proofs.Common.{refl, sym, ◌∙◌, subst, rules}
+use Rattle.std.proofs.Common.{refl, sym, ap, map, ◌∙◌, subst, rules}
+use Rattle.meta_lists.proofs.Pushed.{popped}
 use Rattle.meta_types.specs.SharedNames.{Keeps}
 use Rattle.meta_types.proofs.KeptNames.{added_view, added_reference, unshared_name, shared_name}
 use Rattle.meta_types.proofs.earlier_names.EarlierNames.add.Goals as goal
@@ -74,4 +75,13 @@ pub returns-clause-added : goal.returns-clause-added
 returns-clause-added c = elim c.match-insert.branch [
   | in-Ok w ↦ rw w.result-is (w.self-is ∙ added_view _ _ _ c.args.name c.in_ok-push.ensures.items c.self.view_is)
   | in-Err w ↦ rw w.result-is tt
+]
+
+pub invariant_of-self-in-Err : goal.invariant_of-self-in-Err
+invariant_of-self-in-Err c = rw (c.in-Err.ensures.err, popped c.self.inside.names.items c.push.new.self.items c.pop.new.self.items c.args.name c.push.new.self.len c.in_ok-push.ensures.items c.push.new.self.ok.0 c.pop.ensures.rest) c.self.invariant
+
+pub returns-clause-unchanged : goal.returns-clause-unchanged
+returns-clause-unchanged c = elim c.match-insert.branch [
+  | in-Ok w ↦ rw w.result-is tt
+  | in-Err w ↦ rw w.result-is (w.self-is ∙ ap (map (λ q. q.now)) (popped c.self.inside.names.items _ _ c.args.name _ c.in_ok-push.ensures.items c.push.new.self.ok.0 w.pop.ensures.rest) ∙ c.self.view_is)
 ]
