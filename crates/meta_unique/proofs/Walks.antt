@@ -52,7 +52,7 @@ walk_next slots start slot passed vacant P power v taken w here =
       ];
     }
 
-slot_inside : {X : Type 0} (slots : List (Option X)) (start slot passed : ℕ) (P : ℕ → Type 0) → Walked slots start slot passed P → slot < length slots
+pub slot_inside : {X : Type 0} (slots : List (Option X)) (start slot passed : ℕ) (P : ℕ → Type 0) → Walked slots start slot passed P → slot < length slots
 slot_inside slots start slot passed P w = subst (λ s. s < length slots) w.here (mod-lt (start + passed * (passed + 1) / 2) (omega (arith, w.inside)))
 
 -- what was read at the walk's slot

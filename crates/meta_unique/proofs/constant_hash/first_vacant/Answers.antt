@@ -1,5 +1,5 @@
-use Rattle.std.proofs.Common.{sym, ◌∙◌, rules}
-use Rattle.meta_unique.proofs.Walks.{walk_next, walk_read, walk_end, taken_read, vacant_read}
+use Rattle.std.proofs.Common.{◌<◌, ◌^◌, length, sym, ◌∙◌, rules, arith}
+use Rattle.meta_unique.proofs.Walks.{walk_next, walk_read, walk_end, taken_read, vacant_read, slot_inside}
 use Rattle.meta_unique.proofs.constant_hash.first_vacant.Goals as goal
 
 pub walk-preserved : goal.walk-preserved
@@ -35,3 +35,8 @@ nonzero_rem-slot-in-walk g c = search rules
 
 pub walk-smaller : goal.walk-smaller
 walk-smaller g c = search rules
+
+pub overflow_add-slot : goal.overflow_add-slot
+overflow_add-slot g c =
+    let few : length c.args.slots.now < 2 ^ 63 = search rules in
+    omega (arith, few, slot_inside c.args.slots.now c.args.start c.walk.slot c.walk.passed _ c.walk.invariant, c.walk.invariant.inside)

@@ -1,6 +1,6 @@
-use Rattle.std.proofs.Common.{arith}
+use Rattle.std.proofs.Common.{◌<◌, ◌^◌, length, rules, arith}
 use Rattle.std.proofs.lemmas.Grind.{elements}
-use Rattle.meta_unique.proofs.Walks.{walk_next, walk_read, contained_vacant}
+use Rattle.meta_unique.proofs.Walks.{walk_next, walk_read, slot_inside, contained_vacant}
 use Rattle.meta_unique.specs.Probing.{IsPassed}
 use Rattle.meta_unique.proofs.probing.probe_counted.Given as given
 use Rattle.meta_unique.proofs.probing.probe_counted.Goals as goal
@@ -16,3 +16,8 @@ returns-in-None-clause-lookup g c = grind (arith, elements)
 
 pub returns-then-matches-clause-lookup : goal.returns-then-matches-clause-lookup
 returns-then-matches-clause-lookup g c = grind (arith, elements)
+
+pub overflow_add-slot : goal.overflow_add-slot
+overflow_add-slot g c =
+    let few : length c.args.slots.now < 2 ^ 63 = search rules in
+    omega (arith, few, slot_inside c.args.slots.now c.args.start c.walk.slot c.walk.passed _ c.walk.invariant.0, c.walk.invariant.0.inside)
