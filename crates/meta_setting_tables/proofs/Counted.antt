@@ -1,5 +1,5 @@
 -- What is told of the counts of entries is told of the entries.
-use Rattle.std.proofs.Common.{◌≡◌, ◌↔◌, ◌+◌, ◌*◌, ◌/◌, ◌%◌, ◌<◌, ℕ, List, length, slice_get, Some, true, sym, ap, ◌∙◌, subst, arith}
+use Rattle.std.proofs.Common.{◌≡◌, ◌↔◌, ◌+◌, ◌*◌, ◌/◌, ◌%◌, ◌<◌, ◌≤◌, ℕ, List, All, length, slice_get, Some, true, sym, ap, ◌∙◌, subst, arith}
 use Rattle.std.specs.Prelude.{nat_lt}
 use Rattle.std.proofs.Math.Nat.{mod-lt}
 use Rattle.std.proofs.lemmas.Bool.Decides.{Decides-ltb}
@@ -8,7 +8,7 @@ use Rattle.meta_setting_tables.specs.declared.descriptor.Detail.{Detail}
 use Rattle.meta_setting_tables.specs.declared.descriptor.Descriptor.{Descriptor}
 use Rattle.meta_setting_tables.specs.declared.shape.Shape.{Shape}
 use Rattle.meta_setting_tables.specs.Shape.{IsShapeOf}
-use Rattle.meta_setting_tables.specs.WellFormed.{own_byte_count, boolean_count, preset_count, byte_count, IsPlaced, IsBooleanBit, HoldsBooleansAlone, AreGoodMasks}
+use Rattle.meta_setting_tables.specs.WellFormed.{own_byte_count, boolean_count, preset_count, byte_count, IsPlaced, IsBooleanBit, HoldsBooleansAlone, HasFirstValue, AreGoodDefaults, AreGoodMasks}
 
 -- a number that is given by a count
 place_as : {o o' b b' s s' : ℕ} → o ≡ o' → b ≡ b' → s ≡ s' → (e offset : ℕ) (detail : Detail) → IsPlaced o b s e offset detail → IsPlaced o' b' s' e offset detail
@@ -47,4 +47,17 @@ masks_counted entries shape is masks long = (
     booleans = λ k byte m l at. (alone_counted entries shape is byte m).0 (h k byte m (subst (λ n. byte < n) (sym is.bytes) l) (ap (λ n. slice_get masks (k * n + byte)) is.bytes ∙ at));
   },
   λ good k byte m l at. (alone_counted entries shape is byte m).1 (good.booleans k byte m (subst (λ n. byte < n) is.bytes l) (ap (λ n. slice_get masks (k * n + byte)) (sym is.bytes) ∙ at)),
+)
+
+-- default bytes by the counts
+pub defaults_counted : (entries : List Descriptor) (shape : Shape) (is : IsShapeOf entries shape) (defaults : List ℕ) → length defaults ≡ shape.bytes → All (λ b. b < 256) defaults → All (λ (d : Descriptor). HasFirstValue defaults d.offset d.detail) entries
+    → ((byte b : ℕ) → shape.own_bytes ≤ byte → slice_get defaults byte ≡ Some b → HoldsBooleansAlone shape.own_bytes shape.booleans byte b) ↔ AreGoodDefaults entries defaults
+defaults_counted entries shape is defaults long fit first = (
+  λ h. record {
+    count = long ∙ is.bytes;
+    bytes = fit;
+    enums = first;
+    booleans = λ byte b l at. (alone_counted entries shape is byte b).0 (h byte b (subst (λ n. n ≤ byte) (sym is.own_bytes) l) at);
+  },
+  λ good byte b l at. (alone_counted entries shape is byte b).1 (good.booleans byte b (subst (λ n. n ≤ byte) is.own_bytes l) at),
 )

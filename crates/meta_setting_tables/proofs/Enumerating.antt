@@ -3,7 +3,7 @@ use Rattle.std.proofs.Common.{◌≡◌, ◌⊎◌, inl, inr, ℕ, ◌+◌, ◌<
 use Rattle.std.specs.Cmp.Lexicographic.{pointwise, bytes_decides}
 use Rattle.std.proofs.Math.Seq.{take-append_seam, take-length}
 use Rattle.std.proofs.lemmas.Bool.{cases_eq, eq-eqb, ne_eqb}
-use Rattle.std.proofs.lemmas.List.{take_more, take-map, drop-map, take-take, length-take, length-map, map-append}
+use Rattle.std.proofs.lemmas.List.{take_more, take_all, take-map, drop-map, take-take, length-take, length-map, map-append}
 use Rattle.std.proofs.lemmas.List.Elements.{All-append}
 use Rattle.std.proofs.lemmas.Option.{slice_get_within, slice_get-get_or, get_or_from_slice_get, same_Some}
 use Rattle.meta_lists.proofs.Places.{get_take}
@@ -62,6 +62,12 @@ kept_added old new x known fresh = go (known_or_new old x)
     go (inr n) = record { kept = ap (take (length old)) (fresh n) ∙ take-append_seam old (x ∷ []) }
 
 -- one number more
+pub numbers_none : (texts values : List (List ℕ)) (numbers : List ℕ) → numbers ≡ [] → AreNumbersOf texts (take 0 values) numbers
+numbers_none texts values numbers e = let long = ap length e in record { within = λ k d l. absurd (omega (arith, l, long)); values_are = ap (texts_of texts) e }
+
+pub numbers_all : (texts values : List (List ℕ)) (k : ℕ) (numbers : List ℕ) → length values ≤ k → AreNumbersOf texts (take k values) numbers → AreNumbersOf texts values numbers
+numbers_all texts values k numbers past h = subst (λ (w : List (List ℕ)). AreNumbersOf texts w numbers) (take_all k values past) h
+
 pub numbers_next : (old new values : List (List ℕ)) (k n : ℕ) (x : List ℕ) (numbers more : List ℕ) → slice_get values k ≡ Some x → KeepsNumbers old new → IsIndexOf same_text new x n → AreNumbersOf old (take k values) numbers → more ≡ numbers ++ n ∷ [] → AreNumbersOf new (take (k + 1) values) more
 numbers_next old new values k n x numbers more at kept index so e =
     let own : get_or new n [] ≡ x = get_or_from_slice_get new n index.entry [] index.there ∙ sym ((bytes_decides x index.entry).0 index.equal) in

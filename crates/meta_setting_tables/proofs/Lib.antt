@@ -18,3 +18,4 @@ pub mod Inside
 pub mod Counted
 pub mod SameSlots
 pub mod FromParts
+pub mod Failed

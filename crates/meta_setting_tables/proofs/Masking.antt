@@ -24,6 +24,9 @@ mask_of [] byte m e = absurd (cc)
 mask_of (pair ∷ layout) zero m e = (pair, refl, same_Some pair.0 m e)
 mask_of (pair ∷ layout) (suc byte) m e = mask_of layout byte m e
 
+pub masks_none : (g : Layout) (masks : List ℕ) → masks ≡ [] → AreMasksTo g 0 masks
+masks_none g masks e = record { size = let long = ap length e in omega (arith, long); bits = λ k byte m p l. absurd (omega (arith, l)) }
+
 pub masks_more : (g : Layout) (count : ℕ) (p : BuiltPreset) (layout : List (ℕ × ℕ)) (old new : List ℕ) → slice_get g.presets count ≡ Some p → IsLayoutOf g p layout → AreMasksTo g count old → new ≡ old ++ map (λ pair. pair.0) layout → AreMasksTo g (count + 1) new
 masks_more g count p layout old new at l so e = record {
   size =

@@ -199,6 +199,27 @@ struct DescribedEntries {
     enumerators: Vec<Text>,
 }
 
+/// The descriptors of the entries of a group, with the values of its enums, which are added to the enumerators, which were empty.
+fn described_by<'g>(
+    alloc: Global,
+    group: &'g SettingGroup,
+    enumerators: &mut Enumerators<'g>,
+) -> Result<DescribedEntries, AllocError>
+    requires built { IsBuiltLayout group.now }
+    requires empty { enumerators.old ≡ [] }
+    ensures sized { IsSized group.now.settings group.now.bool_start_byte_offset group.now.settings_size }
+    ensures small { group.now.settings_size ≤ 255 }
+    ensures enumerators { IfOk result (λ d. d.enumerators.items ≡ enumerators_of group.now.settings) }
+    ensures names { IfOk result (λ d. names_in d.descriptors.items ≡ entry_names group.now) }
+    ensures entries { IfOk result (λ d. (e : ℕ) (own : Descriptor) → slice_get d.descriptors.items e ≡ Some own → DescribesEntry group.now d.enumerators.items e own) }
+{
+    let descriptors = descriptors_of(alloc, group, enumerators)?;
+    Ok(DescribedEntries {
+        enumerators: enumerators.copied(alloc)?,
+        descriptors,
+    })
+}
+
 /// The descriptors of the entries of a group, with the values of its enums.
 fn described(alloc: Global, group: &SettingGroup) -> Result<DescribedEntries, AllocError>
     requires { IsBuiltLayout group.now }
@@ -209,11 +230,7 @@ fn described(alloc: Global, group: &SettingGroup) -> Result<DescribedEntries, Al
     ensures entries { IfOk result (λ d. (e : ℕ) (own : Descriptor) → slice_get d.descriptors.items e ≡ Some own → DescribesEntry group.now d.enumerators.items e own) }
 {
     let mut enumerators = Enumerators::new(alloc);
-    let descriptors = descriptors_of(alloc, group, &mut enumerators)?;
-    Ok(DescribedEntries {
-        enumerators: enumerators.copied(alloc)?,
-        descriptors,
-    })
+    described_by(alloc, group, &mut enumerators)
 }
 
 /// The default bytes of a group, and the masks of its presets.

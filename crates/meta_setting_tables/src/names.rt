@@ -21,28 +21,49 @@ fn is_plain_byte(c: u8) -> bool
 fn is_plain(text: &Text) -> bool
     ensures { IsTrue result ↔ All IsPlainByte text.now }
 {
-    text.as_bytes().iter().all(|c| is_plain_byte(*c))
+    let bytes = text.as_bytes();
+    for byte in bytes {
+        if !is_plain_byte(*byte) {
+            return false;
+        }
+    }
+    true
 }
 
 /// Whether all of these are names.
 fn are_names(texts: &[Text]) -> bool
     ensures { IsTrue result ↔ All IsName texts.now }
 {
-    texts.iter().all(|text| is_name(text))
+    for text in texts {
+        if !is_name(text) {
+            return false;
+        }
+    }
+    true
 }
 
 /// Whether the entries have names.
 fn have_names(entries: &[Descriptor]) -> bool
     ensures { IsTrue result ↔ All (λ (d : Descriptor). IsName d.name) entries.now }
 {
-    entries.iter().all(|entry| is_name(&entry.name))
+    for entry in entries {
+        if !is_name(&entry.name) {
+            return false;
+        }
+    }
+    true
 }
 
 /// Whether the descriptions of the entries need no escape.
 fn have_plain_descriptions(entries: &[Descriptor]) -> bool
     ensures { IsTrue result ↔ All (λ (d : Descriptor). All IsPlainByte d.description) entries.now }
 {
-    entries.iter().all(|entry| is_plain(&entry.description))
+    for entry in entries {
+        if !is_plain(&entry.description) {
+            return false;
+        }
+    }
+    true
 }
 
 /// Whether no two of the names are the same or have the same camel case.

@@ -1,4 +1,5 @@
 ghost use Rattle.std.specs.Prelude.{◌≡◌, ◌↔◌, ◌≤◌, ◌<◌, ◌*◌, ◌+◌, ℕ, length, slice_get, Some, IsTrue, All};
+ghost use Rattle.std.specs.Int.{bit_at};
 ghost use Rattle.meta_setting_tables.specs.declared.descriptor.Descriptor.{Descriptor};
 ghost use Rattle.meta_setting_tables.specs.WellFormed.{IsBooleanBit, HoldsBooleansAlone, HasFirstValue, AreGoodDefaults, AreGoodMasks};
 ghost use Rattle.meta_setting_tables.specs.Shape.{IsShapeOf, IsSmall};
@@ -18,13 +19,25 @@ fn is_boolean_bit(shape: &Shape, byte: usize, bit: u8) -> bool
     behind * 8 + usize::from(bit) < shape.booleans
 }
 
+/// Whether this bit, below 8, of a value of a byte is off, or one of the booleans has it.
+fn is_off_or_boolean(shape: &Shape, byte: usize, value: u8, bit: u8) -> bool
+    requires byte { byte ≤ 255 }
+    requires bit { bit < 8 }
+    ensures { IsTrue result ↔ (bit_at value bit ≡ 1 → IsBooleanBit shape.now.own_bytes shape.now.booleans byte bit) }
+{
+    if value >> bit & 1 == 0 {
+        return true;
+    }
+    is_boolean_bit(shape, byte, bit)
+}
+
 /// Whether only bits of booleans are on in this value of a byte.
 fn holds_booleans_alone(shape: &Shape, byte: usize, value: u8) -> bool
     requires { byte ≤ 255 }
     ensures { IsTrue result ↔ HoldsBooleansAlone shape.now.own_bytes shape.now.booleans byte value }
 {
     for bit in 0..8u8 {
-        if value >> bit & 1 == 1 && !is_boolean_bit(shape, byte, bit) {
+        if !is_off_or_boolean(shape, byte, value, bit) {
             return false;
         }
     }
@@ -47,7 +60,12 @@ fn has_first_value(defaults: &[u8], entry: &Descriptor) -> bool
 fn have_first_values(defaults: &[u8], entries: &[Descriptor]) -> bool
     ensures { IsTrue result ↔ All (λ (d : Descriptor). HasFirstValue defaults.now d.offset d.detail) entries.now }
 {
-    entries.iter().all(|entry| has_first_value(defaults, entry))
+    for entry in entries {
+        if !has_first_value(defaults, entry) {
+            return false;
+        }
+    }
+    true
 }
 
 /// Whether in the default bytes behind those of the enums and numbers only bits of booleans are on.

@@ -21,20 +21,26 @@ pub(crate) struct Shape {
 fn own_bytes_in(entries: &[Descriptor]) -> usize
     ensures { result ≡ own_byte_count entries.now }
 {
-    entries
-        .iter()
-        .filter(|entry| entry.detail.has_own_byte())
-        .count()
+    let mut count = 0;
+    for entry in entries {
+        if entry.detail.has_own_byte() {
+            count += 1;
+        }
+    }
+    count
 }
 
 /// How many of the entries are booleans.
 fn booleans_in(entries: &[Descriptor]) -> usize
     ensures { result ≡ boolean_count entries.now }
 {
-    entries
-        .iter()
-        .filter(|entry| entry.detail.is_boolean())
-        .count()
+    let mut count = 0;
+    for entry in entries {
+        if entry.detail.is_boolean() {
+            count += 1;
+        }
+    }
+    count
 }
 
 impl Shape {

@@ -1,15 +1,9 @@
-use Rattle.std.proofs.Common.{length, refl, sym, subst, Result, Ok, Err, IfOk}
-use Rattle.std.specs.Result.{IsErr}
-use Rattle.std.proofs.lemmas.Bool.{false≢true}
+use Rattle.std.proofs.Common.{length, refl, sym, subst}
 use Rattle.std.proofs.lemmas.Option.{slice_get_read}
 use Rattle.meta_setting_tables.specs.NumberedTexts.{KeepsNumbers}
-use Rattle.meta_setting_tables.proofs.Enumerating.{kept_then, kept_added, numbers_next}
+use Rattle.meta_setting_tables.proofs.Enumerating.{kept_same, kept_then, kept_added, numbers_next, numbers_none, numbers_all}
+use Rattle.meta_setting_tables.proofs.Failed.{none_given}
 use Rattle.meta_setting_tables.proofs.enumerators.numbers_of.Goals as goal
-
--- after an error nothing is said of a value
-none_given : {T E : Type 0} (r : Result T E) (P : T → Type 0) → IsErr r → IfOk r P
-none_given (Ok x) P h = absurd (false≢true h)
-none_given (Err e) P h = tt
 
 pub loop-value-preserved : goal.loop-value-preserved
 loop-value-preserved c =
@@ -54,3 +48,16 @@ returns-clause-different c = c.loop-value.invariant.different
 
 pub returns-clause-kept : goal.returns-clause-kept
 returns-clause-kept c = c.loop-value.invariant.kept
+
+pub returns-in_err-numbers-clause-kept : goal.returns-in_err-numbers-clause-kept
+returns-in_err-numbers-clause-kept c = kept_same c.args.texts.now c.args.texts.now refl
+
+pub loop-value-init : goal.loop-value-init
+loop-value-init c = record {
+  numbers = numbers_none c.args.texts.now c.args.values.now c.in_ok-numbers.numbers.items c.in_ok-numbers.ensures.items;
+  different = c.requires;
+  kept = kept_same c.args.texts.now c.args.texts.now refl;
+}
+
+pub returns-clause-numbers : goal.returns-clause-numbers
+returns-clause-numbers c = numbers_all c.loop-value.texts c.args.values.now c.loop-value.value-index c.loop-value.numbers.items c.loop-value-test.false c.loop-value.invariant.numbers

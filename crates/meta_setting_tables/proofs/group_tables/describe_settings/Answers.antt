@@ -4,6 +4,7 @@ use Rattle.meta_settings.specs.declared.setting.SpecificSetting.{SpecificSetting
 use Rattle.meta_setting_tables.specs.Descriptor.{IsDetailOf}
 use Rattle.meta_setting_tables.specs.EnumeratorList.{with_values, values_of}
 use Rattle.meta_setting_tables.proofs.DescribedSoFar.{settings_next, settings_done}
+use Rattle.meta_setting_tables.proofs.Failed.{none_given, none_done}
 use Rattle.meta_setting_tables.proofs.group_tables.describe_settings.Goals as goal
 
 pub detail_of-requires : goal.detail_of-requires
@@ -37,3 +38,27 @@ returns-clause-enumerators c = (settings_done c.args.settings.now c.loop-setting
 
 pub returns-clause-described : goal.returns-clause-described
 returns-clause-described c = (settings_done c.args.settings.now c.loop-setting.setting-index c.loop-setting.enumerators c.loop-setting.descriptors.items c.loop-setting-test.false c.loop-setting.invariant).2
+
+pub returns-in_err-descriptors-clause-names : goal.returns-in_err-descriptors-clause-names
+returns-in_err-descriptors-clause-names c = none_given c.from_residual.result _ c.from_residual.ensures.0
+
+pub returns-in_err-descriptors-clause-described : goal.returns-in_err-descriptors-clause-described
+returns-in_err-descriptors-clause-described c = none_given c.from_residual.result _ c.from_residual.ensures.0
+
+pub returns-in_err-detail-clause-enumerators : goal.returns-in_err-detail-clause-enumerators
+returns-in_err-detail-clause-enumerators c = none_done c.from_residual-in_err-detail.result _ c.from_residual-in_err-detail.ensures.0
+
+pub returns-in_err-detail-clause-names : goal.returns-in_err-detail-clause-names
+returns-in_err-detail-clause-names c = none_given c.from_residual-in_err-detail.result _ c.from_residual-in_err-detail.ensures.0
+
+pub returns-in_err-detail-clause-described : goal.returns-in_err-detail-clause-described
+returns-in_err-detail-clause-described c = none_given c.from_residual-in_err-detail.result _ c.from_residual-in_err-detail.ensures.0
+
+pub returns-in_err-push-clause-enumerators : goal.returns-in_err-push-clause-enumerators
+returns-in_err-push-clause-enumerators c = none_done c.from_residual-in_err-push.result _ c.from_residual-in_err-push.ensures.0
+
+pub returns-in_err-push-clause-names : goal.returns-in_err-push-clause-names
+returns-in_err-push-clause-names c = none_given c.from_residual-in_err-push.result _ c.from_residual-in_err-push.ensures.0
+
+pub returns-in_err-push-clause-described : goal.returns-in_err-push-clause-described
+returns-in_err-push-clause-described c = none_given c.from_residual-in_err-push.result _ c.from_residual-in_err-push.ensures.0

@@ -1,4 +1,4 @@
-use Rattle.std.proofs.Common.{◌≡◌, ◌∙◌, sym, ap, subst, arith, rules, [], ◌∷◌, ◌++◌, Some, length, take}
+use Rattle.std.proofs.Common.{◌≡◌, ◌∙◌, sym, ap, subst, arith, [], ◌∷◌, ◌++◌, Some, length, take}
 use Rattle.std.specs.Prelude.{slice_get}
 use Rattle.std.specs.Result.{IfOk}
 use Rattle.std.proofs.lemmas.List.{length-map, length-take, map-append, take_all}
@@ -8,6 +8,7 @@ use Rattle.meta_unique.specs.Interning.{pointed_to}
 use Rattle.meta_unique.specs.NameSlots.{AreNameSlots}
 use Rattle.meta_setting_tables.specs.declared.descriptor.Descriptor.{Descriptor}
 use Rattle.meta_setting_tables.specs.GroupTables.{names_in}
+use Rattle.meta_setting_tables.proofs.Failed.{none_given}
 use Rattle.meta_setting_tables.proofs.group_tables.entry_slots.Goals as goal
 
 pub loop-descriptor-init : goal.loop-descriptor-init
@@ -40,13 +41,13 @@ pub returns-clause-vacant : goal.returns-clause-vacant
 returns-clause-vacant c = c.name_slots.ensures.vacant
 
 pub returns-in_err-names-clause-slots : goal.returns-in_err-names-clause-slots
-returns-in_err-names-clause-slots c = search rules
+returns-in_err-names-clause-slots c = none_given c.from_residual.result _ c.from_residual.ensures.0
 
 pub returns-in_err-names-clause-vacant : goal.returns-in_err-names-clause-vacant
-returns-in_err-names-clause-vacant c = search rules
+returns-in_err-names-clause-vacant c = none_given c.from_residual.result _ c.from_residual.ensures.0
 
 pub returns-in_err-push-clause-slots : goal.returns-in_err-push-clause-slots
-returns-in_err-push-clause-slots c = search rules
+returns-in_err-push-clause-slots c = none_given c.from_residual-in_err-push.result _ c.from_residual-in_err-push.ensures.0
 
 pub returns-in_err-push-clause-vacant : goal.returns-in_err-push-clause-vacant
-returns-in_err-push-clause-vacant c = search rules
+returns-in_err-push-clause-vacant c = none_given c.from_residual-in_err-push.result _ c.from_residual-in_err-push.ensures.0
