@@ -12,3 +12,4 @@ mod Turning
 mod Once
 mod TurnedSets
 mod Places
+mod Everywhere

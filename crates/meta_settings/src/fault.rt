@@ -31,14 +31,25 @@ fn is_plain_byte(c: u8) -> bool
 fn is_plain(text: &Text) -> bool
     ensures { IsTrue result ↔ All IsPlainByte text.now }
 {
-    text.as_bytes().iter().all(|c| is_plain_byte(*c))
+    let bytes = text.as_bytes();
+    for byte in bytes {
+        if !is_plain_byte(*byte) {
+            return false;
+        }
+    }
+    true
 }
 
 /// Whether all of these are names.
 fn are_names(texts: &[Text]) -> bool
     ensures { IsTrue result ↔ All IsName texts.now }
 {
-    texts.iter().all(|text| is_name(text))
+    for text in texts {
+        if !is_name(text) {
+            return false;
+        }
+    }
+    true
 }
 
 /// Whether an entry and its enumerators have names, and its description needs no escape.
@@ -107,7 +118,12 @@ fn is_met(booleans: u32, earlier: usize, arg: &PresetType) -> bool
 fn are_met(booleans: u32, earlier: usize, args: &[PresetType]) -> bool
     ensures { IsTrue result ↔ AreMet booleans earlier args.now }
 {
-    args.iter().all(|arg| is_met(booleans, earlier, arg))
+    for arg in args {
+        if !is_met(booleans, earlier, arg) {
+            return false;
+        }
+    }
+    true
 }
 
 /// The first fault of the group, if the entry at this place shows it, where none is shown before and `names` are those of the

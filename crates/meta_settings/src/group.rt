@@ -1,4 +1,4 @@
-ghost use Rattle.std.specs.Prelude.{◌≡◌, ◌↔◌, ◌<◌, IsTrue, length};
+ghost use Rattle.std.specs.Prelude.{◌≡◌, ◌↔◌, ◌<◌, All, IsTrue, length};
 ghost use Rattle.meta_settings.specs.Layout.{booleans_in, IsSized};
 ghost use Rattle.meta_settings.specs.PresetLayout.{HasAll};
 
@@ -25,6 +25,18 @@ impl Model for SettingGroup {
     ghost view = { λ g. record { name = g.name; settings = g.settings.items; bool_start_byte_offset = g.bool_start_byte_offset; settings_size = g.settings_size; presets = g.presets.items } };
 
     ghost invariant = { λ g. IsSized g.settings.items g.bool_start_byte_offset g.settings_size };
+}
+
+/// Whether all of these numbers are below the bound.
+fn are_below(numbers: &[u8], bound: usize) -> bool
+    ensures { IsTrue result ↔ All (λ number. number < bound) numbers.now }
+{
+    for number in numbers {
+        if usize::from(*number) >= bound {
+            return false;
+        }
+    }
+    true
 }
 
 impl SettingGroup {
@@ -96,10 +108,7 @@ impl SettingGroup {
         ensures { IsTrue result ↔ HasAll self.now preset.now }
     {
         let count = self.booleans().len();
-        preset
-            .booleans()
-            .iter()
-            .all(|number| (*number as usize) < count)
+        are_below(preset.booleans(), count)
     }
 
     /// Its booleans, in order of their numbers.

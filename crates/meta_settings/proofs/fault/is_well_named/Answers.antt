@@ -1,0 +1,17 @@
+use Rattle.std.proofs.Common.{All, sym, subst, ◌∙◌}
+use Rattle.std.proofs.lemmas.Bool.{false≢true}
+use Rattle.meta_types.specs.Name.{IsName}
+use Rattle.meta_settings.specs.GroupFaults.{IsPlainByte}
+use Rattle.meta_settings.proofs.fault.is_well_named.Goals as goal
+
+pub returns-then-not-is_name : goal.returns-then-not-is_name
+returns-then-not-is_name c = (
+  λ t. absurd (false≢true t),
+  λ well. absurd (false≢true (sym c.if-not-is_name.true ∙ c.is_name.ensures.1 (subst IsName (sym c.name.ensures) well.name))),
+)
+
+pub returns-then-not-is_plain : goal.returns-then-not-is_plain
+returns-then-not-is_plain c = (
+  λ t. absurd (false≢true t),
+  λ well. absurd (false≢true (sym c.if-not-is_plain.true ∙ c.is_plain.ensures.1 (subst (All IsPlainByte) (sym c.description.ensures) well.description))),
+)
