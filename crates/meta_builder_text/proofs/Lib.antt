@@ -5,3 +5,6 @@ mod OperandVariables
 -- the operands of built instructions
 mod BuiltOperands
 mod After
+mod Behind
+mod Some
+mod Pushed

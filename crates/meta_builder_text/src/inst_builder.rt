@@ -1,6 +1,9 @@
-ghost use Rattle.std.specs.Prelude.{◌≡◌, ◌++◌, OnOk, string_bytes};
+ghost use Rattle.std.specs.Prelude.{◌≡◌, ◌++◌, OnOk, length, string_bytes};
 ghost use Rattle.meta_operands.specs.Operand.{variables_of};
+ghost use Rattle.meta_inst.specs.Content.{snake_name_of};
 ghost use Rattle.meta_inst.specs.Operands.{AreOf};
+ghost use Rattle.meta_builder_text.specs.Arguments.{type_parameters, arguments_text};
+ghost use Rattle.meta_builder_text.specs.MethodBody.{result_type};
 ghost use Rattle.meta_builder_text.specs.InstBuilder.{head_text, method_end, inst_builder_text};
 
 use super::arguments::arguments;
@@ -40,6 +43,28 @@ fn push_method_end(out: &mut String) -> Result<(), AllocError>
     out.push_str("    }\n")
 }
 
+/// Adds the head of the method that builds the instruction, which is of this format.
+fn push_method_head(
+    alloc: Global,
+    out: &mut String,
+    vars: &TypeVars,
+    instruction: &InstructionContent,
+    format: &InstructionFormat,
+) -> Result<(), AllocError>
+    ensures { OnOk result (string_bytes out.new ≡ string_bytes out.old ++ head_text (snake_name_of instruction.now.name) (type_parameters instruction.now.operands_in) (arguments_text vars.now instruction.now format.now) (result_type (length instruction.now.value_results))) }
+{
+    let parameters = type_parameters(alloc, instruction.operands_in())?;
+    let arguments = arguments(alloc, vars, instruction, format)?;
+    let given = result_type(alloc, instruction.value_results().len())?;
+    push_head(
+        out,
+        instruction.snake_name(),
+        parameters.as_str(),
+        arguments.as_str(),
+        given.as_str(),
+    )
+}
+
 /// Adds the method that builds the instruction, which is of this format (`gen_inst_builder` of `gen_inst.rs`). The variables of
 /// its operands are of the registry.
 ///
@@ -57,17 +82,8 @@ pub fn push_inst_builder(
     requires outputs { AreOf vars.now (variables_of instruction.now.operands_out) }
     ensures { OnOk result (string_bytes out.new ≡ string_bytes out.old ++ inst_builder_text vars.now instruction.now format.now) }
 {
-    let parameters = type_parameters(alloc, instruction.operands_in())?;
-    let arguments = arguments(alloc, vars, instruction, format)?;
-    let given = result_type(alloc, instruction.value_results().len())?;
     push_method_docs(alloc, out, vars, instruction)?;
-    push_head(
-        out,
-        instruction.snake_name(),
-        parameters.as_str(),
-        arguments.as_str(),
-        given.as_str(),
-    )?;
+    push_method_head(alloc, out, vars, instruction, format)?;
     push_body(alloc, out, vars, instruction, format)?;
     push_method_end(out)
 }

@@ -26,14 +26,24 @@ pub(crate) fn is_mem_flags(operand: &Operand) -> bool
 pub(crate) fn has_block(operands: &[Operand]) -> bool
     ensures { result ≡ list_any is_block_operand operands.now }
 {
-    operands.iter().any(|o| o.kind.is_block())
+    for operand in operands {
+        if operand.kind.is_block() {
+            return true;
+        }
+    }
+    false
 }
 
 /// Whether some operand is flags of a memory access.
 pub(crate) fn has_mem_flags(operands: &[Operand]) -> bool
     ensures { result ≡ list_any is_mem_flags operands.now }
 {
-    operands.iter().any(|o| is_mem_flags(o))
+    for operand in operands {
+        if is_mem_flags(operand) {
+            return true;
+        }
+    }
+    false
 }
 
 /// The name of the operand at this place, counted from 0, and nothing where there is none.
