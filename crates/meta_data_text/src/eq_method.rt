@@ -1,4 +1,4 @@
-ghost use Rattle.std.specs.Prelude.{◌≡◌, ◌++◌, OnOk, IfOk, string_bytes};
+ghost use Rattle.std.specs.Prelude.{◌≡◌, ◌++◌, OnOk, IfOk, codes, string_bytes};
 ghost use Rattle.std.specs.List.{flat_map};
 ghost use Rattle.std.specs.Option.{option_copied};
 ghost use Rattle.meta_data_text.specs.Held.{values_of, blocks_of, has_raw_block};
@@ -120,6 +120,19 @@ fn push_equal_raw_block(out: &mut String, raw_block: bool) -> Result<(), AllocEr
     Ok(())
 }
 
+/// Adds the first lines of the arm of a format.
+fn push_eq_arm_head(
+    alloc: Global,
+    out: &mut String,
+    format: &InstructionFormat,
+) -> Result<(), AllocError>
+    ensures { OnOk result (string_bytes out.new ≡ string_bytes out.old ++ eq_arm_head format.now.name (eq_pattern format.now (codes "1")) (eq_pattern format.now (codes "2"))) }
+{
+    let first = eq_pattern(alloc, format, "1")?;
+    let second = eq_pattern(alloc, format, "2")?;
+    push_arm_head(out, format.name.as_str(), first.as_str(), second.as_str())
+}
+
 /// Adds the arm of a format.
 #[tactic(auto, unfolding(crate::specs::EqMethod::eq_arm))]
 pub(crate) fn push_eq_arm(
@@ -129,9 +142,7 @@ pub(crate) fn push_eq_arm(
 ) -> Result<(), AllocError>
     ensures { OnOk result (string_bytes out.new ≡ string_bytes out.old ++ eq_arm format.now) }
 {
-    let first = eq_pattern(alloc, format, "1")?;
-    let second = eq_pattern(alloc, format, "2")?;
-    push_arm_head(out, format.name.as_str(), first.as_str(), second.as_str())?;
+    push_eq_arm_head(alloc, out, format)?;
     push_equal_fields(out, format.imm_fields.as_slice())?;
     push_equal_values(out, values_of(format))?;
     push_equal_blocks(out, blocks_of(format))?;
