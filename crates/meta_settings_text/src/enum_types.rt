@@ -36,7 +36,7 @@ fn push_impl_head(out: &mut String, ty: &str) -> Result<(), AllocError>
 fn push_block_end(out: &mut String) -> Result<(), AllocError>
     ensures { OnOk result (string_bytes out.new ≡ string_bytes out.old ++ block_end) }
 {
-    write!(out, "}}\n")
+    out.push_str("}\n")
 }
 
 /// Adds the lines of the function `all` before its values.
@@ -58,7 +58,7 @@ fn push_all_head(out: &mut String, ty: &str) -> Result<(), AllocError>
 fn push_all_end(out: &mut String) -> Result<(), AllocError>
     ensures { OnOk result (string_bytes out.new ≡ string_bytes out.old ++ all_end) }
 {
-    write!(out, "        ]\n    }}\n")
+    out.push_str("        ]\n    }\n")
 }
 
 /// Adds the function `all` of an enum (`gen_enum_all`).
@@ -90,13 +90,12 @@ fn push_shown_head(out: &mut String, ty: &str) -> Result<(), AllocError>
 fn push_shown_end(out: &mut String) -> Result<(), AllocError>
     ensures { OnOk result (string_bytes out.new ≡ string_bytes out.old ++ shown_end) }
 {
-    write!(
-        out,
-        "        }}
+    out.push_str(
+        "        }
         )
-    }}
-}}
-"
+    }
+}
+",
     )
 }
 
@@ -120,13 +119,12 @@ fn push_read_head(out: &mut String, ty: &str) -> Result<(), AllocError>
 fn push_read_end(out: &mut String) -> Result<(), AllocError>
     ensures { OnOk result (string_bytes out.new ≡ string_bytes out.old ++ read_end) }
 {
-    write!(
-        out,
+    out.push_str(
         "            _ => Err(()),
-        }}
-    }}
-}}
-"
+        }
+    }
+}
+",
     )
 }
 

@@ -62,12 +62,11 @@ fn push_enum_getter_head(
 fn push_enum_getter_end(out: &mut String) -> Result<(), AllocError>
     ensures { OnOk result (string_bytes out.new ≡ string_bytes out.old ++ enum_getter_end) }
 {
-    write!(
-        out,
+    out.push_str(
         "            _ => panic!(\"Invalid enum value\"),
-        }}
-    }}
-"
+        }
+    }
+",
     )
 }
 
