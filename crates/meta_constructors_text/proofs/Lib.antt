@@ -2,3 +2,4 @@
 mod Pieces
 -- the operands of an instruction
 mod Inputs
+mod Pushed

@@ -1,8 +1,10 @@
 -- Texts that are added one after the other, and what is left to add.
-use Rattle.std.proofs.Common.{◌≡◌, ℕ, ◌+◌, ◌-◌, ◌<◌, ◌≤◌, zero, suc, List, [], ◌++◌, append_assoc, append-nil, length, drop, get_or, Option, None, Some, Bor, unwrap_or, sym, ap, ◌∙◌, add-one, zero-add, drop-cons, arith}
+use Rattle.std.proofs.Common.{◌≡◌, ℕ, ◌+◌, ◌-◌, ◌<◌, ◌≤◌, zero, suc, List, [], ◌∷◌, ◌++◌, codes, append_assoc, append-nil, length, drop, get_or, Option, None, Some, Bor, unwrap_or, sym, ap, ◌∙◌, add-one, zero-add, drop-cons, arith}
 use Rattle.std.specs.List.{flat_map, join_by, range_with_len, enumerate_from}
 use Rattle.std.specs.Option.{option_map}
-use Rattle.std.proofs.lemmas.List.{drop_all}
+use Rattle.std.proofs.lemmas.List.{drop_all, drop_more}
+use Rattle.meta_operands.specs.declared.operand.Operand.{Operand}
+use Rattle.meta_inst.specs.Content.{more_names_text}
 use Rattle.std.proofs.lemmas.List.FromFn.{length-enumerate_from, get_or-enumerate_from}
 
 pub two : (old a b : List ℕ) {x y : List ℕ} → x ≡ old ++ a → y ≡ x ++ b → y ≡ old ++ (a ++ b)
@@ -61,6 +63,13 @@ pub no_placed : {X : Type 0} (f : ℕ × X → List ℕ) (xs : List X) (i : ℕ)
 no_placed f xs i out whole past so_far =
     let long : length (enumerate_from 0 xs) ≤ i = omega (arith, past, length-enumerate_from 0 xs) in
     ended out _ whole (ap (flat_map f) (drop_all i (enumerate_from 0 xs) long)) so_far
+
+-- ---- of names
+
+pub next_name : (operands : List Operand) (i : ℕ) (o : Operand) (out new whole : List ℕ) → i < length operands → o ≡ get_or operands i o → new ≡ out ++ (codes ", " ++ o.name) → out ++ more_names_text (drop i operands) ≡ whole → new ++ more_names_text (drop (i + 1) operands) ≡ whole
+next_name operands i o out new whole inside at added so_far =
+    let left : drop i operands ≡ o ∷ drop (i + 1) operands = drop_more operands i o inside ∙ ap (λ (x : Operand). x ∷ drop (i + 1) operands) (sym at) in
+    moved out (codes ", " ++ o.name) (more_names_text (drop (i + 1) operands)) new (more_names_text (drop i operands)) whole added (ap more_names_text left) so_far
 
 -- ---- a text that is lent, or nothing
 
