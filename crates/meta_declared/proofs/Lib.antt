@@ -1,4 +1,5 @@
 -- the search for the first fault
+mod Refusals
 mod Rules
 mod NamesSoFar
 mod FormatSearch

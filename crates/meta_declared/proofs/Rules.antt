@@ -1,6 +1,8 @@
 -- The first fault, if one instruction shows it: by a rule that it breaks by itself, or by a name that it shares.
 use Rattle.std.proofs.Common.{◌≡◌, ◌≢◌, ◌<◌, ◌+◌, inl, inr, ℕ, slice_get, Result, Ok, Err, IfOk, OnOk, IfErr, refl, sym, ap, ◌∙◌, subst, arith}
+use Rattle.std.specs.Result.{result_and}
 use Rattle.std.proofs.lemmas.Option.{same_Some}
+use Rattle.meta_lists.proofs.Results.{on_ok}
 use Rattle.meta_types.specs.declared.fault.Place.{Place}
 use Rattle.meta_types.specs.declared.fault.Place.TheVariants.{Instruction as AtInstruction}
 use Rattle.meta_types.specs.declared.fault.DefinitionError.{DefinitionError}
@@ -16,7 +18,7 @@ use Rattle.meta_inst.specs.Faults.{IsAt, names_of, Position, OfOpcodes, OfInstru
 use Rattle.meta_inst.proofs.OneOwnFault.{rule_count, first_rule, later}
 use Rattle.meta_inst.specs.Content.{content_of, IsPolymorphicInfoOf}
 use Rattle.meta_declared.specs.BuiltInstructions.{IsBuiltAt}
-use Rattle.meta_declared.specs.Searched.{IsCleanBefore, IsRefusedFirst}
+use Rattle.meta_declared.specs.Searched.{IsCleanBefore, IsRefusedFirst, IsUnshared, IsSharedName}
 use Rattle.meta_declared.proofs.OneFault.{searchable}
 
 module _ (d : InstructionSet) (k : ℕ) (b : Builder) (at : IsAt d k b) (clean : IsCleanBefore d (OfInstruction k NameRule)) where
@@ -81,6 +83,18 @@ module _ (d : InstructionSet) (k : ℕ) (b : Builder) (at : IsAt d k b) (clean :
       let later = later d.vars d.formats b (k + 1) first.position e first.shows (λ p is. behind (inl (p, ap Err is))) in
       shared_first (λ rule f l s. first.first rule f (inr (refl, inr (refl, omega (arith, l, later)))) s)
 
+  -- its name was added, if it could be, after it was built
+  pub added_clean : (added : Result (Unit {0}) DefinitionError) (built r : Result Built DefinitionError) → r ≡ result_and added built → OnOk added (IsUnshared d k) → OnOk built (IsWellMade d.vars d.formats b) → OnOk r (IsCleanBefore d (OfInstruction (k + 1) NameRule))
+  added_clean (Ok u) built r is unshared well = subst (λ (s : Result Built DefinitionError). OnOk s (IsCleanBefore d (OfInstruction (k + 1) NameRule))) (sym is) (clean_told unshared built well)
+  added_clean (Err e) built r is unshared well = subst (λ (s : Result Built DefinitionError). OnOk s (IsCleanBefore d (OfInstruction (k + 1) NameRule))) (sym is) tt
+
+  pub added_refused : (added : Result (Unit {0}) DefinitionError) (built r : Result Built DefinitionError) → r ≡ result_and added built → OnOk added (IsUnshared d k) → IfErr added (λ e. e ≢ OutOfMemory → IsSharedName d k e)
+      → IfErr built (λ e. e ≢ OutOfMemory → IsFirstOwnFault d.vars d.formats b (k + 1) e) → OnOk built (IsWellMade d.vars d.formats b) → (IsRefusedFirst built → ⊥) → IfErr r (λ e. e ≢ OutOfMemory → IsFirstFault d e)
+  added_refused (Ok u) built r is unshared shares refused well behind = subst (λ (s : Result Built DefinitionError). IfErr s (λ e. e ≢ OutOfMemory → IsFirstFault d e)) (sym is) (refused_told unshared built refused)
+  added_refused (Err e) built r is unshared shares refused well behind = subst (λ (s : Result Built DefinitionError). IfErr s (λ e. e ≢ OutOfMemory → IsFirstFault d e)) (sym is) (λ other.
+      let shared = shares other in
+      subst (IsFirstFault d) (sym shared.tells) (shared_told built refused well behind shared.earlier shared.duplicate))
+
 module _ (d : InstructionSet) (k : ℕ) (b : Builder) (at : IsAt d k b) where
   -- what is built of it
   pub built_told : (built : Result Built DefinitionError) → IfOk built (λ c. c ≡ content_of d.formats b c.polymorphic_info) → IfOk built (λ c. IsPolymorphicInfoOf d.vars d.formats b c.polymorphic_info) → IfOk built (IsBuiltAt d k)
@@ -95,3 +109,12 @@ refused_on built P (inr is) = subst (λ r. OnOk r P) (sym is) tt
 pub refused_if : (built : Result Built DefinitionError) (P : Built → Type 0) → IsRefusedFirst built → IfOk built P
 refused_if built P (inl (p, is)) = subst (λ r. IfOk r P) (sym is) tt
 refused_if built P (inr is) = subst (λ r. IfOk r P) (sym is) tt
+
+-- after two steps both have succeeded
+pub both_on : (one : Result (Unit {0}) DefinitionError) (other r : Result Built DefinitionError) (P : Type 0) → r ≡ result_and one other → OnOk one P → OnOk r P
+both_on (Ok x) other r P is h = on_ok r h
+both_on (Err e) other r P is h = subst (λ (s : Result Built DefinitionError). OnOk s P) (sym is) tt
+
+pub both_if : (one : Result (Unit {0}) DefinitionError) (other r : Result Built DefinitionError) (P : Built → Type 0) → r ≡ result_and one other → IfOk other P → IfOk r P
+both_if (Ok x) other r P is h = subst (λ (s : Result Built DefinitionError). IfOk s P) (sym is) h
+both_if (Err e) other r P is h = subst (λ (s : Result Built DefinitionError). IfOk s P) (sym is) tt

@@ -1,12 +1,13 @@
-ghost use Rattle.std.specs.Prelude.{◌≡◌, ◌≢◌, ◌↔◌, ◌<◌, ◌⊎◌, ℕ, List, IsTrue, IfOk, IfErr, OnOk, length, slice_get, Some};
+ghost use Rattle.std.specs.Prelude.{◌≡◌, ◌≢◌, ◌↔◌, ◌<◌, ◌⊎◌, ◌+◌, ℕ, List, IsTrue, IfOk, IfErr, OnOk, length, slice_get, Some};
 ghost use Rattle.meta_types.specs.declared.fault.DefinitionError.TheVariants.{OutOfMemory};
 ghost use Rattle.meta_typevar.specs.declared.content.TypeVarContent.{TypeVarContent};
 ghost use Rattle.meta_inst.specs.Builder.{Builder};
 ghost use Rattle.meta_inst.specs.InstructionSet.{InstructionSet};
 ghost use Rattle.meta_inst.specs.Faults.{FormatNameRule, OfFormat, OfTypeSets, IsFirstFault};
-ghost use Rattle.meta_declared.specs.FormatsUsed.{AreUsedBefore, AreApart, AreOfTable};
+ghost use Rattle.meta_declared.specs.FormatsUsed.{AreUsedBefore, AreApart, AreOfTable, IsOfTable, ClashesWithNone};
+ghost use Rattle.meta_declared.specs.FormatsIndexed.{AreIndexed};
 ghost use Rattle.meta_declared.specs.FormatsByName.{AreByName};
-ghost use Rattle.meta_declared.specs.Searched.{IsCleanBefore};
+ghost use Rattle.meta_declared.specs.Searched.{IsCleanBefore, IsNextUse};
 
 use super::formats_in_use::FormatsInUse;
 use meta_inst::AllInstructions;
@@ -35,6 +36,40 @@ fn has_too_many_blocks(format: &InstructionFormat) -> bool
     format.num_block_operands > MAX_BLOCKS || format.num_raw_block_operands > MAX_RAW_BLOCKS
 }
 
+/// The format of the table with its structure, which is used besides those in use. It is refused by the first fault that it shows,
+/// in this order: that of its name, then that it has too many blocks, and then that it can't stand beside one of those, the first
+/// of which the fault names.
+fn next_used(
+    alloc: Global,
+    formats: &FormatTable,
+    used: &FormatsInUse<'_>,
+    id: FormatId,
+) -> Result<UsedFormat, DefinitionError>
+    requires below { id < length formats.now }
+    requires table { used.now.formats.now ≡ formats.now }
+    requires indexed { AreIndexed used.now }
+    ensures refused { (vars : List TypeVarContent) (instructions : List Builder) (place : ℕ) → let d : InstructionSet = record { vars = vars; formats = formats.now; instructions = instructions } in IsNextUse d place used.now.used.items id → IfErr result (λ e. e ≢ OutOfMemory → IsFirstFault d e) }
+    ensures clean { (vars : List TypeVarContent) (instructions : List Builder) (place : ℕ) → let d : InstructionSet = record { vars = vars; formats = formats.now; instructions = instructions } in IsNextUse d place used.now.used.items id → OnOk result (IsCleanBefore d (OfFormat (place + 1) FormatNameRule)) }
+    ensures id { IfOk result (λ f. f.id ≡ id) }
+    ensures of_table { IfOk result (IsOfTable formats.now) }
+    ensures apart { OnOk result (ClashesWithNone formats.now used.now.used.items id) }
+{
+    let format = formats.get(id);
+    let number = u64::from(id.number());
+    if !is_name(&format.name) {
+        return Err(DefinitionError::BadName(Place::Format(number)));
+    }
+    if has_too_many_blocks(format) {
+        return Err(DefinitionError::BadFormat(number));
+    }
+    let structure = format.structure(alloc)?;
+    let this = UsedFormat { id, structure };
+    if let Some(earlier) = used.first_clash(&this) {
+        return Err(DefinitionError::FormatClash(number, u64::from(earlier.number())));
+    }
+    Ok(this)
+}
+
 /// The formats in use, in the order of their first uses. They are refused by the first fault that one shows, in this order: that
 /// of a format's name, then that it has too many blocks, and then that it can't stand beside one that is used earlier, the first
 /// of which the fault names.
@@ -56,20 +91,8 @@ pub(crate) fn used_formats(
         if used.contains(id) {
             continue;
         }
-        let format = formats.get(id);
-        let number = u64::from(id.number());
-        if !is_name(&format.name) {
-            return Err(DefinitionError::BadName(Place::Format(number)));
-        }
-        if has_too_many_blocks(format) {
-            return Err(DefinitionError::BadFormat(number));
-        }
-        let structure = format.structure(alloc)?;
-        let this = UsedFormat { id, structure };
-        if let Some(earlier) = used.first_clash(&this) {
-            return Err(DefinitionError::FormatClash(number, u64::from(earlier.number())));
-        }
-        used.add(alloc, this)?;
+        let format = next_used(alloc, formats, &used, id)?;
+        used.add(alloc, format)?;
     }
     Ok(used.into_used())
 }

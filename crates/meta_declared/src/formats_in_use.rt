@@ -1,9 +1,12 @@
-ghost use Rattle.std.specs.Prelude.{◌≡◌, ◌<◌, ◌++◌, ◌∷◌, [], MatchBool, OnOk, IfOk, IfSome, IfNone, None, length};
+ghost use Rattle.std.specs.Prelude.{◌≡◌, ◌<◌, ◌++◌, ◌∷◌, [], MatchBool, OnOk, IfOk, IfSome, IfNone, None, Some, length, cond};
+ghost use Rattle.std.specs.HashMap.{get};
+ghost use Rattle.meta_operands.specs.Structure.{structure_of, same_structure};
+ghost use Rattle.meta_operands.specs.declared.structure.FormatStructure.{FormatStructure};
 ghost use Rattle.meta_declared.specs.FormatsUsed.{IsAmong, IsNotAmong, IsOfTable, ClashesWithNone, IsFirstToClash};
 ghost use Rattle.meta_declared.specs.FormatsIndexed.{AreIndexed, IsFirstOf};
 
 use super::formats::UsedFormat;
-use meta_operands::{FormatId, FormatStructure, FormatTable};
+use meta_operands::{FormatId, FormatStructure, FormatTable, InstructionFormat};
 use meta_types::Text;
 use std::alloc::{AllocError, Global};
 use std::collections::{BTreeMap, HashMap};
@@ -30,6 +33,19 @@ fn first_place(one: Option<usize>, other: Option<usize>) -> Option<usize>
         (None, place) => place,
         (place, None) => place,
     }
+}
+
+/// Keeps the place of a format by its structure.
+fn put_structure(
+    alloc: Global,
+    places: &mut HashMap<FormatStructure, usize>,
+    format: &InstructionFormat,
+    place: usize,
+) -> Result<(), AllocError>
+    ensures { OnOk result ((s : FormatStructure) → get same_structure places.new s ≡ cond (same_structure (structure_of format.now) s) (Some place) (get same_structure places.old s)) }
+{
+    places.insert(format.structure(alloc)?, place)?;
+    Ok(())
 }
 
 impl<'f> FormatsInUse<'f> {
@@ -87,8 +103,7 @@ impl<'f> FormatsInUse<'f> {
         self.is_used[format.id.number() as usize] = true;
         self.used.push(format)?;
         self.by_name.insert(&content.name, place)?;
-        self.by_structure.insert(content.structure(alloc)?, place)?;
-        Ok(())
+        put_structure(alloc, &mut self.by_structure, content, place)
     }
 
     /// These formats, in the order in which they were added.

@@ -3,7 +3,7 @@ ghost use Rattle.meta_types.specs.declared.fault.Place.{Place};
 ghost use Rattle.meta_types.specs.declared.fault.DefinitionError.TheVariants.{BadName, OutOfMemory};
 ghost use Rattle.meta_inst.specs.InstructionFaults.{NameRule};
 ghost use Rattle.meta_inst.specs.Faults.{FormatNameRule, OfInstruction, OfFormat, IsFirstFault, names_of};
-ghost use Rattle.meta_declared.specs.Searched.{IsCleanBefore, IsRefusedFirst};
+ghost use Rattle.meta_declared.specs.Searched.{IsCleanBefore, IsRefusedFirst, IsUnshared, IsSharedName};
 ghost use Rattle.meta_declared.specs.BuiltInstructions.{IsBuiltAt, AreInstructionsOf};
 
 use super::declared_set::DeclaredSet;
@@ -19,6 +19,29 @@ fn is_refused_first(built: &Result<InstructionContent, DefinitionError>) -> bool
         Err(DefinitionError::BadName(_) | DefinitionError::OutOfMemory) => true,
         _ => false,
     }
+}
+
+/// Adds the name of the instruction at this place, counted from 0, to `names`, which are those of the earlier ones. It is refused
+/// where it can't stand beside one of them.
+fn add_name<'d>(
+    alloc: Global,
+    set: &'d DeclaredSet,
+    place: usize,
+    names: &mut EarlierNames<'d>,
+) -> Result<(), DefinitionError>
+    requires few { length set.now.instructions ≤ 4095 }
+    requires within { place < length set.now.instructions }
+    requires kept { names.old ≡ take place (names_of set.now) }
+    ensures kept { OnOk result (names.new ≡ take (place + 1) (names_of set.now)) }
+    ensures unshared { OnOk result (IsUnshared set.now place) }
+    ensures refused { IfErr result (λ e. e ≢ OutOfMemory → IsSharedName set.now place e) }
+{
+    let builder = set.instructions().get(place);
+    if let Some(earlier) = names.add(alloc, builder.name())? {
+        let place = Place::Instruction(place as u64 + 1);
+        return Err(DefinitionError::DuplicateName(place, earlier as u64 + 1));
+    }
+    Ok(())
 }
 
 /// The instruction at this place, counted from 0, as it is built, where no fault is shown before and `names` are those of the
@@ -39,16 +62,11 @@ fn built_instruction<'d>(
     ensures refused { IfErr result (λ e. e ≢ OutOfMemory → IsFirstFault set.now e) }
 {
     let builder = set.instructions().get(place);
-    let number = place as u64 + 1;
-    let built = builder.build(alloc, set.vars(), set.formats(), number);
+    let built = builder.build(alloc, set.vars(), set.formats(), place as u64 + 1);
     if is_refused_first(&built) {
         return built;
     }
-    if let Some(earlier) = names.add(alloc, builder.name())? {
-        let place = Place::Instruction(number);
-        return Err(DefinitionError::DuplicateName(place, earlier as u64 + 1));
-    }
-    built
+    add_name(alloc, set, place, names).and(built)
 }
 
 /// The instructions as they are built, in their order, where no fault is shown before. They are refused by the first fault, if one

@@ -1,7 +1,8 @@
-use Rattle.std.proofs.Common.{◌≢◌, length, refl, rules}
+use Rattle.std.proofs.Common.{length, refl}
 use Rattle.std.proofs.lemmas.Option.{slice_get_read}
-use Rattle.meta_types.specs.declared.fault.DefinitionError.TheVariants.{OutOfMemory}
+use Rattle.std.proofs.lemmas.Result.{IfOk-from_err}
 use Rattle.meta_declared.specs.AllDeclared.{IsFirstOfGroups}
+use Rattle.meta_declared.proofs.Refusals.{handed_on}
 use Rattle.meta_declared.proofs.GroupsSoFar.{first_here, groups_next, all_valid, all_built}
 use Rattle.meta_declared.proofs.built.build_groups.Goals as goal
 
@@ -23,5 +24,22 @@ returns-in_err-build-clause-refused c =
     let groups = c.args.groups.now in
     let k = c.loop-number.number in
     let at = slice_get_read groups (length groups) k c.index-groups-number.result refl c.loop-number-test.true c.index-groups-number.is in
-    let first : c.in_err-build.field-0.0 ≢ OutOfMemory → IsFirstOfGroups groups c.in_err-build.field-0.0 = λ other. first_here groups k _ _ _ at (c.in_err-build.ensures.refused other) c.loop-number.invariant in
-    search rules
+    handed_on _ c.from_residual-in_err-build.result (IsFirstOfGroups groups) c.from_residual-in_err-build.ensures.1 (λ other. first_here groups k _ _ _ at (c.in_err-build.ensures.refused other) c.loop-number.invariant)
+
+pub returns-in_err-built-clause-valid : goal.returns-in_err-built-clause-valid
+returns-in_err-built-clause-valid c = IfOk-from_err c.from_residual.result _ c.from_residual.ensures.0
+
+pub returns-in_err-built-clause-built : goal.returns-in_err-built-clause-built
+returns-in_err-built-clause-built c = IfOk-from_err c.from_residual.result _ c.from_residual.ensures.0
+
+pub returns-in_err-build-clause-valid : goal.returns-in_err-build-clause-valid
+returns-in_err-build-clause-valid c = IfOk-from_err c.from_residual-in_err-build.result _ c.from_residual-in_err-build.ensures.0
+
+pub returns-in_err-build-clause-built : goal.returns-in_err-build-clause-built
+returns-in_err-build-clause-built c = IfOk-from_err c.from_residual-in_err-build.result _ c.from_residual-in_err-build.ensures.0
+
+pub returns-in_err-push-clause-valid : goal.returns-in_err-push-clause-valid
+returns-in_err-push-clause-valid c = IfOk-from_err c.from_residual-in_err-push.result _ c.from_residual-in_err-push.ensures.0
+
+pub returns-in_err-push-clause-built : goal.returns-in_err-push-clause-built
+returns-in_err-push-clause-built c = IfOk-from_err c.from_residual-in_err-push.result _ c.from_residual-in_err-push.ensures.0

@@ -1,7 +1,10 @@
 use Rattle.std.proofs.Common.{◌≡◌, length, subst, sym, ap, ◌∙◌, arith, slice_get, Some, ⊎_elim}
 use Rattle.meta_lists.proofs.Pushed.{get_pushed, one_longer}
 use Rattle.meta_inst.specs.Built.{Built}
+use Rattle.meta_inst.specs.Faults.{IsFirstFault}
 use Rattle.meta_declared.specs.BuiltInstructions.{IsBuiltAt}
+use Rattle.std.proofs.lemmas.Result.{IfOk-from_err}
+use Rattle.meta_declared.proofs.Refusals.{no_fault, handed_on}
 use Rattle.meta_declared.proofs.instructions.built_instructions.Goals as goal
 
 pub loop-place-preserved : goal.loop-place-preserved
@@ -28,3 +31,30 @@ returns-clause-built c = record {
       let declared = ap length c.instructions-2.ensures.instructions in
       omega (arith, declared);
 }
+
+pub returns-in_err-built-clause-clean : goal.returns-in_err-built-clause-clean
+returns-in_err-built-clause-clean c = IfOk-from_err c.from_residual.result _ c.from_residual.ensures.0
+
+pub returns-in_err-built-clause-built : goal.returns-in_err-built-clause-built
+returns-in_err-built-clause-built c = IfOk-from_err c.from_residual.result _ c.from_residual.ensures.0
+
+pub returns-in_err-built-clause-refused : goal.returns-in_err-built-clause-refused
+returns-in_err-built-clause-refused c = no_fault c.from_residual.result _ c.from_residual.ensures.1
+
+pub returns-in_err-built_instruction-clause-clean : goal.returns-in_err-built_instruction-clause-clean
+returns-in_err-built_instruction-clause-clean c = IfOk-from_err c.from_residual-in_err-built_instruction.result _ c.from_residual-in_err-built_instruction.ensures.0
+
+pub returns-in_err-built_instruction-clause-built : goal.returns-in_err-built_instruction-clause-built
+returns-in_err-built_instruction-clause-built c = IfOk-from_err c.from_residual-in_err-built_instruction.result _ c.from_residual-in_err-built_instruction.ensures.0
+
+pub returns-in_err-built_instruction-clause-refused : goal.returns-in_err-built_instruction-clause-refused
+returns-in_err-built_instruction-clause-refused c = handed_on _ c.from_residual-in_err-built_instruction.result (IsFirstFault c.args.set.now) c.from_residual-in_err-built_instruction.ensures.1 c.in_err-built_instruction.ensures.refused
+
+pub returns-in_err-push-clause-clean : goal.returns-in_err-push-clause-clean
+returns-in_err-push-clause-clean c = IfOk-from_err c.from_residual-in_err-push.result _ c.from_residual-in_err-push.ensures.0
+
+pub returns-in_err-push-clause-built : goal.returns-in_err-push-clause-built
+returns-in_err-push-clause-built c = IfOk-from_err c.from_residual-in_err-push.result _ c.from_residual-in_err-push.ensures.0
+
+pub returns-in_err-push-clause-refused : goal.returns-in_err-push-clause-refused
+returns-in_err-push-clause-refused c = no_fault c.from_residual-in_err-push.result _ c.from_residual-in_err-push.ensures.1

@@ -1,5 +1,6 @@
 use Rattle.std.proofs.Common.{◌≤◌, length, arith, refl, sym, subst}
 use Rattle.std.proofs.lemmas.Option.{slice_get_read}
+use Rattle.std.proofs.lemmas.Result.{IfOk-from_err}
 use Rattle.meta_inst.specs.Instruction.{Instruction}
 use Rattle.meta_inst.specs.InstructionSet.{root_sets}
 use Rattle.meta_declared.specs.BuiltInstructions.{IsBuiltAt}
@@ -47,3 +48,6 @@ returns c =
     let past = c.loop-place-test.false in
     let end : length c.args.set.now.instructions ≤ c.loop-place.place = omega arith in
     all_interned c.args.set.now c.loop-place.place c.loop-place.type_sets end c.loop-place.invariant
+
+pub returns-in_err-intern_instruction : goal.returns-in_err-intern_instruction
+returns-in_err-intern_instruction c = IfOk-from_err c.from_residual.result _ c.from_residual.ensures.0
