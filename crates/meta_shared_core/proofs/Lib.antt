@@ -3,6 +3,7 @@ mod Numbered
 mod Tests
 mod Parts
 mod Added
+mod SettingRows
 mod Rooted
 pub mod Growing
 pub mod Made

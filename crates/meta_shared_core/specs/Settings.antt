@@ -1,7 +1,7 @@
 -- The group of settings that all targets share.
 --     setting_of row           the setting that a row describes
 --     IsSharedGroup g          the group `shared`
-use Rattle.std.specs.Prelude.{◌≡◌, ℕ, List, [], ◌∷◌, map, codes}
+use Rattle.std.specs.Prelude.{◌≡◌, ℕ, List, [], ◌∷◌, ◌++◌, map, codes}
 use Rattle.std.specs.Borrow.{Bor}
 use Rattle.meta_settings.specs.GroupDeclaration.{SettingDeclaration, GroupDeclaration}
 use Rattle.meta_settings.specs.declared.proto.ProtoSpecificSetting.{ProtoSpecificSetting}
@@ -46,6 +46,12 @@ setting_names =
 abbrev pub texts_of : List (Bor (List ℕ)) → List (List ℕ)
 texts_of texts = map (λ text. text.now) texts
 
+-- the values of an enum, and none of another setting
+abbrev pub values_of : Choice → List (List ℕ)
+values_of (Bool default) = []
+values_of (Enum values) = texts_of values.now
+values_of (Num default) = []
+
 -- what a setting is
 abbrev pub specific_of : Choice → ProtoSpecificSetting
 specific_of (Bool default) = ABool default
@@ -62,6 +68,16 @@ setting_name row = row.name.now
 -- the rows have the names of the settings
 pub record AreSettingRows (rows : List SettingRow) : Type 0 where
   pub are_named : map setting_name rows ≡ setting_names
+
+-- the group with these settings besides
+abbrev pub with_settings : GroupDeclaration → List SettingDeclaration → GroupDeclaration
+with_settings d settings = record d { settings = d.settings ++ settings }
+
+-- the group has a setting of each name besides, in order, as a row describes it
+pub record HasSharedSettings (before after : GroupDeclaration) : Type 0 where
+  pub rows : List SettingRow
+  pub are_rows : AreSettingRows rows
+  pub is : after ≡ with_settings before (map setting_of rows)
 
 -- the group of that name, with a setting of each name, in order, as a row describes it, and without presets
 pub record IsSharedGroup (g : GroupDeclaration) : Type 0 where

@@ -1,8 +1,8 @@
 //! The group of settings that all targets share.
-ghost use Rattle.std.specs.Prelude.{◌≡◌, ◌+◌, ◌<◌, ◌^◌, IfOk, OnOk, map};
+ghost use Rattle.std.specs.Prelude.{◌≡◌, ◌+◌, ◌<◌, ◌^◌, [], IfOk, OnOk, length, map, take, drop};
 ghost use Rattle.meta_settings.specs.GroupDeclaration.{entry_count};
 ghost use Rattle.meta_settings.specs.Declaring.{with_setting};
-ghost use Rattle.meta_shared_core.specs.Settings.{texts_of, setting_of, AreSettingRows, IsSharedGroup};
+ghost use Rattle.meta_shared_core.specs.Settings.{texts_of, values_of, setting_of, setting_name, setting_names, with_settings, HasSharedSettings, IsSharedGroup};
 
 use meta_settings::SettingGroupBuilder;
 use meta_types::Text;
@@ -39,8 +39,8 @@ macro_rules! settings {
     };
 }
 
-/// The settings in the order of their declaration.
-static SETTINGS: [SettingRow; 27] = settings! {
+/// The first 13 settings, in the order of their declaration.
+static FIRST_SETTINGS: [SettingRow; 13] = settings! {
     regalloc_checker: bool(false) "Enable the symbolic checker for register allocation.";
     regalloc_verbose_logs: bool(false) "Enable verbose debug logs for regalloc2.";
     regalloc_algorithm: enum(backtracking single_pass) "Algorithm to use in register allocator.";
@@ -54,6 +54,17 @@ static SETTINGS: [SettingRow; 27] = settings! {
     tls_model: enum(none elf_gd macho coff) "Defines the model used to perform TLS accesses.";
     stack_switch_model: enum(none basic update_windows_tib) "Defines the model used to performing stack switching.";
     libcall_call_conv: enum(isa_default fast system_v windows_fastcall apple_aarch64 probestack preserve_all) "Defines the calling convention to use for LibCalls call expansion.";
+};
+
+/// Their rows.
+fn first_rows() -> &'static [SettingRow]
+    ensures { map setting_name result.now ≡ take 13 setting_names }
+{
+    &FIRST_SETTINGS
+}
+
+/// The 14 settings behind them.
+static LAST_SETTINGS: [SettingRow; 14] = settings! {
     enable_llvm_abi_extensions: bool(false) "Enable various ABI extensions defined by LLVM's behavior.";
     enable_multi_ret_implicit_sret: bool(false) "Enable support for sret arg introduction when there are too many ret vals.";
     unwind_info: bool(true) "Generate unwind information.";
@@ -70,11 +81,11 @@ static SETTINGS: [SettingRow; 27] = settings! {
     enable_compact_unwind_abi: bool(false) "Enable Mach-O compact unwind compatible code emission.";
 };
 
-/// The rows of the table.
-fn rows() -> &'static [SettingRow]
-    ensures { AreSettingRows result.now }
+/// Their rows.
+fn last_rows() -> &'static [SettingRow]
+    ensures { map setting_name result.now ≡ drop 13 setting_names }
 {
-    &SETTINGS
+    &LAST_SETTINGS
 }
 
 /// Texts of their own.
@@ -88,6 +99,27 @@ fn texts(alloc: Global, values: &[&str]) -> Result<Vec<Text>, AllocError>
     Ok(texts)
 }
 
+/// The texts of the values, where the setting is an enum, and none else.
+fn values_of(alloc: Global, choice: Choice) -> Result<Vec<Text>, AllocError>
+    ensures { IfOk result (λ v. v.items ≡ values_of choice) }
+{
+    match choice {
+        Choice::Enum(values) => texts(alloc, values),
+        Choice::Bool(_) | Choice::Num(_) => Ok(Vec::new(alloc)),
+    }
+}
+
+/// The name, the description and the comment of a row, of which the last is empty.
+fn labels(alloc: Global, row: &SettingRow) -> Result<(Text, Text, Text), AllocError>
+    ensures name { IfOk result (λ t. t.0 ≡ row.now.name.now) }
+    ensures description { IfOk result (λ t. t.1 ≡ row.now.description.now) }
+    ensures comment { IfOk result (λ t. t.2 ≡ []) }
+{
+    let name = Text::new(alloc, row.name)?;
+    let description = Text::new(alloc, row.description)?;
+    Ok((name, description, Text::new(alloc, "")?))
+}
+
 /// Adds the setting of a row.
 fn add_setting(
     alloc: Global,
@@ -97,17 +129,40 @@ fn add_setting(
     requires { entry_count group.old + 1 < 2 ^ 32 }
     ensures { OnOk result (group.new ≡ with_setting group.old (setting_of row.now)) }
 {
-    let name = Text::new(alloc, row.name)?;
-    let description = Text::new(alloc, row.description)?;
-    let comment = Text::new(alloc, "")?;
+    let values = values_of(alloc, row.choice)?;
+    let (name, description, comment) = labels(alloc, row)?;
     match row.choice {
         Choice::Bool(default) => {
             group.add_bool(name, description, comment, default)?;
             Ok(())
         }
-        Choice::Enum(values) => group.add_enum(name, description, comment, texts(alloc, values)?),
+        Choice::Enum(_) => group.add_enum(name, description, comment, values),
         Choice::Num(default) => group.add_num(name, description, comment, default),
     }
+}
+
+/// Adds the settings of rows, in order.
+fn add_settings(
+    alloc: Global,
+    group: &mut SettingGroupBuilder,
+    rows: &[SettingRow],
+) -> Result<(), AllocError>
+    requires { entry_count group.old + length rows.now < 2 ^ 32 }
+    ensures { OnOk result (group.new ≡ with_settings group.old (map setting_of rows.now)) }
+{
+    for row in rows {
+        add_setting(alloc, group, row)?;
+    }
+    Ok(())
+}
+
+/// Adds all 27 settings, in order.
+fn add_all(alloc: Global, group: &mut SettingGroupBuilder) -> Result<(), AllocError>
+    requires { entry_count group.old + 27 < 2 ^ 32 }
+    ensures { OnOk result (HasSharedSettings group.old group.new) }
+{
+    add_settings(alloc, group, first_rows())?;
+    add_settings(alloc, group, last_rows())
 }
 
 /// The group `shared`, with its 27 settings.
@@ -115,8 +170,6 @@ pub fn define(alloc: Global) -> Result<SettingGroupBuilder, AllocError>
     ensures { IfOk result IsSharedGroup }
 {
     let mut group = SettingGroupBuilder::new(alloc, Text::new(alloc, "shared")?);
-    for row in rows() {
-        add_setting(alloc, &mut group, row)?;
-    }
+    add_all(alloc, &mut group)?;
     Ok(group)
 }

@@ -1,4 +1,5 @@
 use Rattle.std.proofs.Common.{ap, sym, subst, refl, ◌∙◌, Some}
+use Rattle.std.proofs.lemmas.Result.{IfOk-from_err}
 use Rattle.meta_inst.specs.Builder.{Builder}
 use Rattle.meta_shared_core.specs.Rows.{IsBuilderOf, marks_added}
 use Rattle.meta_shared_core.proofs.Growing.{meant_grows, grows_more, operands_grow}
@@ -26,3 +27,21 @@ returns-clause-builder c = subst (IsBuilderOf c.operands-2.new.vars c.args.names
       marks = refl;
       second = refl;
     })
+
+pub returns-in_err-inputs-clause-builder : goal.returns-in_err-inputs-clause-builder
+returns-in_err-inputs-clause-builder c = IfOk-from_err c.from_residual.result _ c.from_residual.ensures.0
+
+pub returns-in_err-inputs-clause-grows : goal.returns-in_err-inputs-clause-grows
+returns-in_err-inputs-clause-grows c = IfOk-from_err c.from_residual.result _ c.from_residual.ensures.0
+
+pub returns-in_err-outputs-clause-builder : goal.returns-in_err-outputs-clause-builder
+returns-in_err-outputs-clause-builder c = IfOk-from_err c.from_residual-in_err-outputs.result _ c.from_residual-in_err-outputs.ensures.0
+
+pub returns-in_err-outputs-clause-grows : goal.returns-in_err-outputs-clause-grows
+returns-in_err-outputs-clause-grows c = IfOk-from_err c.from_residual-in_err-outputs.result _ c.from_residual-in_err-outputs.ensures.0
+
+pub returns-in_err-builder-clause-builder : goal.returns-in_err-builder-clause-builder
+returns-in_err-builder-clause-builder c = IfOk-from_err c.from_residual-in_err-builder.result _ c.from_residual-in_err-builder.ensures.0
+
+pub returns-in_err-builder-clause-grows : goal.returns-in_err-builder-clause-grows
+returns-in_err-builder-clause-grows c = IfOk-from_err c.from_residual-in_err-builder.result _ c.from_residual-in_err-builder.ensures.0

@@ -1,4 +1,5 @@
 use Rattle.std.proofs.Common.{◌+◌, List, [], Bor, subst, arith}
+use Rattle.std.proofs.lemmas.Result.{IfOk-from_err}
 use Rattle.meta_shared_core.specs.declared.row.Row.{Row}
 use Rattle.meta_shared_core.specs.Rows.{AddsRows}
 use Rattle.meta_shared_core.proofs.Growing.{meant_grows, grows_more, grows_to, grown_count}
@@ -23,3 +24,9 @@ loop-rows-preserved c = record {
   adds = subst (λ rows. AddsRows c.push_rows.new.vars c.args.names.now rows c.args.all.now c.push_rows.new.all) (rows_in_more c.args.tables.now c.loop-rows.rows-index _ c.loop-rows-test.true) (adds_joined _ _ _ _ _ _ _ _ _ c.in_ok-push_rows.ensures.grows c.loop-rows.invariant.adds c.in_ok-push_rows.ensures.rows);
   grows = grows_to (table_derives c.args.tables.now c.loop-rows.rows-index _ c.loop-rows-test.true) (grows_more c.loop-rows.invariant.grows c.in_ok-push_rows.ensures.grows);
 }
+
+pub returns-in_err-push_rows-clause-rows : goal.returns-in_err-push_rows-clause-rows
+returns-in_err-push_rows-clause-rows c = IfOk-from_err c.from_residual.result _ c.from_residual.ensures.0
+
+pub returns-in_err-push_rows-clause-grows : goal.returns-in_err-push_rows-clause-grows
+returns-in_err-push_rows-clause-grows c = IfOk-from_err c.from_residual.result _ c.from_residual.ensures.0

@@ -1,4 +1,5 @@
 use Rattle.std.proofs.Common.{subst, sym, ◌∙◌}
+use Rattle.std.proofs.lemmas.Result.{IfOk-from_err}
 use Rattle.meta_lists.proofs.Results.{on_err}
 use Rattle.meta_shared_core.specs.Formats.{AreNumbered}
 use Rattle.meta_shared_core.proofs.Numbered.{numbered_more}
@@ -18,3 +19,15 @@ returns-in_err-add_format-clause-front c = on_err c.from_residual.result (front 
 pub returns-in_err-push-clause-front : goal.returns-in_err-push-clause-front
 returns-in_err-push-clause-front c = on_err c.from_residual-in_err-push.result
     (front _ _ _ _ _ _ c.rows-rows.ensures (formats_more _ _ _ _ _ _ _ _ c.loop-k-test.true c.loop-k.invariant.formats c.in_ok-add_format.ensures.added))
+
+pub returns-in_err-add_format-clause-added : goal.returns-in_err-add_format-clause-added
+returns-in_err-add_format-clause-added c = IfOk-from_err c.from_residual.result _ c.from_residual.ensures.0
+
+pub returns-in_err-add_format-clause-numbers : goal.returns-in_err-add_format-clause-numbers
+returns-in_err-add_format-clause-numbers c = IfOk-from_err c.from_residual.result _ c.from_residual.ensures.0
+
+pub returns-in_err-push-clause-added : goal.returns-in_err-push-clause-added
+returns-in_err-push-clause-added c = IfOk-from_err c.from_residual-in_err-push.result _ c.from_residual-in_err-push.ensures.0
+
+pub returns-in_err-push-clause-numbers : goal.returns-in_err-push-clause-numbers
+returns-in_err-push-clause-numbers c = IfOk-from_err c.from_residual-in_err-push.result _ c.from_residual-in_err-push.ensures.0

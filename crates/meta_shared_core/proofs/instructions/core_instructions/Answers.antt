@@ -1,5 +1,6 @@
 use Rattle.std.proofs.Common.{◌∙◌, ◌++◌, arith, length, length-append, map, sym, ap, subst}
 use Rattle.std.proofs.lemmas.List.{length-map}
+use Rattle.std.proofs.lemmas.Result.{IfOk-from_err}
 use Rattle.meta_shared_core.specs.CoreNames.{core_names}
 use Rattle.meta_shared_core.specs.Roots.{AreRoots}
 use Rattle.meta_shared_core.specs.Words.{Meanings, AreMeant}
@@ -49,3 +50,39 @@ returns-clause-few c =
     let count = c.in_ok-roots.ensures.count in
     let derived = c.core_tables.ensures.are_derived in
     omega (arith, ap length grows.is, length-append c.new.new.vars grows.more, grows.few)
+
+pub returns-in_err-roots-clause-roots : goal.returns-in_err-roots-clause-roots
+returns-in_err-roots-clause-roots c = IfOk-from_err c.from_residual.result _ c.from_residual.ensures.0
+
+pub returns-in_err-roots-clause-numbers : goal.returns-in_err-roots-clause-numbers
+returns-in_err-roots-clause-numbers c = IfOk-from_err c.from_residual.result _ c.from_residual.ensures.0
+
+pub returns-in_err-roots-clause-few : goal.returns-in_err-roots-clause-few
+returns-in_err-roots-clause-few c = IfOk-from_err c.from_residual.result _ c.from_residual.ensures.0
+
+pub returns-in_err-roots-clause-names : goal.returns-in_err-roots-clause-names
+returns-in_err-roots-clause-names c = IfOk-from_err c.from_residual.result _ c.from_residual.ensures.0
+
+pub returns-in_err-roots-clause-count : goal.returns-in_err-roots-clause-count
+returns-in_err-roots-clause-count c = IfOk-from_err c.from_residual.result _ c.from_residual.ensures.0
+
+pub returns-in_err-roots-clause-fit : goal.returns-in_err-roots-clause-fit
+returns-in_err-roots-clause-fit c = IfOk-from_err c.from_residual.result _ c.from_residual.ensures.0
+
+pub returns-in_err-push_tables-clause-roots : goal.returns-in_err-push_tables-clause-roots
+returns-in_err-push_tables-clause-roots c = IfOk-from_err c.from_residual-in_err-push_tables.result _ c.from_residual-in_err-push_tables.ensures.0
+
+pub returns-in_err-push_tables-clause-numbers : goal.returns-in_err-push_tables-clause-numbers
+returns-in_err-push_tables-clause-numbers c = IfOk-from_err c.from_residual-in_err-push_tables.result _ c.from_residual-in_err-push_tables.ensures.0
+
+pub returns-in_err-push_tables-clause-few : goal.returns-in_err-push_tables-clause-few
+returns-in_err-push_tables-clause-few c = IfOk-from_err c.from_residual-in_err-push_tables.result _ c.from_residual-in_err-push_tables.ensures.0
+
+pub returns-in_err-push_tables-clause-names : goal.returns-in_err-push_tables-clause-names
+returns-in_err-push_tables-clause-names c = IfOk-from_err c.from_residual-in_err-push_tables.result _ c.from_residual-in_err-push_tables.ensures.0
+
+pub returns-in_err-push_tables-clause-count : goal.returns-in_err-push_tables-clause-count
+returns-in_err-push_tables-clause-count c = IfOk-from_err c.from_residual-in_err-push_tables.result _ c.from_residual-in_err-push_tables.ensures.0
+
+pub returns-in_err-push_tables-clause-fit : goal.returns-in_err-push_tables-clause-fit
+returns-in_err-push_tables-clause-fit c = IfOk-from_err c.from_residual-in_err-push_tables.result _ c.from_residual-in_err-push_tables.ensures.0

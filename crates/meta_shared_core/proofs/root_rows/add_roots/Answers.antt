@@ -1,4 +1,5 @@
 use Rattle.std.proofs.Common.{subst, sym, arith}
+use Rattle.std.proofs.lemmas.Result.{IfOk-from_err}
 use Rattle.meta_shared_core.specs.RootRows.{AreAdded, can_build_row}
 use Rattle.meta_shared_core.proofs.Tests.{passes_at}
 use Rattle.meta_shared_core.proofs.Rooted.{added_counted, added_more, row_count}
@@ -17,3 +18,9 @@ add_root-requires-clause-buildable c = passes_at can_build_row c.rows-rows.resul
 pub loop-k-preserved : goal.loop-k-preserved
 loop-k-preserved c = subst (AreAdded _ _) (sym c.in_ok-push.ensures.items)
     (added_more _ _ _ _ _ _ _ c.loop-k-test.true c.loop-k.invariant c.in_ok-add_root.ensures.number c.in_ok-add_root.ensures.added)
+
+pub returns-in_err-add_root : goal.returns-in_err-add_root
+returns-in_err-add_root c = IfOk-from_err c.from_residual.result _ c.from_residual.ensures.0
+
+pub returns-in_err-push : goal.returns-in_err-push
+returns-in_err-push c = IfOk-from_err c.from_residual-in_err-push.result _ c.from_residual-in_err-push.ensures.0

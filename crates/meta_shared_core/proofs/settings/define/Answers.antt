@@ -1,5 +1,5 @@
-use Rattle.std.proofs.Common.{rules}
+use Rattle.meta_shared_core.proofs.SettingRows.{shared}
 use Rattle.meta_shared_core.proofs.settings.define.Goals as goal
 
-pub loop-row-init : goal.loop-row-init
-loop-row-init c = search rules
+pub returns : goal.returns
+returns c = shared _ _ _ c.new-group.ensures c.in_ok-new.ensures c.in_ok-add_all.ensures

@@ -1,3 +1,4 @@
+use Rattle.std.proofs.lemmas.Result.{IfOk-from_err}
 use Rattle.meta_shared_core.proofs.Added.{all_counted}
 use Rattle.meta_shared_core.proofs.Numbered.{numbered_from, numbered_below}
 use Rattle.meta_shared_core.proofs.formats.Formats.new.Goals as goal
@@ -10,3 +11,15 @@ returns-clause-numbers c = numbered_from _ _ _ _ c.in_ok-ids.ensures.numbers c.d
 
 pub returns-clause-of : goal.returns-clause-of
 returns-clause-of c = numbered_below _ _ _ (numbered_from _ _ _ _ c.in_ok-ids.ensures.numbers c.deref.ensures.value c.named.ensures) (all_counted _ _ _ _ c.in_ok-ids.ensures.added)
+
+pub returns-in_err-ids-clause-added : goal.returns-in_err-ids-clause-added
+returns-in_err-ids-clause-added c = IfOk-from_err c.from_residual.result _ c.from_residual.ensures.0
+
+pub returns-in_err-ids-clause-count : goal.returns-in_err-ids-clause-count
+returns-in_err-ids-clause-count c = IfOk-from_err c.from_residual.result _ c.from_residual.ensures.0
+
+pub returns-in_err-ids-clause-numbers : goal.returns-in_err-ids-clause-numbers
+returns-in_err-ids-clause-numbers c = IfOk-from_err c.from_residual.result _ c.from_residual.ensures.0
+
+pub returns-in_err-ids-clause-of : goal.returns-in_err-ids-clause-of
+returns-in_err-ids-clause-of c = IfOk-from_err c.from_residual.result _ c.from_residual.ensures.0

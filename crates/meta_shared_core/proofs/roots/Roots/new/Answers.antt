@@ -1,5 +1,6 @@
 use Rattle.std.proofs.Common.{◌∙◌, ◌+◌, length, subst, sym, ap, arith}
 use Rattle.std.proofs.lemmas.List.{length-append}
+use Rattle.std.proofs.lemmas.Result.{IfOk-from_err}
 use Rattle.meta_typevar.specs.Variable.{Variable}
 use Rattle.meta_shared_core.specs.Formats.{AreNumbered}
 use Rattle.meta_shared_core.specs.Roots.{IsRootWith, set_of_root}
@@ -27,3 +28,39 @@ returns-clause-roots c root = subst (λ v. IsRootWith c.copy_from.new.vars v (se
 
 pub returns-clause-count : goal.returns-clause-count
 returns-clause-count c = ap length c.in_ok-copy_from.ensures.added ∙ (length-append c.add_roots.new.vars _ ∙ ap (λ n. n + 1) (vars_counted c.in_ok-found.ensures))
+
+pub returns-in_err-found-clause-numbers : goal.returns-in_err-found-clause-numbers
+returns-in_err-found-clause-numbers c = IfOk-from_err c.from_residual.result _ c.from_residual.ensures.0
+
+pub returns-in_err-found-clause-roots : goal.returns-in_err-found-clause-roots
+returns-in_err-found-clause-roots c = IfOk-from_err c.from_residual.result _ c.from_residual.ensures.0
+
+pub returns-in_err-found-clause-count : goal.returns-in_err-found-clause-count
+returns-in_err-found-clause-count c = IfOk-from_err c.from_residual.result _ c.from_residual.ensures.0
+
+pub returns-in_err-new-clause-numbers : goal.returns-in_err-new-clause-numbers
+returns-in_err-new-clause-numbers c = IfOk-from_err c.from_residual-in_err-new.result _ c.from_residual-in_err-new.ensures.0
+
+pub returns-in_err-new-clause-roots : goal.returns-in_err-new-clause-roots
+returns-in_err-new-clause-roots c = IfOk-from_err c.from_residual-in_err-new.result _ c.from_residual-in_err-new.ensures.0
+
+pub returns-in_err-new-clause-count : goal.returns-in_err-new-clause-count
+returns-in_err-new-clause-count c = IfOk-from_err c.from_residual-in_err-new.result _ c.from_residual-in_err-new.ensures.0
+
+pub returns-in_err-copy_from-clause-numbers : goal.returns-in_err-copy_from-clause-numbers
+returns-in_err-copy_from-clause-numbers c = IfOk-from_err c.from_residual-in_err-copy_from.result _ c.from_residual-in_err-copy_from.ensures.0
+
+pub returns-in_err-copy_from-clause-roots : goal.returns-in_err-copy_from-clause-roots
+returns-in_err-copy_from-clause-roots c = IfOk-from_err c.from_residual-in_err-copy_from.result _ c.from_residual-in_err-copy_from.ensures.0
+
+pub returns-in_err-copy_from-clause-count : goal.returns-in_err-copy_from-clause-count
+returns-in_err-copy_from-clause-count c = IfOk-from_err c.from_residual-in_err-copy_from.result _ c.from_residual-in_err-copy_from.ensures.0
+
+pub returns-in_err-push-clause-numbers : goal.returns-in_err-push-clause-numbers
+returns-in_err-push-clause-numbers c = IfOk-from_err c.from_residual-in_err-push.result _ c.from_residual-in_err-push.ensures.0
+
+pub returns-in_err-push-clause-roots : goal.returns-in_err-push-clause-roots
+returns-in_err-push-clause-roots c = IfOk-from_err c.from_residual-in_err-push.result _ c.from_residual-in_err-push.ensures.0
+
+pub returns-in_err-push-clause-count : goal.returns-in_err-push-clause-count
+returns-in_err-push-clause-count c = IfOk-from_err c.from_residual-in_err-push.result _ c.from_residual-in_err-push.ensures.0
