@@ -8,6 +8,7 @@ pub mod Finding
 pub mod Sameness
 -- the entries of the tables
 mod Describing
+mod Variants
 pub mod Overlapping
 mod Flags
 mod Held

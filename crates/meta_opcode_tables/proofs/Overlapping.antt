@@ -1,48 +1,30 @@
 -- Lists of constraints that overlap.
-use Rattle.std.proofs.Common.{rules, ◌≡◌, ◌≤◌, ◌<◌, ◌+◌, ℕ, true, List, [], ◌∷◌, ◌++◌, length, take, drop, slice_get, Some, refl, sym, ap, ◌∙◌, subst, arith, length-append}
+use Rattle.std.proofs.Common.{◌≡◌, ◌≤◌, ◌<◌, ◌+◌, ℕ, eqb, true, List, [], ◌∷◌, ◌++◌, length, take, drop, slice_get, Some, refl, sym, ap, ◌∙◌, subst, arith, length-append}
 use Rattle.std.specs.Bool.{Decides}
 use Rattle.std.specs.List.{starts_with}
 use Rattle.std.specs.Cmp.Lexicographic.{pointwise, pointwise_decides}
 use Rattle.std.proofs.Math.Seq.{take-append_seam, drop-append_seam, take-length}
 use Rattle.std.proofs.lemmas.List.Sums.{fold-append}
+use Rattle.std.proofs.lemmas.Bool.{eqb-true, eq-eqb}
 use Rattle.std.proofs.lemmas.Option.{slice_get_within}
 use Rattle.meta_lists.proofs.Places.{get_take, get_drop}
 use Rattle.meta_unique.specs.Overlap.{AreAlike, added, added_at, stands_at, IsShortest}
 use Rattle.meta_opcode_tables.specs.Entries.{StaysIn}
 use Rattle.meta_opcode_tables.specs.ConstraintLists.{same_constraint, three_same, overlapped}
 use Rattle.meta_opcode_tables.specs.declared.constraint.Constraint.{Constraint}
-use Rattle.meta_opcode_tables.specs.declared.constraint.Constraint.TheVariants.{Concrete, Free, Same, LaneOf, AsTruthy, HalfWidth, DoubleWidth, SplitLanes, MergeLanes, DynamicToVector, Narrower, Wider, Same2, LaneOf2, AsTruthy2, HalfWidth2, DoubleWidth2, SplitLanes2, MergeLanes2, DynamicToVector2, Narrower2, Wider2}
+use Rattle.meta_opcode_tables.specs.contracts.constraint.Constraint.{enum}
+use Rattle.meta_opcode_tables.proofs.Variants.{by_decides}
 
-pub same_is : (a b : Constraint) → same_constraint a b ≡ true → a ≡ b
-same_is (Concrete m) b e = search rules
-same_is (Free m) b e = search rules
-same_is Same b e = search rules
-same_is LaneOf b e = search rules
-same_is AsTruthy b e = search rules
-same_is HalfWidth b e = search rules
-same_is DoubleWidth b e = search rules
-same_is SplitLanes b e = search rules
-same_is MergeLanes b e = search rules
-same_is DynamicToVector b e = search rules
-same_is Narrower b e = search rules
-same_is Wider b e = search rules
-same_is Same2 b e = search rules
-same_is LaneOf2 b e = search rules
-same_is AsTruthy2 b e = search rules
-same_is HalfWidth2 b e = search rules
-same_is DoubleWidth2 b e = search rules
-same_is SplitLanes2 b e = search rules
-same_is MergeLanes2 b e = search rules
-same_is DynamicToVector2 b e = search rules
-same_is Narrower2 b e = search rules
-same_is Wider2 b e = search rules
+-- the fields of two values of a variant that has one number, and of one that has none
+number : (x y : ℕ × Unit {0}) → Decides (eqb x.0 y.0) (x ≡ y)
+number x y = (λ e. ap (λ (n : ℕ). (n, tt {0})) (eqb-true x.0 y.0 e), λ e. eq-eqb x.0 y.0 (ap (λ (z : ℕ × Unit {0}). z.0) e))
 
-pub is_same : (a b : Constraint) → a ≡ b → same_constraint a b ≡ true
-is_same a b e = search rules
+none : (x y : Unit {0}) → Decides true (x ≡ y)
+none x y = (λ e. refl, λ e. refl)
 
 -- whether two compare equal decides whether they are one
 pub decides : (a b : Constraint) → Decides (same_constraint a b) (a ≡ b)
-decides a b = (same_is a b, is_same a b)
+decides = by_decides enum _ (number, (number, (none, (none, (none, (none, (none, (none, (none, (none, (none, (none, (none, (none, (none, (none, (none, (none, (none, (none, (none, (none, tt {0}))))))))))))))))))))))
 
 -- equal lists are one
 alike : (xs ys : List Constraint) → pointwise same_constraint xs ys ≡ true → xs ≡ ys

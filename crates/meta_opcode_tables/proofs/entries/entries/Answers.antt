@@ -1,6 +1,7 @@
 use Rattle.std.proofs.Common.{ℕ, ◌<◌, ◌≤◌, ◌+◌, ◌*◌, ◌≡◌, arith, refl, sym, ap, ◌∙◌, subst, length, slice_get, [], ◌∷◌, ◌++◌, List, Some}
 use Rattle.std.proofs.lemmas.Option.{slice_get_read, slice_get_within}
 use Rattle.std.proofs.lemmas.List.Elements.{All-nil, All-push, All-same}
+use Rattle.std.proofs.lemmas.Result.{IfOk-from_err}
 use Rattle.meta_lists.proofs.Pushed.{one_longer}
 use Rattle.meta_inst.specs.Built.{Built}
 use Rattle.meta_inst.specs.Instruction.{Instruction}
@@ -97,3 +98,63 @@ returns-clause-count c =
     let built = c.instructions-instructions.ensures.built.count in
     let same = ap (length {A = Built}) c.instructions-instructions.ensures.instructions in
     omega arith
+
+pub returns-in_err-constraints-clause-count : goal.returns-in_err-constraints-clause-count
+returns-in_err-constraints-clause-count c = IfOk-from_err c.from_residual.result _ c.from_residual.ensures.0
+
+pub returns-in_err-constraints-clause-bytes : goal.returns-in_err-constraints-clause-bytes
+returns-in_err-constraints-clause-bytes c = IfOk-from_err c.from_residual.result _ c.from_residual.ensures.0
+
+pub returns-in_err-constraints-clause-holds : goal.returns-in_err-constraints-clause-holds
+returns-in_err-constraints-clause-holds c = IfOk-from_err c.from_residual.result _ c.from_residual.ensures.0
+
+pub returns-in_err-constraints-clause-added : goal.returns-in_err-constraints-clause-added
+returns-in_err-constraints-clause-added c = IfOk-from_err c.from_residual.result _ c.from_residual.ensures.0
+
+pub returns-in_err-entries-clause-count : goal.returns-in_err-entries-clause-count
+returns-in_err-entries-clause-count c = IfOk-from_err c.from_residual-in_err-entries.result _ c.from_residual-in_err-entries.ensures.0
+
+pub returns-in_err-entries-clause-bytes : goal.returns-in_err-entries-clause-bytes
+returns-in_err-entries-clause-bytes c = IfOk-from_err c.from_residual-in_err-entries.result _ c.from_residual-in_err-entries.ensures.0
+
+pub returns-in_err-entries-clause-holds : goal.returns-in_err-entries-clause-holds
+returns-in_err-entries-clause-holds c = IfOk-from_err c.from_residual-in_err-entries.result _ c.from_residual-in_err-entries.ensures.0
+
+pub returns-in_err-entries-clause-added : goal.returns-in_err-entries-clause-added
+returns-in_err-entries-clause-added c = IfOk-from_err c.from_residual-in_err-entries.result _ c.from_residual-in_err-entries.ensures.0
+
+pub returns-in_err-entry_of-clause-count : goal.returns-in_err-entry_of-clause-count
+returns-in_err-entry_of-clause-count c = IfOk-from_err c.from_residual-in_err-entry_of.result _ c.from_residual-in_err-entry_of.ensures.0
+
+pub returns-in_err-entry_of-clause-bytes : goal.returns-in_err-entry_of-clause-bytes
+returns-in_err-entry_of-clause-bytes c = IfOk-from_err c.from_residual-in_err-entry_of.result _ c.from_residual-in_err-entry_of.ensures.0
+
+pub returns-in_err-entry_of-clause-holds : goal.returns-in_err-entry_of-clause-holds
+returns-in_err-entry_of-clause-holds c = IfOk-from_err c.from_residual-in_err-entry_of.result _ c.from_residual-in_err-entry_of.ensures.0
+
+pub returns-in_err-entry_of-clause-added : goal.returns-in_err-entry_of-clause-added
+returns-in_err-entry_of-clause-added c = IfOk-from_err c.from_residual-in_err-entry_of.result _ c.from_residual-in_err-entry_of.ensures.0
+
+pub returns-in_err-push-clause-count : goal.returns-in_err-push-clause-count
+returns-in_err-push-clause-count c = IfOk-from_err c.from_residual-in_err-push.result _ c.from_residual-in_err-push.ensures.0
+
+pub returns-in_err-push-clause-bytes : goal.returns-in_err-push-clause-bytes
+returns-in_err-push-clause-bytes c = IfOk-from_err c.from_residual-in_err-push.result _ c.from_residual-in_err-push.ensures.0
+
+pub returns-in_err-push-clause-holds : goal.returns-in_err-push-clause-holds
+returns-in_err-push-clause-holds c = IfOk-from_err c.from_residual-in_err-push.result _ c.from_residual-in_err-push.ensures.0
+
+pub returns-in_err-push-clause-added : goal.returns-in_err-push-clause-added
+returns-in_err-push-clause-added c = IfOk-from_err c.from_residual-in_err-push.result _ c.from_residual-in_err-push.ensures.0
+
+pub returns-in_err-constraints-2-clause-count : goal.returns-in_err-constraints-2-clause-count
+returns-in_err-constraints-2-clause-count c = IfOk-from_err c.from_residual-in_err-constraints-2.result _ c.from_residual-in_err-constraints-2.ensures.0
+
+pub returns-in_err-constraints-2-clause-bytes : goal.returns-in_err-constraints-2-clause-bytes
+returns-in_err-constraints-2-clause-bytes c = IfOk-from_err c.from_residual-in_err-constraints-2.result _ c.from_residual-in_err-constraints-2.ensures.0
+
+pub returns-in_err-constraints-2-clause-holds : goal.returns-in_err-constraints-2-clause-holds
+returns-in_err-constraints-2-clause-holds c = IfOk-from_err c.from_residual-in_err-constraints-2.result _ c.from_residual-in_err-constraints-2.ensures.0
+
+pub returns-in_err-constraints-2-clause-added : goal.returns-in_err-constraints-2-clause-added
+returns-in_err-constraints-2-clause-added c = IfOk-from_err c.from_residual-in_err-constraints-2.result _ c.from_residual-in_err-constraints-2.ensures.0

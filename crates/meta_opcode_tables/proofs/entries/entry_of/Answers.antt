@@ -1,4 +1,5 @@
 use Rattle.std.proofs.Common.{◌≡◌, arith, ℕ, Option, List, length, slice_get, ap, subst, sym, ◌∙◌}
+use Rattle.std.proofs.lemmas.Result.{IfOk-from_err}
 use Rattle.meta_inst.specs.Content.{ctrl_number}
 use Rattle.meta_inst.specs.Operands.{OperandList}
 use Rattle.meta_opcode_tables.specs.Entries.{AreDescribed}
@@ -89,3 +90,33 @@ returns-clause-count c =
     let results = f.results in
     let values = f.values in
     omega arith
+
+pub returns-in_err-list-clause-holds : goal.returns-in_err-list-clause-holds
+returns-in_err-list-clause-holds c = IfOk-from_err c.from_residual.result _ c.from_residual.ensures.0
+
+pub returns-in_err-list-clause-added : goal.returns-in_err-list-clause-added
+returns-in_err-list-clause-added c = IfOk-from_err c.from_residual.result _ c.from_residual.ensures.0
+
+pub returns-in_err-list-clause-stays : goal.returns-in_err-list-clause-stays
+returns-in_err-list-clause-stays c = IfOk-from_err c.from_residual.result _ c.from_residual.ensures.0
+
+pub returns-in_err-list-clause-count : goal.returns-in_err-list-clause-count
+returns-in_err-list-clause-count c = IfOk-from_err c.from_residual.result _ c.from_residual.ensures.0
+
+pub returns-in_err-list-clause-byte : goal.returns-in_err-list-clause-byte
+returns-in_err-list-clause-byte c = IfOk-from_err c.from_residual.result _ c.from_residual.ensures.0
+
+pub returns-in_err-constraint_offset-clause-holds : goal.returns-in_err-constraint_offset-clause-holds
+returns-in_err-constraint_offset-clause-holds c = IfOk-from_err c.from_residual-in_err-constraint_offset.result _ c.from_residual-in_err-constraint_offset.ensures.0
+
+pub returns-in_err-constraint_offset-clause-added : goal.returns-in_err-constraint_offset-clause-added
+returns-in_err-constraint_offset-clause-added c = IfOk-from_err c.from_residual-in_err-constraint_offset.result _ c.from_residual-in_err-constraint_offset.ensures.0
+
+pub returns-in_err-constraint_offset-clause-stays : goal.returns-in_err-constraint_offset-clause-stays
+returns-in_err-constraint_offset-clause-stays c = IfOk-from_err c.from_residual-in_err-constraint_offset.result _ c.from_residual-in_err-constraint_offset.ensures.0
+
+pub returns-in_err-constraint_offset-clause-count : goal.returns-in_err-constraint_offset-clause-count
+returns-in_err-constraint_offset-clause-count c = IfOk-from_err c.from_residual-in_err-constraint_offset.result _ c.from_residual-in_err-constraint_offset.ensures.0
+
+pub returns-in_err-constraint_offset-clause-byte : goal.returns-in_err-constraint_offset-clause-byte
+returns-in_err-constraint_offset-clause-byte c = IfOk-from_err c.from_residual-in_err-constraint_offset.result _ c.from_residual-in_err-constraint_offset.ensures.0

@@ -1,5 +1,6 @@
 use Rattle.std.proofs.Common.{sym, ap, ◌∙◌, [], ◌∷◌, ◌++◌, subst}
 use Rattle.std.specs.Slice.Iter.{iter_rest}
+use Rattle.std.proofs.lemmas.Result.{IfOk-from_err}
 use Rattle.meta_unique.specs.Interning.{pointed_to}
 use Rattle.meta_declared.specs.Needed.{StandForSets}
 use Rattle.meta_opcode_tables.proofs.Masked.{none_stand, one_stands, moved, all_stand}
@@ -22,3 +23,6 @@ loop-set-preserved c =
 
 pub returns : goal.returns
 returns c = let (front, stand, whole) = c.loop-set.invariant in all_stand _ front _ _ stand whole c.in-None.ensures.steps.0
+
+pub returns-in_err-push : goal.returns-in_err-push
+returns-in_err-push c = IfOk-from_err c.from_residual.result _ c.from_residual.ensures.0

@@ -1,5 +1,6 @@
 use Rattle.std.proofs.Common.{arith, subst, sym, ◌<◌, length}
 use Rattle.std.proofs.lemmas.Option.{slice_get_within}
+use Rattle.std.proofs.lemmas.Result.{IfOk-from_err}
 use Rattle.meta_lists.proofs.Pushed.{one_longer}
 use Rattle.meta_operands.specs.declared.format.InstructionFormat.{InstructionFormat}
 use Rattle.meta_opcode_tables.proofs.Made.{one_format_more, format_at}
@@ -28,3 +29,9 @@ returns c =
       count = omega arith;
       each = λ k b at. let l = slice_get_within c.args.instructions.now k b at in c.loop-k.invariant.each k b (omega arith) at;
     }
+
+pub returns-in_err-copy : goal.returns-in_err-copy
+returns-in_err-copy c = IfOk-from_err c.from_residual.result _ c.from_residual.ensures.0
+
+pub returns-in_err-push : goal.returns-in_err-push
+returns-in_err-push c = IfOk-from_err c.from_residual-in_err-push.result _ c.from_residual-in_err-push.ensures.0

@@ -1,8 +1,9 @@
-use Rattle.std.proofs.Common.{◌≡◌, ◌∙◌, sym, ap, subst, arith, rules, [], ◌∷◌, ◌++◌, Some, length, take}
+use Rattle.std.proofs.Common.{◌≡◌, ◌∙◌, sym, ap, subst, arith, [], ◌∷◌, ◌++◌, Some, length, take}
 use Rattle.std.specs.Prelude.{slice_get}
 use Rattle.std.specs.Result.{IfOk}
 use Rattle.std.proofs.lemmas.List.{length-map, length-take, map-append, take_all}
 use Rattle.std.proofs.lemmas.Option.{slice_get-get_or}
+use Rattle.std.proofs.lemmas.Result.{IfOk-from_err}
 use Rattle.meta_lists.proofs.Places.{take_next}
 use Rattle.meta_unique.specs.Interning.{pointed_to}
 use Rattle.meta_unique.specs.NameSlots.{AreNameSlots}
@@ -37,13 +38,13 @@ pub returns-clause-vacant : goal.returns-clause-vacant
 returns-clause-vacant c = c.name_slots.ensures.vacant
 
 pub returns-in_err-borrowed-clause-slots : goal.returns-in_err-borrowed-clause-slots
-returns-in_err-borrowed-clause-slots c = search rules
+returns-in_err-borrowed-clause-slots c = IfOk-from_err c.from_residual.result _ c.from_residual.ensures.0
 
 pub returns-in_err-borrowed-clause-vacant : goal.returns-in_err-borrowed-clause-vacant
-returns-in_err-borrowed-clause-vacant c = search rules
+returns-in_err-borrowed-clause-vacant c = IfOk-from_err c.from_residual.result _ c.from_residual.ensures.0
 
 pub returns-in_err-push-clause-slots : goal.returns-in_err-push-clause-slots
-returns-in_err-push-clause-slots c = search rules
+returns-in_err-push-clause-slots c = IfOk-from_err c.from_residual-in_err-push.result _ c.from_residual-in_err-push.ensures.0
 
 pub returns-in_err-push-clause-vacant : goal.returns-in_err-push-clause-vacant
-returns-in_err-push-clause-vacant c = search rules
+returns-in_err-push-clause-vacant c = IfOk-from_err c.from_residual-in_err-push.result _ c.from_residual-in_err-push.ensures.0

@@ -1,5 +1,6 @@
-use Rattle.std.proofs.Common.{ap, arith, length, refl, rules}
+use Rattle.std.proofs.Common.{ap, arith, length, refl}
 use Rattle.std.proofs.lemmas.Option.{slice_get_read, slice_get_within}
+use Rattle.std.proofs.lemmas.Result.{IfOk-from_err}
 use Rattle.meta_lists.proofs.Pushed.{one_longer}
 use Rattle.meta_opcode_tables.proofs.Describing.{one_more}
 use Rattle.meta_opcode_tables.proofs.operand_constraints.constraints_of.Goals as goal
@@ -49,7 +50,7 @@ pub next_constraint-constraint-requires-clause-before : goal.next_constraint-con
 next_constraint-constraint-requires-clause-before c = c.loop-place.invariant.before
 
 pub returns-in_err-constraints : goal.returns-in_err-constraints
-returns-in_err-constraints c = search rules
+returns-in_err-constraints c = IfOk-from_err c.from_residual.result _ c.from_residual.ensures.0
 
 pub returns-in_err-push : goal.returns-in_err-push
-returns-in_err-push c = search rules
+returns-in_err-push c = IfOk-from_err c.from_residual-in_err-push.result _ c.from_residual-in_err-push.ensures.0

@@ -1,6 +1,7 @@
 use Rattle.std.proofs.Common.{◌≡◌, ℕ, ◌<◌, ⊎_elim, List, refl, slice_index_or, subst, length, arith, slice_get, Some}
 use Rattle.std.proofs.lemmas.Option.{slice_get_read, slice_get_within}
 use Rattle.std.proofs.lemmas.Bool.{cases_eq, false≢true}
+use Rattle.std.proofs.lemmas.Result.{IfOk-from_err}
 use Rattle.meta_lists.proofs.Options.{told_some, told_none}
 use Rattle.meta_types.specs.SharedNames.{IsDuplicate}
 use Rattle.meta_types.proofs.NamesSoFar.{shared_found, unshared_found, kept_more}
@@ -31,3 +32,6 @@ loop-name-preserved c =
 
 pub returns : goal.returns
 returns c = (λ t k j d. c.loop-name.invariant.distinct k j (let l = slice_get_within c.args.names.now k d.name d.is_name in omega arith) d, λ distinct. refl)
+
+pub returns-in_err-add : goal.returns-in_err-add
+returns-in_err-add c = IfOk-from_err c.from_residual.result _ c.from_residual.ensures.0

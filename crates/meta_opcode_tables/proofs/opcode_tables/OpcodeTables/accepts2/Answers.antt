@@ -1,5 +1,6 @@
 use Rattle.meta_opcode_tables.proofs.Reading.{refused_result_count, refused_value_count, refused_control, refused_second, refused_results, values_decide, refused, answer_means}
 use Rattle.std.proofs.Common.{rules, arith}
+use Rattle.std.proofs.lemmas.Bool.{false≢true}
 use Rattle.meta_opcode_tables.proofs.opcode_tables.OpcodeTables.accepts2.Goals as goal
 
 pub returns-then-results-result_count-clause-decoding : goal.returns-then-results-result_count-clause-decoding
@@ -18,21 +19,21 @@ returns-then-values-value_count-clause-meaning c = answer_means _ _ _ _ _ _ _ (r
 
 pub returns-then-not-control_fits-clause-decoding : goal.returns-then-not-control_fits-clause-decoding
 returns-then-not-control_fits-clause-decoding c =
-    refused (refused_control _ _ _ _ _ _ _ c.in-Some.ensures.entry (λ h. absurd (let e = c.control_fits.ensures.1 h in cc)))
+    refused (refused_control _ _ _ _ _ _ _ c.in-Some.ensures.entry (λ h. false≢true (c.if-not-control_fits.ensures.1 h)))
 
 pub returns-then-not-control_fits-clause-meaning : goal.returns-then-not-control_fits-clause-meaning
 returns-then-not-control_fits-clause-meaning c = answer_means _ _ _ _ _ _ _ (returns-then-not-control_fits-clause-decoding c)
 
 pub returns-then-not-control_fits-2-clause-decoding : goal.returns-then-not-control_fits-2-clause-decoding
 returns-then-not-control_fits-2-clause-decoding c =
-    refused (refused_second _ _ _ _ _ _ _ c.in-Some.ensures.entry (λ h. absurd (let e = c.control_fits-2.ensures.1 h in cc)))
+    refused (refused_second _ _ _ _ _ _ _ c.in-Some.ensures.entry (λ h. false≢true (c.if-not-control_fits-2.ensures.1 h)))
 
 pub returns-then-not-control_fits-2-clause-meaning : goal.returns-then-not-control_fits-2-clause-meaning
 returns-then-not-control_fits-2-clause-meaning c = answer_means _ _ _ _ _ _ _ (returns-then-not-control_fits-2-clause-decoding c)
 
 pub returns-then-not-all_pass-clause-decoding : goal.returns-then-not-all_pass-clause-decoding
 returns-then-not-all_pass-clause-decoding c =
-    refused (refused_results _ _ _ _ _ _ _ c.in-Some.ensures.entry (λ h. absurd (let e = c.all_pass.ensures.1 h in cc)))
+    refused (refused_results _ _ _ _ _ _ _ c.in-Some.ensures.entry (λ h. false≢true (c.if-not-all_pass.ensures.1 h)))
 
 pub returns-then-not-all_pass-clause-meaning : goal.returns-then-not-all_pass-clause-meaning
 returns-then-not-all_pass-clause-meaning c = answer_means _ _ _ _ _ _ _ (returns-then-not-all_pass-clause-decoding c)

@@ -4,19 +4,12 @@ use Rattle.meta_opcode_tables.proofs.Finding.{look_up}
 use Rattle.meta_opcode_tables.proofs.Naming.{first_named, none_named, finds_declared}
 use Rattle.meta_opcode_tables.proofs.opcode_tables.OpcodeTables.find_opcode.Goals as goal
 
-pub returns-clause-found : goal.returns-clause-found
-returns-clause-found c =
+pub returns : goal.returns
+returns c =
     let here = look_up _ _ _ _ _ _ _ _ c.self.view_is (distinct_differ _ c.self.invariant.well_formed.parts.distinct) c.self.invariant.well_formed.slots c.deref.ensures.value c.simple_hash.ensures (λ op told says. search rules) c.probe.ensures.1 in
-    first_named _ _ _ here.0 here.1
-
-pub returns-clause-finds : goal.returns-clause-finds
-returns-clause-finds c =
-    (look_up _ _ _ _ _ _ _ _ c.self.view_is (distinct_differ _ c.self.invariant.well_formed.parts.distinct) c.self.invariant.well_formed.slots c.deref.ensures.value c.simple_hash.ensures (λ op told says. search rules) c.probe.ensures.1).1
-
-pub returns-clause-none : goal.returns-clause-none
-returns-clause-none c = none_named _ _ _ (returns-clause-finds c)
-
-pub returns-clause-findings : goal.returns-clause-findings
-returns-clause-findings c = λ d h.
-    let here = look_up _ _ _ _ _ _ _ _ c.self.view_is (distinct_differ _ c.self.invariant.well_formed.parts.distinct) c.self.invariant.well_formed.slots c.deref.ensures.value c.simple_hash.ensures (λ op told says. search rules) c.probe.ensures.1 in
-    finds_declared d _ _ _ here.0 here.1 h
+    record {
+      found = first_named _ _ _ here.0 here.1;
+      finds = here.1;
+      none = none_named _ _ _ here.1;
+      findings = λ d h. finds_declared d _ _ _ here.0 here.1 h;
+    }

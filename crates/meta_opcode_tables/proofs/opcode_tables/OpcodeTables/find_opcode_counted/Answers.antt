@@ -6,25 +6,16 @@ use Rattle.meta_opcode_tables.proofs.Finding.{look_up}
 use Rattle.meta_opcode_tables.proofs.Naming.{first_named, none_named, finds_declared}
 use Rattle.meta_opcode_tables.proofs.opcode_tables.OpcodeTables.find_opcode_counted.Goals as goal
 
-pub returns-clause-found : goal.returns-clause-found
-returns-clause-found g c =
-    let here = look_up _ _ _ _ _ _ _ _ c.self.view_is (distinct_differ _ c.self.invariant.well_formed.parts.distinct) c.self.invariant.well_formed.slots c.deref.ensures.value c.simple_hash.ensures (λ op told says. search rules) c.probe_counted.ensures.lookup.1 in
-    first_named _ _ _ here.0 here.1
-
-pub returns-clause-finds : goal.returns-clause-finds
-returns-clause-finds g c =
-    (look_up _ _ _ _ _ _ _ _ c.self.view_is (distinct_differ _ c.self.invariant.well_formed.parts.distinct) c.self.invariant.well_formed.slots c.deref.ensures.value c.simple_hash.ensures (λ op told says. search rules) c.probe_counted.ensures.lookup.1).1
-
-pub returns-clause-none : goal.returns-clause-none
-returns-clause-none g c = none_named _ _ _ (returns-clause-finds g c)
-
-pub returns-clause-findings : goal.returns-clause-findings
-returns-clause-findings g c = λ d h.
-    let here = look_up _ _ _ _ _ _ _ _ c.self.view_is (distinct_differ _ c.self.invariant.well_formed.parts.distinct) c.self.invariant.well_formed.slots c.deref.ensures.value c.simple_hash.ensures (λ op told says. search rules) c.probe_counted.ensures.lookup.1 in
-    finds_declared d _ _ _ here.0 here.1 h
-
-pub returns-clause-steps : goal.returns-clause-steps
-returns-clause-steps g c =
+pub returns : goal.returns
+returns g c =
     let l = c.probe_counted.ensures.lookup in
+    let here = look_up _ _ _ _ _ _ _ _ c.self.view_is (distinct_differ _ c.self.invariant.well_formed.parts.distinct) c.self.invariant.well_formed.slots c.deref.ensures.value c.simple_hash.ensures (λ op told says. search rules) l.1 in
     let lookup = lookup_read 1 c.args.self.now.names c.args.name.now _ _ c.args.self.now.opcode_slots _ _ l.0 (c.deref.ensures.value ∙ ap (λ (t : TableContents). t.opcode_slots) c.self.view_is) c.simple_hash.ensures (λ number b says. search rules) l.1 in
-    (l.0, lookup, l.2)
+    record {
+      found = first_named _ _ _ here.0 here.1;
+      finds = here.1;
+      none = none_named _ _ _ here.1;
+      findings = λ d h. finds_declared d _ _ _ here.0 here.1 h;
+      steps = (l.0, lookup, l.2);
+      most = search rules;
+    }

@@ -1,3 +1,4 @@
+use Rattle.std.proofs.Common.{refl}
 use Rattle.meta_opcode_tables.proofs.Inferring.{designated_typed}
 use Rattle.meta_opcode_tables.proofs.opcode_tables.OpcodeTables.infer_control.Goals as goal
 
@@ -8,3 +9,14 @@ returns-then-set_contains-clause-meaning c = λ d typed of. designated_typed d _
   designated = c.designated_controls.ensures.0 c.if-designated_controls.true;
   contains = c.set_contains.ensures.0 c.if-set_contains.true;
 })
+
+pub returns-then-set_contains-clause-some : goal.returns-then-set_contains-clause-some
+returns-then-set_contains-clause-some c = (
+  λ some. record {
+    entry = _;
+    is_opcode = c.in_ok-entry.ensures.entry;
+    designated = c.designated_controls.ensures.0 c.if-designated_controls.true;
+    contains = c.set_contains.ensures.0 c.if-set_contains.true;
+  },
+  λ infers. refl,
+)

@@ -1,4 +1,5 @@
 use Rattle.std.proofs.Common.{refl, subst, List, ℕ}
+use Rattle.std.proofs.lemmas.Result.{IfOk-from_err}
 use Rattle.meta_unique.specs.NameSlots.{AreNameSlots}
 use Rattle.meta_opcode_tables.proofs.opcode_tables.OpcodeTables.new.Goals as goal
 
@@ -29,3 +30,12 @@ invariant_of-result c = record {
 
 pub returns-clause-parts : goal.returns-clause-parts
 returns-clause-parts c = refl
+
+pub returns-in_err-opcode_slots-clause-parts : goal.returns-in_err-opcode_slots-clause-parts
+returns-in_err-opcode_slots-clause-parts c = IfOk-from_err c.from_residual.result _ c.from_residual.ensures.0
+
+pub returns-in_err-opcode_slots-clause-slots : goal.returns-in_err-opcode_slots-clause-slots
+returns-in_err-opcode_slots-clause-slots c = IfOk-from_err c.from_residual.result _ c.from_residual.ensures.0
+
+pub returns-in_err-opcode_slots-clause-well_formed : goal.returns-in_err-opcode_slots-clause-well_formed
+returns-in_err-opcode_slots-clause-well_formed c = IfOk-from_err c.from_residual.result _ c.from_residual.ensures.0

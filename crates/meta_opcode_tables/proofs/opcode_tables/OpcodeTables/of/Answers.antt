@@ -1,4 +1,4 @@
-use Rattle.std.proofs.lemmas.Result.{IfOk-weaker}
+use Rattle.std.proofs.lemmas.Result.{IfOk-from_err, IfOk-weaker}
 use Rattle.meta_typevar.specs.Registry.{HoldTypeSets}
 use Rattle.std.proofs.Common.{◌≡◌, ◌<◌, map, ap, ◌∙◌, List, []}
 use Rattle.std.proofs.lemmas.List.Elements.{All-map}
@@ -78,3 +78,51 @@ returns-clause-inference c =
     let d = c.args.built.now.declared.set in
     let typed : HoldTypeSets d.vars = rw c.declarations-declarations.ensures.declarations at c.vars.ensures.sets in
     IfOk-weaker c.new.result (AreTablesOf d) _ (λ t h op control second numbers. results_of_mean d t op control second typed h numbers) (returns-clause-tables c)
+
+pub returns-in_err-parts-clause-tables : goal.returns-in_err-parts-clause-tables
+returns-in_err-parts-clause-tables c = IfOk-from_err c.from_residual.result _ c.from_residual.ensures.0
+
+pub returns-in_err-parts-clause-well_formed : goal.returns-in_err-parts-clause-well_formed
+returns-in_err-parts-clause-well_formed c = IfOk-from_err c.from_residual.result _ c.from_residual.ensures.0
+
+pub returns-in_err-parts-clause-acceptance : goal.returns-in_err-parts-clause-acceptance
+returns-in_err-parts-clause-acceptance c = IfOk-from_err c.from_residual.result _ c.from_residual.ensures.0
+
+pub returns-in_err-parts-clause-inference : goal.returns-in_err-parts-clause-inference
+returns-in_err-parts-clause-inference c = IfOk-from_err c.from_residual.result _ c.from_residual.ensures.0
+
+pub returns-in_err-masks-clause-tables : goal.returns-in_err-masks-clause-tables
+returns-in_err-masks-clause-tables c = IfOk-from_err c.from_residual-in_err-masks.result _ c.from_residual-in_err-masks.ensures.0
+
+pub returns-in_err-masks-clause-well_formed : goal.returns-in_err-masks-clause-well_formed
+returns-in_err-masks-clause-well_formed c = IfOk-from_err c.from_residual-in_err-masks.result _ c.from_residual-in_err-masks.ensures.0
+
+pub returns-in_err-masks-clause-acceptance : goal.returns-in_err-masks-clause-acceptance
+returns-in_err-masks-clause-acceptance c = IfOk-from_err c.from_residual-in_err-masks.result _ c.from_residual-in_err-masks.ensures.0
+
+pub returns-in_err-masks-clause-inference : goal.returns-in_err-masks-clause-inference
+returns-in_err-masks-clause-inference c = IfOk-from_err c.from_residual-in_err-masks.result _ c.from_residual-in_err-masks.ensures.0
+
+pub returns-in_err-names-clause-tables : goal.returns-in_err-names-clause-tables
+returns-in_err-names-clause-tables c = IfOk-from_err c.from_residual-in_err-names.result _ c.from_residual-in_err-names.ensures.0
+
+pub returns-in_err-names-clause-well_formed : goal.returns-in_err-names-clause-well_formed
+returns-in_err-names-clause-well_formed c = IfOk-from_err c.from_residual-in_err-names.result _ c.from_residual-in_err-names.ensures.0
+
+pub returns-in_err-names-clause-acceptance : goal.returns-in_err-names-clause-acceptance
+returns-in_err-names-clause-acceptance c = IfOk-from_err c.from_residual-in_err-names.result _ c.from_residual-in_err-names.ensures.0
+
+pub returns-in_err-names-clause-inference : goal.returns-in_err-names-clause-inference
+returns-in_err-names-clause-inference c = IfOk-from_err c.from_residual-in_err-names.result _ c.from_residual-in_err-names.ensures.0
+
+pub returns-in_err-format_names-clause-tables : goal.returns-in_err-format_names-clause-tables
+returns-in_err-format_names-clause-tables c = IfOk-from_err c.from_residual-in_err-format_names.result _ c.from_residual-in_err-format_names.ensures.0
+
+pub returns-in_err-format_names-clause-well_formed : goal.returns-in_err-format_names-clause-well_formed
+returns-in_err-format_names-clause-well_formed c = IfOk-from_err c.from_residual-in_err-format_names.result _ c.from_residual-in_err-format_names.ensures.0
+
+pub returns-in_err-format_names-clause-acceptance : goal.returns-in_err-format_names-clause-acceptance
+returns-in_err-format_names-clause-acceptance c = IfOk-from_err c.from_residual-in_err-format_names.result _ c.from_residual-in_err-format_names.ensures.0
+
+pub returns-in_err-format_names-clause-inference : goal.returns-in_err-format_names-clause-inference
+returns-in_err-format_names-clause-inference c = IfOk-from_err c.from_residual-in_err-format_names.result _ c.from_residual-in_err-format_names.ensures.0
