@@ -1,5 +1,6 @@
 use Rattle.std.proofs.Common.{◌∙◌, sym, ap, subst, refl, Some, length}
 use Rattle.std.specs.Bool.{IsTrue}
+use Rattle.std.proofs.lemmas.Result.{IfOk-from_err}
 use Rattle.meta_types.specs.Function.{Narrower}
 use Rattle.meta_typevar.specs.Image.{can_derive}
 use Rattle.meta_inst.specs.Builder.{Builder}
@@ -32,3 +33,21 @@ values_of-requires-clause-root c =
 pub returns-clause-grows : goal.returns-clause-grows
 returns-clause-grows c = extends_after c.args.vars.now c.add_root.new.vars c.values_of.new.vars
     (root_of c.seed_of-seed.result (length c.args.vars.now)) c.in_ok-x.ensures.added c.in_ok-values.ensures.grows
+
+pub returns-in_err-x-clause-instruction : goal.returns-in_err-x-clause-instruction
+returns-in_err-x-clause-instruction c = IfOk-from_err c.from_residual.result _ c.from_residual.ensures.0
+
+pub returns-in_err-x-clause-grows : goal.returns-in_err-x-clause-grows
+returns-in_err-x-clause-grows c = IfOk-from_err c.from_residual.result _ c.from_residual.ensures.0
+
+pub returns-in_err-values-clause-instruction : goal.returns-in_err-values-clause-instruction
+returns-in_err-values-clause-instruction c = IfOk-from_err c.from_residual-in_err-values.result _ c.from_residual-in_err-values.ensures.0
+
+pub returns-in_err-values-clause-grows : goal.returns-in_err-values-clause-grows
+returns-in_err-values-clause-grows c = IfOk-from_err c.from_residual-in_err-values.result _ c.from_residual-in_err-values.ensures.0
+
+pub returns-in_err-builder-clause-instruction : goal.returns-in_err-builder-clause-instruction
+returns-in_err-builder-clause-instruction c = IfOk-from_err c.from_residual-in_err-builder.result _ c.from_residual-in_err-builder.ensures.0
+
+pub returns-in_err-builder-clause-grows : goal.returns-in_err-builder-clause-grows
+returns-in_err-builder-clause-grows c = IfOk-from_err c.from_residual-in_err-builder.result _ c.from_residual-in_err-builder.ensures.0

@@ -1,4 +1,5 @@
 use Rattle.std.proofs.Common.{List, ◌∙◌, ℕ, ap, string_bytes}
+use Rattle.std.proofs.lemmas.Result.{IfOk-from_err}
 use Rattle.meta_synth.specs.Summary.{lengths_text, summary_line}
 use Rattle.meta_synth.proofs.Summed.{ok_like, of_synth}
 use Rattle.meta_synth.proofs.report.summary.Goals as goal
@@ -16,3 +17,9 @@ returns-clause-of_synth c =
       are_accepted = counts.accepted;
       is = e ∙ ap (λ (text : List ℕ). summary_line c.args.n text found accepted) lengths;
     })) c.line.ensures
+
+pub returns-in_err-lengths-clause-line : goal.returns-in_err-lengths-clause-line
+returns-in_err-lengths-clause-line c = IfOk-from_err c.from_residual.result _ c.from_residual.ensures.0
+
+pub returns-in_err-lengths-clause-of_synth : goal.returns-in_err-lengths-clause-of_synth
+returns-in_err-lengths-clause-of_synth c = IfOk-from_err c.from_residual.result _ c.from_residual.ensures.0

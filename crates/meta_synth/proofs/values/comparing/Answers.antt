@@ -1,4 +1,5 @@
 use Rattle.std.proofs.Common.{codes}
+use Rattle.std.proofs.lemmas.Result.{IfOk-from_err}
 use Rattle.meta_types.specs.Function.{AsTruthy}
 use Rattle.meta_synth.proofs.Held.{extends, within, two_of_root, one_derived}
 use Rattle.meta_synth.proofs.values.comparing.Goals as goal
@@ -16,3 +17,30 @@ returns-clause-outputs c =
 
 pub returns-clause-grows : goal.returns-clause-grows
 returns-clause-grows c = extends c.in_ok-truthy.ensures.grows
+
+pub returns-in_err-truthy-clause-inputs : goal.returns-in_err-truthy-clause-inputs
+returns-in_err-truthy-clause-inputs c = IfOk-from_err c.from_residual.result _ c.from_residual.ensures.0
+
+pub returns-in_err-truthy-clause-outputs : goal.returns-in_err-truthy-clause-outputs
+returns-in_err-truthy-clause-outputs c = IfOk-from_err c.from_residual.result _ c.from_residual.ensures.0
+
+pub returns-in_err-truthy-clause-grows : goal.returns-in_err-truthy-clause-grows
+returns-in_err-truthy-clause-grows c = IfOk-from_err c.from_residual.result _ c.from_residual.ensures.0
+
+pub returns-in_err-inputs-clause-inputs : goal.returns-in_err-inputs-clause-inputs
+returns-in_err-inputs-clause-inputs c = IfOk-from_err c.from_residual-in_err-inputs.result _ c.from_residual-in_err-inputs.ensures.0
+
+pub returns-in_err-inputs-clause-outputs : goal.returns-in_err-inputs-clause-outputs
+returns-in_err-inputs-clause-outputs c = IfOk-from_err c.from_residual-in_err-inputs.result _ c.from_residual-in_err-inputs.ensures.0
+
+pub returns-in_err-inputs-clause-grows : goal.returns-in_err-inputs-clause-grows
+returns-in_err-inputs-clause-grows c = IfOk-from_err c.from_residual-in_err-inputs.result _ c.from_residual-in_err-inputs.ensures.0
+
+pub returns-in_err-outputs-clause-inputs : goal.returns-in_err-outputs-clause-inputs
+returns-in_err-outputs-clause-inputs c = IfOk-from_err c.from_residual-in_err-outputs.result _ c.from_residual-in_err-outputs.ensures.0
+
+pub returns-in_err-outputs-clause-outputs : goal.returns-in_err-outputs-clause-outputs
+returns-in_err-outputs-clause-outputs c = IfOk-from_err c.from_residual-in_err-outputs.result _ c.from_residual-in_err-outputs.ensures.0
+
+pub returns-in_err-outputs-clause-grows : goal.returns-in_err-outputs-clause-grows
+returns-in_err-outputs-clause-grows c = IfOk-from_err c.from_residual-in_err-outputs.result _ c.from_residual-in_err-outputs.ensures.0
