@@ -1,5 +1,6 @@
 use Rattle.std.proofs.Common.{length, refl, arith}
 use Rattle.std.proofs.lemmas.Option.{slice_get_read}
+use Rattle.std.proofs.lemmas.Result.{IfOk-from_err}
 use Rattle.meta_gen.proofs.GroupsSoFar.{groups_next}
 use Rattle.meta_gen.proofs.generation.group_tables.Goals as goal
 
@@ -25,3 +26,30 @@ returns-clause-count c =
 
 pub returns-clause-well_formed : goal.returns-clause-well_formed
 returns-clause-well_formed c = c.loop-k.invariant.well_formed
+
+pub returns-in_err-tables-clause-count : goal.returns-in_err-tables-clause-count
+returns-in_err-tables-clause-count c = IfOk-from_err c.from_residual.result _ c.from_residual.ensures.0
+
+pub returns-in_err-tables-clause-tables : goal.returns-in_err-tables-clause-tables
+returns-in_err-tables-clause-tables c = IfOk-from_err c.from_residual.result _ c.from_residual.ensures.0
+
+pub returns-in_err-tables-clause-well_formed : goal.returns-in_err-tables-clause-well_formed
+returns-in_err-tables-clause-well_formed c = IfOk-from_err c.from_residual.result _ c.from_residual.ensures.0
+
+pub returns-in_err-of-clause-count : goal.returns-in_err-of-clause-count
+returns-in_err-of-clause-count c = IfOk-from_err c.from_residual-in_err-of.result _ c.from_residual-in_err-of.ensures.0
+
+pub returns-in_err-of-clause-tables : goal.returns-in_err-of-clause-tables
+returns-in_err-of-clause-tables c = IfOk-from_err c.from_residual-in_err-of.result _ c.from_residual-in_err-of.ensures.0
+
+pub returns-in_err-of-clause-well_formed : goal.returns-in_err-of-clause-well_formed
+returns-in_err-of-clause-well_formed c = IfOk-from_err c.from_residual-in_err-of.result _ c.from_residual-in_err-of.ensures.0
+
+pub returns-in_err-push-clause-count : goal.returns-in_err-push-clause-count
+returns-in_err-push-clause-count c = IfOk-from_err c.from_residual-in_err-push.result _ c.from_residual-in_err-push.ensures.0
+
+pub returns-in_err-push-clause-tables : goal.returns-in_err-push-clause-tables
+returns-in_err-push-clause-tables c = IfOk-from_err c.from_residual-in_err-push.result _ c.from_residual-in_err-push.ensures.0
+
+pub returns-in_err-push-clause-well_formed : goal.returns-in_err-push-clause-well_formed
+returns-in_err-push-clause-well_formed c = IfOk-from_err c.from_residual-in_err-push.result _ c.from_residual-in_err-push.ensures.0
