@@ -7,3 +7,5 @@ mod GroupDigits
 mod GroupBits
 mod GroupLent
 mod GroupLists
+mod Comments
+mod Bytes

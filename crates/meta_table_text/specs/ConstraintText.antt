@@ -51,6 +51,20 @@ constraint_text (FreeOf j) = codes "Free(" ++ (decimal j ++ codes ")")
 constraint_text (SameNumber which) = codes "Same" ++ control_mark which
 constraint_text (ByNumber which f) = function_name f ++ control_mark which
 
+-- the name of its variant
+abbrev pub variant_name : NumberConstraint → List ℕ
+variant_name (ConcreteNumber n) = codes "Concrete"
+variant_name (FreeOf j) = codes "Free"
+variant_name (SameNumber which) = codes "Same" ++ control_mark which
+variant_name (ByNumber which f) = function_name f ++ control_mark which
+
+-- what stands behind that name: a type, or a type set by its place
+abbrev pub variant_fields : NumberConstraint → List ℕ
+variant_fields (ConcreteNumber n) = codes "(" ++ (type_text n ++ codes ")")
+variant_fields (FreeOf j) = codes "(" ++ (decimal j ++ codes ")")
+variant_fields (SameNumber which) = []
+variant_fields (ByNumber which f) = []
+
 -- the line of a constraint
 unfoldable pub constraint_line : NumberConstraint → List ℕ
 constraint_line c = text_of (at 1 (codes "OperandConstraint::" ∷ (constraint_text c ∷ (codes "," ∷ []))) ∷ [])

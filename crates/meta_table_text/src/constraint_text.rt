@@ -4,7 +4,7 @@ ghost use Rattle.meta_meaning.specs.Tables.{ConcreteNumber, FreeOf};
 ghost use Rattle.meta_opcode_tables.specs.declared.constraint.Constraint.{Constraint};
 ghost use Rattle.meta_opcode_tables.specs.Constraint.{number_constraint_of};
 ghost use Rattle.meta_table_text.specs.TypeSetText.{parted_behind};
-ghost use Rattle.meta_table_text.specs.ConstraintText.{type_numbered, type_text, constraint_text, constraint_line, quoted, quoted_all, constraints_comment};
+ghost use Rattle.meta_table_text.specs.ConstraintText.{type_numbered, type_text, variant_name, variant_fields, constraint_text, constraint_line, quoted, quoted_all, constraints_comment};
 
 use meta_gen::Constraint;
 use meta_types::{ValueType, there_are_153_types};
@@ -32,20 +32,61 @@ fn push_type(alloc: Global, out: &mut String, number: u16) -> Result<(), AllocEr
     out.push_str(name.as_str())
 }
 
-/// Adds the constraint of the type with this number.
-fn push_concrete(alloc: Global, out: &mut String, number: u16) -> Result<(), AllocError>
-    ensures { OnOk result (string_bytes out.new ≡ string_bytes out.old ++ constraint_text (ConcreteNumber number)) }
+/// The name of the variant of a constraint.
+fn variant_name(constraint: Constraint) -> &'static str
+    ensures { result.now ≡ variant_name (number_constraint_of constraint) }
 {
-    out.push_str("Concrete(")?;
+    match constraint {
+        Constraint::Concrete(_) => "Concrete",
+        Constraint::Free(_) => "Free",
+        Constraint::Same => "Same",
+        Constraint::LaneOf => "LaneOf",
+        Constraint::AsTruthy => "AsTruthy",
+        Constraint::HalfWidth => "HalfWidth",
+        Constraint::DoubleWidth => "DoubleWidth",
+        Constraint::SplitLanes => "SplitLanes",
+        Constraint::MergeLanes => "MergeLanes",
+        Constraint::DynamicToVector => "DynamicToVector",
+        Constraint::Narrower => "Narrower",
+        Constraint::Wider => "Wider",
+        Constraint::Same2 => "Same2",
+        Constraint::LaneOf2 => "LaneOf2",
+        Constraint::AsTruthy2 => "AsTruthy2",
+        Constraint::HalfWidth2 => "HalfWidth2",
+        Constraint::DoubleWidth2 => "DoubleWidth2",
+        Constraint::SplitLanes2 => "SplitLanes2",
+        Constraint::MergeLanes2 => "MergeLanes2",
+        Constraint::DynamicToVector2 => "DynamicToVector2",
+        Constraint::Narrower2 => "Narrower2",
+        Constraint::Wider2 => "Wider2",
+    }
+}
+
+/// Adds a type, by its number, in parentheses.
+fn push_concrete(alloc: Global, out: &mut String, number: u16) -> Result<(), AllocError>
+    ensures { OnOk result (string_bytes out.new ≡ string_bytes out.old ++ variant_fields (ConcreteNumber number)) }
+{
+    out.push_str("(")?;
     push_type(alloc, out, number)?;
     out.push_str(")")
 }
 
-/// Adds the constraint of the type set at this place.
+/// Adds the place of a type set in parentheses.
 fn push_free(out: &mut String, set: u16) -> Result<(), AllocError>
-    ensures { OnOk result (string_bytes out.new ≡ string_bytes out.old ++ constraint_text (FreeOf set)) }
+    ensures { OnOk result (string_bytes out.new ≡ string_bytes out.old ++ variant_fields (FreeOf set)) }
 {
-    write!(out, "Free({set})")
+    write!(out, "({set})")
+}
+
+/// Adds the type or the type set that a constraint names, and nothing where it names none.
+fn push_fields(alloc: Global, out: &mut String, constraint: Constraint) -> Result<(), AllocError>
+    ensures { OnOk result (string_bytes out.new ≡ string_bytes out.old ++ variant_fields (number_constraint_of constraint)) }
+{
+    match constraint {
+        Constraint::Concrete(number) => push_concrete(alloc, out, number),
+        Constraint::Free(set) => push_free(out, set),
+        _ => Ok(()),
+    }
 }
 
 /// Adds the text of a constraint.
@@ -56,30 +97,8 @@ fn push_constraint_text(
 ) -> Result<(), AllocError>
     ensures { OnOk result (string_bytes out.new ≡ string_bytes out.old ++ constraint_text (number_constraint_of constraint)) }
 {
-    match constraint {
-        Constraint::Concrete(number) => push_concrete(alloc, out, number),
-        Constraint::Free(set) => push_free(out, set),
-        Constraint::Same => out.push_str("Same"),
-        Constraint::LaneOf => out.push_str("LaneOf"),
-        Constraint::AsTruthy => out.push_str("AsTruthy"),
-        Constraint::HalfWidth => out.push_str("HalfWidth"),
-        Constraint::DoubleWidth => out.push_str("DoubleWidth"),
-        Constraint::SplitLanes => out.push_str("SplitLanes"),
-        Constraint::MergeLanes => out.push_str("MergeLanes"),
-        Constraint::DynamicToVector => out.push_str("DynamicToVector"),
-        Constraint::Narrower => out.push_str("Narrower"),
-        Constraint::Wider => out.push_str("Wider"),
-        Constraint::Same2 => out.push_str("Same2"),
-        Constraint::LaneOf2 => out.push_str("LaneOf2"),
-        Constraint::AsTruthy2 => out.push_str("AsTruthy2"),
-        Constraint::HalfWidth2 => out.push_str("HalfWidth2"),
-        Constraint::DoubleWidth2 => out.push_str("DoubleWidth2"),
-        Constraint::SplitLanes2 => out.push_str("SplitLanes2"),
-        Constraint::MergeLanes2 => out.push_str("MergeLanes2"),
-        Constraint::DynamicToVector2 => out.push_str("DynamicToVector2"),
-        Constraint::Narrower2 => out.push_str("Narrower2"),
-        Constraint::Wider2 => out.push_str("Wider2"),
-    }
+    out.push_str(variant_name(constraint))?;
+    push_fields(alloc, out, constraint)
 }
 
 /// Adds the line of a constraint.

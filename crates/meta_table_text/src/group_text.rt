@@ -1,7 +1,8 @@
-ghost use Rattle.std.specs.Prelude.{◌≡◌, ◌++◌, ◌≤◌, length, map, take, drop, string_bytes, IfOk, OnOk};
+ghost use Rattle.std.specs.Prelude.{◌≡◌, ◌++◌, ◌*◌, ◌≤◌, codes, length, map, take, drop, string_bytes, IfOk, OnOk};
 ghost use Rattle.std.specs.List.{flat_map};
 ghost use Rattle.meta_gen.specs.WholeTables.{OfGroup, HasNoGroup};
-ghost use Rattle.meta_table_text.specs.GroupText.{enumerators_text, descriptors_text, slots_text, is_boolean, booleans_in, is_preset, presets_in, is_on, names_on, preset_text, presets_text, group_text};
+ghost use Rattle.meta_table_text.specs.GroupItems.{pair_text, names_text, comment_text, bytes_text, template_text};
+ghost use Rattle.meta_table_text.specs.GroupText.{enumerators_text, descriptors_text, slots_text, is_boolean, booleans_in, is_preset, presets_in, is_on, names_on, list_text, preset_text, presets_text, group_text};
 
 use super::group_items::{
     hex_bytes, push_comment, push_descriptor, push_enumerator, push_head, push_list_end,
@@ -80,6 +81,31 @@ fn part(bytes: &[u8], place: u32, count: u8) -> &[u8]
     &behind[..behind.len().min(count as usize)]
 }
 
+/// Adds a pair for each of the masks of a preset.
+fn push_masks(out: &mut String, masks: &[u8]) -> Result<(), AllocError>
+    ensures { OnOk result (string_bytes out.new ≡ string_bytes out.old ++ flat_map pair_text masks.now) }
+{
+    for mask in masks {
+        push_pair(out, *mask)?;
+    }
+    Ok(())
+}
+
+/// Adds the comment of a preset of this name and these masks, with the names of those of the booleans that it turns on.
+fn push_booleans(
+    alloc: Global,
+    out: &mut String,
+    booleans: &[&Descriptor],
+    masks: &[u8],
+    name: &str,
+) -> Result<(), AllocError>
+    ensures { OnOk result (string_bytes out.new ≡ string_bytes out.old ++ comment_text name.now (names_text (names_on (map (λ d. d.now) booleans.now) masks.now))) }
+{
+    let names = names_on(alloc, booleans, masks)?;
+    let shown = names.as_slice().join(alloc, ", ")?;
+    push_comment(out, name, shown.as_str())
+}
+
 /// Adds the lines of a preset, where each preset has so many of the masks, with the names of those of the booleans that it turns on.
 fn push_preset(
     alloc: Global,
@@ -92,12 +118,8 @@ fn push_preset(
     ensures { OnOk result (string_bytes out.new ≡ string_bytes out.old ++ preset_text (map (λ d. d.now) booleans.now) size masks.now preset.now) }
 {
     let masks = part(masks, preset.offset, size);
-    for mask in masks {
-        push_pair(out, *mask)?;
-    }
-    let names = names_on(alloc, booleans, masks)?;
-    let shown = names.as_slice().join(alloc, ", ")?;
-    push_comment(out, preset.name.as_str(), shown.as_str())
+    push_masks(out, masks)?;
+    push_booleans(alloc, out, booleans, masks, preset.name.as_str())
 }
 
 /// Whether the entry is a boolean.
@@ -149,6 +171,23 @@ fn push_each_preset(
     Ok(())
 }
 
+/// Adds the list of these presets, where each has so many of the masks.
+fn push_preset_list(
+    alloc: Global,
+    out: &mut String,
+    booleans: &[&Descriptor],
+    size: u8,
+    masks: &[u8],
+    presets: &[&Descriptor],
+) -> Result<(), AllocError>
+    requires { length presets.now ≤ 65535 }
+    ensures { OnOk result (string_bytes out.new ≡ string_bytes out.old ++ list_text (codes "PRESETS") (codes "(u8, u8)") (length presets.now * size) (flat_map (preset_text (map (λ d. d.now) booleans.now) size masks.now) (map (λ d. d.now) presets.now))) }
+{
+    push_list_head(out, "PRESETS", "(u8, u8)", presets.len() * size as usize)?;
+    push_each_preset(alloc, out, booleans, size, masks, presets)?;
+    push_list_end(out)
+}
+
 /// Adds the list of the presets among the descriptors, where each has so many of the masks.
 fn push_presets(
     alloc: Global,
@@ -162,16 +201,27 @@ fn push_presets(
 {
     let booleans = booleans_of(alloc, descriptors)?;
     let presets = presets_of(alloc, descriptors)?;
-    push_list_head(out, "PRESETS", "(u8, u8)", presets.len() * size as usize)?;
-    push_each_preset(
+    push_preset_list(
         alloc,
         out,
         booleans.as_slice(),
         size,
         masks,
         presets.as_slice(),
-    )?;
-    push_list_end(out)
+    )
+}
+
+/// Adds the template of a group of this name with these default bytes.
+fn push_defaults(
+    alloc: Global,
+    out: &mut String,
+    name: &str,
+    defaults: &[u8],
+) -> Result<(), AllocError>
+    ensures { OnOk result (string_bytes out.new ≡ string_bytes out.old ++ template_text name.now (bytes_text defaults.now)) }
+{
+    let shown = hex_bytes(alloc, defaults)?;
+    push_template(out, name, shown.as_str())
 }
 
 /// Adds the text of a group, and nothing where there is no such group. It costs one pass a list, and for each preset one more
@@ -196,11 +246,10 @@ pub(crate) fn push_group(
     let size = tables.settings_size(group).unwrap_or(0);
     let masks = tables.preset_masks(group).unwrap_or(&[]);
     let defaults = tables.defaults(group).unwrap_or(&[]);
-    let shown = hex_bytes(alloc, defaults)?;
     push_head(out, name.as_str())?;
     push_enumerators(out, enumerators)?;
     push_descriptors(out, descriptors)?;
     push_slots(out, slots)?;
     push_presets(alloc, out, descriptors, size, masks)?;
-    push_template(out, name.as_str(), shown.as_str())
+    push_defaults(alloc, out, name.as_str(), defaults)
 }
