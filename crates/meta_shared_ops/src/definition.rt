@@ -1,6 +1,9 @@
-ghost use Rattle.std.specs.Prelude.{◌≡◌, ◌++◌, IfOk, All, length};
+ghost use Rattle.std.specs.Prelude.{◌≡◌, ◌++◌, [], ℕ, IfOk, OnOk, All, length, map, slice_get, Some};
+ghost use Rattle.meta_inst.specs.Builder.{Builder};
 ghost use Rattle.meta_inst.specs.Faults.{names_of};
 ghost use Rattle.meta_shared_core.specs.CoreNames.{core_names};
+ghost use Rattle.meta_shared_core.specs.Kinds.{EntitiesHoldNoVariable, ImmediatesHoldNoVariable};
+ghost use Rattle.meta_shared_core.specs.Rows.{FitsNames, builder_name};
 ghost use Rattle.meta_shared_core.specs.Settings.{IsSharedGroup};
 ghost use Rattle.meta_shared_ops.specs.OpsNames.{ops_names};
 
@@ -13,6 +16,28 @@ use meta_shared_core::{
 };
 use meta_typevar::TypeVars;
 use std::alloc::{AllocError, Global};
+
+/// Adds the 163 instructions, and the variables that they name, where there is none of either yet.
+fn add_instructions(
+    alloc: Global,
+    vars: &mut TypeVars,
+    all: &mut AllInstructions,
+    formats: &Formats,
+    imm: &Immediates,
+    entities: &EntityRefs,
+) -> Result<(), AllocError>
+    requires no_variable { vars.old ≡ [] }
+    requires no_instruction { all.old ≡ [] }
+    requires immediates { ImmediatesHoldNoVariable imm.now }
+    requires entities { EntitiesHoldNoVariable entities.now }
+    ensures names { OnOk result (map builder_name all.new ≡ core_names ++ ops_names) }
+    ensures fit { OnOk result ((k : ℕ) (b : Builder) → slice_get all.new k ≡ Some b → FitsNames vars.new formats.now b) }
+{
+    let roots = core_instructions(alloc, vars, all, formats, imm, entities)?;
+    let names = Names::new(formats, imm, entities, &roots);
+    push_tables(alloc, &names, vars, all, &ops_tables())?;
+    Ok(())
+}
 
 /// The shared declarations: 36 formats, 163 instructions, and the group of settings `shared`.
 pub fn define(alloc: Global) -> Result<Declarations, AllocError>
@@ -27,9 +52,7 @@ pub fn define(alloc: Global) -> Result<Declarations, AllocError>
     let mut table = FormatTable::new(alloc);
     let formats = Formats::new(alloc, &mut table, &imm, &entities)?;
     let (mut vars, mut all) = (TypeVars::new(alloc), AllInstructions::new(alloc));
-    let roots = core_instructions(alloc, &mut vars, &mut all, &formats, &imm, &entities)?;
-    let names = Names::new(&formats, &imm, &entities, &roots);
-    push_tables(alloc, &names, &mut vars, &mut all, &ops_tables())?;
+    add_instructions(alloc, &mut vars, &mut all, &formats, &imm, &entities)?;
     let mut groups = Vec::new(alloc);
     groups.push(settings::define(alloc)?)?;
     Ok(Declarations::new(vars, table, all, groups))

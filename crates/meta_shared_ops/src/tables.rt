@@ -1,3 +1,4 @@
+ghost use Rattle.std.specs.Prelude.{take, drop};
 ghost use Rattle.meta_shared_core.specs.Rows.{IsTable, rows_in};
 ghost use Rattle.meta_shared_ops.specs.OpsNames.{ops_names, arithmetic_names, division_names, overflow_names, bitwise_names, bit_counts_names, floats_names, rounding_names, casts_names, lane_widths_names, extension_names, number_casts_names, last_rows_names};
 
@@ -288,12 +289,23 @@ fn number_casts() -> &'static [Row]
     &NUMBER_CASTS
 }
 
-/// Halves of integers, atomic operations, and what stands alone.
-static LAST_ROWS: [Row; 9] = rows! {
+/// Integers in two halves.
+static HALVES: [Row; 2] = rows! {
     isplit: Unary(x: WideInt -> lo: half_width(WideInt) "The low bits of `x`", hi: half_width(WideInt) "The high bits of `x`")
         "Split an integer into low and high parts.";
     iconcat: Binary(lo: NarrowInt, hi: NarrowInt -> a: double_width(NarrowInt) "The concatenation of `lo` and `hi`")
         "Concatenate low and high bits to form a larger integer type.";
+};
+
+/// The instructions 155 and 156.
+fn halves() -> &'static [Row]
+    ensures { IsTable (take 2 last_rows_names) 3 result.now }
+{
+    &HALVES
+}
+
+/// Atomic operations on memory.
+static ATOMICS: [Row; 5] = rows! {
     atomic_rmw: AtomicRmw(MemFlags: memflags, AtomicRmwOp: atomic_rmw_op, p: A2, x: AtomicMem "Value to be atomically stored" -> a: AtomicMem "Value atomically loaded") Load Store OtherEffect
         "Atomically read-modify-write memory at `p`, with second operand `x`.  The old value is";
     atomic_cas: AtomicCas(MemFlags: memflags, p: A2, e: AtomicMem "Expected value in CAS", x: AtomicMem "Value to be atomically stored" -> a: AtomicMem "Value atomically loaded") Load Store OtherEffect
@@ -304,21 +316,32 @@ static LAST_ROWS: [Row; 9] = rows! {
         "Atomically store `x` to memory at `p`.";
     fence: NullAry(->) OtherEffect
         "A memory fence.  This must provide ordering to ensure that, at a minimum, neither loads";
+};
+
+/// The instructions 157 to 161.
+fn atomics() -> &'static [Row]
+    ensures { IsTable (take 5 (drop 2 last_rows_names)) 0 result.now }
+{
+    &ATOMICS
+}
+
+/// What stands alone.
+static LAST_ROWS: [Row; 2] = rows! {
     extract_vector: BinaryImm8(x: V3 "The dynamic vector to extract from", y: uimm8 "128-bit vector index" -> a: dynamic_to_vector(V3) "New fixed vector")
         "Return a fixed length sub vector, extracted from a dynamic vector.";
     sequence_point: NullAry(->) OtherEffect
         "A compiler barrier that acts as an immovable marker from IR input to machine-code output.";
 };
 
-/// The instructions 155 to 163.
+/// The instructions 162 and 163.
 fn last_rows() -> &'static [Row]
-    ensures { IsTable last_rows_names 4 result.now }
+    ensures { IsTable (drop 7 last_rows_names) 1 result.now }
 {
     &LAST_ROWS
 }
 
 /// The tables of the instructions 73 to 163.
-pub(crate) fn ops_tables() -> [&'static [Row]; 12]
+pub(crate) fn ops_tables() -> [&'static [Row]; 14]
     ensures { IsTable ops_names 19 (rows_in result) }
 {
     [
@@ -333,6 +356,8 @@ pub(crate) fn ops_tables() -> [&'static [Row]; 12]
         lane_widths(),
         extension(),
         number_casts(),
+        halves(),
+        atomics(),
         last_rows(),
     ]
 }

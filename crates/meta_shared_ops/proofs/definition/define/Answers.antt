@@ -1,33 +1,19 @@
 use Rattle.std.proofs.Common.{◌≡◌, ◌∙◌, ◌+◌, ◌++◌, ◌∷◌, [], ℕ, zero, suc, ◌<◌, List, length, map, get_or, sym, ap, subst, refl, arith}
 use Rattle.std.proofs.lemmas.List.{length-map}
+use Rattle.std.proofs.lemmas.Result.{IfOk-from_err}
 use Rattle.meta_inst.specs.Faults.{names_of}
 use Rattle.meta_settings.specs.GroupDeclaration.{GroupDeclaration}
 use Rattle.meta_declared.specs.AllDeclared.{Declared}
 use Rattle.meta_shared_core.specs.CoreNames.{core_names}
 use Rattle.meta_shared_core.specs.Settings.{IsSharedGroup}
-use Rattle.meta_shared_core.specs.Words.{Meanings, AreMeant}
-use Rattle.meta_shared_core.specs.Rows.{row_name, rows_in, FitsNames}
-use Rattle.meta_shared_core.proofs.Fitting.{all_fit, names_added}
 use Rattle.meta_shared_ops.specs.OpsNames.{ops_names}
 use Rattle.meta_shared_ops.proofs.definition.define.Goals as goal
 
-pub push_tables-requires-clause-meant : goal.push_tables-requires-clause-meant
-push_tables-requires-clause-meant c = subst (AreMeant c.core_instructions.new.vars) (sym c.new-names.ensures)
-    (record { immediates = c.in_ok-imm.ensures.no_variable; entities = c.in_ok-entities.ensures.no_variable; roots = c.in_ok-roots.ensures.roots })
-
 pub new-requires-4 : goal.new-requires-4
-new-requires-4 c = λ k b at.
-    let formats = ap (λ (m : Meanings). m.formats) c.new-names.ensures in
-    let meant : AreMeant c.core_instructions.new.vars c.new-names.result = subst (AreMeant c.core_instructions.new.vars) (sym c.new-names.ensures) (record { immediates = c.in_ok-imm.ensures.no_variable; entities = c.in_ok-entities.ensures.no_variable; roots = c.in_ok-roots.ensures.roots }) in
-    subst (λ f. FitsNames c.push_tables.new.vars f b) formats
-    (all_fit c.in_ok-push_tables.ensures.grows meant c.in_ok-push_tables.ensures.rows
-    (λ j d e. subst (λ f. FitsNames c.core_instructions.new.vars f d) (sym formats) (c.in_ok-roots.ensures.fit j d e)) k b at)
-    c.new-3.new.table c.in_ok-formats.ensures.of
+new-requires-4 c = λ k b at. c.in_ok-add_instructions.ensures.fit k b at c.new-3.new.table c.in_ok-formats.ensures.of
 
 pub returns-clause-names : goal.returns-clause-names
-returns-clause-names c = ap (λ (d : Declared). names_of d.set) c.new-4.ensures
-    ∙ (names_added c.in_ok-push_tables.ensures.rows
-    ∙ (ap (λ xs. xs ++ map row_name (rows_in c.ops_tables.result)) c.in_ok-roots.ensures.names ∙ ap (λ xs. core_names ++ xs) c.ops_tables.ensures.are_named))
+returns-clause-names c = ap (λ (d : Declared). names_of d.set) c.new-4.ensures ∙ c.in_ok-add_instructions.ensures.names
 
 pub returns-clause-instructions : goal.returns-clause-instructions
 unfolding core_names ops_names
@@ -49,3 +35,93 @@ returns-clause-formats c = ap (λ (d : Declared). length d.set.formats) c.new-4.
 
 pub returns-clause-groups : goal.returns-clause-groups
 returns-clause-groups c = ap (λ (d : Declared). length d.groups) c.new-4.ensures ∙ ap length (c.in_ok-push.ensures.items ∙ ap (λ xs. xs ++ c.in_ok-define.field-0 ∷ []) c.new-groups.ensures.items)
+
+pub returns-in_err-entities-clause-formats : goal.returns-in_err-entities-clause-formats
+returns-in_err-entities-clause-formats c = IfOk-from_err c.from_residual.result _ c.from_residual.ensures.0
+
+pub returns-in_err-entities-clause-instructions : goal.returns-in_err-entities-clause-instructions
+returns-in_err-entities-clause-instructions c = IfOk-from_err c.from_residual.result _ c.from_residual.ensures.0
+
+pub returns-in_err-entities-clause-names : goal.returns-in_err-entities-clause-names
+returns-in_err-entities-clause-names c = IfOk-from_err c.from_residual.result _ c.from_residual.ensures.0
+
+pub returns-in_err-entities-clause-groups : goal.returns-in_err-entities-clause-groups
+returns-in_err-entities-clause-groups c = IfOk-from_err c.from_residual.result _ c.from_residual.ensures.0
+
+pub returns-in_err-entities-clause-group : goal.returns-in_err-entities-clause-group
+returns-in_err-entities-clause-group c = IfOk-from_err c.from_residual.result _ c.from_residual.ensures.0
+
+pub returns-in_err-imm-clause-formats : goal.returns-in_err-imm-clause-formats
+returns-in_err-imm-clause-formats c = IfOk-from_err c.from_residual-in_err-imm.result _ c.from_residual-in_err-imm.ensures.0
+
+pub returns-in_err-imm-clause-instructions : goal.returns-in_err-imm-clause-instructions
+returns-in_err-imm-clause-instructions c = IfOk-from_err c.from_residual-in_err-imm.result _ c.from_residual-in_err-imm.ensures.0
+
+pub returns-in_err-imm-clause-names : goal.returns-in_err-imm-clause-names
+returns-in_err-imm-clause-names c = IfOk-from_err c.from_residual-in_err-imm.result _ c.from_residual-in_err-imm.ensures.0
+
+pub returns-in_err-imm-clause-groups : goal.returns-in_err-imm-clause-groups
+returns-in_err-imm-clause-groups c = IfOk-from_err c.from_residual-in_err-imm.result _ c.from_residual-in_err-imm.ensures.0
+
+pub returns-in_err-imm-clause-group : goal.returns-in_err-imm-clause-group
+returns-in_err-imm-clause-group c = IfOk-from_err c.from_residual-in_err-imm.result _ c.from_residual-in_err-imm.ensures.0
+
+pub returns-in_err-formats-clause-formats : goal.returns-in_err-formats-clause-formats
+returns-in_err-formats-clause-formats c = IfOk-from_err c.from_residual-in_err-formats.result _ c.from_residual-in_err-formats.ensures.0
+
+pub returns-in_err-formats-clause-instructions : goal.returns-in_err-formats-clause-instructions
+returns-in_err-formats-clause-instructions c = IfOk-from_err c.from_residual-in_err-formats.result _ c.from_residual-in_err-formats.ensures.0
+
+pub returns-in_err-formats-clause-names : goal.returns-in_err-formats-clause-names
+returns-in_err-formats-clause-names c = IfOk-from_err c.from_residual-in_err-formats.result _ c.from_residual-in_err-formats.ensures.0
+
+pub returns-in_err-formats-clause-groups : goal.returns-in_err-formats-clause-groups
+returns-in_err-formats-clause-groups c = IfOk-from_err c.from_residual-in_err-formats.result _ c.from_residual-in_err-formats.ensures.0
+
+pub returns-in_err-formats-clause-group : goal.returns-in_err-formats-clause-group
+returns-in_err-formats-clause-group c = IfOk-from_err c.from_residual-in_err-formats.result _ c.from_residual-in_err-formats.ensures.0
+
+pub returns-in_err-add_instructions-clause-formats : goal.returns-in_err-add_instructions-clause-formats
+returns-in_err-add_instructions-clause-formats c = IfOk-from_err c.from_residual-in_err-add_instructions.result _ c.from_residual-in_err-add_instructions.ensures.0
+
+pub returns-in_err-add_instructions-clause-instructions : goal.returns-in_err-add_instructions-clause-instructions
+returns-in_err-add_instructions-clause-instructions c = IfOk-from_err c.from_residual-in_err-add_instructions.result _ c.from_residual-in_err-add_instructions.ensures.0
+
+pub returns-in_err-add_instructions-clause-names : goal.returns-in_err-add_instructions-clause-names
+returns-in_err-add_instructions-clause-names c = IfOk-from_err c.from_residual-in_err-add_instructions.result _ c.from_residual-in_err-add_instructions.ensures.0
+
+pub returns-in_err-add_instructions-clause-groups : goal.returns-in_err-add_instructions-clause-groups
+returns-in_err-add_instructions-clause-groups c = IfOk-from_err c.from_residual-in_err-add_instructions.result _ c.from_residual-in_err-add_instructions.ensures.0
+
+pub returns-in_err-add_instructions-clause-group : goal.returns-in_err-add_instructions-clause-group
+returns-in_err-add_instructions-clause-group c = IfOk-from_err c.from_residual-in_err-add_instructions.result _ c.from_residual-in_err-add_instructions.ensures.0
+
+pub returns-in_err-define-clause-formats : goal.returns-in_err-define-clause-formats
+returns-in_err-define-clause-formats c = IfOk-from_err c.from_residual-in_err-define.result _ c.from_residual-in_err-define.ensures.0
+
+pub returns-in_err-define-clause-instructions : goal.returns-in_err-define-clause-instructions
+returns-in_err-define-clause-instructions c = IfOk-from_err c.from_residual-in_err-define.result _ c.from_residual-in_err-define.ensures.0
+
+pub returns-in_err-define-clause-names : goal.returns-in_err-define-clause-names
+returns-in_err-define-clause-names c = IfOk-from_err c.from_residual-in_err-define.result _ c.from_residual-in_err-define.ensures.0
+
+pub returns-in_err-define-clause-groups : goal.returns-in_err-define-clause-groups
+returns-in_err-define-clause-groups c = IfOk-from_err c.from_residual-in_err-define.result _ c.from_residual-in_err-define.ensures.0
+
+pub returns-in_err-define-clause-group : goal.returns-in_err-define-clause-group
+returns-in_err-define-clause-group c = IfOk-from_err c.from_residual-in_err-define.result _ c.from_residual-in_err-define.ensures.0
+
+pub returns-in_err-push-clause-formats : goal.returns-in_err-push-clause-formats
+returns-in_err-push-clause-formats c = IfOk-from_err c.from_residual-in_err-push.result _ c.from_residual-in_err-push.ensures.0
+
+pub returns-in_err-push-clause-instructions : goal.returns-in_err-push-clause-instructions
+returns-in_err-push-clause-instructions c = IfOk-from_err c.from_residual-in_err-push.result _ c.from_residual-in_err-push.ensures.0
+
+pub returns-in_err-push-clause-names : goal.returns-in_err-push-clause-names
+returns-in_err-push-clause-names c = IfOk-from_err c.from_residual-in_err-push.result _ c.from_residual-in_err-push.ensures.0
+
+pub returns-in_err-push-clause-groups : goal.returns-in_err-push-clause-groups
+returns-in_err-push-clause-groups c = IfOk-from_err c.from_residual-in_err-push.result _ c.from_residual-in_err-push.ensures.0
+
+pub returns-in_err-push-clause-group : goal.returns-in_err-push-clause-group
+returns-in_err-push-clause-group c = IfOk-from_err c.from_residual-in_err-push.result _ c.from_residual-in_err-push.ensures.0

@@ -17,5 +17,7 @@ returns c =
     (tables_joined _ _ _ _ _ _ c.lane_widths.ensures
     (tables_joined _ _ _ _ _ _ c.extension.ensures
     (tables_joined _ _ _ _ _ _ c.number_casts.ensures
+    (tables_joined _ _ _ _ _ _ c.halves.ensures
+    (tables_joined _ _ _ _ _ _ c.atomics.ensures
     (tables_joined _ _ _ _ _ _ c.last_rows.ensures
-    (record { are_named = refl; are_derived = refl; derivable = refl }))))))))))))
+    (record { are_named = refl; are_derived = refl; derivable = refl }))))))))))))))
