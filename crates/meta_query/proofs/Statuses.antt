@@ -1,5 +1,5 @@
 -- How a run ended: two ways are different, by the exit status, and in some ways nothing was written.
-use Rattle.std.proofs.Common.{◌≡◌, ◌≢◌, ◌==◌, ◌≤◌, ℕ, false, inl, inr, ap, arith}
+use Rattle.std.proofs.Common.{◌≡◌, ◌≢◌, ◌==◌, false, inl, inr, ap, arith}
 use Rattle.std.proofs.lemmas.Bool.Decides.{nat_tests}
 use Rattle.meta_query.specs.Status.{code_of}
 use Rattle.meta_query.specs.declared.status.Status.{Status}
@@ -17,7 +17,3 @@ unwritten s a b c d (inl e) = absurd (a e)
 unwritten s a b c d (inr (inl e)) = absurd (b e)
 unwritten s a b c d (inr (inr (inl e))) = absurd (c e)
 unwritten s a b c d (inr (inr (inr e))) = d e
-
--- a count that stayed didn't fall
-pub same_count : (n : ℕ) → n ≤ n
-same_count n = omega arith

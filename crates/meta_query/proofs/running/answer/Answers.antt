@@ -1,9 +1,9 @@
 -- By how the command ended.
-use Rattle.std.proofs.Common.{◌≡◌, Ok, Err, refl, ap, IsErrOf}
+use Rattle.std.proofs.Common.{◌≡◌, Ok, Err, refl, ap, IsErrOf, le_refl}
 use Rattle.meta_text.specs.declared.whole.ReadError.{ReadError}
 use Rattle.meta_text.specs.declared.whole.ReadError.TheVariants as read
 use Rattle.meta_query.specs.declared.status.Status.TheVariants.{Done, Refused, Usage, ReadFault, WriteFault, OutOfMemory, TooLong}
-use Rattle.meta_query.proofs.Statuses.{apart, unwritten, same_count}
+use Rattle.meta_query.proofs.Statuses.{apart, unwritten}
 use Rattle.meta_query.proofs.running.answer.Goals as goal
 
 -- a result is no other
@@ -19,19 +19,19 @@ right x e = absurd (cc)
 -- ---- the input wasn't read
 
 pub returns-in-Err-ReadFault-clause-done : goal.returns-in-Err-ReadFault-clause-done
-returns-in-Err-ReadFault-clause-done g c = λ e. apart ReadFault Done refl e
+returns-in-Err-ReadFault-clause-done g c = λ e. apart _ Done refl e
 
 pub returns-in-Err-ReadFault-clause-in_part : goal.returns-in-Err-ReadFault-clause-in_part
-returns-in-Err-ReadFault-clause-in_part g c = λ e. apart ReadFault WriteFault refl e
+returns-in-Err-ReadFault-clause-in_part g c = λ e. apart _ WriteFault refl e
 
 pub returns-in-Err-ReadFault-clause-read_fault : goal.returns-in-Err-ReadFault-clause-read_fault
 returns-in-Err-ReadFault-clause-read_fault g c = λ e. c.in-Err-ReadFault.ensures.read_fault (ap Err c.in-Err-ReadFault.field-0-is)
 
 pub returns-in-Err-ReadFault-clause-write_fault : goal.returns-in-Err-ReadFault-clause-write_fault
-returns-in-Err-ReadFault-clause-write_fault g c = λ e. apart ReadFault WriteFault refl e
+returns-in-Err-ReadFault-clause-write_fault g c = λ e. apart _ WriteFault refl e
 
 pub returns-in-Err-ReadFault-clause-too_long : goal.returns-in-Err-ReadFault-clause-too_long
-returns-in-Err-ReadFault-clause-too_long g c = λ e. apart ReadFault TooLong refl e
+returns-in-Err-ReadFault-clause-too_long g c = λ e. apart _ TooLong refl e
 
 pub returns-in-Err-ReadFault-clause-else_within : goal.returns-in-Err-ReadFault-clause-else_within
 returns-in-Err-ReadFault-clause-else_within g c = λ e.
@@ -44,25 +44,25 @@ pub returns-in-Err-ReadFault-clause-untouched : goal.returns-in-Err-ReadFault-cl
 returns-in-Err-ReadFault-clause-untouched g c = λ e. refl
 
 pub returns-in-Err-ReadFault-clause-only : goal.returns-in-Err-ReadFault-clause-only
-returns-in-Err-ReadFault-clause-only g c = (apart ReadFault Refused refl, apart ReadFault Usage refl)
+returns-in-Err-ReadFault-clause-only g c = (apart _ Refused refl, apart _ Usage refl)
 
 pub returns-in-Err-ReadFault-clause-read_counted : goal.returns-in-Err-ReadFault-clause-read_counted
 returns-in-Err-ReadFault-clause-read_counted g c = c.in-Err-ReadFault.ensures.counted
 
 pub returns-in-Err-ReadFault-clause-write_counted : goal.returns-in-Err-ReadFault-clause-write_counted
-returns-in-Err-ReadFault-clause-write_counted g c = same_count _
+returns-in-Err-ReadFault-clause-write_counted g c = le_refl _
 
 pub returns-in-Err-TooLong-clause-done : goal.returns-in-Err-TooLong-clause-done
-returns-in-Err-TooLong-clause-done g c = λ e. apart TooLong Done refl e
+returns-in-Err-TooLong-clause-done g c = λ e. apart _ Done refl e
 
 pub returns-in-Err-TooLong-clause-in_part : goal.returns-in-Err-TooLong-clause-in_part
-returns-in-Err-TooLong-clause-in_part g c = λ e. apart TooLong WriteFault refl e
+returns-in-Err-TooLong-clause-in_part g c = λ e. apart _ WriteFault refl e
 
 pub returns-in-Err-TooLong-clause-read_fault : goal.returns-in-Err-TooLong-clause-read_fault
-returns-in-Err-TooLong-clause-read_fault g c = λ e. apart TooLong ReadFault refl e
+returns-in-Err-TooLong-clause-read_fault g c = λ e. apart _ ReadFault refl e
 
 pub returns-in-Err-TooLong-clause-write_fault : goal.returns-in-Err-TooLong-clause-write_fault
-returns-in-Err-TooLong-clause-write_fault g c = λ e. apart TooLong WriteFault refl e
+returns-in-Err-TooLong-clause-write_fault g c = λ e. apart _ WriteFault refl e
 
 pub returns-in-Err-TooLong-clause-too_long : goal.returns-in-Err-TooLong-clause-too_long
 returns-in-Err-TooLong-clause-too_long g c = λ e. c.in-Err-TooLong.ensures.too_long (ap Err c.in-Err-TooLong.field-0-is)
@@ -77,28 +77,28 @@ pub returns-in-Err-TooLong-clause-untouched : goal.returns-in-Err-TooLong-clause
 returns-in-Err-TooLong-clause-untouched g c = λ e. refl
 
 pub returns-in-Err-TooLong-clause-only : goal.returns-in-Err-TooLong-clause-only
-returns-in-Err-TooLong-clause-only g c = (apart TooLong Refused refl, apart TooLong Usage refl)
+returns-in-Err-TooLong-clause-only g c = (apart _ Refused refl, apart _ Usage refl)
 
 pub returns-in-Err-TooLong-clause-read_counted : goal.returns-in-Err-TooLong-clause-read_counted
 returns-in-Err-TooLong-clause-read_counted g c = c.in-Err-TooLong.ensures.counted
 
 pub returns-in-Err-TooLong-clause-write_counted : goal.returns-in-Err-TooLong-clause-write_counted
-returns-in-Err-TooLong-clause-write_counted g c = same_count _
+returns-in-Err-TooLong-clause-write_counted g c = le_refl _
 
 pub returns-in-Err-OutOfMemory-clause-done : goal.returns-in-Err-OutOfMemory-clause-done
-returns-in-Err-OutOfMemory-clause-done g c = λ e. apart OutOfMemory Done refl e
+returns-in-Err-OutOfMemory-clause-done g c = λ e. apart _ Done refl e
 
 pub returns-in-Err-OutOfMemory-clause-in_part : goal.returns-in-Err-OutOfMemory-clause-in_part
-returns-in-Err-OutOfMemory-clause-in_part g c = λ e. apart OutOfMemory WriteFault refl e
+returns-in-Err-OutOfMemory-clause-in_part g c = λ e. apart _ WriteFault refl e
 
 pub returns-in-Err-OutOfMemory-clause-read_fault : goal.returns-in-Err-OutOfMemory-clause-read_fault
-returns-in-Err-OutOfMemory-clause-read_fault g c = λ e. apart OutOfMemory ReadFault refl e
+returns-in-Err-OutOfMemory-clause-read_fault g c = λ e. apart _ ReadFault refl e
 
 pub returns-in-Err-OutOfMemory-clause-write_fault : goal.returns-in-Err-OutOfMemory-clause-write_fault
-returns-in-Err-OutOfMemory-clause-write_fault g c = λ e. apart OutOfMemory WriteFault refl e
+returns-in-Err-OutOfMemory-clause-write_fault g c = λ e. apart _ WriteFault refl e
 
 pub returns-in-Err-OutOfMemory-clause-too_long : goal.returns-in-Err-OutOfMemory-clause-too_long
-returns-in-Err-OutOfMemory-clause-too_long g c = λ e. apart OutOfMemory TooLong refl e
+returns-in-Err-OutOfMemory-clause-too_long g c = λ e. apart _ TooLong refl e
 
 pub returns-in-Err-OutOfMemory-clause-else_within : goal.returns-in-Err-OutOfMemory-clause-else_within
 returns-in-Err-OutOfMemory-clause-else_within g c = λ e.
@@ -111,30 +111,30 @@ pub returns-in-Err-OutOfMemory-clause-untouched : goal.returns-in-Err-OutOfMemor
 returns-in-Err-OutOfMemory-clause-untouched g c = λ e. refl
 
 pub returns-in-Err-OutOfMemory-clause-only : goal.returns-in-Err-OutOfMemory-clause-only
-returns-in-Err-OutOfMemory-clause-only g c = (apart OutOfMemory Refused refl, apart OutOfMemory Usage refl)
+returns-in-Err-OutOfMemory-clause-only g c = (apart _ Refused refl, apart _ Usage refl)
 
 pub returns-in-Err-OutOfMemory-clause-read_counted : goal.returns-in-Err-OutOfMemory-clause-read_counted
 returns-in-Err-OutOfMemory-clause-read_counted g c = c.in-Err-OutOfMemory.ensures.counted
 
 pub returns-in-Err-OutOfMemory-clause-write_counted : goal.returns-in-Err-OutOfMemory-clause-write_counted
-returns-in-Err-OutOfMemory-clause-write_counted g c = same_count _
+returns-in-Err-OutOfMemory-clause-write_counted g c = le_refl _
 
 -- ---- there was no memory for the output
 
 pub returns-in_default-clause-done : goal.returns-in_default-clause-done
-returns-in_default-clause-done g c = λ e. apart OutOfMemory Done refl e
+returns-in_default-clause-done g c = λ e. apart _ Done refl e
 
 pub returns-in_default-clause-in_part : goal.returns-in_default-clause-in_part
-returns-in_default-clause-in_part g c = λ e. apart OutOfMemory WriteFault refl e
+returns-in_default-clause-in_part g c = λ e. apart _ WriteFault refl e
 
 pub returns-in_default-clause-read_fault : goal.returns-in_default-clause-read_fault
-returns-in_default-clause-read_fault g c = λ e. apart OutOfMemory ReadFault refl e
+returns-in_default-clause-read_fault g c = λ e. apart _ ReadFault refl e
 
 pub returns-in_default-clause-write_fault : goal.returns-in_default-clause-write_fault
-returns-in_default-clause-write_fault g c = λ e. apart OutOfMemory WriteFault refl e
+returns-in_default-clause-write_fault g c = λ e. apart _ WriteFault refl e
 
 pub returns-in_default-clause-too_long : goal.returns-in_default-clause-too_long
-returns-in_default-clause-too_long g c = λ e. apart OutOfMemory TooLong refl e
+returns-in_default-clause-too_long g c = λ e. apart _ TooLong refl e
 
 pub returns-in_default-clause-else_within : goal.returns-in_default-clause-else_within
 returns-in_default-clause-else_within g c = λ e. c.in-Ok.ensures.else_within (right c.in-Ok.input)
@@ -146,13 +146,13 @@ pub returns-in_default-clause-untouched : goal.returns-in_default-clause-untouch
 returns-in_default-clause-untouched g c = λ e. refl
 
 pub returns-in_default-clause-only : goal.returns-in_default-clause-only
-returns-in_default-clause-only g c = (apart OutOfMemory Refused refl, apart OutOfMemory Usage refl)
+returns-in_default-clause-only g c = (apart _ Refused refl, apart _ Usage refl)
 
 pub returns-in_default-clause-read_counted : goal.returns-in_default-clause-read_counted
 returns-in_default-clause-read_counted g c = c.in-Ok.ensures.counted
 
 pub returns-in_default-clause-write_counted : goal.returns-in_default-clause-write_counted
-returns-in_default-clause-write_counted g c = same_count _
+returns-in_default-clause-write_counted g c = le_refl _
 
 -- ---- the output was written
 
@@ -171,16 +171,16 @@ returns-in-Ok-write_whole-clause-done g c = λ e. record {
 }
 
 pub returns-in-Ok-write_whole-clause-in_part : goal.returns-in-Ok-write_whole-clause-in_part
-returns-in-Ok-write_whole-clause-in_part g c = λ e. apart Done WriteFault refl e
+returns-in-Ok-write_whole-clause-in_part g c = λ e. apart _ WriteFault refl e
 
 pub returns-in-Ok-write_whole-clause-read_fault : goal.returns-in-Ok-write_whole-clause-read_fault
-returns-in-Ok-write_whole-clause-read_fault g c = λ e. apart Done ReadFault refl e
+returns-in-Ok-write_whole-clause-read_fault g c = λ e. apart _ ReadFault refl e
 
 pub returns-in-Ok-write_whole-clause-write_fault : goal.returns-in-Ok-write_whole-clause-write_fault
-returns-in-Ok-write_whole-clause-write_fault g c = λ e. apart Done WriteFault refl e
+returns-in-Ok-write_whole-clause-write_fault g c = λ e. apart _ WriteFault refl e
 
 pub returns-in-Ok-write_whole-clause-too_long : goal.returns-in-Ok-write_whole-clause-too_long
-returns-in-Ok-write_whole-clause-too_long g c = λ e. apart Done TooLong refl e
+returns-in-Ok-write_whole-clause-too_long g c = λ e. apart _ TooLong refl e
 
 pub returns-in-Ok-write_whole-clause-else_within : goal.returns-in-Ok-write_whole-clause-else_within
 returns-in-Ok-write_whole-clause-else_within g c = λ e. c.in-Ok.ensures.else_within (right c.in-Ok.input)
@@ -190,10 +190,10 @@ returns-in-Ok-write_whole-clause-unread g c = c.in-Ok.ensures.unread
 
 pub returns-in-Ok-write_whole-clause-untouched : goal.returns-in-Ok-write_whole-clause-untouched
 returns-in-Ok-write_whole-clause-untouched g c =
-    unwritten Done (apart Done Usage refl) (apart Done ReadFault refl) (apart Done TooLong refl) (apart Done OutOfMemory refl)
+    unwritten Done (apart _ Usage refl) (apart _ ReadFault refl) (apart _ TooLong refl) (apart _ OutOfMemory refl)
 
 pub returns-in-Ok-write_whole-clause-only : goal.returns-in-Ok-write_whole-clause-only
-returns-in-Ok-write_whole-clause-only g c = (apart Done Refused refl, apart Done Usage refl)
+returns-in-Ok-write_whole-clause-only g c = (apart _ Refused refl, apart _ Usage refl)
 
 pub returns-in-Ok-write_whole-clause-read_counted : goal.returns-in-Ok-write_whole-clause-read_counted
 returns-in-Ok-write_whole-clause-read_counted g c = c.in-Ok.ensures.counted
@@ -204,7 +204,7 @@ returns-in-Ok-write_whole-clause-write_counted g c = c.in-Ok-write_whole.ensures
 -- ---- and a part of it
 
 pub returns-clause-done : goal.returns-clause-done
-returns-clause-done g c = λ e. apart WriteFault Done refl e
+returns-clause-done g c = λ e. apart _ Done refl e
 
 pub returns-clause-in_part : goal.returns-clause-in_part
 returns-clause-in_part g c = λ e. record {
@@ -220,13 +220,13 @@ returns-clause-in_part g c = λ e. record {
 }
 
 pub returns-clause-read_fault : goal.returns-clause-read_fault
-returns-clause-read_fault g c = λ e. apart WriteFault ReadFault refl e
+returns-clause-read_fault g c = λ e. apart _ ReadFault refl e
 
 pub returns-clause-write_fault : goal.returns-clause-write_fault
 returns-clause-write_fault g c = λ e. c.in-Err.ensures.fault
 
 pub returns-clause-too_long : goal.returns-clause-too_long
-returns-clause-too_long g c = λ e. apart WriteFault TooLong refl e
+returns-clause-too_long g c = λ e. apart _ TooLong refl e
 
 pub returns-clause-else_within : goal.returns-clause-else_within
 returns-clause-else_within g c = λ e. c.in-Ok.ensures.else_within (right c.in-Ok.input)
@@ -236,11 +236,11 @@ returns-clause-unread g c = c.in-Ok.ensures.unread
 
 pub returns-clause-untouched : goal.returns-clause-untouched
 returns-clause-untouched g c =
-    unwritten WriteFault (apart WriteFault Usage refl) (apart WriteFault ReadFault refl)
-    (apart WriteFault TooLong refl) (apart WriteFault OutOfMemory refl)
+    unwritten WriteFault (apart _ Usage refl) (apart _ ReadFault refl)
+    (apart _ TooLong refl) (apart _ OutOfMemory refl)
 
 pub returns-clause-only : goal.returns-clause-only
-returns-clause-only g c = (apart WriteFault Refused refl, apart WriteFault Usage refl)
+returns-clause-only g c = (apart _ Refused refl, apart _ Usage refl)
 
 pub returns-clause-read_counted : goal.returns-clause-read_counted
 returns-clause-read_counted g c = c.in-Ok.ensures.counted

@@ -1,8 +1,8 @@
-use Rattle.std.proofs.Common.{inl, inr, refl, subst}
+use Rattle.std.proofs.Common.{inl, inr, refl, subst, le_refl}
 use Rattle.meta_query.specs.Run.{WritesText}
 use Rattle.meta_query.proofs.Commands.{same_command}
 use Rattle.meta_query.proofs.Runs.{whole_again, part_again, headline, texts, refuses, of_usage, of_answer, of_fault}
-use Rattle.meta_query.proofs.Statuses.{apart, unwritten, same_count}
+use Rattle.meta_query.proofs.Statuses.{apart, unwritten}
 use Rattle.meta_query.proofs.running.run.Goals as goal
 use Rattle.meta_query.specs.declared.status.Status.TheVariants.{Done, Refused, Usage, ReadFault, WriteFault, TooLong}
 
@@ -60,10 +60,10 @@ pub returns-in_default-clause-text_unread : goal.returns-in_default-clause-text_
 returns-in_default-clause-text_unread g c = λ command text is. refl
 
 pub returns-in_default-clause-read_counted : goal.returns-in_default-clause-read_counted
-returns-in_default-clause-read_counted g c = same_count _
+returns-in_default-clause-read_counted g c = le_refl _
 
 pub returns-in_default-clause-write_counted : goal.returns-in_default-clause-write_counted
-returns-in_default-clause-write_counted g c = same_count _
+returns-in_default-clause-write_counted g c = le_refl _
 
 pub returns-in_default-clause-unfailing_source : goal.returns-in_default-clause-unfailing_source
 returns-in_default-clause-unfailing_source g c = λ never e. apart Usage ReadFault refl e
@@ -214,7 +214,7 @@ pub returns-in-Err-clause-text_unread : goal.returns-in-Err-clause-text_unread
 returns-in-Err-clause-text_unread g c = λ command text is. refl
 
 pub returns-in-Err-clause-read_counted : goal.returns-in-Err-clause-read_counted
-returns-in-Err-clause-read_counted g c = same_count _
+returns-in-Err-clause-read_counted g c = le_refl _
 
 pub returns-in-Err-clause-write_counted : goal.returns-in-Err-clause-write_counted
 returns-in-Err-clause-write_counted g c = c.refuse.ensures.counted
