@@ -39,8 +39,10 @@ const FAULTS: [(&str, DefinitionError); 16] = [
 /// Up to four numbers, and 0 for each that there isn't.
 fn numbers_of(out: &mut Case<'_>, words: &str) -> [u64; 4] {
     let mut numbers = [0; 4];
-    for (found, word) in numbers.iter_mut().zip(words.split(' ')) {
-        *found = out.number_of(word);
+    for (place, word) in words.split(' ').enumerate() {
+        if place < 4 {
+            numbers[place] = out.number_of(word);
+        }
     }
     numbers
 }

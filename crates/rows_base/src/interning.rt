@@ -44,9 +44,11 @@ pub(crate) fn numbers(alloc: Global, out: &mut Case<'_>, count: &str) {
 
 /// So many different numbers. An odd factor takes different numbers to different ones.
 fn numbers_of(alloc: Global, count: u32) -> Result<Vec<u32>, AllocError> {
-    (0..count)
-        .map(|number| number.wrapping_mul(0x9e37_79b1))
-        .collect(alloc)
+    let mut numbers = Vec::new(alloc);
+    for number in 0..count {
+        numbers.push(number.wrapping_mul(0x9e37_79b1))?;
+    }
+    Ok(numbers)
 }
 
 /// Writes how many entries there are after different numbers were added, and after they were added again. Each has to have its

@@ -1,6 +1,6 @@
 use meta_unique::UniqueSeqTable;
 use rows_words::{Case, Trouble, items_of, number};
-use std::alloc::Global;
+use std::alloc::{AllocError, Global};
 
 /// What is neither a number nor a text.
 #[derive(Clone, PartialEq, Eq, Drop)]
@@ -23,6 +23,28 @@ fn push_numbers(numbers: &mut Vec<u16>, items: &[&str]) -> Result<(), Trouble> {
         numbers.push(number(item)?)?;
     }
     Ok(())
+}
+
+/// The numbers as elements.
+fn elements_of(alloc: Global, numbers: &[u16]) -> Result<Vec<Element>, AllocError> {
+    let mut elements = Vec::new(alloc);
+    for number in numbers {
+        elements.push(Element { number: *number })?;
+    }
+    Ok(elements)
+}
+
+/// Whether the text and the element at a place stand for this number.
+fn is_at(texts: &[&str], elements: &[Element], place: usize, wanted: u16) -> bool {
+    let is_text = match texts.get(place) {
+        Some(text) => matches!(number::<u16>(text), Ok(found) if found == wanted),
+        None => false,
+    };
+    let is_element = match elements.get(place) {
+        Some(element) => element.number == wanted,
+        None => false,
+    };
+    is_text && is_element
 }
 
 impl<'a> Lists<'a> {
@@ -74,14 +96,18 @@ impl<'a> Lists<'a> {
 
     /// Adds a list as numbers and as elements, which has to stand where it does as texts.
     fn add_numbers(&mut self, alloc: Global, place: usize, numbers: &[u16]) -> Result<(), Trouble> {
-        let elements: Vec<Element> = numbers
-            .iter()
-            .map(|number| Element { number: *number })
-            .collect(alloc)?;
-        let places = (
-            self.numbers.add(numbers)?,
-            self.elements.add(elements.as_slice())?,
-        );
+        let elements = elements_of(alloc, numbers)?;
+        self.add_both(place, numbers, elements.as_slice())
+    }
+
+    /// Adds a list as numbers and as elements, which has to stand where it does as texts.
+    fn add_both(
+        &mut self,
+        place: usize,
+        numbers: &[u16],
+        elements: &[Element],
+    ) -> Result<(), Trouble> {
+        let places = (self.numbers.add(numbers)?, self.elements.add(elements)?);
         let len = self.texts.len();
         if places == (place, place) && self.numbers.len() == len && self.elements.len() == len {
             Ok(())
@@ -92,14 +118,13 @@ impl<'a> Lists<'a> {
 
     /// All that the table holds.
     pub(crate) fn all(&self, out: &mut Case<'_>) {
-        let others = self.texts.iter().zip(self.elements.iter());
-        for (as_number, (text, element)) in self.numbers.iter().zip(others) {
-            let number: u16 = out.number_of(text);
-            if number != *as_number || element.number != *as_number {
+        let (texts, elements) = (self.texts.iter(), self.elements.iter());
+        for (place, number) in self.numbers.iter().enumerate() {
+            if !is_at(texts.as_slice(), elements.as_slice(), place, *number) {
                 out.refuse(Trouble::Differ);
             }
             out.separate(',');
-            out.shown(as_number);
+            out.shown(number);
         }
     }
 }

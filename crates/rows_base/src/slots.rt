@@ -1,6 +1,6 @@
 use meta_unique::{generate_table, simple_hash};
 use rows_words::{Case, Trouble, items_of, number};
-use std::alloc::Global;
+use std::alloc::{AllocError, Global};
 
 /// An item of a table of slots.
 #[derive(Clone, Copy)]
@@ -19,17 +19,22 @@ fn add_item(items: &mut Vec<Item>, hash: usize) -> Result<(), Trouble> {
     }
 }
 
+/// The slots with the place of each item in place of it.
+fn places_of(alloc: Global, table: &[Option<&Item>]) -> Result<Vec<Option<u16>>, AllocError> {
+    let mut slots = Vec::new(alloc);
+    for slot in table {
+        slots.push(slot.map(|item| item.place))?;
+    }
+    Ok(slots)
+}
+
 /// The slots of the items, in which each is named by its place.
 fn slots_of(alloc: Global, items: &[Item]) -> Result<Vec<Option<u16>>, Trouble> {
     if items.len() > 65535 {
         return Err(Trouble::NoCase);
     }
     let table = generate_table(alloc, items, |item| item.hash)?;
-    let slots = table
-        .iter()
-        .map(|slot| slot.map(|item| item.place))
-        .collect(alloc)?;
-    Ok(slots)
+    Ok(places_of(alloc, table.as_slice())?)
 }
 
 /// The slots of names.
