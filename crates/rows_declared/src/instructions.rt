@@ -90,7 +90,20 @@ fn with_operand(
         b'r' => Ok(format.raw_block()),
         b'*' => Ok(format.varargs()),
         b'0'..=b'9' => designating(format, usize::from(operand - b'0')),
-        _ => Ok(format.imm(&immediate(alloc, operand)?)?),
+        _ => with_immediate(alloc, format, operand),
+    }
+}
+
+/// The format with an immediate whose field name is this letter, where the format has room.
+fn with_immediate(
+    alloc: Global,
+    format: InstructionFormatBuilder,
+    letter: u8,
+) -> Result<InstructionFormatBuilder, Trouble> {
+    match immediate(alloc, letter) {
+        Ok(kind) if format.has_room() => Ok(format.imm(&kind)?),
+        Ok(_) => Err(Trouble::NoCase),
+        Err(error) => Err(error.into()),
     }
 }
 
@@ -116,6 +129,20 @@ fn format_of(
         format = with_operand(alloc, format, *operand)?;
     }
     Ok(format)
+}
+
+/// The instruction of this name, with the inputs and the outputs of two lists of words.
+fn of_operands(
+    alloc: Global,
+    variables: &Variables<'_>,
+    name: &str,
+    format: FormatId,
+    lists: [&str; 2],
+) -> Result<InstructionBuilder, AllocError> {
+    let inputs = operands(alloc, variables, lists[0])?;
+    let outputs = operands(alloc, variables, lists[1])?;
+    let builder = instruction(alloc, name, "", format)?;
+    Ok(builder.operands_in(inputs).operands_out(outputs))
 }
 
 /// The instruction that is named by a letter and a number, without operands.
@@ -230,21 +257,17 @@ impl<'l> Instructions<'l> {
     /// method is asked for.
     pub(crate) fn inst(&mut self, alloc: Global, variables: &Variables<'l>, case: &mut Case<'l>) {
         let (name, format) = (case.word(), case.word());
-        let inputs = operands(alloc, variables, case.word());
-        let outputs = operands(alloc, variables, case.word());
+        let lists = [case.word(), case.word()];
         let second = next_second(variables, case);
         let method = case.takes("method");
         let Ok(format) = self.find(format) else {
             return case.no_case();
         };
-        match (inputs, outputs, instruction(alloc, name, "", format)) {
-            (Ok(inputs), Ok(outputs), Ok(builder)) => {
-                let builder = builder.operands_in(inputs).operands_out(outputs);
-                let builder = with_second(builder.inst_builder_imm_method(method), second);
-                self.push(Ok(builder), case);
-            }
-            _ => case.refuse(Trouble::OutOfMemory),
-        }
+        let builder = of_operands(alloc, variables, name, format, lists);
+        self.push(
+            builder.map(|it| with_second(it.inst_builder_imm_method(method), second)),
+            case,
+        );
     }
 
     /// Adds instructions without operands, the first of this name, and then `f1`, `f2` and so on.

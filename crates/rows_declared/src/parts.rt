@@ -81,22 +81,36 @@ fn push_opcode(
     Ok(parts.constraints.push(entry)?)
 }
 
-/// The parts of tables.
-fn parts_of(alloc: Global, tables: &Tables) -> Result<TableParts, Trouble> {
-    let mut parts = TableParts {
+/// No parts.
+fn no_parts(alloc: Global) -> TableParts {
+    TableParts {
         names: Vec::new(alloc),
         formats: Vec::new(alloc),
-        type_sets: tables.type_sets().to_vec(alloc)?,
-        operand_constraints: tables.operand_constraints().to_vec(alloc)?,
+        type_sets: Vec::new(alloc),
+        operand_constraints: Vec::new(alloc),
         constraints: Vec::new(alloc),
         groups: Vec::new(alloc),
-    };
+    }
+}
+
+/// Adds the parts of tables.
+fn push_parts(parts: &mut TableParts, alloc: Global, tables: &Tables) -> Result<(), Trouble> {
+    parts.type_sets.extend_from_slice(tables.type_sets())?;
+    let constraints = tables.operand_constraints();
+    parts.operand_constraints.extend_from_slice(constraints)?;
     for opcode in 1..=tables.opcode_count() {
-        push_opcode(&mut parts, alloc, tables, opcode)?;
+        push_opcode(parts, alloc, tables, opcode)?;
     }
     for group in 0..tables.group_count() {
         parts.groups.push(group_parts(alloc, tables, group)?)?;
     }
+    Ok(())
+}
+
+/// The parts of tables.
+fn parts_of(alloc: Global, tables: &Tables) -> Result<TableParts, Trouble> {
+    let mut parts = no_parts(alloc);
+    push_parts(&mut parts, alloc, tables)?;
     Ok(parts)
 }
 
@@ -106,6 +120,24 @@ fn put<T: Drop>(list: &mut Vec<T>, place: usize, item: T, case: &mut Case<'_>) {
         Some(old) => *old = item,
         None => case.no_case(),
     }
+}
+
+/// Puts the next word in the place with the number, where there is one.
+fn put_text(
+    alloc: Global,
+    list: &mut Vec<Text>,
+    place: usize,
+    case: &mut Case<'_>,
+) -> Result<(), AllocError> {
+    let text = Text::new(alloc, case.word())?;
+    put(list, place, text, case);
+    Ok(())
+}
+
+/// Puts a byte in a place, the place first.
+fn put_byte(list: &mut Vec<u8>, case: &mut Case<'_>) {
+    let (place, byte) = (case.number(), case.number());
+    put(list, place, byte, case);
 }
 
 /// Makes a list so long, with its last item again and again where it was shorter.
@@ -180,6 +212,18 @@ fn next_descriptor(alloc: Global, case: &mut Case<'_>) -> Result<Descriptor, All
     })
 }
 
+/// Puts an entry in a place, the place first.
+fn put_descriptor(
+    alloc: Global,
+    list: &mut Vec<Descriptor>,
+    case: &mut Case<'_>,
+) -> Result<(), AllocError> {
+    let place = case.number();
+    let entry = next_descriptor(alloc, case)?;
+    put(list, place, entry, case);
+    Ok(())
+}
+
 /// Changes a part of a group.
 fn edit_group(
     alloc: Global,
@@ -189,48 +233,40 @@ fn edit_group(
 ) -> Result<(), Trouble> {
     match word {
         "group" => group.name = Text::new(alloc, case.word())?,
-        "setting" => {
-            let (place, entry) = (case.number(), next_descriptor(alloc, case)?);
-            put(&mut group.descriptors, place, entry, case);
-        }
+        "setting" => put_descriptor(alloc, &mut group.descriptors, case)?,
         "settings" => group.descriptors.truncate(case.number()),
-        "value" => {
-            let (place, value) = (case.number(), Text::new(alloc, case.word())?);
-            put(&mut group.enumerators, place, value, case);
-        }
+        "value" => put_text(alloc, &mut group.enumerators, case.number(), case)?,
         "values" => resize_texts(alloc, &mut group.enumerators, case.number())?,
-        "default" => {
-            let (place, byte) = (case.number(), case.number());
-            put(&mut group.defaults, place, byte, case);
-        }
+        "default" => put_byte(&mut group.defaults, case),
         "defaults" => resize(&mut group.defaults, case.number(), case),
-        "mask" => {
-            let (place, byte) = (case.number(), case.number());
-            put(&mut group.preset_masks, place, byte, case);
-        }
+        "mask" => put_byte(&mut group.preset_masks, case),
         "masks" => resize(&mut group.preset_masks, case.number(), case),
         _ => return Err(Trouble::NoCase),
     }
     Ok(())
 }
 
+/// Changes a part of the group with this number, where there is one.
+fn edit_group_at(
+    alloc: Global,
+    groups: &mut Vec<GroupParts>,
+    number: usize,
+    word: &str,
+    case: &mut Case<'_>,
+) -> Result<(), Trouble> {
+    match groups.get_mut(number) {
+        Some(group) => edit_group(alloc, group, word, case),
+        None => Err(Trouble::NoCase),
+    }
+}
+
 /// Changes a part: one of the list that a word names, at a place, or how many the list has, or a part of a group.
 fn edit(alloc: Global, parts: &mut TableParts, case: &mut Case<'_>) -> Result<(), Trouble> {
     let (word, number) = (case.word(), case.number());
     match word {
-        "name" => put(
-            &mut parts.names,
-            number,
-            Text::new(alloc, case.word())?,
-            case,
-        ),
+        "name" => put_text(alloc, &mut parts.names, number, case)?,
         "names" => resize_texts(alloc, &mut parts.names, number)?,
-        "format" => put(
-            &mut parts.formats,
-            number,
-            Text::new(alloc, case.word())?,
-            case,
-        ),
+        "format" => put_text(alloc, &mut parts.formats, number, case)?,
         "formats" => resize_texts(alloc, &mut parts.formats, number)?,
         "set" => put(&mut parts.type_sets, number, next_masks(case), case),
         "sets" => resize(&mut parts.type_sets, number, case),
@@ -246,10 +282,7 @@ fn edit(alloc: Global, parts: &mut TableParts, case: &mut Case<'_>) -> Result<()
         "entry" => put(&mut parts.constraints, number, next_entry(case), case),
         "entries" => resize(&mut parts.constraints, number, case),
         "groups" => parts.groups.truncate(number),
-        _ => match parts.groups.get_mut(number) {
-            Some(group) => edit_group(alloc, group, word, case)?,
-            None => case.no_case(),
-        },
+        _ => edit_group_at(alloc, &mut parts.groups, number, word, case)?,
     }
     Ok(())
 }

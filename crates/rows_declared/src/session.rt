@@ -42,6 +42,16 @@ fn run_words(alloc: Global, words: &[&str]) -> Result<Vec<Text>, Trouble> {
     Ok(all)
 }
 
+/// Whether two tables are the same, either way round, and each is the same as itself.
+fn comparison(one: &Tables, other: &Tables) -> &'static str {
+    let own = other.same(other) && one.same(one);
+    match (one.same(other), other.same(one)) {
+        (true, true) if own => "same",
+        (false, false) if own => "other",
+        _ => "neither",
+    }
+}
+
 impl<'l> Session<'l> {
     pub(crate) fn new(alloc: Global) -> Self {
         Session {
@@ -87,20 +97,19 @@ impl<'l> Session<'l> {
         self.outside.failing_write = case.number();
     }
 
+    /// How the tables of the case compare with those that are kept.
+    fn compare_with(&mut self, kept: &Tables) -> Result<&'static str, Trouble> {
+        Ok(comparison(kept, self.generated()?.tables()?))
+    }
+
     /// Whether the tables of the case are the same as those that were kept, either way round.
     fn compare(&mut self) -> Result<&'static str, Trouble> {
         let Some(kept) = self.kept.take() else {
             return Err(Trouble::NoCase);
         };
-        let tables = self.generated()?.tables()?;
-        let both = (kept.same(tables), tables.same(&kept));
-        let own = tables.same(tables) && kept.same(&kept);
+        let compared = self.compare_with(&kept);
         self.kept = Some(kept);
-        match both {
-            (true, true) if own => Ok("same"),
-            (false, false) if own => Ok("other"),
-            _ => Ok("neither"),
-        }
+        compared
     }
 
     /// Keeps the tables of the case for a comparison.
@@ -151,28 +160,37 @@ impl<'l> Session<'l> {
         Ok(())
     }
 
+    /// Begins this text with that of the tables of the case, in the version with the number.
+    fn begin_with(&mut self, edited: &mut Edited, number: u8) -> Result<(), Trouble> {
+        edited.begin(self.generated()?.tables()?, number)
+    }
+
     /// Begins a text that lines edit with that of the tables of the case, in the version with the next number.
     fn begin_text(&mut self, case: &mut Case<'l>) -> Result<(), Trouble> {
-        let number = case.number();
         let mut edited = mem::replace(&mut self.edited, Edited::new(self.alloc));
-        edited.begin(self.generated()?.tables()?, number)?;
+        let begun = self.begin_with(&mut edited, case.number());
         self.edited = edited;
+        begun
+    }
+
+    /// Writes what the texts read as that are made of this one.
+    fn write_readings_of(
+        &mut self,
+        text: &[u8],
+        each: Each,
+        case: &mut Case<'l>,
+    ) -> Result<(), Trouble> {
+        let alloc = self.alloc;
+        write_readings(alloc, self.generated()?.tables()?, text, each, case);
         Ok(())
     }
 
     /// Writes what the texts read as that are made of the edited one.
     fn write_readings(&mut self, each: Each, case: &mut Case<'l>) -> Result<(), Trouble> {
-        let alloc = self.alloc;
-        let edited = mem::replace(&mut self.edited, Edited::new(alloc));
-        write_readings(
-            alloc,
-            self.generated()?.tables()?,
-            edited.as_bytes(),
-            each,
-            case,
-        );
+        let edited = mem::replace(&mut self.edited, Edited::new(self.alloc));
+        let written = self.write_readings_of(edited.as_bytes(), each, case);
         self.edited = edited;
-        Ok(())
+        written
     }
 
     /// Takes the tables of the case apart, and writes what the changed parts make.
