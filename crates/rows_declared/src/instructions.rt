@@ -90,21 +90,18 @@ fn with_operand(
         b'r' => Ok(format.raw_block()),
         b'*' => Ok(format.varargs()),
         b'0'..=b'9' => designating(format, usize::from(operand - b'0')),
-        _ => with_immediate(alloc, format, operand),
+        _ => Ok(with_immediate(alloc, format, operand)?),
     }
 }
 
-/// The format with an immediate whose field name is this letter, where the format has room.
+/// The format with an immediate whose field name is this letter.
 fn with_immediate(
     alloc: Global,
     format: InstructionFormatBuilder,
     letter: u8,
-) -> Result<InstructionFormatBuilder, Trouble> {
-    match immediate(alloc, letter) {
-        Ok(kind) if format.has_room() => Ok(format.imm(&kind)?),
-        Ok(_) => Err(Trouble::NoCase),
-        Err(error) => Err(error.into()),
-    }
+) -> Result<InstructionFormatBuilder, AllocError> {
+    let kind = immediate(alloc, letter)?;
+    format.imm(&kind)
 }
 
 /// The kind of an immediate whose field name is this letter.

@@ -48,6 +48,17 @@ fn write_structure(structure: &FormatStructure, case: &mut Case<'_>) {
     write_field_names(structure.imm_field_names.as_slice(), case);
 }
 
+/// The format that designates the value input whose number is the word.
+fn with_designated(
+    builder: InstructionFormatBuilder,
+    word: &str,
+) -> Result<InstructionFormatBuilder, Trouble> {
+    match number(word) {
+        Ok(place) => designating(builder, place),
+        Err(trouble) => Err(trouble),
+    }
+}
+
 impl<'l> Session<'l> {
     /// The format with one more part, which has a word behind it.
     fn with_part_of(
@@ -57,10 +68,20 @@ impl<'l> Session<'l> {
         word: &str,
     ) -> Result<InstructionFormatBuilder, Trouble> {
         match part {
-            "imm" if builder.has_room() => Ok(builder.imm(&self.kind_named(word)?)?),
-            "designate" => designating(builder, number(word)?),
+            "imm" if builder.has_room() => self.with_immediate(builder, word),
+            "designate" => with_designated(builder, word),
             _ => Err(Trouble::NoCase),
         }
+    }
+
+    /// The format with one more immediate, whose kind the word names.
+    fn with_immediate(
+        &self,
+        builder: InstructionFormatBuilder,
+        word: &str,
+    ) -> Result<InstructionFormatBuilder, Trouble> {
+        let kind = self.kind_named(word)?;
+        Ok(builder.imm(&kind)?)
     }
 
     /// The format with one more part, for which the word stands.
