@@ -42,6 +42,17 @@ fn write_texts(alloc: Global, built: &Built<'_>, case: &mut Case<'_>) {
     }
 }
 
+/// Writes the texts of declarations that the next words name, or the line of the first fault.
+fn write_texts_of(alloc: Global, declarations: &Declarations, case: &mut Case<'_>) {
+    match build_all(alloc, declarations) {
+        Ok(built) => write_texts(alloc, &built, case),
+        Err(fault) => {
+            case.rest();
+            case.made(fault.line(alloc));
+        }
+    }
+}
+
 impl<'l> Session<'l> {
     /// `many COUNT FORMAT`: adds so many instructions without operands to the list, `f0`, `f1` and so on.
     pub(crate) fn many(&mut self, case: &mut Case<'l>) {
@@ -71,16 +82,9 @@ impl<'l> Session<'l> {
     /// `texts WORDS`: the texts, `instructions` or `builder` or both, of the instructions of the list, or the line of the first
     /// fault. The registry, the table and the list are without anything then.
     pub(crate) fn texts(&mut self, case: &mut Case<'l>) {
-        let declarations = match self.take_declarations() {
-            Ok(declarations) => declarations,
-            Err(trouble) => return case.refuse(trouble),
-        };
-        match build_all(self.alloc, &declarations) {
-            Ok(built) => write_texts(self.alloc, &built, case),
-            Err(fault) => {
-                case.rest();
-                case.made(fault.line(self.alloc));
-            }
+        match self.take_declarations() {
+            Ok(declarations) => write_texts_of(self.alloc, &declarations, case),
+            Err(trouble) => case.refuse(trouble),
         }
     }
 }
