@@ -128,9 +128,12 @@ fn jump(alloc: Global, f: &Formats) -> Result<InstructionBuilder, AllocError> {
     Ok(builder.branches())
 }
 
-/// Adds an instruction at the end.
-fn push(all: &mut AllInstructions, builder: InstructionBuilder) -> Result<(), AllocError> {
-    InstructionGroupBuilder::new(all).push(builder)
+/// Adds an instruction at the end, where there was memory for it.
+fn push(
+    all: &mut AllInstructions,
+    builder: Result<InstructionBuilder, AllocError>,
+) -> Result<(), AllocError> {
+    InstructionGroupBuilder::new(all).push(builder?)
 }
 
 /// Adds the instructions of the machine.
@@ -140,12 +143,12 @@ pub(crate) fn push_all(
     v: &Variables,
     f: &Formats,
 ) -> Result<(), AllocError> {
-    push(all, constant(alloc, v, f)?)?;
-    push(all, add(alloc, v, f)?)?;
-    push(all, widen(alloc, v, f)?)?;
-    push(all, shift(alloc, v, f)?)?;
-    push(all, load(alloc, v, f)?)?;
-    push(all, store(alloc, v, f)?)?;
-    push(all, cmp(alloc, v, f)?)?;
-    push(all, jump(alloc, f)?)
+    push(all, constant(alloc, v, f))?;
+    push(all, add(alloc, v, f))?;
+    push(all, widen(alloc, v, f))?;
+    push(all, shift(alloc, v, f))?;
+    push(all, load(alloc, v, f))?;
+    push(all, store(alloc, v, f))?;
+    push(all, cmp(alloc, v, f))?;
+    push(all, jump(alloc, f))
 }
