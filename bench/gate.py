@@ -137,6 +137,9 @@ def run(folder):
 
 
 def main(words):
+    if len(words) > 2 or any(word.startswith("-") for word in words[1:]):
+        print("usage: bench/gate.py [FOLDER]", file=sys.stderr)
+        return 2
     top = os.path.dirname(os.path.dirname(os.path.realpath(__file__)))
     with tempfile.TemporaryDirectory(prefix="ciderlater-gate-") as room:
         if len(words) > 1:
