@@ -28,13 +28,13 @@ def read(path):
 
 
 def parents():
-    """Returns the parent of each process, and its processor seconds with those of the children that it waited for."""
+    """Returns the parent of each process, when it began, and its processor seconds with those of the children it waited for."""
     found = {}
     for name in os.listdir("/proc"):
         if name.isdigit():
             fields = read(f"/proc/{name}/stat").rpartition(b")")[2].split()
             if fields:
-                found[int(name)] = int(fields[1]), sum(map(int, fields[11:15])) / TICK
+                found[int(name)] = int(fields[1]), int(fields[19]), sum(map(int, fields[11:15])) / TICK
     return found
 
 
@@ -65,12 +65,14 @@ class Gate:
         now, all_of = time.time(), parents()
         below, grown = {top}, True
         while grown:
-            more = {pid for pid, (parent, _) in all_of.items() if parent in below} - below
+            more = {pid for pid, (parent, _, _) in all_of.items() if parent in below} - below
             below, grown = below | more, bool(more)
-        for pid in below:
-            what = self.seen[pid][0] if pid in self.seen else check_of(pid)
-            if what and pid in all_of:
-                self.seen[pid] = what, all_of[pid][1]
+        for pid in below & all_of.keys():
+            # A long run gives numbers of processes out again, so when it began tells a process.
+            _, start, seconds = all_of[pid]
+            what = self.seen[pid, start][0] if (pid, start) in self.seen else check_of(pid)
+            if what:
+                self.seen[pid, start] = what, seconds
                 begun = self.spans.get(what, (now, now))[0]
                 self.spans[what] = begun, now
 
