@@ -3,6 +3,9 @@
 
 It runs `rt ci --anew` there, looks four times a second at the checks below it, and prints a line a crate: the processor minutes of
 its proof, of the proof of its tests, of its must-fail edits (with the check that they begin with) and of building its programs.
+The flag `--anew`, which proves what earlier runs on the machine kept too, and the names and words of the checks that are looked at
+are of the kit rattle-kit-13f (`rt help`, `rt version`). With a kit that has no such flag, leave it out below, and run this on a machine
+that has kept nothing, or once the folder in which that kit keeps proofs was moved away (rattle-kit-13f: `rattle-kept`, beside its own).
 Then come the sum, the wall minutes, and the longest chain of proofs, by the wall minutes that each took. Run it with nothing else
 running. FOLDER keeps the clone and the log of the gate, `gate.log`; without one they go.
 """
