@@ -21,6 +21,9 @@ const GROUP: &str = "// Settings group ";
 /// Where the finished program lies, from the folder of this crate.
 const DEFAULT_PROGRAM: &str = "../../crates/meta_query_cli/out/meta_query_cli";
 
+/// What to do where the program isn't there.
+const HINT: &str = "./run makes the program, or CIDERLATER_PROGRAM names another";
+
 type Result<T> = std::result::Result<T, Box<dyn Error>>;
 
 /// Where the texts come from.
@@ -62,13 +65,12 @@ impl Source {
 
 /// What the program writes where its only word is the name of a text.
 fn run(program: &Path, name: &str) -> Result<String> {
-    let output = Command::new(program)
-        .arg(name)
-        .output()
-        .map_err(|e| format!("{}: {e}", program.display()))?;
+    let shown = program.display();
+    let output = Command::new(program).arg(name).output();
+    let output = output.map_err(|e| format!("{shown}: {e}. {HINT}"))?;
     if !output.status.success() {
         let said = String::from_utf8_lossy(&output.stderr);
-        return Err(format!("{} {name}: {}: {said}", program.display(), output.status).into());
+        return Err(format!("{shown} {name}: {}: {said}", output.status).into());
     }
     Ok(String::from_utf8(output.stdout)?)
 }

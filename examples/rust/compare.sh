@@ -110,7 +110,8 @@ else
     export CIDERLATER_PROGRAM
     "$program" tables >"$work/text" || fail 1 "the program doesn't write the tables"
 fi
-CARGO_TARGET_DIR=${CARGO_TARGET_DIR:-$top/examples/rust/target}
+# A folder that is new each time holds no text of another program.
+CARGO_TARGET_DIR=$work/target
 export CARGO_TARGET_DIR
 cd "$top/examples/rust"
 cargo build --quiet --offline --locked || fail 1 "the texts don't compile"
