@@ -21,11 +21,11 @@ fail() {
 # The lines of stored runs and of the examples that ask something, whatever they are answered with there.
 stored_lines() {
     cat "$top"/crates/meta_query_cli/stdin "$top"/crates/meta_example/stdin "$top"/examples/*.txt
-    grep -oE '(accept|infer|setting) [^\]+' "$top"/crates/rows/stdin
+    awk '{ gsub(/\\r|\\n/, "\n"); print }' "$top"/crates/rows/stdin | grep -E '^(accept|infer|setting) '
 }
 
-# Lines about each opcode and each setting of the text of tables: every opcode under each type as its control and under none, then
-# with operands of that type, and of types that are near it.
+# Lines about each opcode and each setting of the text of tables: every opcode under each type as its control and under none, with
+# operands of that type and of types that are near it, and then with results of one of some types and values of another.
 made_lines() {
     awk '
     function name(l, n, dynamic) {
@@ -65,10 +65,18 @@ made_lines() {
     /^        name: "/ { split($0, part, "\""); print "setting", part[2]; print "setting", part[2] "s" }
     END {
         split("i8 i16 i32 i64 i128 f16 f32 f64 f128", lane, " ")
+        types = split("i32 i64 f32 f64 i8x16 i16x8 i32x4 i64x2 f32x4 f64x2", type, " ")
         for (o = 1; o <= opcodes; o++) {
             print "infer", opcode[o], "-"
             print "infer", opcode[o], "i32/i32"
             print "infer", opcode[o] "_", "i32"
+            for (r = 1; r <= types; r++)
+                for (v = 1; v <= types; v++) {
+                    operands = list(type[r], results[o], type[r]) " " list(type[v], values[o], type[v])
+                    print "accept", opcode[o], "-", operands
+                    print "accept", opcode[o], type[r], operands
+                    print "accept", opcode[o], type[v], operands
+                }
             for (l = 1; l <= 9; l++)
                 for (n = 0; n <= 8; n++) {
                     ask(o, l, n, 0)
