@@ -65,17 +65,17 @@ made_lines() {
     /^        name: "/ { split($0, part, "\""); print "setting", part[2]; print "setting", part[2] "s" }
     END {
         split("i8 i16 i32 i64 i128 f16 f32 f64 f128", lane, " ")
-        types = split("i32 i64 f32 f64 i8x16 i16x8 i32x4 i64x2 f32x4 f64x2", type, " ")
+        types = split("i32 i64 f32 f64 i8x16 i16x8 i32x4 i64x2 f32x4 f64x2", some, " ")
         for (o = 1; o <= opcodes; o++) {
             print "infer", opcode[o], "-"
             print "infer", opcode[o], "i32/i32"
             print "infer", opcode[o] "_", "i32"
             for (r = 1; r <= types; r++)
                 for (v = 1; v <= types; v++) {
-                    operands = list(type[r], results[o], type[r]) " " list(type[v], values[o], type[v])
+                    operands = list(some[r], results[o], some[r]) " " list(some[v], values[o], some[v])
                     print "accept", opcode[o], "-", operands
-                    print "accept", opcode[o], type[r], operands
-                    print "accept", opcode[o], type[v], operands
+                    print "accept", opcode[o], some[r], operands
+                    print "accept", opcode[o], some[v], operands
                 }
             for (l = 1; l <= 9; l++)
                 for (n = 0; n <= 8; n++) {
