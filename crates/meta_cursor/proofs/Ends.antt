@@ -1,8 +1,7 @@
 -- Where an item of a text ends.
-use Rattle.std.proofs.Common.{◌≡◌, ℕ, suc, ◌+◌, ◌<◌, ◌≤◌, ◌==◌, ◌^◌, ◌%◌, ltb, cond, not, ◌&&◌, Bool, true, false, List, [], ◌∷◌, ◌++◌, length, take, drop, Option, None, Some, unwrap_or, refl, sym, ap, ◌∙◌, arith}
+use Rattle.std.proofs.Common.{◌≡◌, ℕ, suc, ◌+◌, ◌<◌, ◌≤◌, ◌==◌, ◌^◌, ◌%◌, cond, not, ◌&&◌, Bool, true, false, List, [], ◌∷◌, ◌++◌, length, take, drop, refl, sym, ap, ◌∙◌, arith}
 use Rattle.std.specs.List.{position_or_len}
 use Rattle.std.proofs.Math.Seq.{take-append_seam, drop-append_seam}
-use Rattle.std.proofs.lemmas.List.Sums.{prefix_len-le-length}
 use Rattle.std.proofs.lemmas.Bool.Decides.{nat_tests}
 use Rattle.std.proofs.lemmas.Bool.{eqb-true, false≢true}
 use Rattle.std.proofs.lemmas.List.Folds.{list_all-append}
@@ -21,14 +20,6 @@ first_behind stop (c ∷ item) rest free stops = by_test (c == stop) free (λ fr
         → cond (not b) (1 + position_or_len (λ c. c == stop) (item ++ rest)) 0 ≡ length (c ∷ item)
     by_test true free below = absurd (cc)
     by_test false free below = let e = below free in omega (arith, e)
-
--- the first place where a test passes, and the length where there is none
-pub place_or_len : {X : Type 0} (p : X → Bool) (xs : List X) (r : Option ℕ) → r ≡ cond (ltb (position_or_len p xs) (length xs)) (Some (position_or_len p xs)) None → unwrap_or r (length xs) ≡ position_or_len p xs
-place_or_len p xs r e = ap (λ r. unwrap_or r (length xs)) e ∙ by_test (ltb (position_or_len p xs) (length xs)) refl
-  where
-    by_test : (b : Bool) → ltb (position_or_len p xs) (length xs) ≡ b → unwrap_or (cond b (Some (position_or_len p xs)) None) (length xs) ≡ position_or_len p xs
-    by_test true is = refl
-    by_test false is = let most = prefix_len-le-length (λ x. not (p x)) xs in grind (arith, nat_tests)
 
 -- what is taken up to the end of the item, and what is left behind it
 pub item_taken : (text item rest : List ℕ) (end : ℕ) → text ≡ item ++ rest → end ≡ length item → take end text ≡ item

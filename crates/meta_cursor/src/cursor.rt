@@ -1,11 +1,12 @@
-ghost use Rattle.std.specs.Prelude.{◌≡◌, ◌<◌, ◌^◌, ◌/◌, ◌%◌, ◌+◌, ◌*◌, ◌==◌, ℕ, List, [], ◌∷◌, ◌++◌, IsTrue, IfOk, All, false, length, map, drop, slice_index};
+ghost use Rattle.std.specs.Prelude.{◌≡◌, ◌<◌, ◌^◌, ◌/◌, ◌%◌, ◌+◌, ◌*◌, ℕ, List, [], ◌∷◌, ◌++◌, IsTrue, IfOk, All, false, length, map, drop, slice_index};
 ghost use Rattle.std.specs.Char.{is_ascii_digit};
 ghost use Rattle.std.specs.Fmt.{decimal, digit_glyph};
-ghost use Rattle.std.specs.List.{flat_map, position_or_len};
+ghost use Rattle.std.specs.List.{flat_map};
 ghost use Rattle.std.specs.Str.{IsAscii, IsUtf8};
 ghost use Rattle.meta_cursor.specs.Spans.{lacks, begins_with, is_line};
 
 use meta_types::Text;
+use meta_words::{end_of, number_in};
 use std::alloc::{AllocError, Global};
 use std::marker::Model;
 use std::str;
@@ -22,13 +23,6 @@ impl<'t> Model for Cursor<'t> {
     ghost Value = { List ℕ };
 
     ghost view = { λ c. c.left.now };
-}
-
-/// The place of the first byte `stop`, and the length of the text where it has none.
-fn end_of(text: &[u8], stop: u8) -> usize
-    ensures { result ≡ position_or_len (λ c. c == stop) text.now }
-{
-    text.iter().position(|c| *c == stop).unwrap_or(text.len())
 }
 
 impl<'t> Cursor<'t> {
@@ -76,9 +70,9 @@ impl<'t> Cursor<'t> {
 fn number_of(digits: &[u8]) -> usize
     ensures { (n : ℕ) → n < 2 ^ 64 → digits.now ≡ decimal n → result ≡ n }
 {
-    match str::from_utf8(digits) {
-        Ok(text) => text.parse::<usize>().unwrap_or(0),
-        Err(_) => 0,
+    match number_in(digits, u64::MAX) {
+        Some(number) => number as usize,
+        None => 0,
     }
 }
 

@@ -1,9 +1,9 @@
-mod Decimal
 pub mod Among
 pub mod Answering
 pub mod AllTypes
 pub mod Numbers
 pub mod Names
+pub mod TypeNumbers
 pub mod Typed
 pub mod Values
 pub mod OneAnswer
@@ -11,11 +11,9 @@ mod Relating
 mod Rows
 mod ByNumber
 mod Listed
-mod Affixes
 mod Left
 mod Lanes
 mod LaneNames
-mod Endings
 mod EqualTypes
 mod Docs
 mod Camel

@@ -4,6 +4,7 @@ pub mod Lane
 pub mod LaneTypes
 pub mod Vector
 pub mod ValueTypes
+pub mod TypeNumber
 pub mod AllTypes
 pub mod TypeText
 pub mod CamelCase

@@ -1,5 +1,4 @@
 ghost use Rattle.std.specs.Prelude.{◌≡◌, ◌≢◌, ◌↔◌, ℕ, IsTrue, IfSome, IfNone, Contains, true};
-ghost use Rattle.std.specs.Fmt.{decimal};
 ghost use Rattle.meta_types.specs.TypeParts.{lane_counts, log2};
 ghost use Rattle.meta_types.specs.Vector.{lane_count};
 
@@ -96,35 +95,5 @@ impl LaneCount {
             }
         }
         None
-    }
-
-    /// The count that is written so, and `None` exactly where none is.
-    pub(crate) fn parse(text: &[u8]) -> Option<LaneCount>
-        ensures found { IfSome result (λ n. decimal (lane_count n) ≡ text.now) }
-        ensures none { IfNone result ((n : ℕ) → Contains (lane_counts true) n → decimal n ≢ text.now) }
-    {
-        for &count in LANE_COUNTS.iter() {
-            if count.digits().as_bytes() == text {
-                return Some(count);
-            }
-        }
-        None
-    }
-
-    /// The number of lanes as it is written.
-    #[tactic(auto, using(crate::proofs::Decimal::decimals))]
-    fn digits(self) -> &'static str
-        ensures { result.now ≡ decimal (lane_count self) }
-    {
-        match self {
-            LaneCount::X2 => "2",
-            LaneCount::X4 => "4",
-            LaneCount::X8 => "8",
-            LaneCount::X16 => "16",
-            LaneCount::X32 => "32",
-            LaneCount::X64 => "64",
-            LaneCount::X128 => "128",
-            LaneCount::X256 => "256",
-        }
     }
 }

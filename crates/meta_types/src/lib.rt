@@ -12,6 +12,7 @@ mod lane_iter;
 mod laws;
 mod name;
 mod text;
+mod type_name;
 mod value_type;
 mod vector;
 
@@ -27,5 +28,6 @@ pub use laws::{
 };
 pub use name::{camel_case, is_name};
 pub use text::{Text, same_texts};
+pub use type_name::type_number;
 pub use value_type::ValueType;
 pub use vector::{DynamicVectorType, VectorType};

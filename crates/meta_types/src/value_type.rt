@@ -1,6 +1,5 @@
 ghost use Rattle.std.specs.Prelude.{◌≡◌, ◌≢◌, IfOk, IfSome, IfNone};
 ghost use Rattle.meta_types.specs.TypeParts.{TypeParts, IsType, known_lanes, bits_of, bytes_of, number_of, name_of};
-ghost use Rattle.meta_types.specs.Lane.{lane_parts};
 ghost use Rattle.meta_types.specs.LaneTypes.{lane_types, lane_types_left};
 ghost use Rattle.meta_types.specs.ValueTypes.{type_parts_of};
 ghost use Rattle.meta_types.specs.TypeText.{doc_of, rust_name_of};
@@ -9,6 +8,7 @@ use super::lane::{LANE_BASE, LaneType};
 use super::lane_count::LaneCount;
 use super::lane_iter::LaneTypeIterator;
 use super::text::Text;
+use super::type_name::type_number;
 use super::vector::{DynamicVectorType, VectorType};
 use std::alloc::{AllocError, Global};
 use std::fmt;
@@ -123,34 +123,8 @@ impl ValueType {
         ensures found { IfSome result (λ t. name_of (type_parts_of t) ≡ text.now) }
         ensures none { IfNone result ((t : TypeParts) → IsType t → name_of t ≢ text.now) }
     {
-        for lane in ValueType::all_lane_types() {
-            if let Some(found) = ValueType::parse_of(lane, text) {
-                return Some(found);
-            }
-        }
-        None
-    }
-
-    /// The type of lanes of this type that has the name, and `None` exactly where there is none.
-    fn parse_of(lane: LaneType, text: &[u8]) -> Option<ValueType>
-        ensures found { IfSome result (λ t. name_of (type_parts_of t) ≡ text.now) }
-        ensures none { IfNone result ((t : TypeParts) → IsType t → t.kind ≡ (lane_parts lane).kind → t.width ≡ (lane_parts lane).width → name_of t ≢ text.now) }
-    {
-        let ending = text.strip_prefix(lane.name().as_bytes())?;
-        if ending.is_empty() {
-            return Some(ValueType::Lane(lane));
-        }
-        let lanes = ending.strip_prefix(b"x".as_slice())?;
-        match lanes.strip_suffix(b"xN".as_slice()) {
-            Some(least) => {
-                let least = LaneCount::parse(least)?;
-                Some(ValueType::DynamicVector(DynamicVectorType::of(lane, least)))
-            }
-            None => {
-                let lanes = LaneCount::parse(lanes)?;
-                Some(ValueType::Vector(VectorType::of(lane, lanes)))
-            }
-        }
+        let number = type_number(text)?;
+        ValueType::from_number(number)
     }
 }
 

@@ -1,13 +1,9 @@
-use Rattle.std.proofs.Common.{ap, ◌∙◌}
-use Rattle.std.specs.Result.{result_unwrap_or}
-use Rattle.std.specs.Fmt.{decimal}
-use Rattle.std.proofs.lemmas.Fmt.{parse-decimal, IsAscii-decimal}
-use Rattle.std.proofs.lemmas.Str.{IsUtf8-from_ascii}
+use Rattle.std.proofs.Common.{arith}
+use Rattle.meta_words.proofs.NumberLemmas.{one_value}
 use Rattle.meta_cursor.proofs.cursor.number_of.Goals as goal
 
-pub returns-in-Ok : goal.returns-in-Ok
-returns-in-Ok c = λ n small e.
-    c.unwrap_or.ensures ∙ ap (λ r. result_unwrap_or r 0) (parse-decimal 64 n c.in-Ok.text.now c.parse.result small small (c.in-Ok.ensures.cases.0 ∙ e) c.parse.ensures.value.0)
+pub returns-in-Some : goal.returns-in-Some
+returns-in-Some c = λ n small e. one_value c.in-Some.number n c.args.digits.now (let most = c.in-Some.ensures.within in omega (arith, most)) small c.in-Some.ensures.some e
 
-pub returns-in-Err : goal.returns-in-Err
-returns-in-Err c = λ n small e. absurd (c.in-Err.ensures.cases.0 (rw e (IsUtf8-from_ascii (decimal n) (IsAscii-decimal n small))))
+pub returns-in-None : goal.returns-in-None
+returns-in-None c = λ n small e. absurd (c.in-None.ensures.none n (omega (arith, small)) e)

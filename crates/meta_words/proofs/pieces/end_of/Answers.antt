@@ -1,8 +1,8 @@
 use Rattle.std.proofs.Common.{◌==◌, ◌∙◌, rules, tests}
 use Rattle.std.proofs.lemmas.Iterator.{YieldsList-from_slice}
 use Rattle.std.proofs.lemmas.Iterator.Search.{position_from_yields_List}
-use Rattle.meta_cursor.proofs.Ends.{place_or_len}
-use Rattle.meta_cursor.proofs.cursor.end_of.Goals as goal
+use Rattle.meta_words.proofs.PieceLemmas.{place_or_len}
+use Rattle.meta_words.proofs.pieces.end_of.Goals as goal
 
 pub returns : goal.returns
 returns c =

@@ -1,0 +1,5 @@
+pub mod Lines
+pub mod Words
+pub mod Control
+pub mod TypeList
+pub mod Number

@@ -1,0 +1,42 @@
+ghost use Rattle.std.specs.Prelude.{◌≡◌, ◌≢◌, ◌<◌, ◌≤◌, ◌^◌, ℕ, IfSome, IfNone};
+ghost use Rattle.std.specs.Fmt.{decimal};
+ghost use Rattle.meta_words.specs.Number.{is_plain};
+
+use std::str;
+
+/// Whether a number is written without a sign and without a zero before it.
+fn is_plain(word: &[u8]) -> bool
+    ensures { result ≡ is_plain word.now }
+{
+    match word.first() {
+        Some(b'+') => false,
+        Some(b'0') => word.len() == 1,
+        _ => true,
+    }
+}
+
+/// The number of 64 bits that the word writes.
+fn number_of(word: &[u8]) -> Option<u64>
+    ensures some { IfSome result (λ n. word.now ≡ decimal n) }
+    ensures small { IfSome result (λ n. n < 2 ^ 64) }
+    ensures none { IfNone result ((n : ℕ) → n < 2 ^ 64 → word.now ≢ decimal n) }
+{
+    let Ok(text) = str::from_utf8(word) else {
+        return None;
+    };
+    match text.parse::<u64>() {
+        Ok(number) if is_plain(word) => Some(number),
+        _ => None,
+    }
+}
+
+/// The number up to `most` that the word writes: decimal, with no sign and no zero before it. `None` exactly where none is written so
+/// (this project's own).
+pub fn number_in(word: &[u8], most: u64) -> Option<u64>
+    ensures some { IfSome result (λ n. word.now ≡ decimal n) }
+    ensures within { IfSome result (λ n. n ≤ most) }
+    ensures none { IfNone result ((n : ℕ) → n ≤ most → word.now ≢ decimal n) }
+{
+    let number = number_of(word)?;
+    if number <= most { Some(number) } else { None }
+}

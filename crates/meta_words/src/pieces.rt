@@ -1,0 +1,95 @@
+ghost use Rattle.std.specs.Prelude.{◌≡◌, ◌≢◌, ◌==◌, ◌<◌, ℕ, List, [], ◌∷◌, true, false, length, IfSome, IfNone};
+ghost use Rattle.std.specs.List.{position_or_len};
+ghost use Rattle.std.specs.Option.{option_map_or};
+ghost use Rattle.meta_words.specs.Words.{pieces_of};
+
+use std::marker::Model;
+
+/// The place of the first such byte, from 0, and the length of the text where it has none (this project's own).
+pub fn end_of(text: &[u8], stop: u8) -> usize
+    ensures { result ≡ position_or_len (λ c. c == stop) text.now }
+{
+    text.iter().position(|c| *c == stop).unwrap_or(text.len())
+}
+
+/// What stands before the first such byte, and what stands after it, if the text has one (this project's own).
+pub fn cut(text: &[u8], byte: u8) -> (&[u8], Option<&[u8]>)
+    ensures { pieces_of byte text.now ≡ result.0.now ∷ option_map_or (λ rest. pieces_of byte rest.now) result.1 [] }
+{
+    let end = end_of(text, byte);
+    let len = text.len();
+    if end == len {
+        return (text, None);
+    }
+    (&text[..end], Some(&text[end + 1..]))
+}
+
+/// The pieces of a text between the bytes of one value. A contract sees the pieces that are left (this project's own).
+#[derive(Drop)]
+pub struct Pieces<'a> {
+    rest: Option<&'a [u8]>,
+    byte: u8,
+}
+
+impl<'a> Model for Pieces<'a> {
+    ghost use Rattle.std.specs.Prelude.{List, ℕ, []};
+
+    ghost Value = { List (List ℕ) };
+
+    ghost use Rattle.meta_words.specs.Words.{pieces_of};
+    ghost use Rattle.std.specs.Option.{option_map_or};
+
+    ghost view = { λ p. option_map_or (λ r. pieces_of p.byte r.now) p.rest [] };
+}
+
+impl<'a> Pieces<'a> {
+    /// The pieces, of which there is at least one.
+    pub fn new(text: &'a [u8], byte: u8) -> Self
+        ensures { result ≡ pieces_of byte text.now }
+    {
+        Pieces {
+            rest: Some(text),
+            byte,
+        }
+    }
+
+    /// Takes the next piece, where it has bytes. `None` is for no piece, and for one without bytes.
+    pub fn word(&mut self) -> Option<&'a [u8]>
+        ensures taken { IfSome result (λ word. self.old ≡ word.now ∷ self.new) }
+        ensures some { IfSome result (λ word. 0 < length word.now) }
+        ensures none { IfNone result ((word : List ℕ) (rest : List (List ℕ)) → 0 < length word → self.old ≢ word ∷ rest) }
+    {
+        let piece = self.next()?;
+        if piece.is_empty() {
+            return None;
+        }
+        Some(piece)
+    }
+
+    /// Whether no piece is left. One that is left is taken.
+    pub fn is_done(&mut self) -> bool
+        ensures done { result ≡ true → self.old ≡ [] }
+        ensures more { result ≡ false → (word : List ℕ) × (rest : List (List ℕ)) × (self.old ≡ word ∷ rest) }
+    {
+        match self.next() {
+            Some(_) => false,
+            None => true,
+        }
+    }
+}
+
+impl<'a> Iterator for Pieces<'a> {
+    ghost use Rattle.std.specs.Iterator.{YieldsFirstBy, item_count};
+
+    type Item = &'a [u8];
+
+    ghost next_gives = { YieldsFirstBy (λ piece. piece.now) (λ left. left) };
+
+    ghost remaining = { item_count (λ left. left) };
+
+    fn next(&mut self) -> Option<&'a [u8]> {
+        let (piece, rest) = cut(self.rest?, self.byte);
+        self.rest = rest;
+        Some(piece)
+    }
+}
