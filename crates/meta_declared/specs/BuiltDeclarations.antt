@@ -1,8 +1,10 @@
 -- What is built of declarations.
 --     AreBuilt b      the parts are what is built of the declarations, which show no fault
 use Rattle.std.specs.Prelude.{◌≡◌, ◌≤◌, ℕ, List, length, map}
+use Rattle.meta_typevar.specs.Registry.{IsRegistry}
 use Rattle.meta_typevar.specs.TypeSetParts.{TypeSetParts}
 use Rattle.meta_inst.specs.Built.{Built}
+use Rattle.meta_inst.specs.InstructionSet.{Fits}
 use Rattle.meta_settings.specs.Layout.{Layout}
 use Rattle.meta_settings.specs.LaidOut.{built_of}
 use Rattle.meta_declared.specs.AllDeclared.{Declared, AreValid}
@@ -19,10 +21,12 @@ pub record BuiltDeclarations : Type 0 where
   pub groups : List Layout
   pub type_sets : List TypeSetParts
 
--- the declarations show no fault, each instruction and each group is built in its order, the formats are those in use by
--- their names, and the type sets are those that the
--- instructions need, each once, in order of first need, at most 4,095
+-- the variables are a registry and the instructions are of it and of the formats; the declarations show no fault, each
+-- instruction and each group is built in its order, the formats are those in use by their names, and the type sets are those
+-- that the instructions need, each once, in order of first need, at most 4,095
 pub record AreBuilt (b : BuiltDeclarations) : Type 0 where
+  pub registry : IsRegistry b.declared.set.vars
+  pub fits : Fits b.declared.set.vars b.declared.set.formats b.declared.set.instructions
   pub valid : AreValid b.declared
   pub instructions : AreInstructionsOf b.declared.set b.instructions
   pub formats : AreFormatsByName b.declared.set b.formats

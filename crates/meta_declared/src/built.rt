@@ -178,6 +178,9 @@ pub fn build_all<'d>(
     ensures valid { OnOk result (AreValid declarations.now) }
     ensures declarations { IfOk result (λ b. b.declared ≡ declarations.now) }
 {
+    // Their clauses say that the instructions are of the variables, which are a registry, and of the formats.
+    let _vars = declarations.vars();
+    let _instructions = declarations.instructions();
     let set = build_set(alloc, declarations.set())?;
     let groups = build_groups(alloc, declarations.groups())?;
     Ok(Built {

@@ -1,6 +1,7 @@
 ghost use Rattle.std.specs.Prelude.{◌≡◌};
 ghost use Rattle.meta_types.specs.declared.fault.DefinitionError.{DefinitionError};
 ghost use Rattle.meta_declared.specs.AllDeclared.{Declared, ShowsFirst, AreValid};
+ghost use Rattle.meta_declared.specs.BuiltDeclarations.{BuiltDeclarations, AreBuilt};
 
 use meta_settings::one_group_fault;
 
@@ -11,3 +12,8 @@ pub fn one_first_fault()
 {
     one_group_fault();
 }
+
+/// What is built of declarations is one.
+pub fn one_built()
+    ensures { (a b : BuiltDeclarations) → AreBuilt a → AreBuilt b → a.declared ≡ b.declared → a ≡ b }
+{}

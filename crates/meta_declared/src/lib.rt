@@ -14,4 +14,4 @@ mod needed;
 
 pub use built::{Built, build_all};
 pub use declarations::Declarations;
-pub use laws::one_first_fault;
+pub use laws::{one_built, one_first_fault};

@@ -57,6 +57,10 @@ fixed_from_reaches s fs m t h k all = record {
   only = λ r x in_s a. one_reached fs r x t (reaches_from_agrees fs r x (functions_from_reaches fs m t k) a) (all r in_s);
 }
 
+-- what the only member reaches is fixed
+pub fixed_of_one : (s : TypeSetParts) (fs : List Function) (m t : TypeParts) → HasOne s → IsMember s m → Reaches fs m t → IsFixed s fs t
+fixed_of_one s fs m t one h k = fixed_from_reaches s fs m t h k (λ r in_s. subst (λ (w : TypeParts). Reaches fs w t) (one.only m h ∙ sym (one.only r in_s)) k)
+
 pub reaches_fixed : (s : TypeSetParts) (fs : List Function) (t : TypeParts) → IsFixed s fs t → (r : TypeParts) → IsMember s r → Reaches fs r t
 reaches_fixed s fs t h r in_s = reaches_from_agrees fs r t h.functions (h.reached r in_s)
 

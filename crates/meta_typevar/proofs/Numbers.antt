@@ -1,6 +1,6 @@
 -- The numbers of types, taken apart into a lane code and a row.
-use Rattle.std.proofs.Common.{◌≡◌, ℕ, ◌+◌, ◌-◌, ◌*◌, ◌/◌, ◌%◌, ◌^◌, ◌==◌, ◌<◌, ◌≤◌, ◌↔◌, Bool, true, false, not, ◌&&◌, ◌||◌, List, ◌∙◌, sym, subst, refl, arith, Contains}
-use Rattle.std.specs.Prelude.{if◌then◌else◌, nat_lt, IsTrue}
+use Rattle.std.proofs.Common.{◌≡◌, ℕ, ◌+◌, ◌-◌, ◌*◌, ◌/◌, ◌%◌, ◌^◌, ◌==◌, ◌<◌, ◌≤◌, ◌↔◌, ◌≢◌, Bool, true, false, not, ◌&&◌, ◌||◌, List, ◌∙◌, sym, subst, refl, arith, Contains}
+use Rattle.std.specs.Prelude.{if◌then◌else◌, nat_lt, IsTrue, Option, None, Some, IfSome, IfNone}
 use Rattle.std.specs.List.{filter}
 use Rattle.std.proofs.lemmas.Bool.{eqb-true, eq-eqb, ltb-true, and_parts}
 use Rattle.meta_types.specs.TypeParts.{Kind, IntKind, FloatKind, TypeParts, IsType, widths, lane_counts, lane_code, log2, number_of}
@@ -197,3 +197,16 @@ pub contained : (m : Masks) (s : TypeSetParts) (t : ValueType) (n : ℕ) (answer
 contained m s t n answer e is told =
     let at_t : IsTrue answer ↔ ContainsNumber m (number_of (type_parts_of t)) = subst (λ (n : ℕ). IsTrue answer ↔ ContainsNumber m n) e told in
     subst (λ (s : TypeSetParts). IsTrue answer ↔ IsMember s (type_parts_of t)) is (both_ways at_t (member_contained m (type_parts_of t) (typed t)))
+
+-- the number of a member is one that the masks contain
+pub number_of_member : (m : Masks) (s : TypeSetParts) (r : TypeParts) (n : ℕ) → sets_in m ≡ s → IsMember s r → number_of r ≡ n → ContainsNumber m n
+number_of_member m s r n is h e = subst (ContainsNumber m) e ((member_contained m r h.is_type).1 (subst (λ (s : TypeSetParts). IsMember s r) (sym is) h))
+
+-- the type with a number that the masks contain is a member
+pub member_numbered : (m : Masks) (s : TypeSetParts) (n : ℕ) (o : Option ValueType) → sets_in m ≡ s → ContainsNumber m n → IfSome o (λ t. number_of (type_parts_of t) ≡ n) → IfSome o (λ r. IsMember s (type_parts_of r) × (number_of (type_parts_of r) ≡ n))
+member_numbered m s n None is h e = tt
+member_numbered m s n (Some r) is h e = (subst (λ (s : TypeSetParts). IsMember s (type_parts_of r)) is ((member_contained m (type_parts_of r) (typed r)).0 (subst (ContainsNumber m) (sym e) h)), e)
+
+pub member_not_numbered : (s : TypeSetParts) (n : ℕ) (o : Option ValueType) → IfNone o ((t : TypeParts) → IsType t → number_of t ≢ n) → IfNone o ((r : TypeParts) → IsMember s r → number_of r ≡ n → ⊥)
+member_not_numbered s n None none = λ r h e. none r h.is_type e
+member_not_numbered s n (Some t) none = tt

@@ -14,13 +14,18 @@ const FIRST_NUMBER: u16 = 0x74;
 
 const END_OF_NUMBERS: u16 = 0x17d;
 
-/// The type that the chain fixes, whatever member of the set its root has; `None` exactly where there is no such type.
+/// The type that the chain fixes, whatever member of the set its root has; `None` exactly where there is no such type. Members are
+/// looked at up to the first that the chain takes to another type than the one before.
 pub(crate) fn fixed_along(set: &TypeSet, chain: &[DerivedFunc]) -> Option<ValueType>
     ensures found { IfSome result (λ t. IsFixed set.now (functions_of chain.now) (type_parts_of t)) }
     ensures none { IfNone result (IsFixedNowhere set.now (functions_of chain.now)) }
 {
-    let t = reached(chain, first_member(set)?)?;
-    if !all_reach(set, chain, t) {
+    let first = first_member(set)?;
+    let t = reached(chain, first)?;
+    if set.size() == 1 {
+        return Some(t);
+    }
+    if !all_reach(set, chain, first.number(), t) {
         return None;
     }
     Some(t)
@@ -29,33 +34,22 @@ pub(crate) fn fixed_along(set: &TypeSet, chain: &[DerivedFunc]) -> Option<ValueT
 /// The member with the least number.
 fn first_member(set: &TypeSet) -> Option<ValueType>
     ensures found { IfSome result (λ r. IsMember set.now (type_parts_of r)) }
+    ensures least { IfSome result (λ r. (m : TypeParts) → IsMember set.now m → number_of (type_parts_of r) ≤ number_of m) }
     ensures none { IfNone result ((r : TypeParts) → IsMember set.now r → ⊥) }
 {
     for number in FIRST_NUMBER..END_OF_NUMBERS {
-        if let Some(r) = member_with(set, number) {
+        if let Some(r) = set.member(number) {
             return Some(r);
         }
     }
     None
 }
 
-/// The member with the number.
-fn member_with(set: &TypeSet, number: u16) -> Option<ValueType>
-    ensures found { IfSome result (λ r. IsMember set.now (type_parts_of r) × (number_of (type_parts_of r) ≡ number)) }
-    ensures none { IfNone result ((r : TypeParts) → IsMember set.now r → number_of r ≡ number → ⊥) }
+/// Whether the functions lead from each member with this number or a greater one to the type.
+fn all_reach(set: &TypeSet, chain: &[DerivedFunc], from: u16, t: ValueType) -> bool
+    ensures { IsTrue result ↔ ((r : TypeParts) → IsMember set.now r → from ≤ number_of r → Reaches (functions_of chain.now) r (type_parts_of t)) }
 {
-    let r = ValueType::from_number(number)?;
-    if !set.contains(r) {
-        return None;
-    }
-    Some(r)
-}
-
-/// Whether the functions lead from each member to the type.
-fn all_reach(set: &TypeSet, chain: &[DerivedFunc], t: ValueType) -> bool
-    ensures { IsTrue result ↔ ((r : TypeParts) → IsMember set.now r → Reaches (functions_of chain.now) r (type_parts_of t)) }
-{
-    for number in FIRST_NUMBER..END_OF_NUMBERS {
+    for number in from..END_OF_NUMBERS {
         if !member_reaches(set, chain, number, t) {
             return false;
         }
@@ -67,7 +61,7 @@ fn all_reach(set: &TypeSet, chain: &[DerivedFunc], t: ValueType) -> bool
 fn member_reaches(set: &TypeSet, chain: &[DerivedFunc], number: u16, t: ValueType) -> bool
     ensures { IsTrue result ↔ ((r : TypeParts) → IsMember set.now r → number_of r ≡ number → Reaches (functions_of chain.now) r (type_parts_of t)) }
 {
-    match member_with(set, number) {
+    match set.member(number) {
         Some(r) => reaches(chain, r, t),
         None => true,
     }

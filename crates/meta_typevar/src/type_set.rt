@@ -1,7 +1,7 @@
 ghost use Rattle.std.specs.Prelude.{◌≡◌, ◌≤◌, sum, ◌+◌, ◌*◌, ◌↔◌, ℕ, length, [], map, slice_get, Some, Contains, IsTrue, IsOkAnd, IfSome, IfNone, IfOk};
 ghost use Rattle.meta_types.specs.DerivedFunc.{function_of};
 ghost use Rattle.meta_types.specs.Lane.{lane_parts};
-ghost use Rattle.meta_types.specs.TypeParts.{TypeParts};
+ghost use Rattle.meta_types.specs.TypeParts.{TypeParts, number_of};
 ghost use Rattle.meta_types.specs.ValueTypes.{type_parts_of};
 ghost use Rattle.meta_typevar.specs.Concrete.{types_in};
 ghost use Rattle.meta_typevar.specs.Derivation.{singleton_sets, vector_lanes, int_width_of, float_width_of};
@@ -67,6 +67,17 @@ impl TypeSet {
         ensures { IsTrue result ↔ IsMember self.now (type_parts_of t) }
     {
         self.masks.contains(t.number())
+    }
+
+    /// The member with the number, where there is one.
+    pub(crate) fn member(&self, number: u16) -> Option<ValueType>
+        ensures found { IfSome result (λ r. IsMember self.now (type_parts_of r) × (number_of (type_parts_of r) ≡ number)) }
+        ensures none { IfNone result ((r : TypeParts) → IsMember self.now r → number_of r ≡ number → ⊥) }
+    {
+        if !self.masks.contains(number) {
+            return None;
+        }
+        ValueType::from_number(number)
     }
 
     /// The members: for each lane count rising, the ints in rising width and then the floats; after that the same for the
