@@ -237,7 +237,7 @@ impl Tables {
     pub fn group_name(&self, group: usize) -> Option<&Text>
         ensures { option_map (λ name. name.now) result ≡ part_in self.now group (λ t. t.name) }
     {
-        let tables = self.tables_of(group)?;
+        let tables = self.group(group)?;
         Some(tables.name())
     }
 
@@ -246,7 +246,7 @@ impl Tables {
         ensures size { result ≡ part_in self.now group (λ t. length t.defaults) }
         ensures meaning { OfGroup self.now group (λ t. (g : Layout) → AreTablesOfGroup g t → result ≡ Some g.settings_size) }
     {
-        let tables = self.tables_of(group)?;
+        let tables = self.group(group)?;
         Some(tables.settings_size())
     }
 
@@ -255,7 +255,7 @@ impl Tables {
     pub fn enumerators(&self, group: usize) -> Option<&[Text]>
         ensures { option_map (λ list. list.now) result ≡ part_in self.now group (λ t. t.enumerators) }
     {
-        let tables = self.tables_of(group)?;
+        let tables = self.group(group)?;
         Some(tables.enumerators())
     }
 
@@ -264,7 +264,7 @@ impl Tables {
     pub fn defaults(&self, group: usize) -> Option<&[u8]>
         ensures { option_map (λ bytes. bytes.now) result ≡ part_in self.now group (λ t. t.defaults) }
     {
-        let tables = self.tables_of(group)?;
+        let tables = self.group(group)?;
         Some(tables.defaults())
     }
 
@@ -273,7 +273,7 @@ impl Tables {
     pub fn preset_masks(&self, group: usize) -> Option<&[u8]>
         ensures { option_map (λ masks. masks.now) result ≡ part_in self.now group (λ t. t.preset_masks) }
     {
-        let tables = self.tables_of(group)?;
+        let tables = self.group(group)?;
         Some(tables.preset_masks())
     }
 
@@ -282,7 +282,7 @@ impl Tables {
         ensures slots { option_map (λ slots. slots.now) result ≡ part_in self.now group (λ t. t.slots) }
         ensures names { OfGroup self.now group (λ t. AreNameSlots 0 (names_in t.descriptors) t.slots) }
     {
-        let tables = self.tables_of(group)?;
+        let tables = self.group(group)?;
         Some(tables.setting_slots())
     }
 
@@ -291,7 +291,7 @@ impl Tables {
         ensures entries { option_map (λ list. list.now) result ≡ part_in self.now group (λ t. t.descriptors) }
         ensures few { IfSome result (λ list. length list.now ≤ 65535) }
     {
-        let tables = self.tables_of(group)?;
+        let tables = self.group(group)?;
         Some(tables.descriptors())
     }
 
@@ -302,7 +302,7 @@ impl Tables {
         ensures none { OfGroup self.now group (λ t. (g : Layout) → AreTablesOfGroup g t → (IsSome result ↔ (index < entry_count g))) }
         ensures meaning { OfGroup self.now group (λ t. (g : Layout) → AreTablesOfGroup g t → IfSome result (λ d. DescribesEntry g t.enumerators index d.now)) }
     {
-        let tables = self.tables_of(group)?;
+        let tables = self.group(group)?;
         tables.descriptor(index)
     }
 
@@ -314,12 +314,12 @@ impl Tables {
         ensures no_group { HasNoGroup self.now group → result ≡ None }
         ensures meaning { OfGroup self.now group (λ t. (g : Layout) → AreTablesOfGroup g t → AnswersDefault g index result) }
     {
-        let tables = self.tables_of(group)?;
+        let tables = self.group(group)?;
         tables.default_value(index)
     }
 
     /// The tables of a group, and `None` exactly where there is no such group.
-    fn tables_of(&self, group: usize) -> Option<&GroupTables>
+    pub fn group(&self, group: usize) -> Option<&GroupTables>
         ensures { option_map (λ t. t.now) result ≡ slice_get self.now.groups group }
     {
         self.groups.get(group)
@@ -332,7 +332,7 @@ impl Tables {
         ensures no_group { HasNoGroup self.now group → result ≡ None }
         ensures findings { (d : Declared) → AreWholeTablesOf d self.now → FindsSetting d group name.now result }
     {
-        let tables = self.tables_of(group)?;
+        let tables = self.group(group)?;
         tables.find_setting(name)
     }
 
@@ -350,7 +350,7 @@ impl Tables {
         ensures counted { OfGroup self.now group (λ t. (last : ℕ) × IsNameLookup 0 (names_in t.descriptors) t.slots name.now result last × (steps.new ≡ steps.old + (last + 1))) }
         ensures most { OfGroup self.now group (λ t. steps.new ≤ steps.old + length t.slots) }
     {
-        let tables = self.tables_of(group)?;
+        let tables = self.group(group)?;
         tables.find_setting_counted(name, steps)
     }
 
@@ -364,7 +364,7 @@ impl Tables {
         ensures unchanged { result ≡ false → bytes.new ≡ bytes.old }
         ensures meaning { OfGroup self.now group (λ t. (g : Layout) → AreTablesOfGroup g t → Applies g preset bytes.old bytes.new result) }
     {
-        match self.tables_of(group) {
+        match self.group(group) {
             Some(tables) => tables.apply_preset(preset, bytes),
             None => false,
         }
