@@ -105,6 +105,7 @@ in_place g k s b e is = ⊎_elim
     (λ h. absurd (in_bytes_none b 0 g.settings k s h is))
     (λ h. in_bits_placed b (start_of g) 0 (booleans_among g.settings) h.0 s h.2 is)
     (get_cases (in_bytes 0 (others_among g.settings)) (in_bits (start_of g) 0 (booleans_among g.settings)) k s e)
+
 -- ---- what is on
 
 -- the descriptor has the name of the setting, and both are among those that are looked for, or neither

@@ -23,3 +23,4 @@ pub mod OneGroup
 pub mod Twice
 pub mod Enabled
 pub mod NamesOn
+pub mod EntryMeanings

@@ -58,10 +58,10 @@ same_entry : (g : Layout) (enumerators : List (List ℕ)) (e : ℕ) (c d : Descr
 same_entry g enumerators e c d within p q = ⊎_elim
     (λ setting. let s = get_there g.settings e setting in same_setting enumerators (take e g.settings) s.0 c d (p.setting s.0 s.1) (q.setting s.0 s.1))
     (λ preset.
-      let k = e - length g.settings in
-      let behind : e ≡ length g.settings + k = omega (arith, preset) in
-      let r = get_there g.presets k (omega (arith, within, behind)) in
-      p.preset k r.0 behind r.1 ∙ sym (q.preset k r.0 behind r.1))
+    let k = e - length g.settings in
+    let behind : e ≡ length g.settings + k = omega (arith, preset) in
+    let r = get_there g.presets k (omega (arith, within, behind)) in
+    p.preset k r.0 behind r.1 ∙ sym (q.preset k r.0 behind r.1))
     (cases_lt e (length g.settings))
 
 module _ (g : Layout) (s t : GroupContents) (p : AreTablesOfGroup g s) (q : AreTablesOfGroup g t) where
@@ -92,8 +92,8 @@ place_of : (at count size : ℕ) → at < count * size → (k : ℕ) × (byte : 
 place_of at count size less = ⊎_elim
     (λ none. let no : at < count * 0 = subst (λ n. at < count * n) none less in absurd (omega (arith, no)))
     (λ some.
-      let more : 0 < size = omega (arith, some) in
-      (at / size, at % size, (div-lt_iff_lt-mul more).1 less, omega (arith, more), div-add-mod' at size))
+    let more : 0 < size = omega (arith, some) in
+    (at / size, at % size, (div-lt_iff_lt-mul more).1 less, omega (arith, more), div-add-mod' at size))
     (cases_eq size 0)
 
 -- the masks of its presets are one list

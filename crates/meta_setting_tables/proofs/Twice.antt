@@ -39,9 +39,9 @@ preset_or_none : (g : Layout) (e : ℕ) → ((p : BuiltPreset) × IsPresetOf g e
 preset_or_none g e = ⊎_elim
     (λ setting. inr (λ p is. let behind = is.behind in absurd (omega (arith, setting, behind))))
     (λ past. ⊎_elim
-      (λ within. let p = get_there g.presets (e - length g.settings) within in inl (p.0, record { number = e - length g.settings; behind = omega (arith, past); there = p.1 }))
-      (λ out. inr (λ p is. let behind = is.behind in let l = slice_get_within g.presets is.number p is.there in absurd (omega (arith, out, behind, l))))
-      (cases_lt (e - length g.settings) (length g.presets)))
+    (λ within. let p = get_there g.presets (e - length g.settings) within in inl (p.0, record { number = e - length g.settings; behind = omega (arith, past); there = p.1 }))
+    (λ out. inr (λ p is. let behind = is.behind in let l = slice_get_within g.presets is.number p is.there in absurd (omega (arith, out, behind, l))))
+    (cases_lt (e - length g.settings) (length g.presets)))
     (cases_lt e (length g.settings))
 
 module _ (g : Layout) (p : BuiltPreset) (old once twice : List ℕ) (fits : All (λ b. b < 256) once) (fits_too : All (λ b. b < 256) twice) where
@@ -60,20 +60,20 @@ module _ (g : Layout) (p : BuiltPreset) (old once twice : List ℕ) (fits : All 
           ∙ ap Some
           (same_byte c.0 b.0 (at_place (λ n. n < 256) twice k c.0 fits_too c.1) (at_place (λ n. n < 256) once k b.0 fits b.1)
           (λ bit low.
-            let f = first.bits k o.0 b.0 bit o.1 b.1 low in
-            let s = second.bits k b.0 c.0 bit b.1 c.1 low in
-            (λ on. ⊎_elim (λ was. was) (λ turned. f.1 (inr turned)) (s.0 on), λ on. s.1 (inl on))))
+          let f = first.bits k o.0 b.0 bit o.1 b.1 low in
+          let s = second.bits k b.0 c.0 bit b.1 c.1 low in
+          (λ on. ⊎_elim (λ was. was) (λ turned. f.1 (inr turned)) (s.0 on), λ on. s.1 (inl on))))
           ∙ sym b.1
 
 -- a preset that is applied again changes nothing
 pub applied_again : (g : Layout) (e : ℕ) (old once twice : List ℕ) (first second : Bool) → All (λ b. b < 256) once → All (λ b. b < 256) twice → Applies g e old once first → Applies g e once twice second → twice ≡ once
 applied_again g e old once twice first second fits fits_too p q = ⊎_elim
     (λ (r, is). ⊎_elim
-      (λ sized. ⊎_elim
-        (λ long. turned_again g r old once twice fits fits_too (p.applied r is long).1 (q.applied r is sized).1)
-        (λ other. absurd (other (sym (ap length (p.unchanged (p.other_size other))) ∙ sized)))
-        (cases_eq (length old) g.settings_size))
-      (λ other. q.unchanged (q.other_size other))
-      (cases_eq (length once) g.settings_size))
+    (λ sized. ⊎_elim
+    (λ long. turned_again g r old once twice fits fits_too (p.applied r is long).1 (q.applied r is sized).1)
+    (λ other. absurd (other (sym (ap length (p.unchanged (p.other_size other))) ∙ sized)))
+    (cases_eq (length old) g.settings_size))
+    (λ other. q.unchanged (q.other_size other))
+    (cases_eq (length once) g.settings_size))
     (λ none. q.unchanged (q.no_preset none))
     (preset_or_none g e)

@@ -70,7 +70,9 @@ impl GroupTables {
                 let place = usize::from(enumerators);
                 &self.enumerators()[place..place + (usize::from(last) + 1)]
             }
-            Detail::Bool { .. } | Detail::Num | Detail::Preset => &[],
+            Detail::Bool { .. } => &[],
+            Detail::Num => &[],
+            Detail::Preset => &[],
         }
     }
 
