@@ -1,5 +1,5 @@
 -- What tables say that a preset turns on is what the group means.
-use Rattle.std.proofs.Common.{◌≡◌, ℕ, zero, suc, ◌+◌, ◌-◌, ◌*◌, ◌/◌, ◌%◌, ◌<◌, ◌≤◌, ◌==◌, eqb, inl, inr, ⊎_elim, Bool, true, false, not, cond, ◌||◌, List, [], ◌∷◌, length, map, take, drop, filter, slice_get, get_or, Some, refl, sym, ap, ap₂, ◌∙◌, subst, eq-eqb, eqb-true, arith}
+use Rattle.std.proofs.Common.{◌≡◌, ℕ, zero, suc, ◌+◌, ◌-◌, ◌*◌, ◌/◌, ◌%◌, ◌<◌, ◌≤◌, ◌==◌, eqb, ⊎_elim, Bool, true, false, not, cond, ◌||◌, List, [], ◌∷◌, length, map, take, drop, filter, slice_get, get_or, Some, refl, sym, ap, ap₂, ◌∙◌, subst, eq-eqb, eqb-true, arith}
 use Rattle.std.specs.Prelude.{Contains, if◌then◌else◌}
 use Rattle.std.specs.Int.{bit_at}
 use Rattle.std.proofs.lemmas.Bool.{cond-false}

@@ -1,5 +1,5 @@
 -- What the tables of a group say of its entries is what the group means.
-use Rattle.std.proofs.Common.{◌≡◌, ℕ, ◌+◌, ◌-◌, ◌*◌, ◌<◌, List, [], length, take, drop, slice_get, Some, refl, sym, ap, ◌∙◌, arith}
+use Rattle.std.proofs.Common.{◌≡◌, ℕ, ◌+◌, ◌-◌, List, length, take, drop, slice_get, Some, sym, ap, ◌∙◌, arith}
 use Rattle.std.proofs.lemmas.Option.{slice_get_within, same_Some}
 use Rattle.meta_lists.proofs.Places.{get_there}
 use Rattle.meta_settings.specs.declared.setting.SpecificSetting.{SpecificSetting}
