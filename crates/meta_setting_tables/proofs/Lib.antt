@@ -19,3 +19,8 @@ pub mod Counted
 pub mod SameSlots
 pub mod FromParts
 pub mod Failed
+pub mod OneGroup
+pub mod Twice
+pub mod Enabled
+pub mod NamesOn
+pub mod EntryMeanings

@@ -9,3 +9,4 @@ pub mod GroupTables
 pub mod WellFormed
 pub mod Shape
 pub mod Parts
+pub mod EntryValues

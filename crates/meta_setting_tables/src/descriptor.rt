@@ -1,6 +1,7 @@
 ghost use Rattle.std.specs.Prelude.{◌≡◌, ◌↔◌, IsTrue};
 ghost use Rattle.meta_setting_tables.specs.declared.descriptor.Detail.TheVariants.{Preset};
 ghost use Rattle.meta_setting_tables.specs.WellFormed.{has_own_byte, is_boolean};
+ghost use Rattle.meta_setting_tables.specs.EntryValues.{is_on};
 
 use meta_types::Text;
 
@@ -74,6 +75,19 @@ pub struct Descriptor {
 }
 
 impl Descriptor {
+    /// Whether it is a boolean whose bit is on in its byte of these setting bytes, such as the masks of a preset.
+    pub fn is_on(&self, bytes: &[u8]) -> bool
+        ensures { result ≡ is_on bytes.now self.now.offset self.now.detail }
+    {
+        let Detail::Bool { bit } = self.detail else {
+            return false;
+        };
+        match bytes.get(self.offset as usize) {
+            Some(byte) => bit < 8 && byte >> bit & 1 == 1,
+            None => false,
+        }
+    }
+
     /// Whether this descriptor and the other are the same: all their parts are equal.
     pub fn same(&self, other: &Descriptor) -> bool
         ensures { IsTrue result ↔ (self.now ≡ other.now) }

@@ -1,11 +1,13 @@
-ghost use Rattle.std.specs.Prelude.{◌≡◌, ◌<◌, All};
+ghost use Rattle.std.specs.Prelude.{◌≡◌, ◌<◌, ℕ, Bool, List, length, All};
 ghost use Rattle.meta_types.specs.SharedNames.{AreDifferentNames};
 ghost use Rattle.meta_settings.specs.GroupDeclaration.{GroupDeclaration};
 ghost use Rattle.meta_settings.specs.GroupFaults.{IsValidGroup};
 ghost use Rattle.meta_settings.specs.LaidOut.{built_of};
+ghost use Rattle.meta_settings.specs.Layout.{Layout};
 ghost use Rattle.meta_setting_tables.specs.BuiltLayout.{IsBuiltLayout};
 ghost use Rattle.meta_setting_tables.specs.FoundSetting.{entry_names};
-ghost use Rattle.meta_setting_tables.specs.GroupTables.{GroupContents, AreTablesOfGroup};
+ghost use Rattle.meta_setting_tables.specs.GroupTables.{GroupContents, AreTablesOfGroup, Applies};
+ghost use Rattle.meta_setting_tables.specs.PresetMasks.{AreJoined};
 ghost use Rattle.meta_setting_tables.specs.WellFormed.{IsWellFormedGroup};
 ghost use Rattle.meta_setting_tables.specs.declared.parts.GroupParts.{GroupParts};
 ghost use Rattle.meta_setting_tables.specs.Parts.{HasParts};
@@ -31,4 +33,17 @@ pub fn built_groups_have_well_formed_tables()
 /// Parts are those of one group at most that is well-formed: the slots follow from the names.
 pub fn one_group_has_the_parts()
     ensures { (parts : GroupParts) (s t : GroupContents) → IsWellFormedGroup s → IsWellFormedGroup t → HasParts parts s → HasParts parts t → s ≡ t }
+{}
+
+/// Tables of a group are one: a group has no others.
+pub fn one_table_of_a_group()
+    ensures { (g : Layout) (s t : GroupContents) → AreTablesOfGroup g s → AreTablesOfGroup g t → s ≡ t }
+{}
+
+/// A preset that is applied twice changes nothing the second time: neither by tables, where setting bytes are joined with its masks,
+/// nor in what the group means by it, where the setting bytes are bytes.
+pub fn a_preset_applied_twice_is_applied_once()
+    ensures joined { (masks old once twice : List ℕ) → length masks ≡ length old → AreJoined old masks once → AreJoined once masks twice → twice ≡ once }
+    ensures meaning { (g : Layout) (e : ℕ) (old once twice : List ℕ) (first second : Bool) → All (λ b. b < 256) once → All (λ b. b < 256) twice
+        → Applies g e old once first → Applies g e once twice second → twice ≡ once }
 {}

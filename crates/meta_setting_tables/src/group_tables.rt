@@ -1,4 +1,4 @@
-ghost use Rattle.std.specs.Prelude.{◌≡◌, ◌↔◌, ◌+◌, ◌++◌, ◌≤◌, ◌<◌, ℕ, List, [], length, map, take, drop, slice_get, slice_index_or, option_map, Contains, All, Some, None, false, IsTrue, IsSome, IfSome, IfNone, IfOk, OnOk};
+ghost use Rattle.std.specs.Prelude.{◌≡◌, ◌↔◌, ◌+◌, ◌*◌, ◌++◌, ◌≤◌, ◌<◌, ℕ, List, [], length, map, take, drop, slice_get, slice_index_or, option_map, Contains, All, Some, None, false, IsTrue, IsSome, IfSome, IfNone, IfOk, OnOk};
 ghost use Rattle.meta_types.specs.SharedNames.{AreDifferentNames};
 ghost use Rattle.meta_settings.specs.declared.setting.SpecificSetting.TheVariants.{Enum};
 ghost use Rattle.meta_settings.specs.Layout.{PlacedSetting, BuiltPreset, Layout, IsSized};
@@ -10,7 +10,7 @@ ghost use Rattle.meta_unique.specs.NameSlots.{AreNameSlots, NameAnswers, IsNameL
 ghost use Rattle.meta_setting_tables.specs.FoundSetting.{entry_names, entry_count, FindsEntry};
 ghost use Rattle.meta_setting_tables.specs.DefaultBytes.{AreDefaultsOf};
 ghost use Rattle.meta_setting_tables.specs.PresetMasks.{AreJoined, ArePresetMasks};
-ghost use Rattle.meta_setting_tables.specs.WellFormed.{IsWellFormedGroup};
+ghost use Rattle.meta_setting_tables.specs.WellFormed.{preset_count, IsWellFormedGroup};
 ghost use Rattle.meta_setting_tables.specs.Parts.{HasParts, AreGoodParts};
 ghost use Rattle.meta_setting_tables.specs.GroupTables.{names_in, IsInside, IsPresetIn, AreTablesOfGroup, default_in, AnswersDefault, Applies};
 
@@ -366,7 +366,8 @@ impl GroupTables {
 
     /// The masks of the presets: one a preset and setting byte, preset after preset.
     pub fn preset_masks(&self) -> &[u8]
-        ensures { result.now ≡ self.now.preset_masks }
+        ensures masks { result.now ≡ self.now.preset_masks }
+        ensures count { length result.now ≡ preset_count self.now.descriptors * length self.now.defaults }
     {
         self.preset_masks.as_slice()
     }
@@ -436,8 +437,9 @@ impl GroupTables {
         )
     }
 
-    /// The masks of the preset with this number among the entries, and `None` exactly where it is no preset.
-    fn masks_of(&self, preset: u16) -> Option<&[u8]>
+    /// The masks of the preset with this number among the entries, one a setting byte, in which the bits of what it turns on are on, and
+    /// `None` exactly where it is no preset.
+    pub fn masks_of(&self, preset: u16) -> Option<&[u8]>
         ensures masks { IfSome result (λ masks. (d : Descriptor) × IsPresetIn self.now.descriptors preset d × (masks.now ≡ take (length self.now.defaults) (drop d.offset self.now.preset_masks))) }
         ensures size { IfSome result (λ masks. length masks.now ≡ length self.now.defaults) }
         ensures none { IfNone result ((d : Descriptor) → IsPresetIn self.now.descriptors preset d → ⊥) }

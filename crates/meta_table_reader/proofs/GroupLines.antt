@@ -5,7 +5,8 @@ use Rattle.std.specs.Fmt.{decimal}
 use Rattle.std.proofs.lemmas.List.Elements.{All-map, All-filter, All-weaker}
 use Rattle.meta_setting_tables.specs.declared.descriptor.Descriptor.{Descriptor}
 use Rattle.meta_table_text.specs.GroupItems.{slot_text, pair_text, names_text, comment_text}
-use Rattle.meta_table_text.specs.GroupText.{is_on, names_on, masks_from, preset_text}
+use Rattle.meta_setting_tables.specs.EntryValues.{is_on, names_on, masks_from}
+use Rattle.meta_table_text.specs.GroupText.{preset_text}
 use Rattle.meta_cursor.specs.Spans.{is_line}
 use Rattle.meta_cursor.proofs.Lacking.{both_lack, line_behind, any_number_lacks}
 use Rattle.meta_cursor.proofs.Reading.{all_first, all_behind}

@@ -10,7 +10,9 @@ use Rattle.meta_types.specs.Name.{IsName}
 use Rattle.meta_setting_tables.specs.declared.descriptor.Descriptor.{Descriptor}
 use Rattle.meta_setting_tables.specs.GroupTables.{GroupContents}
 use Rattle.meta_table_text.specs.GroupItems.{head_text, list_head_text, list_end_text, enumerator_text, descriptor_text, slot_text, binary_text, pair_text, names_text, comment_text, bytes_text, template_text}
-use Rattle.meta_table_text.specs.GroupText.{enumerators_text, descriptors_text, slots_text, is_preset, is_boolean, presets_in, booleans_in, masks_from, names_on, preset_text, presets_text, group_text}
+use Rattle.meta_setting_tables.specs.EntryValues.{masks_from, names_on}
+use Rattle.meta_setting_tables.specs.WellFormed.{is_preset}
+use Rattle.meta_table_text.specs.GroupText.{enumerators_text, descriptors_text, slots_text, presets_in, preset_text, presets_text, group_text}
 use Rattle.meta_cursor.proofs.Cancel.{cancel_front, cancel_item, cancel_line, cancel_lines, cancel_items}
 use Rattle.meta_cursor.proofs.Reading.{all_first, all_behind}
 use Rattle.meta_table_reader.specs.ShownGroup.{IsShownDescriptor, IsByte, AreShownMasksOf, AreShownPresets, AreShownGroup}
@@ -99,20 +101,18 @@ presets_told : (ds : List Descriptor) (size other_size : ℕ) (ms ns r s : List 
 unfolding presets_text list_head_text list_end_text
 presets_told ds size other_size ms ns r s shown one other e =
     let ps = presets_in ds in
-    let bs = booleans_in ds in
     let end : List ℕ = codes "];\n" in
-    let (count, a) = list_told (codes "static PRESETS: [(u8, u8); ") (length ps * size) (length ps * other_size) (flat_map (preset_text bs size ms) ps) (flat_map (preset_text bs other_size ns) ps) end r s one.few other.few e in
+    let (count, a) = list_told (codes "static PRESETS: [(u8, u8); ") (length ps * size) (length ps * other_size) (flat_map (preset_text ds size ms) ps) (flat_map (preset_text ds other_size ns) ps) end r s one.few other.few e in
     let shown_ps = All-filter (λ (d : Descriptor). is_preset d.detail) IsShownDescriptor ds shown in
-    let shown_bs = All-filter (λ (d : Descriptor). is_boolean d.detail) IsShownDescriptor ds shown in
     let cases = size_cases ps size other_size (λ some. sym (mul-div_cancel_left other_size some) ∙ ap (λ n. n / length ps) (sym count) ∙ mul-div_cancel_left size some) in
     ⊎_elim
     (λ same.
     let each = subst (λ n. All (AreShownMasksOf n ns) ps) same other.each in
-    let (masks, left) = masks_told bs ps size ms ns (end ++ r) (end ++ s) shown_bs shown_ps one.each each (a ∙ ap (λ n. flat_map (preset_text bs n ns) ps ++ (end ++ s)) same) in
+    let (masks, left) = masks_told ds ps size ms ns (end ++ r) (end ++ s) shown shown_ps one.each each (a ∙ ap (λ n. flat_map (preset_text ds n ns) ps ++ (end ++ s)) same) in
     (sym one.joined ∙ masks ∙ ap (λ n. flat_map (λ (d : Descriptor). masks_from n ns d.offset) ps) (sym same) ∙ other.joined, cancel_front end r s left))
     (λ none.
     let masks = sym one.joined ∙ ap (flat_map (λ (d : Descriptor). masks_from size ms d.offset)) none ∙ sym (ap (flat_map (λ (d : Descriptor). masks_from other_size ns d.offset)) none) ∙ other.joined in
-    let left = sym (ap (λ ds. flat_map (preset_text bs size ms) ds ++ (end ++ r)) none) ∙ a ∙ ap (λ ds. flat_map (preset_text bs other_size ns) ds ++ (end ++ s)) none in
+    let left = sym (ap (λ es. flat_map (preset_text ds size ms) es ++ (end ++ r)) none) ∙ a ∙ ap (λ es. flat_map (preset_text ds other_size ns) es ++ (end ++ s)) none in
     (masks, cancel_front end r s left))
     cases
 

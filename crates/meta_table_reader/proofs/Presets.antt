@@ -5,7 +5,8 @@ use Rattle.std.proofs.lemmas.Bool.{cases_lt}
 use Rattle.std.proofs.lemmas.List.{nil_from_length}
 use Rattle.std.proofs.lemmas.List.Elements.{All-nil}
 use Rattle.meta_setting_tables.specs.declared.descriptor.Descriptor.{Descriptor}
-use Rattle.meta_table_text.specs.GroupText.{masks_from, preset_text}
+use Rattle.meta_setting_tables.specs.EntryValues.{masks_from}
+use Rattle.meta_table_text.specs.GroupText.{preset_text}
 use Rattle.meta_table_reader.specs.ShownGroup.{AreShownMasksOf}
 
 -- the size that is found is that of the masks, or there are no presets

@@ -13,7 +13,7 @@ use Rattle.meta_setting_tables.specs.declared.descriptor.Detail.TheVariants.{Boo
 use Rattle.meta_setting_tables.specs.declared.descriptor.Descriptor.{Descriptor}
 use Rattle.meta_setting_tables.specs.GroupTables.{GroupContents, names_in}
 use Rattle.meta_setting_tables.specs.WellFormed.{has_own_byte, is_boolean, is_preset, own_byte_count, boolean_count, preset_count, byte_count, StandsAtMasks, IsPlaced, HasItsValues, AreGoodMasks, IsWellFormedGroup}
-use Rattle.meta_table_text.specs.GroupText.{masks_from}
+use Rattle.meta_setting_tables.specs.EntryValues.{masks_from}
 use Rattle.meta_table_reader.specs.ShownGroup.{IsShownDetail, IsShownDescriptor, IsByte, AreShownMasksOf, AreShownPresets, AreShownGroup}
 
 -- ---- slots

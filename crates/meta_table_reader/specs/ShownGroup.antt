@@ -10,7 +10,8 @@ use Rattle.meta_setting_tables.specs.declared.descriptor.Detail.{Detail}
 use Rattle.meta_setting_tables.specs.declared.descriptor.Detail.TheVariants.{Bool as ABool, Enum as AnEnum, Num as ANum, Preset}
 use Rattle.meta_setting_tables.specs.declared.descriptor.Descriptor.{Descriptor}
 use Rattle.meta_setting_tables.specs.GroupTables.{GroupContents}
-use Rattle.meta_table_text.specs.GroupText.{presets_in, masks_from}
+use Rattle.meta_setting_tables.specs.EntryValues.{masks_from}
+use Rattle.meta_table_text.specs.GroupText.{presets_in}
 
 -- the numbers of an enum fit their fields, of 8 and of 16 bits
 pub record IsShownEnum (number place : ℕ) : Type 0 where

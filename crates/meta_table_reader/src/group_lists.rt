@@ -3,7 +3,9 @@ ghost use Rattle.std.specs.List.{flat_map};
 ghost use Rattle.meta_types.specs.Name.{IsName};
 ghost use Rattle.meta_setting_tables.specs.declared.descriptor.Descriptor.{Descriptor};
 ghost use Rattle.meta_table_text.specs.GroupItems.{pair_text};
-ghost use Rattle.meta_table_text.specs.GroupText.{enumerators_text, descriptors_text, slots_text, is_preset, masks_from, preset_text, presets_text};
+ghost use Rattle.meta_setting_tables.specs.EntryValues.{masks_from};
+ghost use Rattle.meta_setting_tables.specs.WellFormed.{is_preset};
+ghost use Rattle.meta_table_text.specs.GroupText.{enumerators_text, descriptors_text, slots_text, preset_text, presets_text};
 ghost use Rattle.meta_table_reader.specs.ShownGroup.{IsByte, IsShownDescriptor, AreShownMasksOf, AreShownPresets};
 
 use super::item::items;

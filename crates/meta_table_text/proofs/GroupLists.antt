@@ -1,14 +1,16 @@
 -- Texts that are written part by part, and what is left of them.
-use Rattle.std.proofs.Common.{◌≡◌, ℕ, ◌≤◌, Bool, true, false, cond, List, [], ◌∷◌, ◌++◌, append_assoc, append-nil, length, map, drop, filter, Bor, refl, sym, ap, ◌∙◌, codes}
+use Rattle.std.proofs.Common.{◌≡◌, ℕ, ◌+◌, ◌≤◌, false, List, [], ◌∷◌, ◌++◌, append_assoc, append-nil, length, map, drop, slice_get, Some, Bor, refl, sym, ap, ◌∙◌, codes}
 use Rattle.std.specs.List.{join_by}
+use Rattle.std.proofs.lemmas.Bool.{cond-true, cond-false}
 use Rattle.std.proofs.lemmas.List.Folds.{flat_map-map}
 use Rattle.std.proofs.lemmas.Option.{slice_get_past}
-use Rattle.meta_lists.proofs.Places.{drop_past}
+use Rattle.meta_lists.proofs.Places.{drop_next, drop_past}
 use Rattle.meta_setting_tables.specs.declared.descriptor.Detail.{Detail}
 use Rattle.meta_setting_tables.specs.declared.descriptor.Detail.TheVariants.{Bool as ABool, Enum as AnEnum, Num as ANum, Preset}
 use Rattle.meta_setting_tables.specs.declared.descriptor.Descriptor.{Descriptor}
 use Rattle.meta_table_text.specs.GroupItems.{names_text}
-use Rattle.meta_table_text.specs.GroupText.{is_preset}
+use Rattle.meta_setting_tables.specs.WellFormed.{is_preset}
+use Rattle.meta_table_text.specs.GroupText.{presets_in}
 
 -- nothing is left behind the end
 pub none_left : {X : Type 0} (xs : List X) (i : ℕ) → length xs ≤ i → drop i xs ≡ []
@@ -33,28 +35,22 @@ pub names_joined : (names : List (Bor (List ℕ))) → join_by (λ (n : Bor (Lis
 names_joined [] = refl
 names_joined (name ∷ names) = ap (λ t. name.now ++ t) (sym (flat_map-map (λ n. codes ", " ++ n) (λ (n : Bor (List ℕ)). n.now) names))
 
--- those of the lent elements that pass are those that pass, lent
-pub passing : {X : Type 0} (p : X → Bool) (xs : List (Bor X)) → map (λ (r : Bor X). r.now) (filter (λ (r : Bor X). p r.now) xs) ≡ filter p (map (λ (r : Bor X). r.now) xs)
-passing p [] = refl
-passing {X} p (x ∷ xs) = go (p x.now) (passing p xs)
-  where
-    go : (b : Bool) → map (λ (r : Bor X). r.now) (filter (λ (r : Bor X). p r.now) xs) ≡ filter p (map (λ (r : Bor X). r.now) xs)
-        → map (λ (r : Bor X). r.now) (cond b (x ∷ filter (λ (r : Bor X). p r.now) xs) (filter (λ (r : Bor X). p r.now) xs)) ≡ cond b (x.now ∷ filter p (map (λ (r : Bor X). r.now) xs)) (filter p (map (λ (r : Bor X). r.now) xs))
-    go true e = ap (λ ys. x.now ∷ ys) e
-    go false e = e
+-- ---- presets among entries
 
--- a truth value that tells of a preset
-pub told : (b : Bool) (d : Detail) → (b ≡ true → d ≡ Preset) → (d ≡ Preset → b ≡ true) → b ≡ is_preset d
-told true d f g = sym (ap is_preset (f refl))
-told false (ABool bit) f g = refl
-told false (AnEnum last enumerators) f g = refl
-told false ANum f g = refl
-told false Preset f g = g refl
+module _ (ds : List Descriptor) (k : ℕ) (d : Descriptor) (at : slice_get ds k ≡ Some d) where
+  next : presets_in (drop k ds) ≡ presets_in (d ∷ drop (k + 1) ds)
+  next = ap presets_in (drop_next ds k d at)
 
-fused : (xs : List (Bor Descriptor)) → map (λ (r : Bor Descriptor). r.now.name) xs ≡ map (λ (d : Descriptor). d.name) (map (λ (r : Bor Descriptor). r.now) xs)
-fused [] = refl
-fused (x ∷ xs) = ap (λ ys. x.now.name ∷ ys) (fused xs)
+  -- a preset is the next
+  pub preset_next : d.detail ≡ Preset → presets_in (drop k ds) ≡ d ∷ presets_in (drop (k + 1) ds)
+  preset_next is = next ∙ cond-true (is_preset d.detail) _ _ (ap is_preset is)
 
--- the names of the lent descriptors that pass
-pub names_passing : (p : Descriptor → Bool) (xs : List (Bor Descriptor)) → map (λ (r : Bor Descriptor). r.now.name) (filter (λ (r : Bor Descriptor). p r.now) xs) ≡ map (λ (d : Descriptor). d.name) (filter p (map (λ (r : Bor Descriptor). r.now) xs))
-names_passing p xs = fused (filter (λ (r : Bor Descriptor). p r.now) xs) ∙ ap (map (λ (d : Descriptor). d.name)) (passing p xs)
+  -- another entry is passed
+  pub preset_passed : (d.detail ≡ Preset → ⊥) → presets_in (drop k ds) ≡ presets_in (drop (k + 1) ds)
+  preset_passed other = next ∙ cond-false (is_preset d.detail) _ _ (none d.detail other)
+    where
+      none : (detail : Detail) → (detail ≡ Preset → ⊥) → is_preset detail ≡ false
+      none (ABool bit) n = refl
+      none (AnEnum last place) n = refl
+      none ANum n = refl
+      none Preset n = absurd (n refl)

@@ -4,8 +4,6 @@ mod Places
 -- types by their numbers
 mod TypeNames
 mod GroupDigits
-mod GroupBits
-mod GroupLent
 mod GroupLists
 mod Comments
 mod Bytes

@@ -4,7 +4,8 @@ use Rattle.std.proofs.lemmas.List.{take_all}
 use Rattle.std.proofs.lemmas.Grind.{flat_map-append}
 use Rattle.meta_setting_tables.specs.declared.descriptor.Descriptor.{Descriptor}
 use Rattle.meta_table_text.specs.GroupItems.{names_text, comment_text}
-use Rattle.meta_table_text.specs.GroupText.{masks_from, names_on, preset_text}
+use Rattle.meta_setting_tables.specs.EntryValues.{masks_from, names_on}
+use Rattle.meta_table_text.specs.GroupText.{preset_text}
 use Rattle.meta_cursor.proofs.Reading.{at_place, front, none_left}
 use Rattle.meta_table_reader.specs.ShownGroup.{IsShownDescriptor, AreShownMasksOf}
 use Rattle.meta_table_reader.proofs.GroupLines.{comment_is_line, preset_parts}

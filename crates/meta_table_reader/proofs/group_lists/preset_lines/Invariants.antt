@@ -1,7 +1,8 @@
 use Rattle.std.proofs.Common.{◌≡◌, ℕ, List, ◌++◌, All, length, take, drop}
 use Rattle.std.specs.List.{flat_map}
 use Rattle.meta_setting_tables.specs.declared.descriptor.Descriptor.{Descriptor}
-use Rattle.meta_table_text.specs.GroupText.{masks_from, preset_text}
+use Rattle.meta_setting_tables.specs.EntryValues.{masks_from}
+use Rattle.meta_table_text.specs.GroupText.{preset_text}
 use Rattle.meta_table_reader.specs.ShownGroup.{IsShownDescriptor, AreShownMasksOf}
 use Rattle.meta_table_reader.proofs.group_lists.preset_lines.Given as goal
 
