@@ -1,0 +1,32 @@
+-- How a run ended.
+use Rattle.std.specs.Prelude.{ℕ, Bool, true, false}
+use Rattle.meta_run.specs.declared.ending.Ending.{Ending}
+use Rattle.meta_run.specs.declared.ending.Ending.TheVariants.{Done, Refused, Usage, ReadFault, WriteFault, OutOfMemory, TooLong, Rejected}
+use Rattle.meta_run.specs.declared.status.Status.{Status}
+use Rattle.meta_run.specs.declared.status.Status.TheVariants as status
+
+-- the exit status of the process
+abbrev pub code_of : Ending → ℕ
+code_of Done = 0
+code_of Refused = 1
+code_of Usage = 2
+code_of ReadFault = 3
+code_of WriteFault = 4
+code_of OutOfMemory = 5
+code_of TooLong = 6
+code_of Rejected = 7
+
+-- how a run ends whose text was written whole, by whether that is a rejection
+abbrev pub written_as : Bool → Ending
+written_as false = Done
+written_as true = Rejected
+
+-- the ending that a status stands for, in a program that rejects nothing
+abbrev pub ending_of : Status → Ending
+ending_of status.Done = Done
+ending_of status.Refused = Refused
+ending_of status.Usage = Usage
+ending_of status.ReadFault = ReadFault
+ending_of status.WriteFault = WriteFault
+ending_of status.OutOfMemory = OutOfMemory
+ending_of status.TooLong = TooLong

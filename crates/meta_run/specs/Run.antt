@@ -1,0 +1,144 @@
+-- What a run over declarations does, by how it ended.
+--     Did .. ending          what was read and written
+--     Ran .. ending          that, and what is so of each run
+--     IsRun Means .. ending  the same of a program with words
+use Rattle.std.specs.Prelude.{◌≡◌, ◌≢◌, ℕ, ◌≤◌, ◌⊎◌, Bool, true, false, List, [], ◌∷◌, ◌++◌, length, codes, Option, Some}
+use Rattle.meta_types.specs.Fault.{line_of}
+use Rattle.meta_types.specs.declared.fault.DefinitionError.{DefinitionError}
+use Rattle.meta_types.specs.declared.fault.DefinitionError.TheVariants as fault_of
+use Rattle.meta_text.specs.Outside.{Rose, with_front, with_more, NothingLeft, longest_input, GaveMore, GaveAtMost, TookPart}
+use Rattle.meta_declared.specs.AllDeclared.{Declared, ShowsFirst, AreValid}
+use Rattle.meta_run.specs.declared.ending.Ending.{Ending}
+use Rattle.meta_run.specs.declared.ending.Ending.TheVariants.{Done, Refused, Usage, ReadFault, WriteFault, OutOfMemory, TooLong, Rejected}
+use Rattle.meta_run.specs.Ending.{written_as}
+
+-- what is written where declarations are refused: `refused: `, the fault and LF
+abbrev pub refusal : DefinitionError → List ℕ
+refusal fault = codes "refused: " ++ (line_of fault ++ 10 ∷ [])
+
+-- The texts that answer an input over declarations, each as an answer or, where the mark is true, as a rejection.
+abbrev pub Texts : Type 1
+Texts = Declared → List ℕ → Bool → List ℕ → Type 0
+
+-- a count doesn't rise, whatever happens
+abbrev pub NeverRises : {X : Type 0} → (X → ℕ) → Type 0
+NeverRises count = (before after : _) → Rose (count before) (count after) → ⊥
+
+-- ---- the declarations are refused
+
+-- the declarations are refused by the first fault that they show, and the sink took the line that says so
+pub record IsRefusedWhole (d : Declared) (taken taken' : Option (List ℕ)) : Type 0 where
+  pub fault : DefinitionError
+  pub first : ShowsFirst d fault
+  pub took : taken' ≡ with_more taken (refusal fault)
+
+-- the sink took a part of that line, and not all
+pub record IsRefusedInPart (d : Declared) (taken taken' : Option (List ℕ)) : Type 0 where
+  pub fault : DefinitionError
+  pub first : ShowsFirst d fault
+  pub took : TookPart (refusal fault) taken taken'
+
+-- what the refusal of declarations by a fault wrote, by how it ended
+abbrev pub Refuses : {K : Type 0} → (K → Option (List ℕ)) → (K → ℕ) → DefinitionError → K → K → Ending → Type 0
+Refuses taken writes fault k k' Refused = (fault ≢ fault_of.OutOfMemory) × (taken k' ≡ with_more (taken k) (refusal fault))
+Refuses taken writes fault k k' WriteFault = (fault ≢ fault_of.OutOfMemory) × Rose (writes k) (writes k') × TookPart (refusal fault) (taken k) (taken k')
+Refuses taken writes fault k k' OutOfMemory = k' ≡ k
+Refuses taken writes fault k k' Done = ⊥
+Refuses taken writes fault k k' Usage = ⊥
+Refuses taken writes fault k k' ReadFault = ⊥
+Refuses taken writes fault k k' TooLong = ⊥
+Refuses taken writes fault k k' Rejected = ⊥
+
+-- ---- the input is read
+
+-- all that the source had left was read, up to its end
+pub record IsReadWhole {S : Type 0} (left : S → Option (List ℕ)) (s s' : S) (input : List ℕ) : Type 0 where
+  pub read : left s ≡ with_front input (left s')
+  pub end : NothingLeft (left s')
+  pub within : length input ≤ longest_input
+
+-- the input of a run that has one, which is the mark, is all that the source had left; of others it is nothing, and the source isn't read
+abbrev pub IsInput : {S : Type 0} → (S → Option (List ℕ)) → Bool → S → S → List ℕ → Type 0
+IsInput left true s s' input = IsReadWhole left s s' input
+IsInput left false s s' input = (input ≡ []) × (s' ≡ s)
+
+-- ---- the input is answered
+
+-- a source and a sink, by what they tell, before and after a run over declarations
+module _ {S K : Type 0} (left : S → Option (List ℕ)) (reads : S → ℕ) (taken : K → Option (List ℕ)) (writes : K → ℕ) (d : Declared) (s s' : S) (k k' : K) where
+  -- the declarations are valid, the input was read, and the sink took a text whole that answers it
+  pub record IsAnsweredWhole (has_input : Bool) (texts : Texts) (is_rejection : Bool) : Type 0 where
+    pub valid : AreValid d
+    pub input : List ℕ
+    pub text : List ℕ
+    pub read : IsInput left has_input s s' input
+    pub answers : texts d input is_rejection text
+    pub took : taken k' ≡ with_more (taken k) text
+
+  -- the same, and the sink took a part of the text, and not all
+  pub record IsAnsweredInPart (has_input : Bool) (texts : Texts) : Type 0 where
+    pub valid : AreValid d
+    pub input : List ℕ
+    pub is_rejection : Bool
+    pub text : List ℕ
+    pub read : IsInput left has_input s s' input
+    pub answers : texts d input is_rejection text
+    pub took : TookPart text (taken k) (taken k')
+
+  -- What was read and written. The answerer has an input where the mark is true.
+  abbrev pub Did : Bool → Texts → Ending → Type 0
+  Did has_input texts Done = IsAnsweredWhole has_input texts false
+  Did has_input texts Rejected = IsAnsweredWhole has_input texts true
+  Did has_input texts Refused = (s' ≡ s) × IsRefusedWhole d (taken k) (taken k')
+  Did has_input texts Usage = ⊥
+  Did has_input texts ReadFault = (has_input ≡ true) × AreValid d × Rose (reads s) (reads s') × (k' ≡ k)
+  Did has_input texts WriteFault = Rose (writes k) (writes k') × (((s' ≡ s) × IsRefusedInPart d (taken k) (taken k')) ⊎ IsAnsweredInPart has_input texts)
+  Did has_input texts OutOfMemory = k' ≡ k
+  Did has_input texts TooLong = (has_input ≡ true) × AreValid d × GaveMore longest_input (left s) (left s') × (k' ≡ k)
+
+  -- and that no more was read than may be, unless that is why it ended, that nothing was read where there is no input, and that no
+  -- count fell
+  pub record Ran (has_input : Bool) (texts : Texts) (ending : Ending) : Type 0 where
+    pub did : Did has_input texts ending
+    pub else_within : ending ≢ TooLong → GaveAtMost longest_input (left s) (left s')
+    pub unread : has_input ≡ false → s' ≡ s
+    pub read_counted : reads s ≤ reads s'
+    pub write_counted : writes k ≤ writes k'
+
+  -- Of a program whose words mean one of W: the run is that of what they mean. Where they mean nothing it is a usage error, exactly
+  -- then, and nothing was read or written.
+  abbrev pub IsRun : {W : Type 0} → (W → Type 0) → (W → Bool) → (W → Texts) → Ending → Type 0
+  IsRun Means has_input texts ending =
+      ((w : _) × Means w × Ran (has_input w) (texts w) ending)
+      ⊎ (((w : _) → Means w → ⊥) × (ending ≡ Usage) × (s' ≡ s) × (k' ≡ k))
+
+  -- ---- where nothing fails
+
+  -- What is to be answered, where nothing fails: all that the source tells, at most the limit, or nothing.
+  abbrev pub IsGiven : Bool → List ℕ → Type 0
+  IsGiven true input = (left s ≡ Some input) × (length input ≤ longest_input) × (Rose (reads s) (reads s') → ⊥)
+  IsGiven false input = input ≡ []
+
+  -- Where the declarations are valid, memory didn't run out and no write failed, the sink took exactly a text that answers what is
+  -- given, and the ending says which.
+  abbrev pub AnswersInput : Bool → Texts → Ending → Type 0
+  AnswersInput has_input texts ending =
+      AreValid d → ending ≢ OutOfMemory → (input before : List ℕ) → IsGiven has_input input → taken k ≡ Some before
+      → (Rose (writes k) (writes k') → ⊥)
+      → (is_rejection : Bool) × (text : List ℕ) × texts d input is_rejection text × (ending ≡ written_as is_rejection) × (taken k' ≡ Some (before ++ text))
+
+  -- Where the declarations show a fault, memory didn't run out and no write failed, the declarations are refused, and the sink took
+  -- exactly the line that says so, by the first fault.
+  abbrev pub RefusesDeclarations : Ending → Type 0
+  RefusesDeclarations ending =
+      (e : DefinitionError) → ShowsFirst d e → ending ≢ OutOfMemory → (before : List ℕ) → taken k ≡ Some before
+      → (Rose (writes k) (writes k') → ⊥)
+      → (ending ≡ Refused) × (taken k' ≡ Some (before ++ refusal e))
+
+  -- Where the declarations are valid, and neither a read nor a write failed, a text was written whole, unless memory ran out, or
+  -- there is an input and the source gave more than the limit. That asks for no bytes to be told.
+  abbrev pub Completes : Bool → Ending → Type 0
+  Completes has_input ending =
+      AreValid d → (Rose (reads s) (reads s') → ⊥) → (Rose (writes k) (writes k') → ⊥)
+      → ((is_rejection : Bool) × (ending ≡ written_as is_rejection))
+      ⊎ ((ending ≡ OutOfMemory) ⊎ ((ending ≡ TooLong) × (has_input ≡ true) × GaveMore longest_input (left s) (left s')))
