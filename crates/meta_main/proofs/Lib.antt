@@ -1,0 +1,4 @@
+mod Behind
+mod First
+mod Numbers
+mod Plain

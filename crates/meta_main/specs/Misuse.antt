@@ -1,0 +1,67 @@
+-- Why words are no command of a program.
+--     AreWordsOf commands words     they are one
+--     IsMisuse commands words m     m tells of the first word that makes them none
+use Rattle.std.specs.Prelude.{◌≡◌, ◌≢◌, ◌<◌, ◌≤◌, ℕ, List, [], ◌∷◌, length, slice_get, Some}
+use Rattle.std.specs.Fmt.{decimal}
+use Rattle.meta_main.specs.declared.manual.Command.{Command}
+use Rattle.meta_main.specs.declared.manual.Range.{Range}
+use Rattle.meta_main.specs.declared.misuse.Misuse.{Misuse}
+use Rattle.meta_main.specs.declared.misuse.Misuse.TheVariants.{NoWord, NoCommand, NoNumber, WordTooMany, NumberMissing}
+
+-- the word writes a number of the range: in decimal, with no zero before it
+pub record IsNumberIn (range : Range) (word : List ℕ) : Type 0 where
+  pub number : ℕ
+  pub written : word ≡ decimal number
+  pub least : range.least ≤ number
+  pub most : number ≤ range.most
+
+-- the first so many words write numbers of the first so many ranges, each of its own, as far as there are both
+abbrev pub AreNumbersTo : ℕ → List Range → List (List ℕ) → Type 0
+AreNumbersTo count ranges words = (k : ℕ) (range : Range) (word : List ℕ) → k < count → slice_get ranges k ≡ Some range → slice_get words k ≡ Some word → IsNumberIn range word
+
+-- the words write numbers of the ranges, one each
+pub record AreNumbersIn (ranges : List Range) (words : List (List ℕ)) : Type 0 where
+  pub count : length words ≡ length ranges
+  pub numbers : AreNumbersTo (length ranges) ranges words
+
+-- the command is one of these, and this is its name
+pub record IsNamed (commands : List Command) (name : List ℕ) (command : Command) : Type 0 where
+  pub place : ℕ
+  pub at : slice_get commands place ≡ Some command
+  pub name_is : command.name.now ≡ name
+
+-- no command has this name
+abbrev pub NamesNone : List Command → List ℕ → Type 0
+NamesNone commands name = (k : ℕ) (command : Command) → slice_get commands k ≡ Some command → command.name.now ≢ name
+
+-- the words are a command: its name, and its numbers behind it
+pub record AreWordsOf (commands : List Command) (words : List (List ℕ)) : Type 0 where
+  pub command : Command
+  pub behind : List (List ℕ)
+  pub are : words ≡ command.name.now ∷ behind
+  pub named : IsNamed commands command.name.now command
+  pub numbers : AreNumbersIn command.numbers.now behind
+
+-- the words behind a name aren't numbers of these ranges, and m tells of the first word that makes them none
+abbrev pub IsMisuseBehind : List Range → List (List ℕ) → Misuse → Type 0
+IsMisuseBehind ranges words NoWord = ⊥
+IsMisuseBehind ranges words NoCommand = ⊥
+IsMisuseBehind ranges words (NoNumber k) = AreNumbersTo k ranges words × (range : Range) × (word : List ℕ) × (slice_get ranges k ≡ Some range) × (slice_get words k ≡ Some word) × (IsNumberIn range word → ⊥)
+IsMisuseBehind ranges words (WordTooMany k) = AreNumbersTo k ranges words × (k ≡ length ranges) × (k < length words)
+IsMisuseBehind ranges words NumberMissing = AreNumbersTo (length words) ranges words × (length words < length ranges)
+
+-- the words begin with the name of a command, and this is so of those behind it
+pub record IsMisuseOf (commands : List Command) (words : List (List ℕ)) (m : Misuse) : Type 0 where
+  pub command : Command
+  pub behind : List (List ℕ)
+  pub are : words ≡ command.name.now ∷ behind
+  pub named : IsNamed commands command.name.now command
+  pub misuse : IsMisuseBehind command.numbers.now behind m
+
+-- the words are none of the commands, and m tells of the first word that makes them none
+abbrev pub IsMisuse : List Command → List (List ℕ) → Misuse → Type 0
+IsMisuse commands words NoWord = words ≡ []
+IsMisuse commands words NoCommand = (name : List ℕ) × (behind : List (List ℕ)) × (words ≡ name ∷ behind) × NamesNone commands name
+IsMisuse commands words (NoNumber k) = IsMisuseOf commands words (NoNumber k)
+IsMisuse commands words (WordTooMany k) = IsMisuseOf commands words (WordTooMany k)
+IsMisuse commands words NumberMissing = IsMisuseOf commands words NumberMissing

@@ -1,0 +1,65 @@
+-- The line that names the wrong word of words that are no command.
+--     IsUsageLine commands words line     the line names the word that a misuse of the words tells of, and the commands
+use Rattle.std.specs.Prelude.{◌≡◌, ◌≤◌, ◌<◌, ℕ, List, [], ◌∷◌, ◌++◌, codes, slice_get, Some}
+use Rattle.std.specs.List.{flat_map}
+use Rattle.meta_main.specs.Misuse.{IsMisuse}
+use Rattle.meta_main.specs.declared.manual.Command.{Command}
+use Rattle.meta_main.specs.declared.misuse.Misuse.{Misuse}
+use Rattle.meta_main.specs.declared.misuse.Misuse.TheVariants.{NoWord, NoCommand, NoNumber, WordTooMany, NumberMissing}
+
+-- each byte is a letter, a digit, a mark or a space of ASCII
+abbrev pub IsPlain : List ℕ → Type 0
+IsPlain word = (k byte : ℕ) → slice_get word k ≡ Some byte → (32 ≤ byte) × (byte < 127)
+
+-- what a line shows of a word: a plain one stands between quotes as it is
+abbrev pub IsShown : List ℕ → List ℕ → Type 0
+IsShown word shown = IsPlain word → shown ≡ codes "'" ++ (word ++ codes "'")
+
+-- the same of the word at a place, where there is one
+abbrev pub IsShownAt : List (List ℕ) → ℕ → List ℕ → Type 0
+IsShownAt words place shown = (word : List ℕ) → slice_get words place ≡ Some word → IsShown word shown
+
+-- what is wrong with the words behind a name of which m tells, by the name and the word as they are shown
+abbrev pub wrong_text : Misuse → List ℕ → List ℕ → List ℕ
+wrong_text NoWord name word = codes "no command " ++ name
+wrong_text NoCommand name word = codes "no command " ++ name
+wrong_text (NoNumber place) name word = codes "no number for " ++ (name ++ (codes ": " ++ word))
+wrong_text (WordTooMany place) name word = codes "a word too many for " ++ (name ++ (codes ": " ++ word))
+wrong_text NumberMissing name word = codes "a number is missing for " ++ name
+
+-- the place behind the name of the word that is shown
+abbrev pub place_of : Misuse → ℕ
+place_of NoWord = 0
+place_of NoCommand = 0
+place_of (NoNumber place) = place
+place_of (WordTooMany place) = place
+place_of NumberMissing = 0
+
+-- the text says what m tells of the words, and names the word
+pub record IsWrongBehind (name : List ℕ) (behind : List (List ℕ)) (m : Misuse) (text : List ℕ) : Type 0 where
+  pub name_shown : List ℕ
+  pub shows_name : IsShown name name_shown
+  pub word_shown : List ℕ
+  pub shows_word : IsShownAt behind (place_of m) word_shown
+  pub is : text ≡ wrong_text m name_shown word_shown
+
+abbrev pub IsWrong : List (List ℕ) → Misuse → List ℕ → Type 0
+IsWrong [] m text = text ≡ codes "no command"
+IsWrong (name ∷ behind) m text = IsWrongBehind name behind m text
+
+-- a name behind a comma
+abbrev pub behind_comma : Command → List ℕ
+behind_comma command = codes ", " ++ command.name.now
+
+-- the names with commas between them
+abbrev pub names_text : List Command → List ℕ
+names_text [] = []
+names_text (command ∷ commands) = command.name.now ++ flat_map behind_comma commands
+
+-- the line names the wrong word and the commands
+pub record IsUsageLine (commands : List Command) (words : List (List ℕ)) (line : List ℕ) : Type 0 where
+  pub misuse : Misuse
+  pub is_misuse : IsMisuse commands words misuse
+  pub wrong : List ℕ
+  pub is_wrong : IsWrong words misuse wrong
+  pub is : line ≡ wrong ++ (codes ": the commands are " ++ (names_text commands ++ codes "; --help says more"))

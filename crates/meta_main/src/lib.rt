@@ -1,0 +1,20 @@
+//! What each program over declarations does as a process: its words, `--help` and `--version`, the line on standard error, and the
+//! exit status.
+//!
+//! A program is what it says of itself, a `Manual`, and what it does with its words, an `impl Program`; its `main` is a call of `start`.
+#![tactic(auto)]
+
+mod asked;
+mod ending;
+mod manual;
+mod misuse;
+mod program;
+mod usage;
+mod word;
+
+pub use asked::Asked;
+pub use ending::Ending;
+pub use manual::{Command, Manual, Range};
+pub use misuse::Misuse;
+pub use program::{Program, start};
+pub use usage::usage_line;

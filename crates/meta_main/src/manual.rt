@@ -1,0 +1,26 @@
+/// The numbers that a word may write, from the least to the most.
+#[derive(Clone, Copy)]
+pub struct Range {
+    pub least: u32,
+    pub most: u32,
+}
+
+/// A command of a program: its name, and the numbers that the words behind it write.
+#[derive(Clone, Copy)]
+pub struct Command {
+    pub name: &'static str,
+    pub numbers: &'static [Range],
+}
+
+/// What a program says of itself.
+#[derive(Clone, Copy)]
+pub struct Manual {
+    /// Its name, which stands before each line on standard error.
+    pub name: &'static str,
+    /// Its version.
+    pub version: &'static str,
+    /// The text of its help, without the last line feed.
+    pub help: &'static str,
+    /// Its commands, each with another name.
+    pub commands: &'static [Command],
+}

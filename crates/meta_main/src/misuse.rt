@@ -1,0 +1,112 @@
+ghost use Rattle.std.specs.Prelude.{◌≡◌, ◌≢◌, ◌↔◌, ◌<◌, ◌≤◌, ◌^◌, ℕ, IsTrue, IfSome, IfNone};
+ghost use Rattle.std.specs.Fmt.{decimal};
+ghost use Rattle.meta_main.specs.Usage.{place_of};
+ghost use Rattle.meta_main.specs.Misuse.{IsNumberIn, AreNumbersIn, IsMisuseBehind, IsMisuse, AreWordsOf, IsNamed, NamesNone};
+
+use super::manual::{Command, Range};
+use super::word::is_text;
+use itoa::Buffer;
+use meta_types::Text;
+
+/// Why words are no command of a program (this project's own). A place behind the name of a command counts from 0.
+#[derive(Clone, Copy, Debug, PartialEq, Eq)]
+pub enum Misuse {
+    /// There is no word.
+    NoWord,
+    /// The first word is the name of no command.
+    NoCommand,
+    /// The word at this place behind the name is no number that may stand there.
+    NoNumber(usize),
+    /// No word may stand at this place behind the name.
+    WordTooMany(usize),
+    /// A number is missing at the end.
+    NumberMissing,
+}
+
+/// The number that a word writes: decimal, with no zero before it, at most 4,294,967,295.
+fn number_in(word: &Text) -> Option<u32>
+    ensures some { IfSome result (λ n. word.now ≡ decimal n) }
+    ensures none { IfNone result ((n : ℕ) → n < 2 ^ 32 → word.now ≢ decimal n) }
+{
+    let text = word.as_str();
+    match text.parse::<u32>() {
+        Ok(number) if Buffer::new().format(number) == text => Some(number),
+        _ => None,
+    }
+}
+
+/// Whether the number lies between these, or is one of them.
+fn is_between(least: u32, most: u32, number: u32) -> bool
+    ensures between { IsTrue result ↔ ((least ≤ number) × (number ≤ most)) }
+    ensures few { (most < 2 ^ 32) × (number < 2 ^ 32) }
+{
+    least <= number && number <= most
+}
+
+impl Range {
+    /// Whether the word writes one of these numbers: in decimal, with no zero before it.
+    pub fn is_written(&self, word: &Text) -> bool
+        ensures { IsTrue result ↔ IsNumberIn self.now word.now }
+    {
+        let (least, most) = (self.least, self.most);
+        match number_in(word) {
+            Some(number) => is_between(least, most, number),
+            None => false,
+        }
+    }
+}
+
+/// The command of this name.
+fn named<'c>(commands: &'c [Command], name: &Text) -> Option<&'c Command>
+    ensures some { IfSome result (λ c. IsNamed commands.now name.now c.now) }
+    ensures none { IfNone result (NamesNone commands.now name.now) }
+{
+    for command in commands {
+        if is_text(name, command.name) {
+            return Some(command);
+        }
+    }
+    None
+}
+
+/// Why the words behind a name aren't its numbers, if they aren't.
+fn behind(numbers: &[Range], words: &[Text]) -> Option<Misuse>
+    ensures none { IfNone result (AreNumbersIn numbers.now words.now) }
+    ensures some { IfSome result (IsMisuseBehind numbers.now words.now) }
+{
+    for k in 0..numbers.len() {
+        if k >= words.len() {
+            return Some(Misuse::NumberMissing);
+        }
+        if !numbers[k].is_written(&words[k]) {
+            return Some(Misuse::NoNumber(k));
+        }
+    }
+    (words.len() > numbers.len()).then_some(Misuse::WordTooMany(numbers.len()))
+}
+
+impl Misuse {
+    /// Why the words are none of these commands, and `None` where they are one: it tells of the first word that makes them none.
+    pub fn of(commands: &[Command], words: &[Text]) -> Option<Misuse>
+        ensures none { IfNone result (AreWordsOf commands.now words.now) }
+        ensures some { IfSome result (IsMisuse commands.now words.now) }
+    {
+        match words {
+            [] => Some(Misuse::NoWord),
+            [name, words @ ..] => match named(commands, name) {
+                Some(command) => behind(command.numbers, words),
+                None => Some(Misuse::NoCommand),
+            },
+        }
+    }
+
+    /// The place behind the name of the word that it tells of, and 0 where it tells of none there.
+    pub(crate) fn place(self) -> usize
+        ensures { result ≡ place_of self }
+    {
+        match self {
+            Misuse::NoNumber(place) | Misuse::WordTooMany(place) => place,
+            Misuse::NoWord | Misuse::NoCommand | Misuse::NumberMissing => 0,
+        }
+    }
+}

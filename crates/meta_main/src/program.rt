@@ -1,0 +1,106 @@
+use super::asked::Asked;
+use super::ending::Ending;
+use super::manual::Manual;
+use super::usage::usage_line;
+use meta_text::{Sink, Source, StdSink, StdSource};
+use meta_types::Text;
+use std::alloc::Global;
+use std::io::{self, ErrorKind};
+use std::process::ExitCode;
+
+/// What a program does (this project's own).
+pub trait Program {
+    /// Does what the words ask: reads its input from the source, and writes its answer, and nothing else, to the sink. `Usage` says
+    /// that the words are no command.
+    fn run<S: Source, K: Sink>(
+        &self,
+        alloc: Global,
+        words: &[Text],
+        source: &mut S,
+        sink: &mut K,
+    ) -> Ending;
+}
+
+/// What it means that the words of the program can't be had.
+fn no_words(error: &io::Error) -> Ending {
+    match error.kind() {
+        ErrorKind::OutOfMemory => Ending::OutOfMemory,
+        _ => Ending::Usage,
+    }
+}
+
+/// The words after the program's name.
+fn words(rt: &HostRuntime) -> Result<Vec<Text>, Ending> {
+    let alloc = rt.alloc();
+    let args = std::env::args(rt).map_err(|error| no_words(&error))?;
+    let mut words = Vec::new(alloc);
+    for arg in args.skip(1) {
+        let word = Text::new(alloc, arg.as_str()).map_err(|_| Ending::OutOfMemory)?;
+        words.push(word).map_err(|_| Ending::OutOfMemory)?;
+    }
+    Ok(words)
+}
+
+/// How a print on standard output ended.
+fn printed(outcome: io::Result<()>) -> Ending {
+    match outcome {
+        Ok(()) => Ending::Done,
+        Err(_) => Ending::WriteFault,
+    }
+}
+
+/// Does what the words ask.
+fn answer<P: Program>(rt: &HostRuntime, manual: &Manual, program: &P, words: &[Text]) -> Ending {
+    let (name, version, help) = (manual.name, manual.version, manual.help);
+    match Asked::of(words) {
+        Asked::Help => printed(println!(rt; "{help}")),
+        Asked::Version => printed(println!(rt; "{name} {version}")),
+        Asked::Work => {
+            let mut source = StdSource::new(rt.reader());
+            let mut sink = StdSink::new(io::writer(rt));
+            program.run(rt.alloc(), words, &mut source, &mut sink)
+        }
+    }
+}
+
+/// Says in one line on standard error what an ending other than `Done` was about. Where standard error fails too, the exit status
+/// still tells.
+fn tell(rt: &HostRuntime, manual: &Manual, ending: Ending) {
+    if let Some(about) = ending.about() {
+        let _ = eprintln!(rt; "{}: {about}", manual.name);
+    }
+}
+
+/// The same of words that are no command: which of them is wrong, and which commands there are.
+fn tell_wrong(rt: &HostRuntime, manual: &Manual, words: &[Text]) {
+    match usage_line(rt.alloc(), manual, words) {
+        Ok(line) => {
+            let _ = eprintln!(rt; "{}: {line}", manual.name);
+        }
+        Err(_) => tell(rt, manual, Ending::Usage),
+    }
+}
+
+/// Does what the words ask, and says what it was about where that isn't done.
+fn run<P: Program>(rt: &HostRuntime, manual: &Manual, program: &P, words: &[Text]) -> Ending {
+    let ending = answer(rt, manual, program, words);
+    match ending {
+        Ending::Usage => tell_wrong(rt, manual, words),
+        _ => tell(rt, manual, ending),
+    }
+    ending
+}
+
+/// Runs a program as a process. `--help`, `-h`, `help` alone, `--version` and `-V` are answered by what the program says of itself;
+/// any other words are handed to it. Standard output has answers alone; what an ending other than `Done` was about is one line on
+/// standard error, which for words that are no command names the wrong one and the commands. The exit status is that of the ending.
+pub fn start<P: Program>(rt: &HostRuntime, manual: &Manual, program: &P) -> ExitCode {
+    let ending = match words(rt) {
+        Ok(words) => run(rt, manual, program, &words),
+        Err(ending) => {
+            tell(rt, manual, ending);
+            ending
+        }
+    };
+    ExitCode::from(ending.code())
+}

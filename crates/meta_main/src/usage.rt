@@ -1,0 +1,106 @@
+ghost use Rattle.std.specs.Prelude.{◌≡◌, ◌↔◌, ◌<◌, ◌≤◌, IfOk, IsTrue, string_bytes};
+ghost use Rattle.meta_main.specs.Misuse.{AreWordsOf};
+ghost use Rattle.meta_main.specs.Usage.{IsPlain, IsShown, IsShownAt, IsWrongBehind, IsWrong, names_text, IsUsageLine};
+
+use super::manual::{Command, Manual};
+use super::misuse::Misuse;
+use meta_types::Text;
+use std::alloc::{AllocError, Global};
+
+/// The names of the commands, with commas between them.
+fn names(alloc: Global, commands: &[Command]) -> Result<String, AllocError>
+    ensures { IfOk result (λ names. string_bytes names ≡ names_text commands.now) }
+{
+    let mut names = String::new(alloc);
+    if let [first, others @ ..] = commands {
+        names.push_str(first.name)?;
+        for other in others {
+            names.push_str(", ")?;
+            names.push_str(other.name)?;
+        }
+    }
+    Ok(names)
+}
+
+/// Whether the byte is a letter, a digit, a mark or a space of ASCII.
+fn is_plain_byte(byte: u8) -> bool
+    ensures { IsTrue result ↔ ((32 ≤ byte) × (byte < 127)) }
+{
+    32 <= byte && byte < 127
+}
+
+/// Whether each byte is one of these.
+fn is_plain(word: &Text) -> bool
+    ensures { IsPlain word.now → IsTrue result }
+{
+    for byte in word.as_bytes() {
+        if !is_plain_byte(*byte) {
+            return false;
+        }
+    }
+    true
+}
+
+/// The word as a line shows it: between quotes, and where it isn't plain, as Rust escapes it.
+fn shown(alloc: Global, word: &Text) -> Result<String, AllocError>
+    ensures { IfOk result (λ shown. IsShown word.now (string_bytes shown)) }
+{
+    let text = word.as_str();
+    if is_plain(word) {
+        format!(in alloc; "'{text}'")
+    } else {
+        format!(in alloc; "{text:?}")
+    }
+}
+
+/// The word at a place as a line shows it, and nothing where there is none.
+fn shown_at(alloc: Global, words: &[Text], place: usize) -> Result<String, AllocError>
+    ensures { IfOk result (λ shown. IsShownAt words.now place (string_bytes shown)) }
+{
+    match words.get(place) {
+        Some(word) => shown(alloc, word),
+        None => Ok(String::new(alloc)),
+    }
+}
+
+/// What is wrong with the words behind a name, and with which.
+fn wrong_behind(
+    alloc: Global,
+    name: &Text,
+    behind: &[Text],
+    misuse: Misuse,
+) -> Result<String, AllocError>
+    ensures { IfOk result (λ text. IsWrongBehind name.now behind.now misuse (string_bytes text)) }
+{
+    let name = shown(alloc, name)?;
+    let word = shown_at(alloc, behind, misuse.place())?;
+    match misuse {
+        Misuse::NoWord | Misuse::NoCommand => format!(in alloc; "no command {name}"),
+        Misuse::NoNumber(_) => format!(in alloc; "no number for {name}: {word}"),
+        Misuse::WordTooMany(_) => format!(in alloc; "a word too many for {name}: {word}"),
+        Misuse::NumberMissing => format!(in alloc; "a number is missing for {name}"),
+    }
+}
+
+/// What is wrong with the words, and with which.
+fn wrong(alloc: Global, words: &[Text], misuse: Misuse) -> Result<String, AllocError>
+    ensures { IfOk result (λ text. IsWrong words.now misuse (string_bytes text)) }
+{
+    match words {
+        [] => String::from_str(alloc, "no command"),
+        [name, behind @ ..] => wrong_behind(alloc, name, behind, misuse),
+    }
+}
+
+/// What is wrong with words that are none of the program's commands, with which of them, and which commands there are: one line,
+/// without its line feed.
+pub fn usage_line(alloc: Global, manual: &Manual, words: &[Text]) -> Result<String, AllocError>
+    ensures { (AreWordsOf manual.now.commands.now words.now → ⊥) → IfOk result (λ line. IsUsageLine manual.now.commands.now words.now (string_bytes line)) }
+{
+    let Some(misuse) = Misuse::of(manual.commands, words) else {
+        return String::from_str(alloc, "no command");
+    };
+    let wrong = wrong(alloc, words, misuse)?;
+    let names = names(alloc, manual.commands)?;
+    format!(in alloc; "{wrong}: the commands are {names}; --help says more")
+}
