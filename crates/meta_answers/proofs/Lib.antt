@@ -1,5 +1,6 @@
 mod QuestionLemmas
 pub mod InferenceLemmas
+mod FormLemmas
 mod QueryLemmas
 mod AnswerLemmas
 mod SettingLines
