@@ -1,9 +1,9 @@
 -- The forms of the lines that ask.
-use Rattle.std.proofs.Common.{◌≡◌, ◌≢◌, ℕ, ◌<◌, Bool, true, false, cond, List, [], ◌∷◌, length, Option, Some, None, codes, refl, sym, ap, ◌∙◌, arith}
+use Rattle.std.proofs.Common.{◌≡◌, ◌≢◌, ℕ, ◌<◌, Bool, true, false, cond, List, [], ◌∷◌, length, Some, None, codes, refl, sym, ap, ◌∙◌, arith}
 use Rattle.std.specs.Prelude.{nat_eq}
 use Rattle.std.specs.Cmp.Lexicographic.{bytes_decides, pointwise}
 use Rattle.std.proofs.lemmas.List.Elements.{All-head, All-tail}
-use Rattle.meta_words.specs.Words.{IsWord, AreWords, pieces_of}
+use Rattle.meta_words.specs.Words.{IsWord, pieces_of}
 use Rattle.meta_words.specs.Control.{control_text}
 use Rattle.meta_words.specs.TypeList.{types_text}
 use Rattle.meta_words.proofs.WordLemmas.{pieces_of-words}

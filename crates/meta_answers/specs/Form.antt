@@ -1,7 +1,7 @@
 -- The forms of the lines that ask.
 --     words_in form      the words of a line of this form
 --     name_in form       the name that it asks for
-use Rattle.std.specs.Prelude.{ℕ, nat_eq, List, [], ◌∷◌, Option, Some, None, if◌then◌else◌, codes}
+use Rattle.std.specs.Prelude.{ℕ, nat_eq, List, Option, Some, None, if◌then◌else◌, codes}
 use Rattle.std.specs.Cmp.Lexicographic.{pointwise}
 use Rattle.meta_answers.specs.Inference.{inference_words}
 use Rattle.meta_answers.specs.Query.{setting_words}

@@ -1,5 +1,5 @@
 -- The line that asks whether an instruction accepts types.
-use Rattle.std.specs.Prelude.{◌≡◌, ℕ, List, [], ◌∷◌, All, Option, IfSome, codes}
+use Rattle.std.specs.Prelude.{ℕ, List, [], ◌∷◌, All, Option, IfSome, codes}
 use Rattle.meta_types.specs.TypeParts.{TypeParts, IsType}
 use Rattle.meta_words.specs.Words.{AreWords}
 use Rattle.meta_words.specs.Control.{control_text, IsBehind}
