@@ -2,3 +2,4 @@ mod GroupsSoFar
 mod FoundIn
 mod GroupsOfParts
 mod OneWhole
+mod OneDeclared

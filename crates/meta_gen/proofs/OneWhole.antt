@@ -33,9 +33,13 @@ one_groups law parts one other good good_too have have_too =
     let same : s ≡ t = law p s t (at_place IsWellFormedGroup one j s good at_s) (at_place IsWellFormedGroup other j t good_too at_t) (have.each j p s at_p at_s) (have_too.each j p t at_p at_t) in
     at_s ∙ ap Some same ∙ sym at_t)
 
--- and those of whole tables
+-- whole tables with the same parts are the same
+pub same_whole : (one other : WholeTables) → one.opcodes ≡ other.opcodes → one.groups ≡ other.groups → one ≡ other
+same_whole one other opcodes groups = λ i. record { opcodes = opcodes i; groups = groups i }
+
+-- so parts of whole tables have one table at most
 pub one_whole : OneOfOpcodes → OneOfGroup → (parts : TableParts) (one other : WholeTables) → IsWellFormed one → IsWellFormed other → HasParts parts one → HasParts parts other → one ≡ other
 one_whole opcodes_law group_law parts one other good good_too has has_too =
     let opcodes = opcodes_law parts.names.items parts.formats.items parts.type_sets.items parts.operand_constraints.items parts.constraints.items one.opcodes other.opcodes good.opcodes good_too.opcodes has.opcodes has_too.opcodes in
     let groups = one_groups group_law parts.groups.items one.groups other.groups good.groups good_too.groups has.groups has_too.groups in
-    λ i. record { opcodes = opcodes i; groups = groups i }
+    same_whole one other opcodes groups

@@ -63,6 +63,13 @@ impl Tables {
         Tables { opcodes, groups }
     }
 
+    /// The tables of the opcodes.
+    pub fn opcodes(&self) -> &OpcodeTables
+        ensures { result.now ≡ self.now.opcodes }
+    {
+        &self.opcodes
+    }
+
     /// How many opcodes there are, at most 4,095: they are 1 to this number.
     pub fn opcode_count(&self) -> u16
         ensures count { result ≡ length self.now.opcodes.entries }

@@ -7,13 +7,14 @@ use Rattle.meta_types.specs.Function.{Function, IsFunction}
 use Rattle.meta_types.proofs.OneAnswer.{one}
 use Rattle.meta_typevar.specs.Chain.{Agrees}
 use Rattle.meta_typevar.specs.Variable.{Variable, Sets, underived}
-use Rattle.meta_inst.specs.Which.{Which, both}
+use Rattle.meta_inst.specs.Which.{Which, First, both}
 use Rattle.meta_inst.specs.Instruction.{Instruction, IsOperand, controls_of}
 use Rattle.meta_inst.specs.Control.{IsControl, HasBadSecond, HasBadDerivation, IsLoneInput}
-use Rattle.meta_lists.proofs.Places.{get_stays, get_right}
+use Rattle.meta_lists.proofs.Places.{get_beside, get_stays, get_right}
 use Rattle.meta_meaning.specs.Acceptance.{Accepts}
 use Rattle.meta_meaning.specs.Constraint.{Constraint, Concrete, Free, Same, By, IsConstraint, ControlFits}
 use Rattle.meta_meaning.specs.Inference.{EndsInRelation, IsRootOf, RootHas, IsInferred}
+use Rattle.meta_meaning.specs.Tables.{DesignatedControls}
 use Rattle.meta_meaning.proofs.Candidates.{same_variable, underived_agrees}
 use Rattle.meta_meaning.proofs.Family.{IsUnder, IsSettled, Ruling, IsChoice}
 use Rattle.meta_meaning.proofs.OneChoice.{controlled_at, fits_from_choice}
@@ -94,6 +95,15 @@ control_typed sets i control c d rs vs h second x k a w t at_k t_at is =
     let at : IsOperand i (length i.results + k) w = get_right i.results i.values k ∙ at_k in
     let place : slice_get (rs ++ vs) (length i.results + k) ≡ Some t = ap (λ n. slice_get (rs ++ vs) (n + k)) (sym x.results) ∙ (get_right rs vs k ∙ t_at) in
     controlled_at sets i (controls_of i control) ruling (both c d) (rs ++ vs) x.choice (choice_of sets i control c d rs vs h second x) a w is ∙ ap Some (sym (underived_agrees w.chain (x.choice w.root) t (ruling.underived a w is) (x.agrees (length i.results + k) w t at place)))
+
+-- Where the designated operand's variable controls, the designated value has the controlling type.
+pub designated_typed : (sets : Sets) (i : Instruction) (control : Option Variable) (c d : Option TypeParts) (rs vs : List TypeParts) → IsControl sets i control → (HasBadSecond sets i → ⊥) → Accepts sets i control c d rs vs
+    → DesignatedControls i control → (place : ℕ) → i.designated ≡ Some place → (t : TypeParts) × (slice_get vs place ≡ Some t) × (c ≡ Some t)
+designated_typed sets i control c d rs vs h second x (v, is, to) place designates =
+    let same : to.place ≡ place = same_Some to.place place (sym to.designates ∙ designates) in
+    let at : slice_get i.values place ≡ Some v = ap (slice_get i.values) (sym same) ∙ to.is_value in
+    let (t, t_at) = get_beside i.values vs place v (sym x.values) at in
+    (t, t_at, control_typed sets i control c d rs vs h second x place First v t at t_at is)
 
 -- In an accepted combination each controlling type fits its control.
 pub types_fit : (sets : Sets) (i : Instruction) (control : Option Variable) (c d : Option TypeParts) (rs vs : List TypeParts) → IsControl sets i control → (HasBadSecond sets i → ⊥) → Accepts sets i control c d rs vs → (a : Which) → ControlFits sets (controls_of i control a) (both c d a)

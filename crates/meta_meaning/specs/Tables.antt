@@ -52,6 +52,14 @@ result_count flags = flags % 8
 abbrev pub value_count : ℕ → ℕ
 value_count flags = flags / 32 % 8
 
+-- what the flags say in bit 3, that the designated operand's variable controls, and in bit 4, that it does and that the control
+-- doesn't stand at the first result too
+abbrev pub SaysDesignated : ℕ → Type 0
+SaysDesignated flags = flags / 8 % 2 ≡ 1
+
+abbrev pub SaysDiffers : ℕ → Type 0
+SaysDiffers flags = flags / 16 % 2 ≡ 1
+
 -- type set j contains the number n
 pub record SetContains (tables : TableContents) (j n : ℕ) : Type 0 where
   pub masks : Masks
@@ -95,13 +103,13 @@ DesignatedControls i control = (v : Variable) × (control ≡ Some v) × IsDesig
 abbrev pub FirstResultDiffers : Instruction → Option Variable → Type 0
 FirstResultDiffers i control = (w : Variable) → slice_get i.results 0 ≡ Some w → control ≢ Some w
 
--- what the flags say: the two counts; in bit 3 that the designated operand's variable controls; in bit 4 that it does and
--- that the control doesn't stand at the first result too
+-- the flags are eight bits, of which each is told: an instruction has one number as its flags
 pub record AreFlagsOf (i : Instruction) (control : Option Variable) (flags : ℕ) : Type 0 where
+  pub eight_bits : flags < 256
   pub results : result_count flags ≡ length i.results
   pub values : value_count flags ≡ length i.values
-  pub designated : (flags / 8 % 2 ≡ 1) ↔ DesignatedControls i control
-  pub differs : (flags / 16 % 2 ≡ 1) ↔ (DesignatedControls i control × FirstResultDiffers i control)
+  pub designated : SaysDesignated flags ↔ DesignatedControls i control
+  pub differs : SaysDiffers flags ↔ (DesignatedControls i control × FirstResultDiffers i control)
 
 -- type set j holds the masks of s
 pub record HoldsSet (tables : TableContents) (j : ℕ) (s : TypeSetParts) : Type 0 where

@@ -20,7 +20,7 @@ ghost use Rattle.meta_meaning.specs.Acceptance.{Accepts, AcceptsNumbers};
 ghost use Rattle.meta_meaning.specs.Constraint.{Constraint, IsConstraint, ControlFits, Admits};
 ghost use Rattle.meta_meaning.specs.Inference.{EndsInRelation, IsInferred, InfersNumbers, GivesResults};
 ghost use Rattle.meta_meaning.specs.OneControl.{IsControlAlone, AcceptsAlone};
-ghost use Rattle.meta_meaning.specs.Tables.{TableContents, OpcodeNumbers, at_opcode, Allows, AreOpcodeNumbersOf};
+ghost use Rattle.meta_meaning.specs.Tables.{TableContents, OpcodeNumbers, at_opcode, Allows, DesignatedControls, AreOpcodeNumbersOf};
 
 /// One test an operand is one joint choice. Under the control of an instruction of which no operand is badly derived, the
 /// tests of the operands, each alone, pass exactly the types for which there is one choice of a type for every root.
@@ -54,6 +54,11 @@ pub fn results_are_inferred()
     ensures only { (sets : Sets) (i : Instruction) (control : Option Variable) (c d : Option TypeParts) → IsControl sets i control → (HasBadSecond sets i → ⊥) → ((k : ℕ) → HasBadDerivation sets i control k → ⊥) → (k : ℕ) (w : Variable) → slice_get i.results k ≡ Some w → (EndsInRelation w → ⊥) → (t u : TypeParts) → IsInferred sets (controls_of i control) (both c d) w t → IsInferred sets (controls_of i control) (both c d) w u → t ≡ u }
     ensures controls { (sets : Sets) (i : Instruction) (control : Option Variable) (c d : Option TypeParts) (rs vs : List TypeParts) → IsControl sets i control → (HasBadSecond sets i → ⊥) → Accepts sets i control c d rs vs → (k : ℕ) (a : Which) (w : Variable) (t : TypeParts) → slice_get i.values k ≡ Some w → slice_get vs k ≡ Some t → controls_of i control a ≡ Some w → both c d a ≡ Some t }
     ensures fit { (sets : Sets) (i : Instruction) (control : Option Variable) (c d : Option TypeParts) (rs vs : List TypeParts) → IsControl sets i control → (HasBadSecond sets i → ⊥) → Accepts sets i control c d rs vs → (a : Which) → ControlFits sets (controls_of i control a) (both c d a) }
+{}
+
+/// Where the designated operand's variable controls, the designated value of each accepted combination has the controlling type.
+pub fn designated_value_has_the_controlling_type()
+    ensures { (sets : Sets) (i : Instruction) (control : Option Variable) (c d : Option TypeParts) (rs vs : List TypeParts) → IsControl sets i control → (HasBadSecond sets i → ⊥) → Accepts sets i control c d rs vs → DesignatedControls i control → (place : ℕ) → i.designated ≡ Some place → (t : TypeParts) × (slice_get vs place ≡ Some t) × (c ≡ Some t) }
 {}
 
 /// What tables give for the results under controlling numbers. For the entry of an instruction that is what the instruction infers

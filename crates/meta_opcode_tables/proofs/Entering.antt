@@ -8,7 +8,7 @@ use Rattle.meta_inst.specs.Control.{HasBadSecond, DerivesBadly}
 use Rattle.meta_inst.specs.Instruction.{Instruction}
 use Rattle.meta_inst.specs.InstructionFaults.{SecondRule, DerivationRule, CountRule, HasTooManyOperands}
 use Rattle.meta_inst.specs.InstructionSet.{InstructionSet, root_sets, instruction_in_set, Fits}
-use Rattle.meta_inst.specs.Faults.{IsValid, OfInstruction}
+use Rattle.meta_inst.specs.Faults.{IsAt, IsValid, OfInstruction}
 use Rattle.meta_inst.specs.Operands.{OperandList}
 use Rattle.meta_declared.specs.BuiltInstructions.{IsBuiltAt}
 use Rattle.meta_declared.specs.Needed.{AreSetsByNeed}
@@ -28,15 +28,16 @@ few_values b small =
     let few : 7 < length (variables_of (inputs_of b)) → ⊥ = λ l. small (length (variables_of (inputs_of b))) (inr (results, l, refl)) in
     omega arith
 
+-- the second control that an instruction may name can be one
+pub good_second : (d : InstructionSet) → IsValid d → (k : ℕ) (b : Builder) → IsAt d k b → HasBadSecond (root_sets d) (instruction_in_set d b) → ⊥
+good_second d valid k b at bad = valid (OfInstruction k SecondRule) _ (inl (record { builder = b; at = at; breaks = (refl, bad) }))
+
 module _ (d : InstructionSet) (valid : IsValid d) (fits : Fits d.vars d.formats d.instructions) (sets : List TypeSetParts) (needed : AreSetsByNeed d sets) (k : ℕ) (c : Built) (h : IsBuiltAt d k c) where
   small : (count : ℕ) → HasTooManyOperands h.builder count → ⊥
   small count many = valid (OfInstruction k CountRule) _ (inl (record { builder = h.builder; at = h.at; breaks = (count, refl, many) }))
 
   derived : (place : ℕ) → DerivesBadly (root_sets d) (instruction_in_set d h.builder) place → ⊥
   derived place bad = valid (OfInstruction k DerivationRule) _ (inl (record { builder = h.builder; at = h.at; breaks = (place, refl, bad) }))
-
-  good : HasBadSecond (root_sets d) (instruction_in_set d h.builder) → ⊥
-  good bad = valid (OfInstruction k SecondRule) _ (inl (record { builder = h.builder; at = h.at; breaks = (refl, bad) }))
 
   pub can_enter : CanEnter d.vars sets c
   can_enter =
@@ -51,7 +52,7 @@ module _ (d : InstructionSet) (valid : IsValid d) (fits : Fits d.vars d.formats 
         is_control = control_is d h.builder c h.is;
         of_registry = control_of_registry d h.builder c h.is;
         second = second_is d h.builder c h.is (fits k h.builder h.at);
-        good = subst (λ (i : Instruction). HasBadSecond (root_sets d) i → ⊥) (sym means) good;
+        good = subst (λ (i : Instruction). HasBadSecond (root_sets d) i → ⊥) (sym means) (good_second d valid k h.builder h.at);
         derived = subst (λ (i : Instruction). (place : ℕ) → DerivesBadly (root_sets d) i place → ⊥) (sym means) derived;
         results = omega arith;
         values = omega arith;

@@ -1,5 +1,5 @@
 -- The flags of an instruction, by the numbers of its variables.
-use Rattle.std.proofs.Common.{◌≡◌, ◌↔◌, ◌≤◌, ◌-◌, ◌/◌, ◌%◌, ℕ, List, Bool, true, false, IsTrue, length, take, drop, slice_get, Option, Some, refl, sym, ap, ◌∙◌, length-drop}
+use Rattle.std.proofs.Common.{◌≡◌, ◌↔◌, ◌≤◌, ◌<◌, ◌-◌, ℕ, List, Bool, true, false, IsTrue, length, take, drop, slice_get, Option, Some, refl, sym, ap, ◌∙◌, length-drop}
 use Rattle.std.proofs.lemmas.Bool.{false≢true}
 use Rattle.std.proofs.lemmas.Option.{slice_get-map}
 use Rattle.std.proofs.lemmas.List.{length-map}
@@ -10,7 +10,7 @@ use Rattle.meta_typevar.specs.declared.content.TypeVarContent.{TypeVarContent}
 use Rattle.meta_inst.specs.Instruction.{Instruction}
 use Rattle.meta_inst.specs.Operands.{OperandList, instruction_of_operands, designated_number, AreOf, SecondIsOf}
 use Rattle.meta_inst.proofs.Meaning.{results_length, designated_is, designated_from, designated_of}
-use Rattle.meta_meaning.specs.Tables.{AreFlagsOf, DesignatedControls, FirstResultDiffers, result_count, value_count}
+use Rattle.meta_meaning.specs.Tables.{AreFlagsOf, DesignatedControls, FirstResultDiffers, result_count, value_count, SaysDesignated, SaysDiffers}
 use Rattle.meta_declared.specs.Needed.{control_at, IsOfRegistry}
 use Rattle.meta_opcode_tables.proofs.Describing.{control_is, control_from}
 
@@ -54,9 +54,10 @@ module _ (vars : List TypeVarContent) (o : OperandList) (within : o.result_count
       → results ≡ o.result_count → values ≡ length o.variables - o.result_count
       → IsTrue designated ↔ IsDesignatedNumber → IsTrue first ↔ IsFirstNumber
       → result_count flags ≡ results → value_count flags ≡ values
-      → (flags / 8 % 2 ≡ 1) ↔ IsTrue designated → (flags / 16 % 2 ≡ 1) ↔ (IsTrue designated × (first ≡ false))
+      → SaysDesignated flags ↔ IsTrue designated → SaysDiffers flags ↔ (IsTrue designated × (first ≡ false)) → flags < 256
       → AreFlagsOf i (control_at vars control) flags
-  are_flags flags results values designated first is_results is_values is_designated is_first count_results count_values bit_designated bit_differs = record {
+  are_flags flags results values designated first is_results is_values is_designated is_first count_results count_values bit_designated bit_differs byte = record {
+    eight_bits = byte;
     results = count_results ∙ is_results ∙ sym (results_length vars o within registry are second_of);
     values = count_values ∙ is_values ∙ sym values_length;
     designated = ((λ h. designated_controls (is_designated.0 (bit_designated.0 h))), (λ h. bit_designated.1 (is_designated.1 (number_controls h))));

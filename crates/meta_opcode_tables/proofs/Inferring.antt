@@ -3,29 +3,33 @@ use Rattle.std.proofs.Common.{◌≡◌, ◌≢◌, ◌↔◌, ◌<◌, ◌≤�
 use Rattle.std.proofs.lemmas.Option.{same_Some, slice_get-get_or, slice_get_within, get_or_from_slice_get}
 use Rattle.std.proofs.Math.ListN.{set}
 use Rattle.std.proofs.lemmas.List.{length-take-le, get_or-set_same, get_or-set_other}
-use Rattle.meta_lists.proofs.Places.{same_places, get_take, get_drop, get_beside}
+use Rattle.meta_lists.proofs.Places.{same_places, get_take, get_drop}
 use Rattle.meta_types.specs.TypeParts.{number_of}
 use Rattle.meta_types.specs.DerivedFunc.{function_of}
 use Rattle.meta_types.specs.Function.{Function, AnswersNumber}
 use Rattle.meta_types.specs.declared.derived_func.DerivedFunc.{DerivedFunc}
 use Rattle.meta_typevar.specs.Registry.{HoldTypeSets}
-use Rattle.meta_inst.specs.Which.{Which, First, both}
+use Rattle.meta_inst.specs.Builder.{Builder}
+use Rattle.meta_inst.specs.Which.{Which, both}
+use Rattle.meta_inst.specs.Control.{IsControl, HasBadSecond}
+use Rattle.meta_inst.specs.Faults.{IsValid}
 use Rattle.meta_inst.specs.InstructionSet.{InstructionSet, root_sets, instruction_in_set}
 use Rattle.meta_inst.proofs.OneControl.{same_control}
 use Rattle.meta_meaning.specs.Inference.{IsRelation, GivesBy, GivesNumber, GivesAt, GivesResults, InfersNumbers}
-use Rattle.meta_meaning.specs.Tables.{TableContents, NumberConstraint, OpcodeNumbers, ControlNumberFits, Allows, at_opcode, result_count}
+use Rattle.meta_meaning.specs.Tables.{TableContents, NumberConstraint, OpcodeNumbers, ControlNumberFits, Allows, SaysDesignated, DesignatedControls, at_opcode, result_count}
 use Rattle.meta_meaning.proofs.Decoding.{tables_mean}
-use Rattle.meta_meaning.proofs.Inferring.{control_typed}
+use Rattle.meta_meaning.proofs.Inferring.{designated_typed as value_typed}
 use Rattle.meta_meaning.proofs.Listed.{number_of_type, number_at}
 use Rattle.meta_meaning.proofs.Giving.{results_mean}
 use Rattle.meta_meaning.proofs.Given.{allowed_given, given_is}
 use Rattle.meta_opcode_tables.specs.Demand.{which_of, number_constraint_demanded}
-use Rattle.meta_opcode_tables.specs.TablesOf.{AreTablesOf, HoldsInstruction}
-use Rattle.meta_opcode_tables.specs.Inferred.{InfersControl, InfersOpcode, HasControlType}
+use Rattle.meta_opcode_tables.specs.TablesOf.{AreTablesOf, HoldsInstruction, AcceptsOpcode}
+use Rattle.meta_opcode_tables.specs.Inferred.{InfersOpcode, HasDesignatedControl, HasControlType}
 use Rattle.meta_opcode_tables.specs.declared.constraint.Demand.{Demand}
 use Rattle.meta_opcode_tables.specs.declared.constraint.Demand.TheVariants.{Controlling, By}
 use Rattle.meta_opcode_tables.specs.declared.constraint.Which.{Which as WhichType}
 use Rattle.meta_opcode_tables.proofs.Declared.{declared_as}
+use Rattle.meta_opcode_tables.proofs.Entering.{good_second}
 
 -- ---- one constraint
 
@@ -167,24 +171,44 @@ module _ (tables : TableContents) (op : ℕ) (c e : Option ℕ) where
   none_accepted (Some count) none = tt
   none_accepted None none = λ rs vs a. let (numbers, g) = allowed_given tables op c e rs vs a in none numbers g
 
--- where the flags say that the designated operand's variable controls, what is designated has the controlling type
-pub designated_typed : (d : InstructionSet) (tables : TableContents) (op n : ℕ) → HoldTypeSets d.vars → AreTablesOf d tables → InfersControl tables op n → (c e : Option ℕ) (rs vs : List ℕ) → Allows tables op c e rs vs → HasControlType d op c vs
-designated_typed d tables op n typed h infers c e rs vs allows =
-    let x = declared_as d tables op infers.entry h infers.is_opcode in
-    let i = instruction_in_set d x.builder in
-    let good = (h.holds x.place x.builder x.at).good in
-    let a = (tables_mean (root_sets d) i x.control tables op infers.entry c e rs vs (λ k w _. typed w.root) x.is_control good x.is_entry infers.is_opcode).0 allows in
-    let (v, is_v, to) = x.is_entry.flags.designated.0 infers.designated in
-    let (t, t_at) = get_beside i.values a.value_types to.place v (sym a.accepts.values) to.is_value in
-    let is_t : a.control_type ≡ Some t = control_typed (root_sets d) i x.control a.control_type a.second_type a.result_types a.value_types x.is_control good a.accepts to.place First v t to.is_value t_at is_v in
+-- where the designated operand's variable controls, what is designated has the controlling type
+typed_designated : (d : InstructionSet) (op : ℕ) (c e : Option ℕ) (rs vs : List ℕ) (a : AcceptsOpcode d op c e rs vs) → (HasBadSecond (root_sets d) (instruction_in_set d a.builder) → ⊥) → DesignatedControls (instruction_in_set d a.builder) a.control → HasControlType d op c vs
+typed_designated d op c e rs vs a good (v, is, to) =
+    let x = a.accepts in
+    let (t, t_at, is_t) = value_typed (root_sets d) (instruction_in_set d a.builder) a.control x.control_type x.second_type x.result_types x.value_types a.is_control good x.accepts (v, is, to) to.place to.designates in
     record {
+      place = a.place;
+      builder = a.builder;
+      at = a.at;
+      number = a.number;
+      position = to.place;
+      designated = to.designates;
+      type_number = number_of t;
+      controls = number_of_type x.control_type c t x.control_number is_t;
+      stands = number_at x.value_types vs to.place t x.value_numbers t_at;
+    }
+
+-- where the flags say so
+pub designated_typed : (d : InstructionSet) (tables : TableContents) (op : ℕ) (entry : OpcodeNumbers) (c e : Option ℕ) (rs vs : List ℕ) → HoldTypeSets d.vars → AreTablesOf d tables → at_opcode tables.entries op ≡ Some entry → SaysDesignated entry.flags → Allows tables op c e rs vs → HasControlType d op c vs
+designated_typed d tables op entry c e rs vs typed h at bit allows =
+    let x = declared_as d tables op entry h at in
+    let good = (h.holds x.place x.builder x.at).good in
+    typed_designated d op c e rs vs (record {
       place = x.place;
       builder = x.builder;
       at = x.at;
       number = x.number;
-      position = to.place;
-      designated = to.designates;
-      type_number = number_of t;
-      controls = number_of_type a.control_type c t a.control_number is_t;
-      stands = number_at a.value_types vs to.place t a.value_numbers t_at;
-    }
+      control = x.control;
+      is_control = x.is_control;
+      accepts = (tables_mean (root_sets d) (instruction_in_set d x.builder) x.control tables op entry c e rs vs (λ k w _. typed w.root) x.is_control good x.is_entry at).0 allows;
+    }) good (x.is_entry.flags.designated.0 bit)
+
+-- where the declarations do, which are valid
+pub declared_typed : (d : InstructionSet) (op : ℕ) (c e : Option ℕ) (rs vs : List ℕ) → IsValid d → HasDesignatedControl d op → AcceptsOpcode d op c e rs vs → HasControlType d op c vs
+declared_typed d op c e rs vs valid x a =
+    let place : x.place ≡ a.place = omega (arith, x.number, a.number) in
+    let same : x.builder ≡ a.builder = same_Some x.builder a.builder (sym x.at ∙ ap (slice_get d.instructions) place ∙ a.at) in
+    let is_control : IsControl (root_sets d) (instruction_in_set d a.builder) x.control = subst (λ (b : Builder). IsControl (root_sets d) (instruction_in_set d b) x.control) same x.is_control in
+    let one : x.control ≡ a.control = same_control (root_sets d) (instruction_in_set d a.builder) x.control a.control is_control a.is_control in
+    let own : DesignatedControls (instruction_in_set d a.builder) x.control = subst (λ (b : Builder). DesignatedControls (instruction_in_set d b) x.control) same x.controls in
+    typed_designated d op c e rs vs a (good_second d valid a.place a.builder a.at) (subst (DesignatedControls (instruction_in_set d a.builder)) one own)

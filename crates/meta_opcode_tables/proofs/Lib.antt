@@ -29,3 +29,7 @@ mod PartsTested
 -- and parts have one table at most
 mod OneFilling
 mod OneTable
+-- and so have declarations
+mod OneNeed
+mod OneEntry
+mod OneDeclared

@@ -9,7 +9,7 @@ use Rattle.meta_opcode_tables.specs.declared.constraint.OpcodeConstraints.{Opcod
 use Rattle.meta_opcode_tables.proofs.OneFilling.{one_filling}
 
 -- tables with the same parts and slots are the same
-same_tables : (s t : TableContents) → s.names ≡ t.names → s.formats ≡ t.formats → s.opcode_slots ≡ t.opcode_slots → s.type_sets ≡ t.type_sets → s.operand_constraints ≡ t.operand_constraints → s.entries ≡ t.entries → s ≡ t
+pub same_tables : (s t : TableContents) → s.names ≡ t.names → s.formats ≡ t.formats → s.opcode_slots ≡ t.opcode_slots → s.type_sets ≡ t.type_sets → s.operand_constraints ≡ t.operand_constraints → s.entries ≡ t.entries → s ≡ t
 same_tables s t names formats slots type_sets operand_constraints entries = λ i. record { names = names i; formats = formats i; opcode_slots = slots i; type_sets = type_sets i; operand_constraints = operand_constraints i; entries = entries i }
 
 pub one_table : (names formats : List (List ℕ)) (type_sets : List Masks) (operand_constraints : List Constraint) (constraints : List OpcodeConstraints) (s t : TableContents) → IsWellFormedOpcodes s → IsWellFormedOpcodes t → HaveParts s names formats type_sets operand_constraints constraints → HaveParts t names formats type_sets operand_constraints constraints → s ≡ t

@@ -1,5 +1,5 @@
 -- Lists that compare equal are the same.
-use Rattle.std.proofs.Common.{rules, ◌≡◌, true, List, map, refl}
+use Rattle.std.proofs.Common.{rules, ◌≡◌, true, List, map, refl, sym, ap, ◌∙◌}
 use Rattle.std.specs.Bool.{Decides}
 use Rattle.meta_lists.proofs.Mapped.{same_mapped}
 use Rattle.meta_types.specs.Function.{Function, LaneOf as LaneOfFunction, AsTruthy as AsTruthyFunction, HalfWidth as HalfWidthFunction, DoubleWidth as DoubleWidthFunction, SplitLanes as SplitLanesFunction, MergeLanes as MergeLanesFunction, DynamicToVector as DynamicToVectorFunction, Narrower as NarrowerRelation, Wider as WiderRelation}
@@ -91,6 +91,9 @@ constraint_back MergeLanes2 = refl
 constraint_back DynamicToVector2 = refl
 constraint_back Narrower2 = refl
 constraint_back Wider2 = refl
+
+pub same_number : (x y : Constraint) → number_constraint_of x ≡ number_constraint_of y → x ≡ y
+same_number x y e = sym (constraint_back x) ∙ ap constraint_from e ∙ constraint_back y
 
 pub same_numbers : (xs ys : List Constraint) → map number_constraint_of xs ≡ map number_constraint_of ys → xs ≡ ys
 same_numbers = same_mapped number_constraint_of constraint_from constraint_back

@@ -1,5 +1,5 @@
 -- Tables of valid declarations are well-formed.
-use Rattle.std.proofs.Common.{◌<◌, ℕ, List, All, length, sym, ap, ◌∙◌, subst, arith}
+use Rattle.std.proofs.Common.{ℕ, List, All, length, sym, ap, ◌∙◌, subst, arith}
 use Rattle.std.proofs.lemmas.List.{length-map}
 use Rattle.meta_types.specs.Name.{IsName}
 use Rattle.meta_types.specs.SharedNames.{AreDistinct}
@@ -7,7 +7,7 @@ use Rattle.meta_typevar.specs.Registry.{HoldTypeSets}
 use Rattle.meta_inst.specs.Builder.{Builder}
 use Rattle.meta_inst.specs.InstructionSet.{InstructionSet}
 use Rattle.meta_inst.specs.Faults.{IsValid}
-use Rattle.meta_meaning.specs.Tables.{TableContents, OpcodeNumbers}
+use Rattle.meta_meaning.specs.Tables.{TableContents}
 use Rattle.meta_declared.proofs.FirstFault.{few_opcodes}
 use Rattle.meta_opcode_tables.specs.TablesOf.{AreTablesOf}
 use Rattle.meta_opcode_tables.specs.WellFormed.{AreWellFormedParts, IsWellFormedOpcodes}
@@ -17,7 +17,7 @@ use Rattle.meta_opcode_tables.proofs.ValidSets.{needed_masks, few_masks}
 use Rattle.meta_opcode_tables.proofs.ValidLists.{constraints_well, constraints_few}
 use Rattle.meta_opcode_tables.proofs.ValidEntries.{entries_well}
 
-module _ (d : InstructionSet) (tables : TableContents) (valid : IsValid d) (typed : HoldTypeSets d.vars) (bytes : All (λ (e : OpcodeNumbers). e.flags < 256) tables.entries) where
+module _ (d : InstructionSet) (tables : TableContents) (valid : IsValid d) (typed : HoldTypeSets d.vars) where
   pub valid_parts : HoldDeclared d tables → AreWellFormedParts tables.names tables.formats tables.type_sets tables.operand_constraints tables.entries
   valid_parts h =
       let few = few_opcodes d valid in
@@ -35,7 +35,7 @@ module _ (d : InstructionSet) (tables : TableContents) (valid : IsValid d) (type
         distinct = subst AreDistinct (sym h.names) (distinct_names d valid);
         masks = needed_masks d typed tables.type_sets h.type_sets;
         constraints = constraints_well d valid tables h.operand_constraints;
-        entries = entries_well d tables h bytes;
+        entries = entries_well d tables h;
       }
 
   pub valid_tables : AreTablesOf d tables → IsWellFormedOpcodes tables

@@ -14,7 +14,7 @@ use Rattle.meta_opcode_tables.specs.ConstraintLists.{same_constraint, overlapped
 use Rattle.meta_opcode_tables.specs.WellFormed.{IsSetOffset, IsWellFormedEntry}
 use Rattle.meta_opcode_tables.specs.declared.constraint.Constraint.{Constraint}
 use Rattle.meta_opcode_tables.proofs.Made.{HoldDeclared}
-use Rattle.meta_opcode_tables.proofs.ValidNames.{all_from_places, at_place}
+use Rattle.meta_opcode_tables.proofs.ValidNames.{all_from_places}
 
 -- the offset of a control is in range, or says that there is none
 in_range : (sets : Sets) (control : Option Variable) (tables : TableContents) (offset : ℕ) → IsTypeSetOffset sets control tables offset → IsSetOffset (length tables.type_sets) offset
@@ -61,14 +61,14 @@ module _ (d : InstructionSet) (tables : TableContents) (h : HoldDeclared d table
       let c = is.constraints j w op in
       slice_get_within tables.operand_constraints (e.constraint_offset + j) c.number_constraint c.placed)
 
-  entry_well : (k : ℕ) (e : OpcodeNumbers) → slice_get tables.entries k ≡ Some e → e.flags < 256 → IsWellFormedEntry (length tables.type_sets) (length tables.operand_constraints) e
-  entry_well k e at byte =
+  entry_well : (k : ℕ) (e : OpcodeNumbers) → slice_get tables.entries k ≡ Some e → IsWellFormedEntry (length tables.type_sets) (length tables.operand_constraints) e
+  entry_well k e at =
       let (b, b_at) = get_beside tables.entries d.instructions k e h.count at in
       let held = h.holds k b b_at in
       let is : AreOpcodeNumbersOf (root_sets d) (instruction_in_set d b) held.control tables e = subst (AreOpcodeNumbersOf (root_sets d) (instruction_in_set d b) held.control tables) (same_Some held.entry e (sym held.at ∙ at)) held.is_entry in
       let within = inside k b e held.control b_at at is in
       record {
-        eight_bits = byte;
+        eight_bits = is.flags.eight_bits;
         type_set = in_range (root_sets d) held.control tables e.typeset_offset is.type_set;
         second_set = in_range (root_sets d) (instruction_in_set d b).second tables e.second_offset is.second_set;
         second_beside = beside (root_sets d) (instruction_in_set d b) tables held.control e.typeset_offset e.second_offset held.is_control held.good is.type_set is.second_set;
@@ -77,6 +77,5 @@ module _ (d : InstructionSet) (tables : TableContents) (h : HoldDeclared d table
         within = omega (arith, within, is.flags.results, is.flags.values);
       }
 
-  pub entries_well : All (λ (e : OpcodeNumbers). e.flags < 256) tables.entries → All (IsWellFormedEntry (length tables.type_sets) (length tables.operand_constraints)) tables.entries
-  entries_well bytes = all_from_places (IsWellFormedEntry (length tables.type_sets) (length tables.operand_constraints)) tables.entries
-      (λ k e at. entry_well k e at (at_place (λ (e : OpcodeNumbers). e.flags < 256) tables.entries k e bytes at))
+  pub entries_well : All (IsWellFormedEntry (length tables.type_sets) (length tables.operand_constraints)) tables.entries
+  entries_well = all_from_places (IsWellFormedEntry (length tables.type_sets) (length tables.operand_constraints)) tables.entries entry_well

@@ -7,7 +7,7 @@ use Rattle.meta_lists.proofs.Places.{get_beside}
 use Rattle.meta_types.specs.TypeParts.{IntKind, FloatKind, widths, lane_counts}
 use Rattle.meta_typevar.specs.TypeSetParts.{TypeSetParts, IsPart, IsTypeSet}
 use Rattle.meta_typevar.specs.Masks.{AreMasksOf}
-use Rattle.meta_typevar.specs.MaskSets.{holds, AreMasks}
+use Rattle.meta_typevar.specs.MaskSets.{holds, sets_in, AreMasks}
 use Rattle.meta_typevar.specs.Registry.{HoldTypeSets}
 use Rattle.meta_typevar.specs.declared.masks.Masks.{Masks}
 use Rattle.meta_typevar.proofs.Marks.{keeps, ints_keep, floats_keep, lanes_keep, dynamic_lanes_keep, holds_sum}
@@ -16,11 +16,22 @@ use Rattle.meta_inst.specs.Faults.{IsValid, OfTypeSets, NeedsSet}
 use Rattle.meta_declared.specs.Needed.{AreNeededMasks}
 use Rattle.meta_opcode_tables.proofs.ValidNames.{all_from_places}
 
--- a mask that is the sum of a set of allowed numbers is the sum of what it holds of them
+-- a mask that is the sum of a set of allowed numbers holds that set of them
+held_set : (all : List ℕ) → keeps all ≡ true → (xs : List ℕ) → IsPart xs all → (mask : ℕ) → mask ≡ sum xs → filter (holds mask) all ≡ xs
+held_set all e xs part mask is = ap (λ (m : ℕ). filter (holds m) all) (is ∙ ap sum part.is) ∙ holds_sum all e part.test ∙ sym part.is
+
+-- so it is the sum of what it holds of them
 held_alone : (all : List ℕ) → keeps all ≡ true → (xs : List ℕ) → IsPart xs all → (mask : ℕ) → mask ≡ sum xs → mask ≡ sum (filter (holds mask) all)
-held_alone all e xs part mask is =
-    let passes : mask ≡ sum (filter part.test all) = is ∙ ap sum part.is in
-    passes ∙ ap sum (sym (ap (λ (m : ℕ). filter (holds m) all) passes ∙ holds_sum all e part.test))
+held_alone all e xs part mask is = is ∙ ap sum (sym (held_set all e xs part mask is))
+
+-- the masks of a set of types stand for it
+pub set_back : (s : TypeSetParts) (m : Masks) → IsTypeSet s → AreMasksOf s m → sets_in m ≡ s
+set_back s m is are =
+    let lanes = held_set (lane_counts false) lanes_keep s.lanes is.lanes m.lanes are.lanes in
+    let dynamic_lanes = held_set (lane_counts true) dynamic_lanes_keep s.dynamic_lanes is.dynamic_lanes m.dynamic_lanes are.dynamic_lanes in
+    let ints = held_set (widths IntKind) ints_keep s.ints is.ints m.ints are.ints in
+    let floats = held_set (widths FloatKind) floats_keep s.floats is.floats m.floats are.floats in
+    λ i. record { lanes = lanes i; dynamic_lanes = dynamic_lanes i; ints = ints i; floats = floats i }
 
 -- the masks of a set of types hold members of the full ranges alone
 pub masks_of_set : (s : TypeSetParts) (m : Masks) → IsTypeSet s → AreMasksOf s m → AreMasks m
@@ -33,7 +44,7 @@ masks_of_set s m is are = record {
 
 module _ (d : InstructionSet) where
   -- a set that an instruction needs is that of a variable
-  needed_set : HoldTypeSets d.vars → (s : TypeSetParts) → NeedsSet d s → IsTypeSet s
+  pub needed_set : HoldTypeSets d.vars → (s : TypeSetParts) → NeedsSet d s → IsTypeSet s
   needed_set typed s (k, needs) =
       ⊎_elim
       (λ h. subst IsTypeSet (sym h.1.set) (typed h.1.variable.root))

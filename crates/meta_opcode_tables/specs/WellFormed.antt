@@ -2,13 +2,13 @@
 --     AreWellFormedParts names ..    the parts are well-formed, one condition a field
 --     IsWellFormedOpcodes t      the tables are well-formed
 --     HaveParts t names ..       the tables are made of these parts, by opcode, and of some slots
-use Rattle.std.specs.Prelude.{◌≡◌, ◌≢◌, ◌⊎◌, ◌<◌, ◌≤◌, ◌+◌, ◌/◌, ◌%◌, ℕ, List, All, length, map}
+use Rattle.std.specs.Prelude.{◌≡◌, ◌≢◌, ◌⊎◌, ◌<◌, ◌≤◌, ◌+◌, ℕ, List, All, length, map}
 use Rattle.meta_types.specs.Name.{IsName}
 use Rattle.meta_types.specs.SharedNames.{AreDistinct}
 use Rattle.meta_types.specs.TypeParts.{TypeParts, IsType, number_of}
 use Rattle.meta_typevar.specs.MaskSets.{AreMasks}
 use Rattle.meta_typevar.specs.declared.masks.Masks.{Masks}
-use Rattle.meta_meaning.specs.Tables.{NumberConstraint, ConcreteNumber, FreeOf, SameNumber, ByNumber, OpcodeNumbers, TableContents, no_type_set, result_count, value_count}
+use Rattle.meta_meaning.specs.Tables.{NumberConstraint, ConcreteNumber, FreeOf, SameNumber, ByNumber, OpcodeNumbers, TableContents, no_type_set, result_count, value_count, SaysDesignated, SaysDiffers}
 use Rattle.meta_unique.specs.NameSlots.{AreNameSlots}
 use Rattle.meta_opcode_tables.specs.Constraint.{number_constraint_of, entry_of}
 use Rattle.meta_opcode_tables.specs.declared.constraint.Constraint.{Constraint}
@@ -42,9 +42,9 @@ pub record IsWellFormedEntry (sets constraints : ℕ) (e : OpcodeNumbers) : Type
   -- there is a second control only beside a control
   pub second_beside : e.typeset_offset ≡ no_type_set → e.second_offset ≡ no_type_set
   -- the designated operand's variable controls only where there is a control
-  pub designated : e.flags / 8 % 2 ≡ 1 → e.typeset_offset ≢ no_type_set
+  pub designated : SaysDesignated e.flags → e.typeset_offset ≢ no_type_set
   -- that the first result's variable doesn't control too is said only where the designated operand's does
-  pub differs : e.flags / 16 % 2 ≡ 1 → e.flags / 8 % 2 ≡ 1
+  pub differs : SaysDiffers e.flags → SaysDesignated e.flags
   -- the constraints of the results and of the values stand in the one list
   pub within : e.constraint_offset + (result_count e.flags + value_count e.flags) ≤ constraints
 

@@ -1,15 +1,15 @@
-ghost use Rattle.std.specs.Prelude.{◌≡◌, ◌↔◌, ◌/◌, ◌%◌, ℕ, IsTrue, IfSome, IfNone};
+ghost use Rattle.std.specs.Prelude.{◌≡◌, ◌↔◌, ◌≤◌, ℕ, IsTrue, IfSome, IfNone};
 ghost use Rattle.meta_types.specs.DerivedFunc.{function_of};
 ghost use Rattle.meta_inst.specs.Which.{Second, both};
 ghost use Rattle.meta_meaning.specs.Inference.{IsRelation, GivesBy, GivesNumber};
-ghost use Rattle.meta_meaning.specs.Tables.{ByNumber, result_count, value_count};
+ghost use Rattle.meta_meaning.specs.Tables.{ByNumber, result_count, value_count, SaysDesignated, SaysDiffers};
 ghost use Rattle.meta_opcode_tables.specs.Constraint.{number_constraint_of};
 ghost use Rattle.meta_opcode_tables.specs.Demand.{which_of, number_constraint_demanded};
 
 use meta_types::DerivedFunc;
 
 /// The type set offset of an opcode without a control, and of one without a second control.
-pub(crate) const NO_TYPE_SET: u16 = 65535;
+pub const NO_TYPE_SET: u16 = 65535;
 
 /// What an operand's type has to be, by its number (in the crate `OperandConstraint` of the code that it writes).
 #[derive(Clone, Copy, Debug, PartialEq, Eq)]
@@ -86,7 +86,7 @@ impl From<DerivedFunc> for Constraint {
 
 impl Constraint {
     /// What the function gives of the second controlling type.
-    pub(crate) fn of_second(derived_func: DerivedFunc) -> Constraint
+    pub fn of_second(derived_func: DerivedFunc) -> Constraint
         ensures { number_constraint_of result ≡ ByNumber Second (function_of derived_func) }
     {
         match derived_func {
@@ -102,8 +102,9 @@ impl Constraint {
         }
     }
 
-    /// What it demands.
-    pub(crate) fn demanded(self) -> Demand
+    /// What it demands of the number of a type, by cases: what the variant's name says of the controlling types is told in the
+    /// values of `Demand`.
+    pub fn demanded(self) -> Demand
         ensures { number_constraint_demanded result ≡ number_constraint_of self }
     {
         match self {
@@ -167,8 +168,8 @@ pub(crate) fn given(controls: Controls, constraint: Constraint) -> Option<u16>
 }
 
 /// One of the two controlling types that an opcode may have.
-#[derive(Clone, Copy)]
-pub(crate) enum Which {
+#[derive(Clone, Copy, Debug, PartialEq, Eq)]
+pub enum Which {
     /// The controlling type.
     First,
     /// The second controlling type.
@@ -176,8 +177,8 @@ pub(crate) enum Which {
 }
 
 /// What a constraint demands of the number of a type.
-#[derive(Clone, Copy)]
-pub(crate) enum Demand {
+#[derive(Clone, Copy, Debug, PartialEq, Eq)]
+pub enum Demand {
     /// That it is this number.
     Number(u16),
     /// That the type set at this place contains it.
@@ -224,30 +225,32 @@ pub struct OpcodeConstraints {
 }
 
 impl OpcodeConstraints {
-    /// How many value results there are.
-    pub(crate) fn result_count(self) -> usize
-        ensures { result ≡ result_count self.flags }
+    /// How many value results there are, at most 7.
+    pub fn result_count(self) -> usize
+        ensures count { result ≡ result_count self.flags }
+        ensures few { result ≤ 7 }
     {
         (self.flags % 8) as usize
     }
 
     /// Whether the designated operand's variable controls.
-    pub(crate) fn designated_controls(self) -> bool
-        ensures { IsTrue result ↔ (self.flags / 8 % 2 ≡ 1) }
+    pub fn designated_controls(self) -> bool
+        ensures { IsTrue result ↔ SaysDesignated self.flags }
     {
         self.flags / 8 % 2 == 1
     }
 
     /// Whether the designated operand's variable controls, and the control doesn't stand at the first result too.
-    pub(crate) fn first_result_differs(self) -> bool
-        ensures { IsTrue result ↔ (self.flags / 16 % 2 ≡ 1) }
+    pub fn first_result_differs(self) -> bool
+        ensures { IsTrue result ↔ SaysDiffers self.flags }
     {
         self.flags / 16 % 2 == 1
     }
 
-    /// How many value inputs there are.
-    pub(crate) fn value_count(self) -> usize
-        ensures { result ≡ value_count self.flags }
+    /// How many value inputs there are, at most 7.
+    pub fn value_count(self) -> usize
+        ensures count { result ≡ value_count self.flags }
+        ensures few { result ≤ 7 }
     {
         (self.flags / 32 % 8) as usize
     }

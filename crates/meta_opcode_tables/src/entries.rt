@@ -1,11 +1,11 @@
-ghost use Rattle.std.specs.Prelude.{◌≡◌, ◌↔◌, ◌<◌, ◌≤◌, ◌+◌, ◌/◌, ◌%◌, ◌^◌, ℕ, List, Bool, false, IsTrue, IfOk, OnOk, IfSome, length, slice_get, take, All, Some};
+ghost use Rattle.std.specs.Prelude.{◌≡◌, ◌↔◌, ◌<◌, ◌≤◌, ◌+◌, ◌^◌, ℕ, List, Bool, false, IsTrue, IfOk, OnOk, IfSome, length, slice_get, take, Some};
 ghost use Rattle.meta_typevar.specs.Registry.{sets_of, variable_at, IsRegistry};
 ghost use Rattle.meta_typevar.specs.declared.content.TypeVarContent.{TypeVarContent};
 ghost use Rattle.meta_inst.specs.Builder.{Builder};
 ghost use Rattle.meta_inst.specs.Faults.{IsAt, IsValid};
 ghost use Rattle.meta_inst.specs.InstructionSet.{Fits};
 ghost use Rattle.meta_inst.specs.Operands.{AreOf, SecondIsOf, instruction_of_operands, designated_number};
-ghost use Rattle.meta_meaning.specs.Tables.{TableContents, AreFlagsOf, IsTypeSetOffset, result_count, value_count};
+ghost use Rattle.meta_meaning.specs.Tables.{TableContents, AreFlagsOf, IsTypeSetOffset, result_count, value_count, SaysDesignated, SaysDiffers};
 ghost use Rattle.meta_unique.specs.Overlap.{added, added_at};
 ghost use Rattle.meta_opcode_tables.specs.ConstraintLists.{same_constraint, three_same};
 ghost use Rattle.meta_opcode_tables.specs.Entries.{CanEnter, StaysIn, IsHeld, HasTypeSets, EntryHolds, IsAdded, AreAdded, IsHeldAt};
@@ -46,8 +46,9 @@ fn packed(results: u8, values: u8, designated: bool, first_result: bool) -> u8
     requires values { values ≤ 7 }
     ensures results { result_count result ≡ results }
     ensures values { value_count result ≡ values }
-    ensures designated { (result / 8 % 2 ≡ 1) ↔ IsTrue designated }
-    ensures differs { (result / 16 % 2 ≡ 1) ↔ (IsTrue designated × (first_result ≡ false)) }
+    ensures designated { SaysDesignated result ↔ IsTrue designated }
+    ensures differs { SaysDiffers result ↔ (IsTrue designated × (first_result ≡ false)) }
+    ensures byte { result < 256 }
 {
     let differs = designated && !first_result;
     results + 8 * designated as u8 + 16 * differs as u8 + 32 * values
@@ -119,7 +120,6 @@ fn entry_of(
     ensures added { IfOk result (λ e. IsAdded vars.now (instruction_of_operands vars.now instruction.now.value_operands) type_sets.now constraints.old constraints.new e) }
     ensures stays { OnOk result (StaysIn constraints.old constraints.new) }
     ensures count { OnOk result (length constraints.new ≤ length constraints.old + 14) }
-    ensures byte { IfOk result (λ e. e.flags < 256) }
 {
     let operands = instruction.value_operands();
     let control = instruction.ctrl_typevar();
@@ -183,7 +183,6 @@ pub(crate) fn entries(
     requires valid { IsValid built.now.declared.set }
     requires fits { Fits built.now.declared.set.vars built.now.declared.set.formats built.now.declared.set.instructions }
     ensures count { IfOk result (λ r. length r.entries.items ≡ length built.now.declared.set.instructions) }
-    ensures bytes { IfOk result (λ r. All (λ e. e.flags < 256) r.entries.items) }
     ensures holds { IfOk result (λ r. (k : ℕ) (b : Builder) → IsAt built.now.declared.set k b → IsHeldAt built.now.declared.set.vars built.now.declared.set.formats built.now.type_sets r.constraints.items r.entries.items k b) }
     ensures added { IfOk result (λ r. (lists : List (List Constraint)) × AreAdded built.now.declared.set.vars built.now.declared.set.formats built.now.declared.set.instructions built.now.type_sets r.constraints.items r.entries.items lists) }
 {

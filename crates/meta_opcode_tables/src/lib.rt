@@ -15,10 +15,11 @@ mod operand_constraints;
 mod parts;
 mod same;
 
-pub use constraint::{Constraint, OpcodeConstraints};
+pub use constraint::{Constraint, Demand, NO_TYPE_SET, OpcodeConstraints, Which};
 pub use laws::{
-    equal_constraints, one_table_has_the_parts, tables_mean_the_declarations,
+    designated_values_have_the_controlling_type, equal_constraints, one_table_has_the_parts,
+    one_table_of_an_instruction_set, tables_mean_the_declarations,
     tables_of_valid_declarations_are_well_formed,
 };
 pub use opcode_tables::OpcodeTables;
-pub use parts::opcodes_from_parts;
+pub use parts::{MAX_CONSTRAINTS, MAX_OPCODES, MAX_TYPE_SETS, opcodes_from_parts};

@@ -398,8 +398,8 @@ impl OpcodeTables {
         }
     }
 
-    /// Whether the type set at this place is there and contains the number.
-    fn set_contains(&self, set: u16, number: u16) -> bool
+    /// Whether the type set at this place is there and contains the number: that of a type in the set.
+    pub fn set_contains(&self, set: u16, number: u16) -> bool
         ensures { IsTrue result ↔ SetContains self.now set number }
     {
         match self.type_sets.get(set as usize) {
@@ -408,8 +408,9 @@ impl OpcodeTables {
         }
     }
 
-    /// Whether the number of a control is one of the type set at the offset, or none where the opcode hasn't that control.
-    fn control_fits(&self, offset: u16, ctrl: Option<u16>) -> bool
+    /// Whether the number of a control fits an opcode whose offset for that control this is: where the offset is `NO_TYPE_SET`, there
+    /// is no number, and else there is one, and the type set at the offset contains it.
+    pub fn control_fits(&self, offset: u16, ctrl: Option<u16>) -> bool
         ensures { IsTrue result ↔ ControlNumberFits self.now offset ctrl }
     {
         if offset == NO_TYPE_SET {
@@ -441,6 +442,33 @@ impl OpcodeTables {
             Some(constraint) => self.passes(controls, *constraint, number),
             None => false,
         }
+    }
+
+    /// Whether the number passes the constraint under the numbers of the controlling types.
+    pub fn constraint_passes(
+        &self,
+        ctrl: Option<u16>,
+        second: Option<u16>,
+        constraint: Constraint,
+        number: u16,
+    ) -> bool
+        ensures { IsTrue result ↔ NumberPasses self.now (both ctrl second) (number_constraint_of constraint) number }
+    {
+        self.passes(Controls { ctrl, second }, constraint, number)
+    }
+
+    /// Whether there is an operand constraint at this place of the one list and the number passes it under the numbers of the
+    /// controlling types.
+    pub fn operand_passes(
+        &self,
+        ctrl: Option<u16>,
+        second: Option<u16>,
+        place: usize,
+        number: u16,
+    ) -> bool
+        ensures { IsTrue result ↔ PassesAt self.now (both ctrl second) place number }
+    {
+        self.passes_at(Controls { ctrl, second }, place, number)
     }
 
     /// Whether each number passes the constraint at its place behind the offset.

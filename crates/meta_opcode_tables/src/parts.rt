@@ -1,9 +1,9 @@
-ghost use Rattle.std.specs.Prelude.{◌≡◌, ◌≢◌, ◌↔◌, ◌≤◌, ◌+◌, ◌/◌, ◌%◌, ℕ, true, false, IsTrue, IfOk, IfSome, IfNone, All, length, map};
+ghost use Rattle.std.specs.Prelude.{◌≡◌, ◌≢◌, ◌↔◌, ◌≤◌, ◌+◌, ℕ, true, false, IsTrue, IfOk, IfSome, IfNone, All, length, map};
 ghost use Rattle.meta_types.specs.Name.{IsName};
 ghost use Rattle.meta_types.specs.SharedNames.{AreDistinct};
 ghost use Rattle.meta_types.specs.TypeParts.{IntKind, FloatKind, widths, lane_counts};
 ghost use Rattle.meta_typevar.specs.MaskSets.{AreMasks};
-ghost use Rattle.meta_meaning.specs.Tables.{TableContents, no_type_set};
+ghost use Rattle.meta_meaning.specs.Tables.{TableContents, no_type_set, SaysDesignated, SaysDiffers};
 ghost use Rattle.meta_opcode_tables.specs.Constraint.{number_constraint_of, entry_of};
 ghost use Rattle.meta_opcode_tables.specs.MaskParts.{IsMaskOf};
 ghost use Rattle.meta_opcode_tables.specs.WellFormed.{IsTypeNumber, IsWellFormedConstraint, IsSetOffset, IsWellFormedEntry, AreWellFormedParts, IsWellFormedOpcodes, HaveParts};
@@ -15,11 +15,11 @@ use meta_typevar::Masks;
 use std::alloc::{AllocError, Global};
 
 /// The most opcodes that tables may have.
-const MAX_OPCODES: usize = 4095;
+pub const MAX_OPCODES: usize = 4095;
 /// The most type sets that they may have.
-const MAX_TYPE_SETS: usize = 4095;
+pub const MAX_TYPE_SETS: usize = 4095;
 /// The most operand constraints that they may have.
-const MAX_CONSTRAINTS: usize = 65_535;
+pub const MAX_CONSTRAINTS: usize = 65_535;
 
 /// All lane counts of scalars and fixed vectors, and all of dynamic vectors.
 const ALL_LANES: u16 = 511;
@@ -146,14 +146,14 @@ fn is_second_beside(entry: OpcodeConstraints) -> bool
 
 /// Whether the flags say only where there is a control that the designated operand's variable controls.
 fn is_designated_rightly(entry: OpcodeConstraints) -> bool
-    ensures { IsTrue result ↔ (entry.flags / 8 % 2 ≡ 1 → entry.typeset_offset ≢ no_type_set) }
+    ensures { IsTrue result ↔ (SaysDesignated entry.flags → entry.typeset_offset ≢ no_type_set) }
 {
     !entry.designated_controls() || entry.typeset_offset != NO_TYPE_SET
 }
 
 /// Whether they say of the first result that it differs only where they say that.
 fn differs_rightly(entry: OpcodeConstraints) -> bool
-    ensures { IsTrue result ↔ (entry.flags / 16 % 2 ≡ 1 → entry.flags / 8 % 2 ≡ 1) }
+    ensures { IsTrue result ↔ (SaysDiffers entry.flags → SaysDesignated entry.flags) }
 {
     !entry.first_result_differs() || entry.designated_controls()
 }

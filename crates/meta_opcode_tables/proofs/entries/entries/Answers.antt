@@ -1,6 +1,5 @@
 use Rattle.std.proofs.Common.{ℕ, ◌<◌, ◌≤◌, ◌+◌, ◌*◌, ◌≡◌, arith, refl, sym, ap, ◌∙◌, subst, length, slice_get, [], ◌∷◌, ◌++◌, List, Some}
 use Rattle.std.proofs.lemmas.Option.{slice_get_read, slice_get_within}
-use Rattle.std.proofs.lemmas.List.Elements.{All-nil, All-push, All-same}
 use Rattle.std.proofs.lemmas.Result.{IfOk-from_err}
 use Rattle.meta_lists.proofs.Pushed.{one_longer}
 use Rattle.meta_inst.specs.Built.{Built}
@@ -13,7 +12,6 @@ use Rattle.meta_opcode_tables.proofs.Held.{one_more_held, none_added, one_more_a
 use Rattle.meta_declared.proofs.FirstFault.{few_opcodes}
 use Rattle.meta_opcode_tables.proofs.Entering.{can_enter}
 use Rattle.meta_opcode_tables.specs.declared.constraint.Constraint.{Constraint}
-use Rattle.meta_opcode_tables.specs.declared.constraint.OpcodeConstraints.{OpcodeConstraints}
 use Rattle.meta_opcode_tables.proofs.entries.entries.Goals as goal
 use Rattle.meta_opcode_tables.proofs.entries.entries.Goals.{After-constraints-in-loop-k-1}
 
@@ -34,7 +32,6 @@ loop-k-init c =
     record {
       room = omega (arith, ap (length {A = Constraint}) three);
       count = ap length c.in_ok-entries.ensures.items;
-      bytes = All-same (λ (e : OpcodeConstraints). e.flags < 256) c.in_ok-entries.entries.items [] c.in_ok-entries.ensures.items (All-nil (λ (e : OpcodeConstraints). e.flags < 256));
       holds = λ k b l at. absurd (omega arith);
       added = ([], rw (three, c.in_ok-entries.ensures.items) (none_added d.vars d.formats c.args.built.now.type_sets d.instructions));
     }
@@ -71,7 +68,6 @@ loop-k-preserved c =
     record {
       room = next_room (length c.loop-k.constraints) (length c.entry_of.new.constraints) c.loop-k.k c.in_ok-entry_of.ensures.count c.loop-k.invariant.room;
       count = one_longer _ _ _ pushed ∙ ap (λ n. n + 1) count;
-      bytes = All-same (λ (e : OpcodeConstraints). e.flags < 256) c.push.new.self.items (c.loop-k.entries.items ++ c.in_ok-entry_of.field-0 ∷ []) pushed (All-push (λ (e : OpcodeConstraints). e.flags < 256) c.loop-k.entries.items c.in_ok-entry_of.field-0 c.loop-k.invariant.bytes c.in_ok-entry_of.ensures.byte);
       holds = one_more_held d.vars d.formats sets d.instructions c.loop-k.constraints c.entry_of.new.constraints c.loop-k.entries.items c.push.new.self.items c.in_ok-entry_of.field-0 h.builder c.loop-k.k pushed count h.at c.in_ok-entry_of.ensures.stays holds c.loop-k.invariant.holds;
       added = (lists ++ added.list ∷ [], one_more_added d.vars d.formats sets d.instructions c.loop-k.constraints c.entry_of.new.constraints c.loop-k.entries.items c.push.new.self.items c.in_ok-entry_of.field-0 h.builder lists pushed (ap (slice_get d.instructions) count ∙ h.at) added so_far);
     }
@@ -83,9 +79,6 @@ returns-clause-holds c =
     let built = c.instructions-instructions.ensures.built.count in
     let same = ap (length {A = Built}) c.instructions-instructions.ensures.instructions in
     rw c.in_ok-constraints-2.ensures (λ k b at. let inside = slice_get_within d.instructions k b at in c.loop-k.invariant.holds k b (omega arith) at)
-
-pub returns-clause-bytes : goal.returns-clause-bytes
-returns-clause-bytes c = c.loop-k.invariant.bytes
 
 pub returns-clause-added : goal.returns-clause-added
 returns-clause-added c = rw c.in_ok-constraints-2.ensures c.loop-k.invariant.added
@@ -102,9 +95,6 @@ returns-clause-count c =
 pub returns-in_err-constraints-clause-count : goal.returns-in_err-constraints-clause-count
 returns-in_err-constraints-clause-count c = IfOk-from_err c.from_residual.result _ c.from_residual.ensures.0
 
-pub returns-in_err-constraints-clause-bytes : goal.returns-in_err-constraints-clause-bytes
-returns-in_err-constraints-clause-bytes c = IfOk-from_err c.from_residual.result _ c.from_residual.ensures.0
-
 pub returns-in_err-constraints-clause-holds : goal.returns-in_err-constraints-clause-holds
 returns-in_err-constraints-clause-holds c = IfOk-from_err c.from_residual.result _ c.from_residual.ensures.0
 
@@ -113,9 +103,6 @@ returns-in_err-constraints-clause-added c = IfOk-from_err c.from_residual.result
 
 pub returns-in_err-entries-clause-count : goal.returns-in_err-entries-clause-count
 returns-in_err-entries-clause-count c = IfOk-from_err c.from_residual-in_err-entries.result _ c.from_residual-in_err-entries.ensures.0
-
-pub returns-in_err-entries-clause-bytes : goal.returns-in_err-entries-clause-bytes
-returns-in_err-entries-clause-bytes c = IfOk-from_err c.from_residual-in_err-entries.result _ c.from_residual-in_err-entries.ensures.0
 
 pub returns-in_err-entries-clause-holds : goal.returns-in_err-entries-clause-holds
 returns-in_err-entries-clause-holds c = IfOk-from_err c.from_residual-in_err-entries.result _ c.from_residual-in_err-entries.ensures.0
@@ -126,9 +113,6 @@ returns-in_err-entries-clause-added c = IfOk-from_err c.from_residual-in_err-ent
 pub returns-in_err-entry_of-clause-count : goal.returns-in_err-entry_of-clause-count
 returns-in_err-entry_of-clause-count c = IfOk-from_err c.from_residual-in_err-entry_of.result _ c.from_residual-in_err-entry_of.ensures.0
 
-pub returns-in_err-entry_of-clause-bytes : goal.returns-in_err-entry_of-clause-bytes
-returns-in_err-entry_of-clause-bytes c = IfOk-from_err c.from_residual-in_err-entry_of.result _ c.from_residual-in_err-entry_of.ensures.0
-
 pub returns-in_err-entry_of-clause-holds : goal.returns-in_err-entry_of-clause-holds
 returns-in_err-entry_of-clause-holds c = IfOk-from_err c.from_residual-in_err-entry_of.result _ c.from_residual-in_err-entry_of.ensures.0
 
@@ -138,9 +122,6 @@ returns-in_err-entry_of-clause-added c = IfOk-from_err c.from_residual-in_err-en
 pub returns-in_err-push-clause-count : goal.returns-in_err-push-clause-count
 returns-in_err-push-clause-count c = IfOk-from_err c.from_residual-in_err-push.result _ c.from_residual-in_err-push.ensures.0
 
-pub returns-in_err-push-clause-bytes : goal.returns-in_err-push-clause-bytes
-returns-in_err-push-clause-bytes c = IfOk-from_err c.from_residual-in_err-push.result _ c.from_residual-in_err-push.ensures.0
-
 pub returns-in_err-push-clause-holds : goal.returns-in_err-push-clause-holds
 returns-in_err-push-clause-holds c = IfOk-from_err c.from_residual-in_err-push.result _ c.from_residual-in_err-push.ensures.0
 
@@ -149,9 +130,6 @@ returns-in_err-push-clause-added c = IfOk-from_err c.from_residual-in_err-push.r
 
 pub returns-in_err-constraints-2-clause-count : goal.returns-in_err-constraints-2-clause-count
 returns-in_err-constraints-2-clause-count c = IfOk-from_err c.from_residual-in_err-constraints-2.result _ c.from_residual-in_err-constraints-2.ensures.0
-
-pub returns-in_err-constraints-2-clause-bytes : goal.returns-in_err-constraints-2-clause-bytes
-returns-in_err-constraints-2-clause-bytes c = IfOk-from_err c.from_residual-in_err-constraints-2.result _ c.from_residual-in_err-constraints-2.ensures.0
 
 pub returns-in_err-constraints-2-clause-holds : goal.returns-in_err-constraints-2-clause-holds
 returns-in_err-constraints-2-clause-holds c = IfOk-from_err c.from_residual-in_err-constraints-2.result _ c.from_residual-in_err-constraints-2.ensures.0

@@ -103,9 +103,6 @@ returns-in_err-list-clause-stays c = IfOk-from_err c.from_residual.result _ c.fr
 pub returns-in_err-list-clause-count : goal.returns-in_err-list-clause-count
 returns-in_err-list-clause-count c = IfOk-from_err c.from_residual.result _ c.from_residual.ensures.0
 
-pub returns-in_err-list-clause-byte : goal.returns-in_err-list-clause-byte
-returns-in_err-list-clause-byte c = IfOk-from_err c.from_residual.result _ c.from_residual.ensures.0
-
 pub returns-in_err-constraint_offset-clause-holds : goal.returns-in_err-constraint_offset-clause-holds
 returns-in_err-constraint_offset-clause-holds c = IfOk-from_err c.from_residual-in_err-constraint_offset.result _ c.from_residual-in_err-constraint_offset.ensures.0
 
@@ -117,6 +114,3 @@ returns-in_err-constraint_offset-clause-stays c = IfOk-from_err c.from_residual-
 
 pub returns-in_err-constraint_offset-clause-count : goal.returns-in_err-constraint_offset-clause-count
 returns-in_err-constraint_offset-clause-count c = IfOk-from_err c.from_residual-in_err-constraint_offset.result _ c.from_residual-in_err-constraint_offset.ensures.0
-
-pub returns-in_err-constraint_offset-clause-byte : goal.returns-in_err-constraint_offset-clause-byte
-returns-in_err-constraint_offset-clause-byte c = IfOk-from_err c.from_residual-in_err-constraint_offset.result _ c.from_residual-in_err-constraint_offset.ensures.0

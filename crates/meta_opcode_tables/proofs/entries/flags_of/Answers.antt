@@ -12,4 +12,4 @@ returns-clause-flags c = λ vars registry are second_of of.
     c.result_count-results.ensures.count
     (rest _ _ _ _ c.variables.ensures c.result_count-results.ensures.count)
     c.designated_controls.ensures c.first_result_controls.ensures
-    c.packed.ensures.results c.packed.ensures.values c.packed.ensures.designated c.packed.ensures.differs
+    c.packed.ensures.results c.packed.ensures.values c.packed.ensures.designated c.packed.ensures.differs c.packed.ensures.byte

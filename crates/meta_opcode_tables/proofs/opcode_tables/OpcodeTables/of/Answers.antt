@@ -1,7 +1,6 @@
 use Rattle.std.proofs.lemmas.Result.{IfOk-from_err, IfOk-weaker}
 use Rattle.meta_typevar.specs.Registry.{HoldTypeSets}
-use Rattle.std.proofs.Common.{◌≡◌, ◌<◌, map, ap, ◌∙◌, List, []}
-use Rattle.std.proofs.lemmas.List.Elements.{All-map}
+use Rattle.std.proofs.Common.{◌≡◌, map, ap, ◌∙◌, List, []}
 use Rattle.meta_lists.proofs.Results.{both_ok}
 use Rattle.meta_inst.specs.Builder.{Builder}
 use Rattle.meta_declared.specs.AllDeclared.{Declared}
@@ -10,8 +9,6 @@ use Rattle.meta_opcode_tables.proofs.Made.{parts_made, tables_made}
 use Rattle.meta_opcode_tables.proofs.Valid.{valid_parts}
 use Rattle.meta_opcode_tables.proofs.Decoded.{tables_of_mean}
 use Rattle.meta_opcode_tables.proofs.Inferring.{results_of_mean}
-use Rattle.meta_meaning.specs.Tables.{OpcodeNumbers}
-use Rattle.meta_opcode_tables.specs.Constraint.{entry_of}
 use Rattle.meta_opcode_tables.specs.Contents.{OpcodeNames, contents_of}
 use Rattle.meta_opcode_tables.proofs.opcode_tables.OpcodeTables.of.Goals as goal
 use Rattle.meta_opcode_tables.proofs.opcode_tables.OpcodeTables.of.Goals.{In_ok-names, In_ok-format_names}
@@ -42,7 +39,6 @@ new-requires c =
     let constraints = c.in_ok-parts.parts.constraints.items in
     let entries = c.in_ok-parts.parts.entries.items in
     valid_parts d (contents_of names masks constraints entries) c.declarations-declarations.ensures.valid.set typed
-    (All-map (λ (e : OpcodeNumbers). e.flags < 256) entry_of entries c.in_ok-parts.ensures.bytes)
     (parts_made d names masks c.args.built.now.type_sets constraints entries c.in_ok-parts.ensures.added.0
     c.type_sets.ensures.needed
     (rw c.type_sets.ensures.type_sets at c.in_ok-masks.ensures)
