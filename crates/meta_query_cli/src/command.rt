@@ -1,5 +1,5 @@
 ghost use Rattle.std.specs.Prelude.{◌≡◌, ◌≢◌, None};
-ghost use Rattle.meta_query.specs.declared.status.Status.{Status};
+ghost use Rattle.meta_run.specs.declared.status.Status.{Status};
 
 use meta_query::Status;
 use meta_types::Text;
