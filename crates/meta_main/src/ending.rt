@@ -39,10 +39,9 @@ impl Ending {
         }
     }
 
-    /// The ending that has this exit status.
+    /// The ending that has this exit status, and `Rejected` for one that none has.
     pub fn of_code(code: u8) -> Ending
-        requires { code < 8 }
-        ensures { code_of result ≡ code }
+        ensures { code < 8 → code_of result ≡ code }
     {
         match code {
             0 => Ending::Done,
