@@ -12,8 +12,9 @@ mod variables;
 
 use machine::declarations;
 use manual::MANUAL;
-use meta_main::{Ending, Program, start};
+use meta_main::{Program, start};
 use meta_query::run;
+use meta_run::Ending;
 use meta_text::{Sink, Source};
 use meta_types::Text;
 use std::alloc::Global;
@@ -33,10 +34,7 @@ impl Program for Machine {
         sink: &mut K,
     ) -> Ending {
         match declarations(alloc) {
-            Ok(declarations) => {
-                let status = run(alloc, words, &declarations, source, sink);
-                Ending::of_code(status.code())
-            }
+            Ok(declarations) => run(alloc, words, &declarations, source, sink).ending(),
             Err(Trouble::Unfit) => Ending::Refused,
             Err(Trouble::OutOfMemory) => Ending::OutOfMemory,
         }

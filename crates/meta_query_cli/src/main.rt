@@ -4,8 +4,9 @@
 mod manual;
 
 use manual::MANUAL;
-use meta_main::{Ending, Program, start};
+use meta_main::{Program, start};
 use meta_query::run;
+use meta_run::Ending;
 use meta_shared_ops::define;
 use meta_text::{Sink, Source};
 use meta_types::Text;
@@ -25,10 +26,7 @@ impl Program for Shared {
         sink: &mut K,
     ) -> Ending {
         match define(alloc) {
-            Ok(declarations) => {
-                let status = run(alloc, words, &declarations, source, sink);
-                Ending::of_code(status.code())
-            }
+            Ok(declarations) => run(alloc, words, &declarations, source, sink).ending(),
             Err(_) => Ending::OutOfMemory,
         }
     }
