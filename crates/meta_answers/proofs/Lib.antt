@@ -1,13 +1,10 @@
-mod PieceLemmas
-mod LineLemmas
-mod NameLemmas
-mod TypeNumbers
 mod QuestionLemmas
 pub mod InferenceLemmas
+mod FormLemmas
 mod QueryLemmas
 mod AnswerLemmas
 mod SettingLines
 mod LineParts
-mod Meant
+pub mod Meant
 mod OneInference
 mod OneOutput

@@ -20,7 +20,8 @@ pub use meta_opcode_tables::{
     equal_constraints, tables_mean_the_declarations, tables_of_valid_declarations_are_well_formed,
 };
 pub use meta_setting_tables::{
-    Descriptor, Detail, GroupParts, GroupTables, built_groups_have_tables, built_groups_have_well_formed_tables,
+    Descriptor, Detail, GroupParts, GroupTables, built_groups_have_tables,
+    built_groups_have_well_formed_tables,
 };
 pub use parts::{TableParts, one_table_has_all_parts, tables_from_parts};
 pub use tables::Tables;

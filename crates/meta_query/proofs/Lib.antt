@@ -2,4 +2,5 @@ mod Commands
 mod Marks
 mod Told
 mod Runs
-mod Statuses
+mod TableReplies
+mod OneOutput

@@ -28,7 +28,7 @@ cut_at input at text rest queries first text_is rest_is queries_are =
     inl (at, record { first = first; text_is = text_is; queries_are = queries_are ∙ ap (drop 12) rest_is ∙ drop-drop 12 at input })
 
 -- the first of which something holds is one
-one_first : (P : ℕ → Type 0) (m n : ℕ) → IsFirst P m → IsFirst P n → m ≡ n
+pub one_first : (P : ℕ → Type 0) (m n : ℕ) → IsFirst P m → IsFirst P n → m ≡ n
 one_first P m n h g =
     ⊎_elim (λ (l : m < n). absurd (g.none_before m l h.holds))
     (λ (le : n ≤ m). ⊎_elim (λ (l : n < m). absurd (h.none_before n l g.holds)) (λ (ge : m ≤ n). omega arith) (cases_lt n m))

@@ -1,150 +1,177 @@
--- From the parts of a run to the whole.
-use Rattle.std.proofs.Common.{◌≡◌, ◌≢◌, ◌<◌, ◌≤◌, ℕ, List, [], ◌++◌, length, length-append, Option, None, Some, refl, sym, ap, ◌∙◌, subst, arith}
-use Rattle.std.proofs.lemmas.List.{append-nil}
+-- From how a run ended to what it did.
+use Rattle.std.proofs.Common.{◌≡◌, ◌≢◌, ◌≤◌, ◌⊎◌, inl, inr, ℕ, Bool, true, false, List, [], ◌++◌, length, Option, Some, refl, sym, ap, ◌∙◌, subst, arith}
 use Rattle.meta_types.specs.declared.fault.DefinitionError.{DefinitionError}
 use Rattle.meta_declared.specs.AllDeclared.{Declared, ShowsFirst, AreValid}
-use Rattle.meta_text.specs.Outside.{Rose, with_front, with_more, NothingLeft, longest_input, GaveMore}
+use Rattle.meta_text.specs.Outside.{Rose, longest_input, GaveMore, GaveAtMost}
+use Rattle.meta_run.specs.Ending.{ending_of, written_as}
+use Rattle.meta_run.specs.declared.ending.Ending.{Ending}
+use Rattle.meta_run.specs.declared.ending.Ending.TheVariants as ends
+use Rattle.meta_run.specs.declared.status.Status.{Status}
+use Rattle.meta_run.specs.declared.status.Status.TheVariants.{Done, Refused, Usage, ReadFault, WriteFault, OutOfMemory, TooLong}
+use Rattle.meta_run.specs.Run.{IsRefusedWhole, IsRefusedInPart, Did, NeverRises}
+use Rattle.meta_run.specs.Run as ran
+use Rattle.meta_run.proofs.Runs as lemma
 use Rattle.meta_query.specs.Command.{AreWordsOf, IsCommand}
 use Rattle.meta_query.specs.declared.command.Command.{Command}
 use Rattle.meta_query.specs.declared.command.Command.TheVariants.{Query, Recheck, Tables, Types, Settings, Instructions, Builder, Synth}
-use Rattle.meta_query.specs.Run.{refusal, IsOutputOf, HasInput, IsReadOut, IsReading, WritesText, IsAnsweredWhole, IsAnsweredInPart, IsRefusedWhole, AnswersInput, WritesTexts, RefusesDeclarations}
-use Rattle.meta_query.specs.declared.status.Status.{Status}
-use Rattle.meta_query.specs.declared.status.Status.TheVariants.{Done, Refused, Usage, ReadFault, WriteFault, OutOfMemory, TooLong}
+use Rattle.meta_query.specs.Run.{IsOutputOf, has_input, HasInput, texts_of, IsReading, WritesText, IsAnsweredWhole, IsAnsweredInPart, IsRun, WritesNothing, AnswersInput, WritesTexts, RefusesDeclarations, Completes}
 use Rattle.meta_query.proofs.Commands.{same_command}
 
--- what was read is all that was left, where that was told and nothing is left now
-read_all : (input bytes : List ℕ) (left' : Option (List ℕ)) → Some input ≡ with_front bytes left' → NothingLeft left' → bytes ≡ input
-read_all input bytes None e end = absurd (cc)
-read_all input bytes (Some rest) e end =
-    let whole : input ≡ bytes ++ rest = cc in
-    sym (whole ∙ ap (λ r. bytes ++ r) end ∙ append-nil bytes)
+-- ---- the statuses
 
--- a source doesn't give more than it had
-gave_within : (input : List ℕ) (left' : Option (List ℕ)) → length input ≤ longest_input → GaveMore longest_input (Some input) left' → ⊥
-gave_within input left' few h = within left' h.given
-  where
-    more : longest_input < length h.bytes
-    more = h.more
+-- the status that an ending has
+abbrev status_at : Ending → Status
+status_at ends.Done = Done
+status_at ends.Refused = Refused
+status_at ends.Usage = Usage
+status_at ends.ReadFault = ReadFault
+status_at ends.WriteFault = WriteFault
+status_at ends.OutOfMemory = OutOfMemory
+status_at ends.TooLong = TooLong
+status_at ends.Rejected = Done
 
-    within : (left : Option (List ℕ)) → Some input ≡ with_front h.bytes left → ⊥
-    within None e = cc
-    within (Some rest) e =
-        let whole : input ≡ h.bytes ++ rest = cc in
-        let m = more in
-        omega (arith, ap length whole, length-append h.bytes rest)
+back : (s : Status) → status_at (ending_of s) ≡ s
+back Done = refl
+back Refused = refl
+back Usage = refl
+back ReadFault = refl
+back WriteFault = refl
+back OutOfMemory = refl
+back TooLong = refl
 
--- a command that writes a text has no input
-no_input : (d : Declared) (command : Command) (input output : List ℕ) → WritesText command → IsOutputOf d command input output → input ≡ []
-no_input d Query input output text h = absurd (text tt)
-no_input d Recheck input output text h = absurd (text tt)
-no_input d Tables input output text h = h.0
-no_input d Types input output text h = h.0
-no_input d Settings input output text h = h.0
-no_input d Instructions input output text h = h.0
-no_input d Builder input output text h = h.0
-no_input d (Synth n) input output text h = h.0
+-- the status of a run that ended as another status says
+status_is : (s t : Status) → ending_of s ≡ ending_of t → s ≡ t
+status_is s t e = sym (back s) ∙ ap status_at e ∙ back t
 
--- a command that writes a text has other words than one that has an input
-reads_nothing : (words : List (List ℕ)) (command : Command) → WritesText command → AreWordsOf command words → IsReading words → ⊥
-reads_nothing words command text is reading = text (subst HasInput (same_command reading.0 command words reading.1 is) reading.2)
+-- ---- the commands
 
--- what was answered by equal words over equal declarations
-module _ (d e : Declared) (words others : List (List ℕ)) (left left' taken taken' : Option (List ℕ)) (same : d ≡ e) (is : others ≡ words) where
-  pub whole_again : IsAnsweredWhole d words left left' taken taken' → IsAnsweredWhole e others left left' taken taken'
-  whole_again h = subst (λ x. IsAnsweredWhole x others left left' taken taken') same (subst (λ w. IsAnsweredWhole d w left left' taken taken') (sym is) h)
+-- what isn't so is false
+is_false : (b : Bool) → (b ≡ true → ⊥) → b ≡ false
+is_false true never = absurd (never refl)
+is_false false never = refl
 
-  pub part_again : IsAnsweredInPart d words left left' taken taken' → IsAnsweredInPart e others left left' taken taken'
-  part_again h = subst (λ x. IsAnsweredInPart x others left left' taken taken') same (subst (λ w. IsAnsweredInPart d w left left' taken taken') (sym is) h)
+-- ---- a run of a command
 
--- what is known of a run by how it ended
-pub record Causes (d : Declared) (words : List (List ℕ)) (left left' taken taken' : Option (List ℕ)) (reads reads' writes writes' : ℕ) (status : Status) : Type 0 where
-  pub usage : status ≡ Usage → IsCommand words → ⊥
-  pub done : status ≡ Done → IsAnsweredWhole d words left left' taken taken'
-  pub refused : status ≡ Refused → IsRefusedWhole d taken taken'
-  pub read : status ≡ ReadFault → IsReading words × AreValid d × Rose reads reads'
-  pub write : status ≡ WriteFault → Rose writes writes'
-  pub long : status ≡ TooLong → IsReading words × AreValid d × GaveMore longest_input left left'
+module _ {S K : Type 0} (left : S → Option (List ℕ)) (reads : S → ℕ) (taken : K → Option (List ℕ)) (writes : K → ℕ) (d : Declared) (s s' : S) (k k' : K) (words : List (List ℕ)) (ending : Ending) (run : IsRun left reads taken writes d s s' k k' words ending) where
+  -- no command rejects its input
+  pub not_rejected : ending ≢ ends.Rejected
+  not_rejected = lemma.never_rejects left reads taken writes d s s' k k' _ has_input texts_of ending run (λ w input text h. h)
 
--- where declarations show one first fault at most, and valid ones show none
-module _ (one_fault : (d : Declared) (e f : DefinitionError) → ShowsFirst d e → ShowsFirst d f → e ≡ f) (no_fault : (d : Declared) (e : DefinitionError) → AreValid d → ShowsFirst d e → ⊥) (d : Declared) (words : List (List ℕ)) (left left' taken taken' : Option (List ℕ)) (reads reads' writes writes' : ℕ) where
-  -- an input over valid declarations is answered
-  pub headline : (status : Status) → Causes d words left left' taken taken' reads reads' writes writes' status → AnswersInput d words left reads reads' taken taken' writes writes' status
-  headline Done causes command has is valid memory input before told few no_read taken_is no_write =
-      let h = causes.done refl in
-      let same : h.command ≡ command = same_command h.command command words h.is_command is in
-      let end : NothingLeft left' = subst (λ c. IsReadOut c left') same h.end has in
-      let all = read_all input h.input left' (sym told ∙ h.read) end in
-      let answers : IsOutputOf d command h.input h.output = subst (λ c. IsOutputOf d c h.input h.output) same h.answers in
-      (refl, h.output, subst (λ i. IsOutputOf d command i h.output) all answers, h.took ∙ ap (λ t. with_more t h.output) taken_is)
-  headline Refused causes command has is valid memory input before told few no_read taken_is no_write =
-      let h = causes.refused refl in
-      absurd (no_fault d h.fault valid h.first)
-  headline Usage causes command has is valid memory input before told few no_read taken_is no_write = absurd (causes.usage refl (command, is))
-  headline ReadFault causes command has is valid memory input before told few no_read taken_is no_write = absurd (no_read (causes.read refl).2)
-  headline WriteFault causes command has is valid memory input before told few no_read taken_is no_write = absurd (no_write (causes.write refl))
-  headline OutOfMemory causes command has is valid memory input before told few no_read taken_is no_write = absurd (memory refl)
-  headline TooLong causes command has is valid memory input before told few no_read taken_is no_write =
-      absurd (gave_within input left' few (subst (λ l. GaveMore longest_input l left') told (causes.long refl).2))
+  module _ (status : Status) (is : ending_of status ≡ ending) where
+    -- the run ended as the status says
+    ends_as : (t : Status) → status ≡ t → ending ≡ ending_of t
+    ends_as t e = sym is ∙ ap ending_of e
 
-  -- their texts are written
-  pub texts : (status : Status) → Causes d words left left' taken taken' reads reads' writes writes' status → WritesTexts d words taken taken' writes writes' status
-  texts Done causes command text is valid memory before taken_is no_write =
-      let h = causes.done refl in
-      let same : h.command ≡ command = same_command h.command command words h.is_command is in
-      let answers : IsOutputOf d command h.input h.output = subst (λ c. IsOutputOf d c h.input h.output) same h.answers in
-      (refl, h.output, subst (λ i. IsOutputOf d command i h.output) (no_input d command h.input h.output text answers) answers, h.took ∙ ap (λ t. with_more t h.output) taken_is)
-  texts Refused causes command text is valid memory before taken_is no_write =
-      let h = causes.refused refl in
-      absurd (no_fault d h.fault valid h.first)
-  texts Usage causes command text is valid memory before taken_is no_write = absurd (causes.usage refl (command, is))
-  texts ReadFault causes command text is valid memory before taken_is no_write =
-      absurd (reads_nothing words command text is (causes.read refl).0)
-  texts WriteFault causes command text is valid memory before taken_is no_write = absurd (no_write (causes.write refl))
-  texts OutOfMemory causes command text is valid memory before taken_is no_write = absurd (memory refl)
-  texts TooLong causes command text is valid memory before taken_is no_write =
-      absurd (reads_nothing words command text is (causes.long refl).0)
+    -- and so the status says
+    told : (t : Status) → ending ≡ ending_of t → status ≡ t
+    told t e = status_is status t (is ∙ e)
 
-  -- and others are refused
-  pub refuses : (status : Status) → Causes d words left left' taken taken' reads reads' writes writes' status → RefusesDeclarations d words taken taken' writes writes' status
-  refuses Done causes command e first memory before taken_is no_write = absurd (no_fault d e (causes.done refl).valid first)
-  refuses Refused causes command e first memory before taken_is no_write =
-      let h = causes.refused refl in
-      (refl, h.took ∙ ap (λ t. with_more t (refusal h.fault)) taken_is ∙ ap (λ f. Some (before ++ refusal f)) (one_fault d h.fault e h.first first))
-  refuses Usage causes command e first memory before taken_is no_write = absurd (causes.usage refl command)
-  refuses ReadFault causes command e first memory before taken_is no_write = absurd (no_fault d e (causes.read refl).1 first)
-  refuses WriteFault causes command e first memory before taken_is no_write = absurd (no_write (causes.write refl))
-  refuses OutOfMemory causes command e first memory before taken_is no_write = absurd (memory refl)
-  refuses TooLong causes command e first memory before taken_is no_write = absurd (no_fault d e (causes.long refl).1 first)
+    -- what the command did
+    did : (t : Status) → status ≡ t → ending_of t ≢ ends.Usage → (c : Command) × AreWordsOf c words × Did left reads taken writes d s s' k k' (has_input c) (texts_of c) (ending_of t)
+    did t e other = lemma.ended left reads taken writes d s s' k k' _ has_input texts_of ending (ending_of t) run (ends_as t e) other
 
--- what is known after the words of no command
-pub of_usage : (d : Declared) (words : List (List ℕ)) (left left' taken taken' : Option (List ℕ)) (reads reads' writes writes' : ℕ) → (IsCommand words → ⊥) → Causes d words left left' taken taken' reads reads' writes writes' Usage
-of_usage d words left left' taken taken' reads reads' writes writes' no_command = record {
-  usage = λ e. no_command;
-  done = λ e. absurd (cc);
-  refused = λ e. absurd (cc);
-  read = λ e. absurd (cc);
-  write = λ e. absurd (cc);
-  long = λ e. absurd (cc);
-}
+    pub usage : status ≡ Usage → IsCommand words → ⊥
+    usage e command = lemma.usage left reads taken writes d s s' k k' _ has_input texts_of ending run (ends_as Usage e) command.0 command.1
 
--- after a command over declarations that are valid
-pub of_answer : (d : Declared) (words : List (List ℕ)) (left left' taken taken' : Option (List ℕ)) (reads reads' writes writes' : ℕ) (status : Status) (command : Command) → AreWordsOf command words → AreValid d → (status ≢ Refused) × (status ≢ Usage) → (status ≡ Done → IsAnsweredWhole d words left left' taken taken') → (status ≡ ReadFault → HasInput command × Rose reads reads') → (status ≡ WriteFault → Rose writes writes') → (status ≡ TooLong → HasInput command × GaveMore longest_input left left') → Causes d words left left' taken taken' reads reads' writes writes' status
-of_answer d words left left' taken taken' reads reads' writes writes' status command is valid only done read write long = record {
-  usage = λ e. absurd (only.1 e);
-  done = done;
-  refused = λ e. absurd (only.0 e);
-  read = λ e. ((command, is, (read e).0), valid, (read e).1);
-  write = write;
-  long = λ e. ((command, is, (long e).0), valid, (long e).1);
-}
+    pub no_command : (IsCommand words → ⊥) → status ≡ Usage
+    no_command none = told Usage (lemma.no_words left reads taken writes d s s' k k' _ has_input texts_of ending run (λ c is. none (c, is)))
 
--- and over others
-pub of_fault : (d : Declared) (words : List (List ℕ)) (left left' taken taken' : Option (List ℕ)) (reads reads' writes writes' : ℕ) (status : Status) → (status ≢ Done) × (status ≢ Usage) × (status ≢ ReadFault) × (status ≢ TooLong) → (status ≡ Refused → IsRefusedWhole d taken taken') → (status ≡ WriteFault → Rose writes writes') → Causes d words left left' taken taken' reads reads' writes writes' status
-of_fault d words left left' taken taken' reads reads' writes writes' status only refused write = record {
-  usage = λ e. absurd (only.1 e);
-  done = λ e. absurd (only.0 e);
-  refused = refused;
-  read = λ e. absurd (only.2 e);
-  write = write;
-  long = λ e. absurd (only.3 e);
-}
+    pub done : status ≡ Done → IsAnsweredWhole left reads taken writes d s s' k k' words
+    done e = did Done e (λ g. cc)
+
+    pub refused : status ≡ Refused → IsCommand words × IsRefusedWhole d (taken k) (taken k')
+    refused e = let (c, is, h) = did Refused e (λ g. cc) in ((c, is), h.1)
+
+    pub refused_unread : status ≡ Refused → s' ≡ s
+    refused_unread e = let (c, is, h) = did Refused e (λ g. cc) in h.0
+
+    pub read_fault : status ≡ ReadFault → IsReading words × AreValid d × Rose (reads s) (reads s')
+    read_fault e = let (c, is, h) = did ReadFault e (λ g. cc) in ((c, is, h.0), h.1, h.2)
+
+    pub write_fault : status ≡ WriteFault → IsCommand words × Rose (writes k) (writes k')
+    write_fault e = let (c, is, h) = did WriteFault e (λ g. cc) in ((c, is), h.0)
+
+    in_part : (c : Command) → AreWordsOf c words → ((s' ≡ s) × IsRefusedInPart d (taken k) (taken k')) ⊎ ran.IsAnsweredInPart left reads taken writes d s s' k k' (has_input c) (texts_of c) → IsRefusedInPart d (taken k) (taken k') ⊎ IsAnsweredInPart left reads taken writes d s s' k k' words
+    in_part c is (inl h) = inl h.1
+    in_part c is (inr h) = inr (c, is, h)
+
+    pub written_in_part : status ≡ WriteFault → IsRefusedInPart d (taken k) (taken k') ⊎ IsAnsweredInPart left reads taken writes d s s' k k' words
+    written_in_part e = let (c, is, h) = did WriteFault e (λ g. cc) in in_part c is h.1
+
+    pub too_long : status ≡ TooLong → IsReading words × AreValid d × GaveMore longest_input (left s) (left s')
+    too_long e = let (c, is, h) = did TooLong e (λ g. cc) in ((c, is, h.0), h.1, h.2)
+
+    pub else_within : status ≢ TooLong → GaveAtMost longest_input (left s) (left s')
+    else_within other = lemma.else_within left reads taken writes d s s' k k' _ has_input texts_of ending run (λ e. other (told TooLong e))
+
+    pub untouched : WritesNothing status → k' ≡ k
+    untouched (inl e) = lemma.usage_untouched left reads taken writes d s s' k k' _ has_input texts_of ending run (ends_as Usage e)
+    untouched (inr (inl e)) = let (c, is, h) = did ReadFault e (λ g. cc) in h.3
+    untouched (inr (inr (inl e))) = let (c, is, h) = did TooLong e (λ g. cc) in h.3
+    untouched (inr (inr (inr e))) = let (c, is, h) = did OutOfMemory e (λ g. cc) in h
+
+    pub usage_unread : status ≡ Usage → s' ≡ s
+    usage_unread e = lemma.usage_unread left reads taken writes d s s' k k' _ has_input texts_of ending run (ends_as Usage e)
+
+    pub text_unread : (command : Command) → WritesText command → AreWordsOf command words → s' ≡ s
+    text_unread command text is = lemma.unread left reads taken writes d s s' k k' _ has_input texts_of ending run
+        (λ c other. is_false (has_input c) (λ h. text (subst HasInput (same_command c command words other is) h)))
+
+    pub read_counted : reads s ≤ reads s'
+    read_counted = lemma.read_counted left reads taken writes d s s' k k' _ has_input texts_of ending run
+
+    pub write_counted : writes k ≤ writes k'
+    write_counted = lemma.write_counted left reads taken writes d s s' k k' _ has_input texts_of ending run
+
+    pub unfailing_source : NeverRises reads → status ≢ ReadFault
+    unfailing_source never e = never s s' (read_fault e).2
+
+    pub unfailing_sink : NeverRises writes → status ≢ WriteFault
+    unfailing_sink never e = never k k' (write_fault e).1
+
+    -- ---- where nothing fails: declarations show one first fault at most, and valid ones show none
+
+    -- what the command that the words are did
+    own : (c : Command) → AreWordsOf c words → Did left reads taken writes d s s' k k' (has_input c) (texts_of c) ending
+    own c is = by run
+      where
+        by : IsRun left reads taken writes d s s' k k' words ending → Did left reads taken writes d s s' k k' (has_input c) (texts_of c) ending
+        by (inl (w, means, did)) = subst (λ x. Did left reads taken writes d s s' k k' (has_input x) (texts_of x) ending) (same_command w c words means is) did.did
+        by (inr (none, e, source, sink)) = absurd (none c is)
+
+    -- a text that was written is the output
+    written : (c : Command) (input before : List ℕ) → ((is_rejection : Bool) × (text : List ℕ) × texts_of c d input is_rejection text × (ending ≡ written_as is_rejection) × (taken k' ≡ Some (before ++ text)))
+        → (status ≡ Done) × (output : List ℕ) × IsOutputOf d c input output × (taken k' ≡ Some (before ++ output))
+    written c input before (false, text, answers, e, took) = (told Done e, text, answers, took)
+    written c input before (true, text, answers, e, took) = absurd answers
+
+    no_memory : status ≢ OutOfMemory → ending ≢ ends.OutOfMemory
+    no_memory memory e = memory (told OutOfMemory e)
+
+    module _ (no_fault : (e : DefinitionError) → AreValid d → ShowsFirst d e → ⊥) where
+      pub headline : AnswersInput d words (left s) (reads s) (reads s') (taken k) (taken k') (writes k) (writes k') status
+      headline command has is valid memory input before there few no_read taken_is no_write =
+          written command input before (lemma.headline left reads taken writes d s s' k k' (texts_of command) (has_input command) no_fault ending (own command is)
+          valid (no_memory memory) input before (subst (λ b. ran.IsGiven left reads taken writes d s s' k k' b input) (sym has) (there, few, no_read)) taken_is no_write)
+
+      pub texts : WritesTexts d words (taken k) (taken k') (writes k) (writes k') status
+      texts command text is valid memory before taken_is no_write =
+          written command [] before (lemma.headline left reads taken writes d s s' k k' (texts_of command) (has_input command) no_fault ending (own command is)
+          valid (no_memory memory) [] before (subst (λ b. ran.IsGiven left reads taken writes d s s' k k' b []) (sym (is_false (has_input command) text)) refl) taken_is no_write)
+
+      pub refuses : ((e f : DefinitionError) → ShowsFirst d e → ShowsFirst d f → e ≡ f) → RefusesDeclarations d words (taken k) (taken k') (writes k) (writes k') status
+      refuses one_fault command e first memory before taken_is no_write =
+          let (c, is) = command in
+          let h = lemma.refuses left reads taken writes d s s' k k' (texts_of c) (has_input c) one_fault no_fault ending (own c is) e first (no_memory memory) before taken_is no_write in
+          (told Refused h.0, h.1)
+
+      finished : (c : Command) → ((is_rejection : Bool) × (ending ≡ written_as is_rejection)) ⊎ ((ending ≡ ends.OutOfMemory) ⊎ ((ending ≡ ends.TooLong) × (has_input c ≡ true) × GaveMore longest_input (left s) (left s')))
+          → (status ≡ Done) ⊎ ((status ≡ OutOfMemory) ⊎ ((status ≡ TooLong) × HasInput c × GaveMore longest_input (left s) (left s')))
+      finished c (inl (false, e)) = inl (told Done e)
+      finished c (inl (true, e)) = absurd (not_rejected e)
+      finished c (inr (inl e)) = inr (inl (told OutOfMemory e))
+      finished c (inr (inr (e, has, more))) = inr (inr (told TooLong e, has, more))
+
+      pub complete : Completes d words (left s) (left s') (reads s) (reads s') (writes k) (writes k') status
+      complete command is valid no_read no_write =
+          finished command (lemma.complete left reads taken writes d s s' k k' (texts_of command) (has_input command) no_fault ending (own command is) valid no_read no_write)

@@ -6,7 +6,7 @@ use Rattle.std.specs.Prelude.{◌≡◌, ◌≢◌, ℕ, ◌+◌, ◌⊎◌, Boo
 use Rattle.meta_lists.specs.First.{IsFirst}
 use Rattle.meta_gen.specs.WholeTables.{WholeTables}
 use Rattle.meta_table_reader.specs.Readable.{Reads}
-use Rattle.meta_answers.specs.Lines.{lines_of}
+use Rattle.meta_words.specs.Lines.{lines_of}
 use Rattle.meta_answers.specs.Answer.{IsTableReply, AreWrittenAnswers}
 
 -- ---- the input is cut

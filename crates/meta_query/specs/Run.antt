@@ -1,8 +1,9 @@
--- What a run does, by how it ended.
-use Rattle.std.specs.Prelude.{◌≡◌, ◌≢◌, ℕ, ◌≤◌, ◌⊎◌, ⊤, List, [], ◌∷◌, ◌++◌, length, map, codes, Option, Some}
-use Rattle.meta_types.specs.Fault.{line_of}
+-- What a run of the commands does.
+--     IsOutputOf d command input output      the output of a command over declarations
+--     AnswersInput, WritesTexts, RefusesDeclarations, Completes      what a run does where nothing fails
+use Rattle.std.specs.Prelude.{◌≡◌, ◌≢◌, ℕ, ◌≤◌, ◌⊎◌, Bool, true, false, List, [], ◌++◌, length, map, Option, Some}
 use Rattle.meta_types.specs.declared.fault.DefinitionError.{DefinitionError}
-use Rattle.meta_text.specs.Outside.{Rose, with_front, with_more, NothingLeft, longest_input, TookPart}
+use Rattle.meta_text.specs.Outside.{Rose, longest_input, GaveMore}
 use Rattle.meta_declared.specs.AllDeclared.{Declared, ShowsFirst, AreValid}
 use Rattle.meta_gen.specs.WholeTables.{WholeTables, AreWholeTablesOf}
 use Rattle.meta_table_text.specs.TableText.{table_text}
@@ -14,17 +15,16 @@ use Rattle.meta_builder_text.specs.BuilderText.{builder_text}
 use Rattle.meta_rust_text.specs.TypesText.{types_text}
 use Rattle.meta_rust_text.specs.InstructionsText.{instructions_text}
 use Rattle.meta_answers.specs.Answer.{IsOutput}
+use Rattle.meta_run.specs.Run as ran
+use Rattle.meta_run.specs.Run.{Texts, refusal}
+use Rattle.meta_run.specs.declared.ending.Ending.{Ending}
+use Rattle.meta_run.specs.declared.status.Status.{Status}
+use Rattle.meta_run.specs.declared.status.Status.TheVariants.{Done, Refused, Usage, ReadFault, TooLong, OutOfMemory}
 use Rattle.meta_query.specs.Command.{AreWordsOf, IsCommand}
 use Rattle.meta_query.specs.declared.command.Command.{Command}
 use Rattle.meta_query.specs.declared.command.Command.TheVariants.{Query, Recheck, Tables, Types, Settings, Instructions, Builder, Synth}
 use Rattle.meta_query.specs.Recheck.{IsRecheckOf}
 use Rattle.meta_query.specs.Synthesis.{IsSynthOutput}
-use Rattle.meta_query.specs.declared.status.Status.{Status}
-use Rattle.meta_query.specs.declared.status.Status.TheVariants.{Done, Refused, Usage, ReadFault, TooLong, OutOfMemory}
-
--- what is written where declarations are refused: `refused: `, the fault and LF
-abbrev pub refusal : DefinitionError → List ℕ
-refusal fault = codes "refused: " ++ (line_of fault ++ 10 ∷ [])
 
 -- ---- what a command answers
 
@@ -50,20 +50,20 @@ IsOutputOf d Instructions input output = (input ≡ []) × IsBuiltText instructi
 IsOutputOf d Builder input output = (input ≡ []) × IsBuiltText builder_text d output
 IsOutputOf d (Synth n) input output = (input ≡ []) × IsSynthOutput n output
 
+-- whether the command has an input
+abbrev pub has_input : Command → Bool
+has_input Query = true
+has_input Recheck = true
+has_input Tables = false
+has_input Types = false
+has_input Settings = false
+has_input Instructions = false
+has_input Builder = false
+has_input (Synth n) = false
+
 -- the command has an input
 abbrev pub HasInput : Command → Type 0
-HasInput Query = ⊤
-HasInput Recheck = ⊤
-HasInput Tables = ⊥
-HasInput Types = ⊥
-HasInput Settings = ⊥
-HasInput Instructions = ⊥
-HasInput Builder = ⊥
-HasInput (Synth n) = ⊥
-
--- after the command was answered nothing is left where it has an input
-abbrev pub IsReadOut : Command → Option (List ℕ) → Type 0
-IsReadOut command left = HasInput command → NothingLeft left
+HasInput command = has_input command ≡ true
 
 -- the command writes a text, and has no input
 abbrev pub WritesText : Command → Type 0
@@ -73,51 +73,29 @@ WritesText command = HasInput command → ⊥
 abbrev pub IsReading : List (List ℕ) → Type 0
 IsReading words = (command : Command) × AreWordsOf command words × HasInput command
 
--- The words are a command. Its input was read whole, and the sink took its output whole: what it answers as the declarations,
--- which are valid, mean.
-pub record IsAnsweredWhole (d : Declared) (words : List (List ℕ)) (left left' taken taken' : Option (List ℕ)) : Type 0 where
-  pub command : Command
-  pub is_command : AreWordsOf command words
-  pub valid : AreValid d
-  pub input : List ℕ
-  pub output : List ℕ
-  pub read : left ≡ with_front input left'
-  pub end : IsReadOut command left'
-  pub within : length input ≤ longest_input
-  pub answers : IsOutputOf d command input output
-  pub took : taken' ≡ with_more taken output
-
--- The declarations are refused by the first fault that they show, and the sink took the line that says so.
-pub record IsRefusedWhole (d : Declared) (taken taken' : Option (List ℕ)) : Type 0 where
-  pub fault : DefinitionError
-  pub first : ShowsFirst d fault
-  pub took : taken' ≡ with_more taken (refusal fault)
-
--- the sink took a part of the line that refuses the declarations, and not all
-pub record IsRefusedInPart (d : Declared) (taken taken' : Option (List ℕ)) : Type 0 where
-  pub fault : DefinitionError
-  pub first : ShowsFirst d fault
-  pub took : TookPart (refusal fault) taken taken'
-
--- the words are a command, its input was read whole, and the sink took a part of its output, and not all
-pub record IsAnsweredInPart (d : Declared) (words : List (List ℕ)) (left left' taken taken' : Option (List ℕ)) : Type 0 where
-  pub command : Command
-  pub is_command : AreWordsOf command words
-  pub valid : AreValid d
-  pub input : List ℕ
-  pub output : List ℕ
-  pub read : left ≡ with_front input left'
-  pub end : IsReadOut command left'
-  pub answers : IsOutputOf d command input output
-  pub took : TookPart output taken taken'
+-- the texts that answer an input of a command: its output. No text rejects one
+abbrev pub texts_of : Command → Texts
+texts_of command d input false output = IsOutputOf d command input output
+texts_of command d input true output = ⊥
 
 -- after these nothing was written
 abbrev pub WritesNothing : Status → Type 0
 WritesNothing status = (status ≡ Usage) ⊎ ((status ≡ ReadFault) ⊎ ((status ≡ TooLong) ⊎ (status ≡ OutOfMemory)))
 
--- a count doesn't rise, whatever happens
-abbrev pub NeverRises : {X : Type 0} → (X → ℕ) → Type 0
-NeverRises count = (before after : _) → Rose (count before) (count after) → ⊥
+-- a source and a sink, by what they tell, before and after a run over declarations
+module _ {S K : Type 0} (left : S → Option (List ℕ)) (reads : S → ℕ) (taken : K → Option (List ℕ)) (writes : K → ℕ) (d : Declared) (s s' : S) (k k' : K) where
+  -- The words are a command. Its input was read whole, and the sink took its output whole: what it answers as the declarations,
+  -- which are valid, mean.
+  abbrev pub IsAnsweredWhole : List (List ℕ) → Type 0
+  IsAnsweredWhole words = (command : Command) × AreWordsOf command words × ran.IsAnsweredWhole left reads taken writes d s s' k k' (has_input command) (texts_of command) false
+
+  -- the words are a command, its input was read whole, and the sink took a part of its output, and not all
+  abbrev pub IsAnsweredInPart : List (List ℕ) → Type 0
+  IsAnsweredInPart words = (command : Command) × AreWordsOf command words × ran.IsAnsweredInPart left reads taken writes d s s' k k' (has_input command) (texts_of command)
+
+  -- the words are a command, and the run is that of the command; or they are none, and it is a usage error
+  abbrev pub IsRun : List (List ℕ) → Ending → Type 0
+  IsRun words ending = ran.IsRun left reads taken writes d s s' k k' (λ command. AreWordsOf command words) has_input texts_of ending
 
 -- ---- what a command does, where nothing fails
 
@@ -144,3 +122,10 @@ RefusesDeclarations d words taken taken' writes writes' status =
     IsCommand words → (e : DefinitionError) → ShowsFirst d e → status ≢ OutOfMemory → (before : List ℕ) → taken ≡ Some before
     → (Rose writes writes' → ⊥)
     → (status ≡ Refused) × (taken' ≡ Some (before ++ refusal e))
+
+-- Where the words are a command, the declarations are valid and neither a read nor a write failed, the run is done, unless memory ran
+-- out, or the command has an input and the source gave more than the limit. That asks for no bytes to be told.
+abbrev pub Completes : Declared → List (List ℕ) → Option (List ℕ) → Option (List ℕ) → ℕ → ℕ → ℕ → ℕ → Status → Type 0
+Completes d words left left' reads reads' writes writes' status =
+    (command : Command) → AreWordsOf command words → AreValid d → (Rose reads reads' → ⊥) → (Rose writes writes' → ⊥)
+    → (status ≡ Done) ⊎ ((status ≡ OutOfMemory) ⊎ ((status ≡ TooLong) × HasInput command × GaveMore longest_input left left'))

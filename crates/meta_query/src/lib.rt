@@ -8,10 +8,10 @@
 mod command;
 mod commands;
 mod laws;
+mod output;
 mod queries;
 mod recheck;
 mod running;
-mod status;
 mod synthesis;
 
 pub use command::Command;
@@ -21,6 +21,6 @@ pub use meta_answers::{
     Inference, Lines, Query, Question, Reply, answer_line, asks_one_query, asks_one_question,
     one_output, push_answers,
 };
+pub use meta_run::Status;
 pub use meta_synth::synth;
 pub use running::run;
-pub use status::Status;

@@ -1,4 +1,4 @@
-ghost use Rattle.std.specs.Prelude.{◌≡◌, IfOk, string_bytes};
+ghost use Rattle.std.specs.Prelude.{◌≡◌, ◌↔◌, IfOk, IsTrue, string_bytes};
 ghost use Rattle.meta_query.specs.Recheck.{line_of, IsTold, IsRecheckOf, refused_line};
 
 use super::queries::cut_queries;
@@ -6,6 +6,13 @@ use meta_answers::push_answers;
 use meta_gen::Tables;
 use meta_table_reader::{TextError, read_tables};
 use std::alloc::{AllocError, Global};
+
+/// Whether the tables that were read are the ones that they are compared with.
+fn is_same(read: &Tables, tables: &Tables) -> bool
+    ensures same { IsTrue result ↔ (read.now ≡ tables.now) }
+{
+    read.same(tables)
+}
 
 /// What is said of tables that were read: that they are the ones that they were compared with, or others.
 fn line_of(same: bool) -> &'static str
@@ -34,7 +41,7 @@ pub(crate) fn recheck(alloc: Global, tables: &Tables, input: &[u8]) -> Result<St
 {
     let parts = cut_queries(input);
     match read_tables(alloc, parts.text) {
-        Ok(read) => told(alloc, line_of(read.same(tables)), &read, parts.queries),
+        Ok(read) => told(alloc, line_of(is_same(&read, tables)), &read, parts.queries),
         Err(TextError::Refused) => refused(alloc),
         Err(TextError::OutOfMemory) => Err(AllocError),
     }

@@ -3,7 +3,6 @@ ghost use Rattle.std.specs.Fmt.{decimal};
 ghost use Rattle.meta_synth.specs.Synth.{IsSynth};
 ghost use Rattle.meta_query.specs.Synthesis.{IsSynthOutput};
 
-use itoa::Buffer;
 use meta_gen::{Declarations, generate};
 use meta_synth::{summary, synth};
 use meta_types::Text;
@@ -14,11 +13,8 @@ pub(crate) fn number_in(word: &Text) -> Option<u32>
     ensures some { IfSome result (λ n. word.now ≡ decimal n) }
     ensures none { IfNone result ((n : ℕ) → n < 2 ^ 32 → word.now ≢ decimal n) }
 {
-    let text = word.as_str();
-    match text.parse::<u32>() {
-        Ok(number) if Buffer::new().format(number) == text => Some(number),
-        _ => None,
-    }
+    let number = meta_words::number_in(word.as_bytes(), 4_294_967_295)?;
+    Some(number as u32)
 }
 
 /// The summary of the tables of these declarations, which are those of the number, with LF.

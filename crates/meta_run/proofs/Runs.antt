@@ -106,16 +106,16 @@ module _ {S K W : Type 0} (left : S → Option (List ℕ)) (reads : S → ℕ) (
 
   pub ended : (ending other : Ending) → RunsTo ending → ending ≡ other → other ≢ Usage → (w : W) × Means w × DidBy w other
   ended ending other (inl (w, means, ran)) e differs = (w, means, subst (DidBy w) e ran.did)
-  ended ending other (inr (none, usage, unread, untouched)) e differs = absurd (differs (sym e ∙ usage))
+  ended ending other (inr (none, is, source, sink)) e differs = absurd (differs (sym e ∙ is))
 
   -- the words decide whether it is a usage error
   pub usage : (ending : Ending) → RunsTo ending → ending ≡ Usage → (w : W) → Means w → ⊥
   usage ending (inl (w, means, ran)) e = absurd (subst (DidBy w) e ran.did)
-  usage ending (inr (none, is, unread, untouched)) e = none
+  usage ending (inr (none, is, source, sink)) e = none
 
   pub no_words : (ending : Ending) → RunsTo ending → ((w : W) → Means w → ⊥) → ending ≡ Usage
   no_words ending (inl (w, means, ran)) none = absurd (none w means)
-  no_words ending (inr (none, is, unread, untouched)) nothing = is
+  no_words ending (inr (none, is, source, sink)) nothing = is
 
   -- a program that has no text for a rejection rejects nothing
   pub never_rejects : (ending : Ending) → RunsTo ending → ((w : W) (input text : List ℕ) → texts w d input true text → ⊥) → ending ≢ Rejected
@@ -126,28 +126,28 @@ module _ {S K W : Type 0} (left : S → Option (List ℕ)) (reads : S → ℕ) (
   -- nothing was read or written after a usage error
   pub usage_unread : (ending : Ending) → RunsTo ending → ending ≡ Usage → s' ≡ s
   usage_unread ending (inl (w, means, ran)) e = absurd (subst (DidBy w) e ran.did)
-  usage_unread ending (inr (none, is, unread, untouched)) e = unread
+  usage_unread ending (inr (none, is, source, sink)) e = source
 
   pub usage_untouched : (ending : Ending) → RunsTo ending → ending ≡ Usage → k' ≡ k
   usage_untouched ending (inl (w, means, ran)) e = absurd (subst (DidBy w) e ran.did)
-  usage_untouched ending (inr (none, is, unread, untouched)) e = untouched
+  usage_untouched ending (inr (none, is, source, sink)) e = sink
 
   -- and nothing is read for words that have no input
   pub unread : (ending : Ending) → RunsTo ending → ((w : W) → Means w → has_input w ≡ false) → s' ≡ s
   unread ending (inl (w, means, ran)) none = ran.unread (none w means)
-  unread ending (inr (none, is, unread, untouched)) nothing = unread
+  unread ending (inr (none, is, source, sink)) nothing = source
 
   pub else_within : (ending : Ending) → RunsTo ending → ending ≢ TooLong → GaveAtMost longest_input (left s) (left s')
   else_within ending (inl (w, means, ran)) other = ran.else_within other
-  else_within ending (inr (none, is, unread, untouched)) other = subst (λ t. GaveAtMost longest_input (left s) (left t)) (sym unread) (gave_nothing (left s))
+  else_within ending (inr (none, is, source, sink)) other = subst (λ t. GaveAtMost longest_input (left s) (left t)) (sym source) (gave_nothing (left s))
 
   pub read_counted : (ending : Ending) → RunsTo ending → reads s ≤ reads s'
   read_counted ending (inl (w, means, ran)) = ran.read_counted
-  read_counted ending (inr (none, is, unread, untouched)) = subst (λ t. reads s ≤ reads t) (sym unread) (le_refl _)
+  read_counted ending (inr (none, is, source, sink)) = subst (λ t. reads s ≤ reads t) (sym source) (le_refl _)
 
   pub write_counted : (ending : Ending) → RunsTo ending → writes k ≤ writes k'
   write_counted ending (inl (w, means, ran)) = ran.write_counted
-  write_counted ending (inr (none, is, unread, untouched)) = subst (λ t. writes k ≤ writes t) (sym untouched) (le_refl _)
+  write_counted ending (inr (none, is, source, sink)) = subst (λ t. writes k ≤ writes t) (sym sink) (le_refl _)
 
 -- the refusal of declarations is a run that read nothing
 module _ {S K : Type 0} (left : S → Option (List ℕ)) (reads : S → ℕ) (taken : K → Option (List ℕ)) (writes : K → ℕ) (d : Declared) (s : S) (k k' : K) (has_input : Bool) (texts : Texts) (fault : DefinitionError) (first : fault ≢ fault_of.OutOfMemory → ShowsFirst d fault) where

@@ -1,12 +1,11 @@
 -- Instructions that were made stay so where the variables grow, and one more is made.
-use Rattle.std.proofs.Common.{◌≡◌, ⊎_elim, ◌+◌, ◌<◌, ◌≤◌, ℕ, List, [], ◌∷◌, ◌++◌, length, slice_get, None, Some, codes, refl, sym, ap, subst, ◌∙◌, arith, length-append}
+use Rattle.std.proofs.Common.{◌≡◌, ⊎_elim, ◌+◌, ◌<◌, ◌≤◌, ℕ, List, [], ◌∷◌, ◌++◌, length, slice_get, None, Some, codes, refl, sym, ap, subst, ◌∙◌, suc, add-one, arith, length-append}
 use Rattle.std.specs.List.{AllZip}
-use Rattle.std.proofs.lemmas.Option.{slice_get_within}
-use Rattle.meta_lists.proofs.Places.{get_stays, get_left, get_beside}
+use Rattle.meta_lists.proofs.Places.{get_stays, get_left}
 use Rattle.meta_lists.proofs.Pushed.{get_pushed_below, last}
 use Rattle.meta_lists.proofs.Pairs.{pairs_imply}
 use Rattle.meta_typevar.specs.Variable.{Variable}
-use Rattle.meta_typevar.specs.Registry.{variable_of, set_at, coded_of, coded_at, root_content, IsKept}
+use Rattle.meta_typevar.specs.Registry.{variable_of, set_at, coded_of, coded_at, root_content, IsKept, IsRegistry}
 use Rattle.meta_typevar.specs.declared.content.TypeVarContent.{TypeVarContent}
 use Rattle.meta_operands.specs.declared.operand.Operand.{Operand}
 use Rattle.meta_operands.specs.declared.format.InstructionFormat.{InstructionFormat}
@@ -19,7 +18,7 @@ use Rattle.meta_synth.specs.declared.shape.Shape.{Shape}
 use Rattle.meta_synth.specs.declared.shape.Shape.TheVariants.{Bare, Copying, Comparing, Widening}
 use Rattle.meta_synth.specs.Shapes.{inputs_for, outputs_for, format_of, all_formats}
 use Rattle.meta_synth.specs.Seeds.{seed_of, shape_of, set_of_seed, name_of_number}
-use Rattle.meta_synth.specs.Synth.{IsValueOf, Extends, IsInstruction, AreInstructions, IsSynth}
+use Rattle.meta_synth.specs.Synth.{IsValueOf, Extends, variables_of_number, variables_to, IsInstruction, AreInstructions, IsSynth}
 use Rattle.meta_synth.proofs.Valued.{are_of}
 
 -- ---- a root
@@ -66,6 +65,8 @@ instruction_stays n number x b grows h = record {
   format = h.format;
   inputs = values_stay (inputs_for (shape_of (seed_of n number)) x) (inputs_of b) grows h.inputs;
   outputs = values_stay (outputs_for (shape_of (seed_of n number)) x) (outputs_of b) grows h.outputs;
+  inputs_set = h.inputs_set;
+  outputs_set = h.outputs_set;
   marks = h.marks;
   second = h.second;
 }
@@ -96,59 +97,51 @@ is_made {now} {new} {n} {number} {seed} {x} {y} {shape} {inputs} {outputs} {b} i
       format = ap format_of shaped;
       inputs = subst (λ s. AllZip (IsValueOf new) (inputs_for s x) inputs) shaped ins;
       outputs = subst (λ s. AllZip (IsValueOf new) (outputs_for s x) outputs) shaped outs;
+      inputs_set = refl;
+      outputs_set = refl;
       marks = refl;
       second = refl;
     }))
 
 -- ---- all of them
 
-pub none_yet : {vars : List TypeVarContent} {n : ℕ} {all : List Builder} → all ≡ [] → AreInstructions vars n all
-none_yet {vars} {n} e = subst (AreInstructions vars n) (sym e) (record {
-  roots = [];
-  one_each = refl;
-  each = λ k x b at _. absurd (nothing k x at);
-  own = λ j k x at _. absurd (nothing j x at);
+-- no variables are those of no instructions
+no_variables : (n : ℕ) → variables_to n 0 ≡ []
+unfolding variables_to
+no_variables n = refl
+
+next_variables : (n k : ℕ) → variables_to n (suc k) ≡ variables_to n k ++ variables_of_number n (suc k) (length (variables_to n k))
+unfolding variables_to
+next_variables n k = refl
+
+-- and behind those of the first come those of the next
+more_variables : (n k : ℕ) → variables_to n (k + 1) ≡ variables_to n k ++ variables_of_number n (k + 1) (length (variables_to n k))
+more_variables n k = subst (λ m. variables_to n m ≡ variables_to n k ++ variables_of_number n m (length (variables_to n k))) (sym (add-one k)) (next_variables n k)
+
+pub none_yet : {vars : List TypeVarContent} {n : ℕ} {all : List Builder} → vars ≡ [] → all ≡ [] → AreInstructions vars n all
+none_yet {vars} {n} v e = subst (AreInstructions vars n) (sym e) (record {
+  variables = v ∙ sym (no_variables n);
+  each = λ k b at. absurd (nothing k b at);
 })
   where
-    nothing : (k x : ℕ) → slice_get [] k ≡ Some x → ⊥
-    nothing k x e = cc
+    nothing : (k : ℕ) (b : Builder) → slice_get [] k ≡ Some b → ⊥
+    nothing k b e = cc
 
 pub one_more : {vars new : List TypeVarContent} {n number : ℕ} {all made : List Builder} {b : Builder}
-    → AreInstructions vars n all → Extends 2 vars new → number ≡ length all + 1 → IsInstruction new n number (length vars) b → made ≡ all ++ b ∷ [] → AreInstructions new n made
-one_more {vars} {new} {n} {number} {all} {made} {b} are grows numbered is pushed = subst (AreInstructions new n) (sym pushed) (record {
-  roots = are.roots ++ length vars ∷ [];
-  one_each = omega (arith, length-append are.roots (length vars ∷ []), length-append all (b ∷ []), are.one_each);
-  each = λ k x c at_root at.
-      ⊎_elim
-      (λ r. ⊎_elim
-      (λ i. instruction_stays n (k + 1) x c grows (are.each k x c r.1 i.1))
-      (λ i. absurd (omega (arith, r.0, i.0, are.one_each)))
-      (get_pushed_below all b k c at))
-      (λ r. ⊎_elim
-      (λ i. absurd (omega (arith, r.0, i.0, are.one_each)))
-      (λ i.
-      let place : number ≡ k + 1 = omega (arith, numbered, i.0) in
-      subst (IsInstruction new n (k + 1) x) i.1 (subst (λ y. IsInstruction new n (k + 1) y b) r.1 (subst (λ m. IsInstruction new n m (length vars) b) place is)))
-      (get_pushed_below all b k c at))
-      (get_pushed_below are.roots (length vars) k x at_root);
-  own = λ j k x a c.
-      ⊎_elim
-      (λ r. ⊎_elim
-      (λ s. are.own j k x r.1 s.1)
-      (λ s. absurd (omega (arith, s.1, before j x r.1)))
-      (get_pushed_below are.roots (length vars) k x c))
-      (λ r. ⊎_elim
-      (λ s. absurd (omega (arith, r.1, before k x s.1)))
-      (λ s. omega (arith, r.0, s.0))
-      (get_pushed_below are.roots (length vars) k x c))
-      (get_pushed_below are.roots (length vars) j x a);
+    → AreInstructions vars n all → Extends 2 vars new → new ≡ vars ++ variables_of_number n number (length vars) → number ≡ length all + 1 → IsInstruction new n number (length vars) b → made ≡ all ++ b ∷ [] → AreInstructions new n made
+one_more {vars} {new} {n} {number} {all} {made} {b} are grows added numbered is pushed = subst (AreInstructions new n) (sym pushed) (record {
+  variables = added ∙ (λ i. are.variables i ++ variables_of_number n (numbered i) (length (are.variables i))) ∙ sym (more_variables n (length all)) ∙ ap (variables_to n) (sym (length-append all (b ∷ [])));
+  each = λ k c at. ⊎_elim
+      (λ i. instruction_stays n (k + 1) (length (variables_to n k)) c grows (are.each k c i.1))
+      (λ i. new_at k c i.0 i.1)
+      (get_pushed_below all b k c at);
 })
   where
-    -- earlier roots are among the earlier variables
-    before : (k x : ℕ) → slice_get are.roots k ≡ Some x → x < length vars
-    before k x at =
-        let c = get_beside are.roots all k x are.one_each at in
-        slice_get_within vars x (root_of (seed_of n (k + 1)) x) (are.each k x c.0 at c.1).root
+    new_at : (k : ℕ) (c : Builder) → k ≡ length all → b ≡ c → IsInstruction new n (k + 1) (length (variables_to n k)) c
+    new_at k c here same =
+        let place : number ≡ k + 1 = omega (arith, numbered, here) in
+        let root : length vars ≡ length (variables_to n k) = ap length are.variables ∙ ap (λ m. length (variables_to n m)) (sym here) in
+        subst (IsInstruction new n (k + 1) (length (variables_to n k))) same (subst (λ y. IsInstruction new n (k + 1) y b) root (subst (λ m. IsInstruction new n m (length vars) b) place is))
 
 -- ---- they fit
 
@@ -160,14 +153,14 @@ three Widening = omega arith
 
 pub all_fit : {vars : List TypeVarContent} {formats : List InstructionFormat} {n : ℕ} {all : List Builder} → formats ≡ all_formats → AreInstructions vars n all → Fits vars formats all
 all_fit {vars} {formats} {n} {all} are_formats are k b at =
-    let root = get_beside all are.roots k b (sym are.one_each) at in
-    let is = are.each k root.0 b root.1 at in
+    let x = length (variables_to n k) in
+    let is = are.each k b at in
     let below : format_of (shape_of (seed_of n (k + 1))) < 3 = three (shape_of (seed_of n (k + 1))) in
     let many : length formats ≡ 3 = ap length are_formats in
     record {
       format = omega (arith, below, many, is.format);
-      outputs = are_of vars (outputs_for (shape_of (seed_of n (k + 1))) root.0) (outputs_of b) is.outputs;
-      inputs = are_of vars (inputs_for (shape_of (seed_of n (k + 1))) root.0) (inputs_of b) is.inputs;
+      outputs = are_of vars (outputs_for (shape_of (seed_of n (k + 1))) x) (outputs_of b) is.outputs;
+      inputs = are_of vars (inputs_for (shape_of (seed_of n (k + 1))) x) (inputs_of b) is.inputs;
       second = λ s e. absurd (no_second s (sym is.second ∙ e));
     }
   where
@@ -178,11 +171,12 @@ all_fit {vars} {formats} {n} {all} are_formats are k b at =
 
 pub synth_made : {groups : List GroupDeclaration} {vars : List TypeVarContent} {formats : List InstructionFormat} {all : List Builder} {n : ℕ} {d : Declared}
     → d ≡ record { set = record { vars = vars; formats = formats; instructions = all }; groups = groups } → groups ≡ []
-    → formats ≡ all_formats → AreInstructions vars n all → length all ≡ 255 → length vars ≤ 510 → IsSynth n d
-synth_made {n = n} e none are_formats are count few = subst (IsSynth n) (sym e) (record {
+    → formats ≡ all_formats → AreInstructions vars n all → length all ≡ 255 → IsRegistry vars → length vars ≤ 510 → IsSynth n d
+synth_made {n = n} e none are_formats are count registry few = subst (IsSynth n) (sym e) (record {
   formats = are_formats;
   instructions = are;
   count = count;
+  registry = registry;
   few = few;
   groups = none;
 })

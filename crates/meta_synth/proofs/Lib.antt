@@ -8,3 +8,4 @@ mod Growing
 mod Counted
 mod Summed
 mod Held
+mod OneSynth

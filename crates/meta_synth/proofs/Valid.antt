@@ -4,7 +4,6 @@ use Rattle.std.specs.List.{All, AllZip}
 use Rattle.std.proofs.lemmas.List.Elements.{All-nil, All-cons}
 use Rattle.std.proofs.lemmas.Bool.{false≢true}
 use Rattle.std.proofs.lemmas.Option.{same_Some, slice_get_within}
-use Rattle.meta_lists.proofs.Places.{get_beside}
 use Rattle.meta_lists.proofs.Mapped.{get_mapped}
 use Rattle.meta_types.specs.Name.{IsName, IsNameByte}
 use Rattle.meta_types.specs.SharedNames.{SharesName, IsDuplicate}
@@ -32,7 +31,7 @@ use Rattle.meta_synth.specs.declared.shape.Shape.{Shape}
 use Rattle.meta_synth.specs.declared.shape.Shape.TheVariants.{Bare, Copying, Comparing, Widening}
 use Rattle.meta_synth.specs.Shapes.{inputs_for, outputs_for, format_of, value_format, all_formats}
 use Rattle.meta_synth.specs.Seeds.{seed_of, shape_of, set_of_seed, name_of_number}
-use Rattle.meta_synth.specs.Synth.{IsValueOf, IsInstruction, IsSynth}
+use Rattle.meta_synth.specs.Synth.{IsValueOf, variables_to, IsInstruction, IsSynth}
 use Rattle.meta_synth.proofs.Naming.{names_apart, is_name}
 use Rattle.meta_synth.proofs.Choosing.{several}
 use Rattle.meta_synth.proofs.Few.{IsKnown, is_known, few_sets}
@@ -225,8 +224,7 @@ module _ (n : ℕ) (d : Declared) (is : IsSynth n d) where
   -- an instruction, with its root
   instruction_at : (k : ℕ) (b : Builder) → IsAt d.set k b → (x : ℕ) × IsInstruction d.set.vars n (k + 1) x b
   instruction_at k b at =
-      let root = get_beside d.set.instructions is.instructions.roots k b (sym is.instructions.one_each) at in
-      (root.0, is.instructions.each k root.0 b root.1 at)
+      (length (variables_to n k), is.instructions.each k b at)
 
   small : (k : ℕ) (b : Builder) → IsAt d.set k b → k + 1 < 2 ^ 64
   small k b at = omega (arith, slice_get_within d.set.instructions k b at, is.count)

@@ -38,5 +38,7 @@ pub fn synth(alloc: Global, n: u32) -> Result<Declarations, AllocError>
         let builder = instruction(alloc, &mut vars, &formats, n, place + 1)?;
         push(&mut instructions, builder)?;
     }
+    // Its clause says that they are a registry.
+    let _count = vars.len();
     Ok(Declarations::new(vars, table, instructions, Vec::new(alloc)))
 }

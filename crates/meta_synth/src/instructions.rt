@@ -3,7 +3,7 @@ ghost use Rattle.std.specs.Fmt.{decimal};
 ghost use Rattle.meta_inst.specs.Marks.{no_marks};
 ghost use Rattle.meta_synth.specs.Shapes.{AreNumbered, format_of};
 ghost use Rattle.meta_synth.specs.Seeds.{name_of_number};
-ghost use Rattle.meta_synth.specs.Synth.{IsInstruction, Extends};
+ghost use Rattle.meta_synth.specs.Synth.{IsInstruction, Extends, variables_of_number};
 
 use super::formats::Formats;
 use super::seed::{add_root, seed_of, shape_of};
@@ -49,11 +49,14 @@ pub(crate) fn instruction(
     requires formats { AreNumbered formats.now }
     requires room { length vars.old + 1 < 2 ^ 32 - 1 }
     ensures instruction { IfOk result (IsInstruction vars.new n number (length vars.old)) }
+    ensures added { OnOk result (vars.new ≡ vars.old ++ variables_of_number n number (length vars.old)) }
     ensures grows { OnOk result (Extends 2 vars.old vars.new) }
 {
     let seed = seed_of(n, number);
     let shape = shape_of(seed);
     let x = add_root(alloc, vars, seed)?;
+    // Its clause says that they are a registry.
+    let _count = vars.len();
     let values = values_of(alloc, vars, shape, x)?;
     let builder = without_values(alloc, formats, shape, number)?;
     let builder = builder.operands_in(values.inputs);

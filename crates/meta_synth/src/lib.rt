@@ -14,6 +14,6 @@ mod shape;
 mod values;
 
 pub use generator::synth;
-pub use laws::synth_is_valid;
+pub use laws::{one_summary, one_synth, synth_is_valid};
 pub use report::summary;
 pub use shape::Shape;

@@ -1,12 +1,15 @@
-ghost use Rattle.std.specs.Prelude.{◌≡◌, ◌<◌, ◌-◌, ◌^◌, ◌∷◌, [], List, IfOk, OnOk, IsTrue, length, codes, map};
+ghost use Rattle.std.specs.Prelude.{◌≡◌, ◌≢◌, ◌<◌, ◌-◌, ◌^◌, ◌∷◌, ◌++◌, [], ℕ, List, IfOk, OnOk, IsTrue, length, codes, map};
 ghost use Rattle.std.specs.List.{AllZip};
 ghost use Rattle.meta_types.specs.Function.{Narrower};
+ghost use Rattle.meta_types.specs.DerivedFunc.{function_of};
+ghost use Rattle.meta_types.specs.declared.derived_func.DerivedFunc.{DerivedFunc};
 ghost use Rattle.meta_typevar.specs.Image.{can_derive};
-ghost use Rattle.meta_typevar.specs.Registry.{variable_at, coded_at};
-ghost use Rattle.meta_typevar.specs.Variable.{underived};
+ghost use Rattle.meta_typevar.specs.Registry.{variable_at, coded_at, IsKept};
+ghost use Rattle.meta_typevar.specs.TypeSetParts.{TypeSetParts};
+ghost use Rattle.meta_typevar.specs.Variable.{underived, longer};
 ghost use Rattle.meta_typevar.specs.declared.content.TypeVarContent.{TypeVarContent};
 ghost use Rattle.meta_synth.specs.Shapes.{inputs_for, outputs_for};
-ghost use Rattle.meta_synth.specs.Synth.{IsValueOf, Extends};
+ghost use Rattle.meta_synth.specs.Synth.{IsValueOf, Extends, root_with, derived_for};
 
 use super::shape::Shape;
 use meta_operands::{Operand, OperandKind};
@@ -52,8 +55,10 @@ fn comparing(alloc: Global, vars: &mut TypeVars, x: TypeVar) -> Result<Values, A
     requires room { length vars.old < 2 ^ 32 - 1 }
     requires of { x < length vars.old }
     requires root { variable_at vars.old x ≡ underived x }
+    requires fresh { (f : DerivedFunc) (m : ℕ) → m < length vars.old → variable_at vars.old m ≢ longer (variable_at vars.old x) (function_of f) }
     ensures inputs { IfOk result (λ v. AllZip (IsValueOf vars.new) (inputs_for Shape.Comparing x) v.inputs.items) }
     ensures outputs { IfOk result (λ v. AllZip (IsValueOf vars.new) (outputs_for Shape.Comparing x) v.outputs.items) }
+    ensures added { (s : TypeSetParts) → IsKept vars.old x (root_with s x) → OnOk result (vars.new ≡ vars.old ++ derived_for Shape.Comparing s x) }
     ensures grows { OnOk result (Extends 1 vars.old vars.new) }
 {
     let truthy = x.as_truthy(vars)?;
@@ -68,8 +73,10 @@ fn widening(alloc: Global, vars: &mut TypeVars, x: TypeVar) -> Result<Values, Al
     requires of { x < length vars.old }
     requires root { variable_at vars.old x ≡ underived x }
     requires derivable { IsTrue (can_derive Narrower (coded_at vars.old x)) }
+    requires fresh { (f : DerivedFunc) (m : ℕ) → m < length vars.old → variable_at vars.old m ≢ longer (variable_at vars.old x) (function_of f) }
     ensures inputs { IfOk result (λ v. AllZip (IsValueOf vars.new) (inputs_for Shape.Widening x) v.inputs.items) }
     ensures outputs { IfOk result (λ v. AllZip (IsValueOf vars.new) (outputs_for Shape.Widening x) v.outputs.items) }
+    ensures added { (s : TypeSetParts) → IsKept vars.old x (root_with s x) → OnOk result (vars.new ≡ vars.old ++ derived_for Shape.Widening s x) }
     ensures grows { OnOk result (Extends 1 vars.old vars.new) }
 {
     let narrower = x.narrower(vars)?;
@@ -99,8 +106,10 @@ pub(crate) fn values_of(
     requires of { x < length vars.old }
     requires root { variable_at vars.old x ≡ underived x }
     requires derivable { shape ≡ Shape.Widening → IsTrue (can_derive Narrower (coded_at vars.old x)) }
+    requires fresh { (f : DerivedFunc) (m : ℕ) → m < length vars.old → variable_at vars.old m ≢ longer (variable_at vars.old x) (function_of f) }
     ensures inputs { IfOk result (λ v. AllZip (IsValueOf vars.new) (inputs_for shape x) v.inputs.items) }
     ensures outputs { IfOk result (λ v. AllZip (IsValueOf vars.new) (outputs_for shape x) v.outputs.items) }
+    ensures added { (s : TypeSetParts) → IsKept vars.old x (root_with s x) → OnOk result (vars.new ≡ vars.old ++ derived_for shape s x) }
     ensures grows { OnOk result (Extends 1 vars.old vars.new) }
 {
     match shape {

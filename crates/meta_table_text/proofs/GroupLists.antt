@@ -1,10 +1,10 @@
 -- Texts that are written part by part, and what is left of them.
-use Rattle.std.proofs.Common.{◌≡◌, ℕ, ◌+◌, ◌≤◌, false, List, [], ◌∷◌, ◌++◌, append_assoc, append-nil, length, map, drop, slice_get, Some, Bor, refl, sym, ap, ◌∙◌, codes}
+use Rattle.std.proofs.Common.{◌≡◌, ℕ, ◌≤◌, true, false, cond, List, [], ◌∷◌, ◌++◌, append_assoc, append-nil, length, map, drop, flat_map, Bor, refl, sym, ap, ◌∙◌, codes}
 use Rattle.std.specs.List.{join_by}
 use Rattle.std.proofs.lemmas.Bool.{cond-true, cond-false}
 use Rattle.std.proofs.lemmas.List.Folds.{flat_map-map}
 use Rattle.std.proofs.lemmas.Option.{slice_get_past}
-use Rattle.meta_lists.proofs.Places.{drop_next, drop_past}
+use Rattle.meta_lists.proofs.Places.{drop_past}
 use Rattle.meta_setting_tables.specs.declared.descriptor.Detail.{Detail}
 use Rattle.meta_setting_tables.specs.declared.descriptor.Detail.TheVariants.{Bool as ABool, Enum as AnEnum, Num as ANum, Preset}
 use Rattle.meta_setting_tables.specs.declared.descriptor.Descriptor.{Descriptor}
@@ -37,17 +37,21 @@ names_joined (name ∷ names) = ap (λ t. name.now ++ t) (sym (flat_map-map (λ 
 
 -- ---- presets among entries
 
-module _ (ds : List Descriptor) (k : ℕ) (d : Descriptor) (at : slice_get ds k ≡ Some d) where
-  next : presets_in (drop k ds) ≡ presets_in (d ∷ drop (k + 1) ds)
-  next = ap presets_in (drop_next ds k d at)
+module _ (text : Descriptor → List ℕ) (d : Descriptor) where
+  -- the lines of an entry stand before those of the entries behind it
+  pub entry_written : (rest : List Descriptor) → flat_map text (presets_in (d ∷ rest)) ≡ flat_map text (presets_in (d ∷ [])) ++ flat_map text (presets_in rest)
+  entry_written rest = elim (is_preset d.detail) as (λ b. flat_map text (cond b (d ∷ presets_in rest) (presets_in rest)) ≡ flat_map text (cond b (d ∷ []) []) ++ flat_map text (presets_in rest)) [
+    | true ↦ ap (λ t. t ++ flat_map text (presets_in rest)) (sym (append-nil (text d)))
+    | false ↦ refl
+  ]
 
-  -- a preset is the next
-  pub preset_next : d.detail ≡ Preset → presets_in (drop k ds) ≡ d ∷ presets_in (drop (k + 1) ds)
-  preset_next is = next ∙ cond-true (is_preset d.detail) _ _ (ap is_preset is)
+  -- a preset has its lines
+  pub preset_written : d.detail ≡ Preset → flat_map text (presets_in (d ∷ [])) ≡ text d
+  preset_written is = ap (flat_map text) (cond-true (is_preset d.detail) (d ∷ []) [] (ap is_preset is)) ∙ append-nil (text d)
 
-  -- another entry is passed
-  pub preset_passed : (d.detail ≡ Preset → ⊥) → presets_in (drop k ds) ≡ presets_in (drop (k + 1) ds)
-  preset_passed other = next ∙ cond-false (is_preset d.detail) _ _ (none d.detail other)
+  -- a setting has none
+  pub setting_written : (d.detail ≡ Preset → ⊥) → flat_map text (presets_in (d ∷ [])) ≡ []
+  setting_written other = ap (flat_map text) (cond-false (is_preset d.detail) (d ∷ []) [] (none d.detail other))
     where
       none : (detail : Detail) → (detail ≡ Preset → ⊥) → is_preset detail ≡ false
       none (ABool bit) n = refl

@@ -1,4 +1,4 @@
-ghost use Rattle.std.specs.Prelude.{◌≡◌, ◌++◌, length, map, string_bytes, OnOk};
+ghost use Rattle.std.specs.Prelude.{◌≡◌, [], ◌∷◌, ◌++◌, length, map, slice_get, Some, string_bytes, OnOk};
 ghost use Rattle.std.specs.List.{flat_map};
 ghost use Rattle.meta_setting_tables.specs.declared.descriptor.Descriptor.{Descriptor};
 ghost use Rattle.meta_setting_tables.specs.EntryValues.{masks_from};
@@ -89,19 +89,30 @@ fn push_preset(
     push_booleans(alloc, out, name, booleans.as_slice())
 }
 
-/// Adds the lines of the presets.
-fn push_each_preset(
+/// Adds the lines of the entry with this number and this name, if it is a preset.
+fn push_entry(
     alloc: Global,
     out: &mut String,
     group: &GroupTables,
+    number: u16,
+    name: &str,
 ) -> Result<(), AllocError>
+    ensures { (d : Descriptor) → slice_get group.now.descriptors number ≡ Some d → name.now ≡ d.name
+        → OnOk result (string_bytes out.new ≡ string_bytes out.old ++ flat_map (preset_text group.now.descriptors (length group.now.defaults) group.now.preset_masks) (presets_in (d ∷ []))) }
+{
+    let Some(masks) = group.masks_of(number) else {
+        return Ok(());
+    };
+    push_preset(alloc, out, group, number, name, masks)
+}
+
+/// Adds the lines of the presets.
+fn push_each_preset(alloc: Global, out: &mut String, group: &GroupTables) -> Result<(), AllocError>
     ensures { OnOk result (string_bytes out.new ≡ string_bytes out.old ++ flat_map (preset_text group.now.descriptors (length group.now.defaults) group.now.preset_masks) (presets_in group.now.descriptors)) }
 {
     let entries = group.descriptors();
     for k in 0..entries.len() {
-        if let Some(masks) = group.masks_of(k as u16) {
-            push_preset(alloc, out, group, k as u16, entries[k].name.as_str(), masks)?;
-        }
+        push_entry(alloc, out, group, k as u16, entries[k].name.as_str())?;
     }
     Ok(())
 }
@@ -132,13 +143,12 @@ fn push_defaults(
 fn push_parts(alloc: Global, out: &mut String, group: &GroupTables) -> Result<(), AllocError>
     ensures { OnOk result (string_bytes out.new ≡ string_bytes out.old ++ group_text group.now) }
 {
-    let name = group.name().as_str();
-    push_head(out, name)?;
+    push_head(out, group.name().as_str())?;
     push_enumerators(out, group.enumerators())?;
     push_descriptors(out, group.descriptors())?;
     push_slots(out, group.setting_slots())?;
     push_presets(alloc, out, group)?;
-    push_defaults(alloc, out, name, group.defaults())
+    push_defaults(alloc, out, group.name().as_str(), group.defaults())
 }
 
 /// Adds the text of a group, and nothing where there is no such group.

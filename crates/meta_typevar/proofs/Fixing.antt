@@ -1,7 +1,7 @@
 -- Chains of functions, and the members from which they lead to one type.
-use Rattle.std.proofs.Common.{◌≡◌, ℕ, ◌+◌, ◌<◌, ◌≤◌, ◌↔◌, List, [], ◌∷◌, All, length, drop, refl, sym, ap, subst, ◌∙◌, ◌&&◌, get_or, add-one}
+use Rattle.std.proofs.Common.{◌≡◌, ℕ, ◌+◌, ◌<◌, ◌≤◌, ◌↔◌, List, [], ◌∷◌, All, length, drop, refl, sym, ap, subst, ◌∙◌, ◌&&◌, get_or, add-one, Bool, true, eqb, arith}
 use Rattle.std.specs.Prelude.{nat_le, nat_lt, Option, None, Some, IfSome, IfNone}
-use Rattle.std.proofs.lemmas.Bool.{and_parts, leb-true, ltb-true}
+use Rattle.std.proofs.lemmas.Bool.{and_parts, eqb-true, leb-true, ltb-true}
 use Rattle.std.proofs.lemmas.List.Elements.{All-nil, All-cons, All-head, All-tail}
 use Rattle.std.proofs.Math.Seq.{drop-cons}
 use Rattle.meta_types.specs.DerivedFunc.{function_of}
@@ -102,3 +102,30 @@ only_none s fs None e h = λ one. h one.one (subst (λ (x : List Function). IsFi
   only = λ r x m a. a ∙ one.only r m;
 }))
 only_none s fs (Some t) e h = tt
+
+-- what is fixed along no function is the only member, so a set without one has nothing fixed
+pub none_of_several : (s : TypeSetParts) → (HasOne s → ⊥) → IsFixedNowhere s []
+none_of_several s several t f = several (record { one = f.member; member = f.inhabited; only = λ u m. sym (f.reached u m) ∙ f.reached f.member f.inhabited })
+
+-- the first member of a set with one
+pub first_of_one : (s : TypeSetParts) (o : Option ValueType) → HasOne s → IfSome o (λ r. IsMember s (type_parts_of r)) → IfSome o (λ t. IsFixed s [] (type_parts_of t))
+first_of_one s None one h = tt
+first_of_one s (Some r) one h = fixed_of_one s [] (type_parts_of r) (type_parts_of r) one h refl
+
+pub first_of_none : (s : TypeSetParts) (o : Option ValueType) → IfNone o ((r : TypeParts) → IsMember s r → ⊥) → IfNone o (IsFixedNowhere s [])
+first_of_none s None h = λ t f. h f.member f.inhabited
+first_of_none s (Some r) h = tt
+
+-- a chain without a function
+pub no_functions : (chain : List DerivedFunc) (empty : Bool) → empty ≡ eqb (length chain) 0 → empty ≡ true → functions_of chain ≡ []
+no_functions [] empty e t = refl
+no_functions (d ∷ ds) empty e t = absurd (no_suc (eqb-true _ _ (sym e ∙ t)))
+  where
+    no_suc : length (d ∷ ds) ≡ 0 → ⊥
+    no_suc h = omega (arith, h)
+
+pub along_none : (s : TypeSetParts) (fs : List Function) (o : Option ValueType) → fs ≡ [] → IfSome o (λ t. IsFixed s [] (type_parts_of t)) → IfSome o (λ t. IsFixed s fs (type_parts_of t))
+along_none s fs o e h = subst (λ (gs : List Function). IfSome o (λ t. IsFixed s gs (type_parts_of t))) (sym e) h
+
+pub nowhere_along_none : (s : TypeSetParts) (fs : List Function) (o : Option ValueType) → fs ≡ [] → IfNone o (IsFixedNowhere s []) → IfNone o (IsFixedNowhere s fs)
+nowhere_along_none s fs o e h = subst (λ (gs : List Function). IfNone o (IsFixedNowhere s gs)) (sym e) h

@@ -1,4 +1,4 @@
-ghost use Rattle.std.specs.Prelude.{◌≡◌, ◌↔◌, ◌≤◌, IsTrue, IfSome, IfNone};
+ghost use Rattle.std.specs.Prelude.{[], ◌≡◌, ◌↔◌, ◌≤◌, IsTrue, IfSome, IfNone};
 ghost use Rattle.meta_types.specs.TypeParts.{TypeParts, number_of};
 ghost use Rattle.meta_types.specs.ValueTypes.{type_parts_of};
 ghost use Rattle.meta_typevar.specs.TypeSetParts.{IsMember};
@@ -20,6 +20,9 @@ pub(crate) fn fixed_along(set: &TypeSet, chain: &[DerivedFunc]) -> Option<ValueT
     ensures found { IfSome result (λ t. IsFixed set.now (functions_of chain.now) (type_parts_of t)) }
     ensures none { IfNone result (IsFixedNowhere set.now (functions_of chain.now)) }
 {
+    if chain.is_empty() {
+        return only_member(set);
+    }
     let first = first_member(set)?;
     let t = reached(chain, first)?;
     if set.size() == 1 {
@@ -29,6 +32,17 @@ pub(crate) fn fixed_along(set: &TypeSet, chain: &[DerivedFunc]) -> Option<ValueT
         return None;
     }
     Some(t)
+}
+
+/// The only member, where there is exactly one.
+fn only_member(set: &TypeSet) -> Option<ValueType>
+    ensures found { IfSome result (λ t. IsFixed set.now [] (type_parts_of t)) }
+    ensures none { IfNone result (IsFixedNowhere set.now []) }
+{
+    if set.size() != 1 {
+        return None;
+    }
+    first_member(set)
 }
 
 /// The member with the least number.

@@ -1,5 +1,5 @@
 ghost use Rattle.std.specs.Prelude.{◌≢◌};
-ghost use Rattle.meta_query.specs.declared.status.Status.{Status};
+ghost use Rattle.meta_run.specs.declared.status.Status.{Status};
 
 use meta_gen::Declarations;
 use meta_query::{Status, run};

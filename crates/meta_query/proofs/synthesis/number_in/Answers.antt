@@ -1,19 +1,13 @@
-use Rattle.std.proofs.Common.{◌≡◌, ◌<◌, ◌^◌, Ok, ◌∙◌, sym, ap, arith}
+use Rattle.std.proofs.Common.{◌≡◌, ℕ, ◌≤◌, ◌%◌, ◌^◌, ◌∙◌, sym, ap, arith}
 use Rattle.std.specs.Fmt.{decimal}
-use Rattle.std.specs.Cmp.Lexicographic.{bytes_decides}
-use Rattle.std.proofs.lemmas.Fmt.{parse-decimal}
-use Rattle.meta_query.proofs.Told.{no_truth, one_number, no_fault}
 use Rattle.meta_query.proofs.synthesis.number_in.Goals as goal
 
-pub returns-in_default-clause-none : goal.returns-in_default-clause-none
-returns-in_default-clause-none c = λ n few e.
-    let wide : n < 2 ^ 64 = omega arith in
-    let parsed : c.parse.result ≡ Ok n = parse-decimal 32 n c.as_str-text.result.now c.parse.result few wide (c.as_str-text.ensures ∙ e) c.parse.ensures.value.0 in
-    let same = one_number c.parse.result c.in-Ok.number n c.in-Ok.is parsed in
-    no_truth (sym c.if-eq.false ∙ c.eq.ensures ∙ (bytes_decides c.format.result.now c.as_str-text.result.now).1 (c.format.ensures.text ∙ ap decimal same ∙ sym e ∙ sym c.as_str-text.ensures))
+-- a number of 32 bits stays what it is
+narrow : (n : ℕ) → n ≤ 4294967295 → n % 2 ^ 32 ≡ n
+narrow n small = omega arith
 
-pub returns-in_default-2-clause-none : goal.returns-in_default-2-clause-none
-returns-in_default-2-clause-none c = λ n few e.
-    let wide : n < 2 ^ 64 = omega arith in
-    let parsed : c.parse.result ≡ Ok n = parse-decimal 32 n c.as_str-text.result.now c.parse.result few wide (c.as_str-text.ensures ∙ e) c.parse.ensures.value.0 in
-    no_fault c.parse.result n c.in_default.field-0 parsed c.in_default.is
+pub returns-in_err-number-clause-none : goal.returns-in_err-number-clause-none
+returns-in_err-number-clause-none c = rw c.from_residual.ensures (λ n few e. c.in_err-number.ensures.none n (omega (arith, few)) (c.as_bytes.ensures ∙ e))
+
+pub returns-clause-some : goal.returns-clause-some
+returns-clause-some c = sym c.as_bytes.ensures ∙ c.in_ok-number.ensures.some ∙ ap decimal (sym (narrow c.in_ok-number.number c.in_ok-number.ensures.within))

@@ -6,7 +6,7 @@ use Rattle.meta_synth.proofs.generator.synth.Goals as goal
 
 pub loop-place-init : goal.loop-place-init
 loop-place-init c = record {
-  instructions = none_yet c.new-instructions.ensures;
+  instructions = none_yet c.new-vars.ensures c.new-instructions.ensures;
   count = ap length c.new-instructions.ensures;
   few = omega (arith, ap length c.new-vars.ensures);
 }
@@ -16,7 +16,7 @@ instruction-requires-clause-room c = omega (arith, c.loop-place.invariant.few, c
 
 pub loop-place-preserved : goal.loop-place-preserved
 loop-place-preserved c = record {
-  instructions = one_more c.loop-place.invariant.instructions c.in_ok-builder.ensures.grows (ap (λ k. k + 1) (sym c.loop-place.invariant.count)) c.in_ok-builder.ensures.instruction c.in_ok-push.ensures;
+  instructions = one_more c.loop-place.invariant.instructions c.in_ok-builder.ensures.grows c.in_ok-builder.ensures.added (ap (λ k. k + 1) (sym c.loop-place.invariant.count)) c.in_ok-builder.ensures.instruction c.in_ok-push.ensures;
   count = omega (arith, one_longer _ _ _ c.in_ok-push.ensures, c.loop-place.invariant.count);
   few = omega (arith, extends_count c.in_ok-builder.ensures.grows, c.loop-place.invariant.few);
 }
@@ -27,6 +27,7 @@ new-requires-3 c = all_fit c.in_ok-formats.ensures.added c.loop-place.invariant.
 pub returns-clause-valid : goal.returns-clause-valid
 returns-clause-valid c = c.synth_is_valid.ensures c.args.n c.new-3.result (synth_made c.new-3.ensures c.new-2.ensures.items c.in_ok-formats.ensures.added c.loop-place.invariant.instructions
     (omega (arith, c.loop-place.invariant.count, c.loop-place-test.false, c.loop-place.auto.place-end))
+    c.len-count.ensures.registry
     (omega (arith, c.loop-place.invariant.few, c.loop-place.auto.place-end)))
 
 pub returns-in_err-formats-clause-declarations : goal.returns-in_err-formats-clause-declarations

@@ -1,4 +1,4 @@
-use Rattle.std.proofs.Common.{◌∙◌, sym, ap, subst, refl, Some, length}
+use Rattle.std.proofs.Common.{◌≡◌, ◌+◌, ◌∙◌, sym, ap, subst, refl, Some, length, arith}
 use Rattle.std.specs.Bool.{IsTrue}
 use Rattle.std.proofs.lemmas.Result.{IfOk-from_err}
 use Rattle.meta_types.specs.Function.{Narrower}
@@ -6,7 +6,9 @@ use Rattle.meta_typevar.specs.Image.{can_derive}
 use Rattle.meta_inst.specs.Builder.{Builder}
 use Rattle.meta_synth.proofs.Choosing.{can_narrow}
 use Rattle.meta_synth.proofs.Growing.{new_root, root_of, root_coded, is_made}
-use Rattle.meta_synth.proofs.Held.{root_added, extends_after}
+use Rattle.meta_lists.proofs.Pushed.{one_longer}
+use Rattle.meta_synth.specs.Seeds.{set_of_seed}
+use Rattle.meta_synth.proofs.Held.{root_added, extends_after, none_derived, variables_added}
 use Rattle.meta_synth.proofs.instructions.instruction.Goals as goal
 
 pub values_of-requires-clause-derivable : goal.values_of-requires-clause-derivable
@@ -51,3 +53,23 @@ returns-in_err-builder-clause-instruction c = IfOk-from_err c.from_residual-in_e
 
 pub returns-in_err-builder-clause-grows : goal.returns-in_err-builder-clause-grows
 returns-in_err-builder-clause-grows c = IfOk-from_err c.from_residual-in_err-builder.result _ c.from_residual-in_err-builder.ensures.0
+
+pub values_of-requires-clause-fresh : goal.values_of-requires-clause-fresh
+values_of-requires-clause-fresh c =
+    let longer = one_longer c.args.vars.now c.add_root.new.vars (root_of c.seed_of-seed.result (length c.args.vars.now)) c.in_ok-x.ensures.added in
+    none_derived c.add_root.new.vars c.in_ok-x.x c.len-count.ensures.registry (omega (arith, longer, c.in_ok-x.ensures.number))
+
+pub returns-clause-added : goal.returns-clause-added
+returns-clause-added c =
+    let kept = new_root c.args.vars.now c.add_root.new.vars c.seed_of-seed.result c.in_ok-x.x c.in_ok-x.ensures.number c.in_ok-x.ensures.added in
+    variables_added c.args.vars.now c.add_root.new.vars c.values_of.new.vars c.args.n c.args.number c.seed_of-seed.result c.in_ok-x.x c.shape_of-shape.result
+    c.seed_of-seed.ensures c.shape_of-shape.ensures c.in_ok-x.ensures.number c.in_ok-x.ensures.added (c.in_ok-values.ensures.added (set_of_seed c.seed_of-seed.result) kept)
+
+pub returns-in_err-x-clause-added : goal.returns-in_err-x-clause-added
+returns-in_err-x-clause-added c = IfOk-from_err c.from_residual.result _ c.from_residual.ensures.0
+
+pub returns-in_err-values-clause-added : goal.returns-in_err-values-clause-added
+returns-in_err-values-clause-added c = IfOk-from_err c.from_residual-in_err-values.result _ c.from_residual-in_err-values.ensures.0
+
+pub returns-in_err-builder-clause-added : goal.returns-in_err-builder-clause-added
+returns-in_err-builder-clause-added c = IfOk-from_err c.from_residual-in_err-builder.result _ c.from_residual-in_err-builder.ensures.0

@@ -1,7 +1,9 @@
 use Rattle.std.proofs.Common.{codes}
 use Rattle.std.proofs.lemmas.Result.{IfOk-from_err}
 use Rattle.meta_types.specs.Function.{Narrower}
-use Rattle.meta_synth.proofs.Held.{extends, within, one_of_root, one_derived}
+use Rattle.meta_types.specs.declared.derived_func.DerivedFunc.TheVariants.{Narrower as NarrowerFunc}
+use Rattle.meta_synth.specs.Synth.{root_with}
+use Rattle.meta_synth.proofs.Held.{extends, within, one_of_root, one_derived, derived_added}
 use Rattle.meta_synth.proofs.values.widening.Goals as goal
 
 pub returns-clause-inputs : goal.returns-clause-inputs
@@ -44,3 +46,16 @@ returns-in_err-outputs-clause-outputs c = IfOk-from_err c.from_residual-in_err-o
 
 pub returns-in_err-outputs-clause-grows : goal.returns-in_err-outputs-clause-grows
 returns-in_err-outputs-clause-grows c = IfOk-from_err c.from_residual-in_err-outputs.result _ c.from_residual-in_err-outputs.ensures.0
+
+pub returns-clause-added : goal.returns-clause-added
+returns-clause-added c = λ s kept. derived_added c.args.vars.now c.narrower.new.vars s c.args.x NarrowerFunc kept
+    (c.in_ok-narrower.ensures.derives.added (c.requires.fresh NarrowerFunc) (root_with s c.args.x) kept)
+
+pub returns-in_err-narrower-clause-added : goal.returns-in_err-narrower-clause-added
+returns-in_err-narrower-clause-added c = λ _ _. IfOk-from_err c.from_residual.result _ c.from_residual.ensures.0
+
+pub returns-in_err-inputs-clause-added : goal.returns-in_err-inputs-clause-added
+returns-in_err-inputs-clause-added c = λ _ _. IfOk-from_err c.from_residual-in_err-inputs.result _ c.from_residual-in_err-inputs.ensures.0
+
+pub returns-in_err-outputs-clause-added : goal.returns-in_err-outputs-clause-added
+returns-in_err-outputs-clause-added c = λ _ _. IfOk-from_err c.from_residual-in_err-outputs.result _ c.from_residual-in_err-outputs.ensures.0

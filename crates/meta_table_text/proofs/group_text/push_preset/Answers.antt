@@ -1,5 +1,5 @@
 use Rattle.std.proofs.Common.{◌++◌, length, map, flat_map, ap, ◌∙◌, string_bytes}
-use Rattle.std.proofs.lemmas.Result.{IfOk-from_err, on_ok_weaker}
+use Rattle.std.proofs.lemmas.Result.{on_ok_weaker}
 use Rattle.meta_setting_tables.specs.EntryValues.{masks_from, names_on}
 use Rattle.meta_table_text.specs.GroupItems.{pair_text, names_text, comment_text}
 use Rattle.meta_table_text.specs.GroupText.{preset_text}

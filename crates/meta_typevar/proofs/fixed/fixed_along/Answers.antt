@@ -1,7 +1,13 @@
 use Rattle.std.proofs.Common.{◌∙◌, sym, arith}
 use Rattle.std.proofs.lemmas.Bool.{false≢true}
-use Rattle.meta_typevar.proofs.Fixing.{fixed_from_reaches, fixed_of_one, reaches_fixed, nowhere_from_other}
+use Rattle.meta_typevar.proofs.Fixing.{no_functions, along_none, nowhere_along_none, fixed_from_reaches, fixed_of_one, reaches_fixed, nowhere_from_other}
 use Rattle.meta_typevar.proofs.fixed.fixed_along.Goals as goal
+
+pub returns-then-is_empty-clause-found : goal.returns-then-is_empty-clause-found
+returns-then-is_empty-clause-found c = along_none _ _ c.only_member.result (no_functions c.args.chain.now c.is_empty.result c.is_empty.ensures c.if-is_empty.true) c.only_member.ensures.found
+
+pub returns-then-is_empty-clause-none : goal.returns-then-is_empty-clause-none
+returns-then-is_empty-clause-none c = nowhere_along_none _ _ c.only_member.result (no_functions c.args.chain.now c.is_empty.result c.is_empty.ensures c.if-is_empty.true) c.only_member.ensures.none
 
 pub returns-in_err-first-clause-none : goal.returns-in_err-first-clause-none
 returns-in_err-first-clause-none c = rw (c.from_residual.ensures) (λ t h. c.in_err-first.ensures.none h.member h.inhabited)

@@ -13,14 +13,14 @@ is_opcode xs (suc k) x e = let l = slice_get_within xs k x e in (omega arith, om
 
 pub returns-in_err-numbers-clause-none : goal.returns-in_err-numbers-clause-none
 returns-in_err-numbers-clause-none c =
-    let count = c.result_count-count.ensures in
+    let count = c.result_count-count.ensures.count in
     let inside = c.loop-k-test.true in
     rw c.from_residual-in_err-numbers.ensures (refused_place c.args.self.now c.args.opcode c.args.controls.ctrl c.args.controls.second _ c.in_ok-entry.ensures.entry c.loop-k.k (omega arith) c.in_err-numbers.ensures.none)
 
 pub loop-k-preserved : goal.loop-k-preserved
 loop-k-preserved c =
     let inside = c.loop-k-test.true in
-    let count = c.result_count-count.ensures in
+    let count = c.result_count-count.ensures.count in
     let long = c.loop-k.invariant.long in
     record {
       long = length-set c.loop-k.numbers c.loop-k.k c.in_ok-numbers.field-0 ∙ long;
@@ -33,7 +33,7 @@ pub returns-clause-given : goal.returns-clause-given
 returns-clause-given c =
     let past = c.loop-k-test.false in
     let within = c.loop-k.auto.k-end in
-    let count = c.result_count-count.ensures in
+    let count = c.result_count-count.ensures.count in
     let long = c.loop-k.invariant.long in
     all_given c.args.self.now c.args.opcode c.args.controls.ctrl c.args.controls.second _ c.in_ok-entry.ensures.entry c.loop-k.numbers c.result_count-count.result
     (c.control_fits.ensures.0 c.if-not-control_fits.false) (c.control_fits-2.ensures.0 c.if-not-control_fits-2.false) count (omega arith)

@@ -1,0 +1,136 @@
+ghost use Rattle.std.specs.Prelude.{◌≡◌, ◌≢◌, ◌<◌, ℕ, List, [], ◌∷◌, length, IfSome, IfNone};
+ghost use Rattle.meta_words.specs.Words.{pieces_of};
+ghost use Rattle.meta_answers.specs.Query.{Asked, Asks};
+ghost use Rattle.meta_answers.specs.Form.{command_named, words_in, name_in};
+
+use meta_words::{Pieces, cut};
+
+/// The first word of a line that asks.
+#[derive(Clone, Copy)]
+pub(crate) enum Command {
+    Accept,
+    Infer,
+    Setting,
+}
+
+/// The words behind `accept`. The last three may have no bytes.
+#[derive(Clone, Copy)]
+pub(crate) struct AcceptWords<'a> {
+    pub(crate) name: &'a [u8],
+    pub(crate) control: &'a [u8],
+    pub(crate) results: &'a [u8],
+    pub(crate) values: &'a [u8],
+}
+
+/// The words behind `infer`. The last may have no bytes.
+#[derive(Clone, Copy)]
+pub(crate) struct InferWords<'a> {
+    pub(crate) name: &'a [u8],
+    pub(crate) control: &'a [u8],
+}
+
+/// The form of a line that asks, with its words behind the first.
+#[derive(Clone, Copy)]
+pub(crate) enum Form<'a> {
+    Accept(AcceptWords<'a>),
+    Infer(InferWords<'a>),
+    Setting(&'a [u8]),
+}
+
+/// The command that the word is.
+fn command_of(word: &[u8]) -> Option<Command>
+    ensures { result ≡ command_named word.now }
+{
+    match word {
+        b"accept" => Some(Command::Accept),
+        b"infer" => Some(Command::Infer),
+        b"setting" => Some(Command::Setting),
+        _ => None,
+    }
+}
+
+/// The four words behind `accept`.
+fn accept_words(behind: &[u8]) -> Option<AcceptWords<'_>>
+    ensures words { IfSome result (λ w. pieces_of 32 behind.now ≡ w.name.now ∷ w.control.now ∷ w.results.now ∷ w.values.now ∷ []) }
+    ensures named { IfSome result (λ w. 0 < length w.name.now) }
+    ensures none { IfNone result ((name control results values : List ℕ) → 0 < length name
+        → pieces_of 32 behind.now ≢ name ∷ control ∷ results ∷ values ∷ []) }
+{
+    let mut words = Pieces::new(behind, b' ');
+    let name = words.next()?;
+    if name.is_empty() {
+        return None;
+    }
+    let control = words.next()?;
+    let results = words.next()?;
+    let values = words.next()?;
+    if words.next().is_some() {
+        return None;
+    }
+    Some(AcceptWords {
+        name,
+        control,
+        results,
+        values,
+    })
+}
+
+/// The two words behind `infer`.
+fn infer_words(behind: &[u8]) -> Option<InferWords<'_>>
+    ensures words { IfSome result (λ w. pieces_of 32 behind.now ≡ w.name.now ∷ w.control.now ∷ []) }
+    ensures named { IfSome result (λ w. 0 < length w.name.now) }
+    ensures none { IfNone result ((name control : List ℕ) → 0 < length name → pieces_of 32 behind.now ≢ name ∷ control ∷ []) }
+{
+    let mut words = Pieces::new(behind, b' ');
+    let name = words.next()?;
+    if name.is_empty() {
+        return None;
+    }
+    let control = words.next()?;
+    if words.next().is_some() {
+        return None;
+    }
+    Some(InferWords { name, control })
+}
+
+/// The one word behind `setting`.
+fn setting_word(behind: &[u8]) -> Option<&[u8]>
+    ensures words { IfSome result (λ name. pieces_of 32 behind.now ≡ name.now ∷ []) }
+    ensures named { IfSome result (λ name. 0 < length name.now) }
+    ensures none { IfNone result ((name : List ℕ) → 0 < length name → pieces_of 32 behind.now ≢ name ∷ []) }
+{
+    let mut words = Pieces::new(behind, b' ');
+    let name = words.next()?;
+    if name.is_empty() {
+        return None;
+    }
+    if words.next().is_some() {
+        return None;
+    }
+    Some(name)
+}
+
+/// The form of the line, and `None` only where it asks nothing. A line that has a form asks where its words name types.
+pub(crate) fn form_of(line: &[u8]) -> Option<Form<'_>>
+    ensures words { IfSome result (λ form. pieces_of 32 line.now ≡ words_in form) }
+    ensures named { IfSome result (λ form. 0 < length (name_in form)) }
+    ensures none { IfNone result ((q : Asked) → ¬ Asks line.now q) }
+{
+    let (first, rest) = cut(line, b' ');
+    let behind = rest?;
+    let command = command_of(first)?;
+    match command {
+        Command::Accept => {
+            let accept = accept_words(behind)?;
+            Some(Form::Accept(accept))
+        }
+        Command::Infer => {
+            let infer = infer_words(behind)?;
+            Some(Form::Infer(infer))
+        }
+        Command::Setting => {
+            let setting = setting_word(behind)?;
+            Some(Form::Setting(setting))
+        }
+    }
+}
