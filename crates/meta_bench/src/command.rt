@@ -2,6 +2,7 @@ ghost use Rattle.std.specs.Prelude.{◌≡◌, ◌<◌, IfSome, length};
 
 use super::inputs::Shown;
 use meta_types::Text;
+use meta_words::number_in;
 
 /// The most instructions of one set.
 const MOST_INSTRUCTIONS: u16 = 4095;
@@ -26,20 +27,26 @@ pub(crate) struct Command {
     pub(crate) times: u32,
 }
 
-impl Subject {
-    /// The count of instructions, where there may be so many.
-    fn instruction_count(size: &str) -> Option<u16> {
-        let count = size.parse().ok()?;
-        (count <= MOST_INSTRUCTIONS).then_some(count)
-    }
+/// The number up to `most` that the word writes.
+fn number_of(word: &Text, most: u32) -> Option<u32> {
+    let number = number_in(word.as_bytes(), u64::from(most))?;
+    u32::try_from(number).ok()
+}
 
+/// The number of 16 bits up to `most` that the word writes.
+fn small_number_of(word: &Text, most: u16) -> Option<u16> {
+    let number = number_of(word, u32::from(most))?;
+    u16::try_from(number).ok()
+}
+
+impl Subject {
     /// The subject of this name and size.
-    fn of(name: &str, size: &str) -> Option<Subject> {
+    fn of(name: &str, size: &Text) -> Option<Subject> {
         match name {
-            "instructions" => Some(Subject::Instructions(Subject::instruction_count(size)?)),
-            "tables" => Some(Subject::Tables(Subject::instruction_count(size)?)),
-            "settings" => Some(Subject::Settings(size.parse().ok()?)),
-            _ => Some(Subject::Inputs(Shown::of(name)?, size.parse().ok()?)),
+            "instructions" => Some(Subject::Instructions(small_number_of(size, MOST_INSTRUCTIONS)?)),
+            "tables" => Some(Subject::Tables(small_number_of(size, MOST_INSTRUCTIONS)?)),
+            "settings" => Some(Subject::Settings(small_number_of(size, u16::MAX)?)),
+            _ => Some(Subject::Inputs(Shown::of(name)?, number_of(size, u32::MAX)?)),
         }
     }
 }
@@ -53,10 +60,10 @@ impl Command {
         if words.len() != 3 {
             return None;
         }
-        let subject = Subject::of(words[0].as_str(), words[1].as_str())?;
-        match words[2].as_str().parse::<u32>() {
-            Ok(0) | Err(_) => None,
-            Ok(times) => Some(Command { subject, times }),
+        let subject = Subject::of(words[0].as_str(), &words[1])?;
+        match number_of(&words[2], u32::MAX) {
+            Some(0) | None => None,
+            Some(times) => Some(Command { subject, times }),
         }
     }
 }

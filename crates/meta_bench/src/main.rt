@@ -6,76 +6,65 @@ ghost use Rattle.std.specs.Prelude.{◌<◌};
 mod command;
 mod inputs;
 mod instructions;
+mod manual;
 mod measure;
 mod names;
 mod settings;
-mod status;
 
 use command::Command;
+use manual::MANUAL;
 use measure::measured;
-use meta_types::Text;
-use status::Status;
-use std::io::{self, ErrorKind};
+use meta_main::{Program, start};
+use meta_run::Ending;
+use meta_text::{Sink, Source, write_whole};
+use meta_types::{DefinitionError, Text};
+use std::alloc::Global;
 use std::process::ExitCode;
 
-/// What it means that the words of the program can't be had.
-fn no_words(error: &io::Error) -> Status {
-    match error.kind() {
-        ErrorKind::OutOfMemory => Status::OutOfMemory,
-        _ => Status::Usage,
+/// Times what the words ask for.
+#[derive(Clone, Copy)]
+struct Bench;
+
+/// Writes the line, and answers with this ending where that succeeds.
+fn written<K: Sink>(alloc: Global, sink: &mut K, line: &str, ending: Ending) -> Ending {
+    let Ok(line) = format!(in alloc; "{line}\n") else {
+        return Ending::OutOfMemory;
+    };
+    match write_whole(sink, line.as_bytes()) {
+        Ok(()) => ending,
+        Err(_) => Ending::WriteFault,
     }
 }
 
-/// The words after the program's name.
-fn words(rt: &HostRuntime) -> Result<Vec<Text>, Status> {
-    let alloc = rt.alloc();
-    let args = std::env::args(rt).map_err(|error| no_words(&error))?;
-    let mut words = Vec::new(alloc);
-    for arg in args.skip(1) {
-        let word = Text::new(alloc, arg.as_str()).map_err(|_| Status::OutOfMemory)?;
-        words.push(word).map_err(|_| Status::OutOfMemory)?;
-    }
-    Ok(words)
-}
-
-/// Prints the line, and answers with the status where that succeeds.
-fn printed(rt: &HostRuntime, line: &str, status: Status) -> Status {
-    match println!(rt; "{line}") {
-        Ok(()) => status,
-        Err(_) => Status::WriteFault,
-    }
-}
-
-/// Does what the command says, and prints what the tables hold, or the fault by which the declarations are refused.
-fn run(rt: &HostRuntime, command: &Command) -> Status
+/// Does what the command says, and writes what the tables hold, or the fault by which the declarations are refused.
+fn measure<K: Sink>(alloc: Global, command: &Command, sink: &mut K) -> Ending
     requires { 0 < command.now.times }
 {
-    let alloc = rt.alloc();
     match measured(alloc, command) {
-        Ok(line) => printed(rt, &line, Status::Done),
+        Ok(line) => written(alloc, sink, &line, Ending::Done),
+        Err(DefinitionError::OutOfMemory) => Ending::OutOfMemory,
         Err(fault) => match fault.line(alloc) {
-            Ok(line) => printed(rt, line.as_str(), Status::of(&fault)),
-            Err(_) => Status::OutOfMemory,
+            Ok(line) => written(alloc, sink, line.as_str(), Ending::Refused),
+            Err(_) => Ending::OutOfMemory,
         },
     }
 }
 
-/// Does what the words ask.
-fn answer(rt: &HostRuntime) -> Status {
-    match words(rt) {
-        Ok(words) => match Command::of(&words) {
-            Some(command) => run(rt, &command),
-            None => Status::Usage,
-        },
-        Err(status) => status,
+impl Program for Bench {
+    fn run<S: Source, K: Sink>(
+        &self,
+        alloc: Global,
+        words: &[Text],
+        _source: &mut S,
+        sink: &mut K,
+    ) -> Ending {
+        match Command::of(words) {
+            Some(command) => measure(alloc, &command, sink),
+            None => Ending::Usage,
+        }
     }
 }
 
 fn main(rt: HostRuntime) -> ExitCode {
-    let status = answer(&rt);
-    if let Some(text) = status.about() {
-        // Where standard error fails too, the status still tells.
-        let _ = eprintln!(rt; "meta_bench: {text}");
-    }
-    ExitCode::from(status.code())
+    start(&rt, &MANUAL, &Bench)
 }

@@ -405,9 +405,9 @@ impl InstructionBuilder {
     }
 
     /// The instruction as it is built, or the first fault that it shows by itself, with this number: a bad name, a bad
-    /// output, another format, no control, a bad derivation, too many operands, or a bad immediate method. `OutOfMemory` may
-    /// come in any case. That the instruction is of the registries is told by `fits` (in the crate it is private, takes the
-    /// builder, and panics).
+    /// output, another format, no control, a bad second control, a bad derivation, too many operands, or a bad immediate
+    /// method. `OutOfMemory` may come in any case. That the instruction is of the registries is told by `fits` (in the crate
+    /// it is private, takes the builder, and panics).
     pub fn build(
         &self,
         alloc: Global,

@@ -1,4 +1,3 @@
 pub mod Asked
-pub mod Ending
 pub mod Misuse
 pub mod Usage

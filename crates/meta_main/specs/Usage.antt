@@ -23,8 +23,8 @@ IsShownAt words place shown = (word : List ℕ) → slice_get words place ≡ So
 abbrev pub wrong_text : Misuse → List ℕ → List ℕ → List ℕ
 wrong_text NoWord name word = codes "no command " ++ name
 wrong_text NoCommand name word = codes "no command " ++ name
-wrong_text (NoNumber place) name word = codes "no number for " ++ (name ++ (codes ": " ++ word))
-wrong_text (WordTooMany place) name word = codes "a word too many for " ++ (name ++ (codes ": " ++ word))
+wrong_text (NoNumber place) name word = word ++ (codes " is no number for " ++ name)
+wrong_text (WordTooMany place) name word = word ++ (codes " is a word too many for " ++ name)
 wrong_text NumberMissing name word = codes "a number is missing for " ++ name
 
 -- the place behind the name of the word that is shown

@@ -4,16 +4,16 @@
 //! A program is what it says of itself, a `Manual`, and what it does with its words, an `impl Program`; its `main` is a call of `start`.
 #![tactic(auto)]
 
+mod about;
 mod asked;
-mod ending;
 mod manual;
 mod misuse;
 mod program;
 mod usage;
 mod word;
 
+pub use about::about;
 pub use asked::Asked;
-pub use ending::Ending;
 pub use manual::{Command, Manual, Range};
 pub use misuse::Misuse;
 pub use program::{Program, start};

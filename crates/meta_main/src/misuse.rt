@@ -1,12 +1,11 @@
-ghost use Rattle.std.specs.Prelude.{◌≡◌, ◌≢◌, ◌↔◌, ◌<◌, ◌≤◌, ◌^◌, ℕ, IsTrue, IfSome, IfNone};
-ghost use Rattle.std.specs.Fmt.{decimal};
+ghost use Rattle.std.specs.Prelude.{◌≡◌, ◌↔◌, IsTrue, IfSome, IfNone};
 ghost use Rattle.meta_main.specs.Usage.{place_of};
 ghost use Rattle.meta_main.specs.Misuse.{IsNumberIn, AreNumbersIn, IsMisuseBehind, IsMisuse, AreWordsOf, IsNamed, NamesNone};
 
 use super::manual::{Command, Range};
 use super::word::is_text;
-use itoa::Buffer;
 use meta_types::Text;
+use meta_words::number_in;
 
 /// Why words are no command of a program (this project's own). A place behind the name of a command counts from 0.
 #[derive(Clone, Copy, Debug, PartialEq, Eq)]
@@ -23,34 +22,13 @@ pub enum Misuse {
     NumberMissing,
 }
 
-/// The number that a word writes: decimal, with no zero before it, at most 4,294,967,295.
-fn number_in(word: &Text) -> Option<u32>
-    ensures some { IfSome result (λ n. word.now ≡ decimal n) }
-    ensures none { IfNone result ((n : ℕ) → n < 2 ^ 32 → word.now ≢ decimal n) }
-{
-    let text = word.as_str();
-    match text.parse::<u32>() {
-        Ok(number) if Buffer::new().format(number) == text => Some(number),
-        _ => None,
-    }
-}
-
-/// Whether the number lies between these, or is one of them.
-fn is_between(least: u32, most: u32, number: u32) -> bool
-    ensures between { IsTrue result ↔ ((least ≤ number) × (number ≤ most)) }
-    ensures few { (most < 2 ^ 32) × (number < 2 ^ 32) }
-{
-    least <= number && number <= most
-}
-
 impl Range {
     /// Whether the word writes one of these numbers: in decimal, with no zero before it.
     pub fn is_written(&self, word: &Text) -> bool
         ensures { IsTrue result ↔ IsNumberIn self.now word.now }
     {
-        let (least, most) = (self.least, self.most);
-        match number_in(word) {
-            Some(number) => is_between(least, most, number),
+        match number_in(word.as_bytes(), u64::from(self.most)) {
+            Some(number) => u64::from(self.least) <= number,
             None => false,
         }
     }

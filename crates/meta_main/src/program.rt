@@ -1,7 +1,8 @@
+use super::about::about;
 use super::asked::Asked;
-use super::ending::Ending;
 use super::manual::Manual;
 use super::usage::usage_line;
+use meta_run::Ending;
 use meta_text::{Sink, Source, StdSink, StdSource};
 use meta_types::Text;
 use std::alloc::Global;
@@ -66,7 +67,7 @@ fn answer<P: Program>(rt: &HostRuntime, manual: &Manual, program: &P, words: &[T
 /// Says in one line on standard error what an ending other than `Done` was about. Where standard error fails too, the exit status
 /// still tells.
 fn tell(rt: &HostRuntime, manual: &Manual, ending: Ending) {
-    if let Some(about) = ending.about() {
+    if let Some(about) = about(ending) {
         let _ = eprintln!(rt; "{}: {about}", manual.name);
     }
 }

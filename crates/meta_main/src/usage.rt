@@ -76,8 +76,8 @@ fn wrong_behind(
     let word = shown_at(alloc, behind, misuse.place())?;
     match misuse {
         Misuse::NoWord | Misuse::NoCommand => format!(in alloc; "no command {name}"),
-        Misuse::NoNumber(_) => format!(in alloc; "no number for {name}: {word}"),
-        Misuse::WordTooMany(_) => format!(in alloc; "a word too many for {name}: {word}"),
+        Misuse::NoNumber(_) => format!(in alloc; "{word} is no number for {name}"),
+        Misuse::WordTooMany(_) => format!(in alloc; "{word} is a word too many for {name}"),
         Misuse::NumberMissing => format!(in alloc; "a number is missing for {name}"),
     }
 }

@@ -40,18 +40,25 @@ impl Status {
         }
     }
 
+    /// The ending that it stands for.
+    pub fn ending(self) -> Ending
+        ensures { result ≡ ending_of self }
+    {
+        match self {
+            Status::Done => Ending::Done,
+            Status::Refused => Ending::Refused,
+            Status::Usage => Ending::Usage,
+            Status::ReadFault => Ending::ReadFault,
+            Status::WriteFault => Ending::WriteFault,
+            Status::OutOfMemory => Ending::OutOfMemory,
+            Status::TooLong => Ending::TooLong,
+        }
+    }
+
     /// The exit status of the process, 0 to 6 in the order above.
     pub fn code(self) -> u8
         ensures { result ≡ code_of (ending_of self) }
     {
-        match self {
-            Status::Done => 0,
-            Status::Refused => 1,
-            Status::Usage => 2,
-            Status::ReadFault => 3,
-            Status::WriteFault => 4,
-            Status::OutOfMemory => 5,
-            Status::TooLong => 6,
-        }
+        self.ending().code()
     }
 }

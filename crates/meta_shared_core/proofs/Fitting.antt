@@ -1,15 +1,20 @@
 -- Instructions of rows fit the registries.
-use Rattle.std.proofs.Common.{◌≡◌, ◌∙◌, ◌<◌, ◌+◌, ℕ, List, [], ◌∷◌, ◌++◌, length, map, slice_get, Option, Some, None, zero, suc, ap, sym, subst, refl, ⊎_elim, rules, arith}
+use Rattle.std.proofs.Common.{◌≡◌, ◌∙◌, ◌<◌, ◌+◌, ℕ, List, [], ◌∷◌, ◌++◌, length, map, slice_get, Option, Some, None, zero, suc, ap, sym, subst, refl, rules, arith}
+use Rattle.std.specs.List.{AllZip}
 use Rattle.std.proofs.lemmas.List.{length-append, map-append}
 use Rattle.std.proofs.lemmas.Option.{same_Some}
-use Rattle.meta_lists.proofs.Places.{get_cases}
+use Rattle.meta_lists.proofs.Pairs.{pairs_imply, pairs_joined}
 use Rattle.meta_typevar.specs.declared.content.TypeVarContent.{TypeVarContent}
 use Rattle.meta_operands.specs.Kind.{variable_in}
 use Rattle.meta_operands.specs.Operand.{variable_of, variables_of}
 use Rattle.meta_operands.specs.declared.operand.Operand.{Operand}
 use Rattle.meta_operands.specs.declared.kind.OperandKind.{OperandKind}
 use Rattle.meta_inst.specs.Builder.{Builder, inputs_of, outputs_of}
+use Rattle.meta_inst.specs.InstructionSet.{FitsBuilder}
 use Rattle.meta_inst.specs.Operands.{AreOf}
+use Rattle.meta_operands.specs.declared.format.InstructionFormat.{InstructionFormat}
+use Rattle.meta_shared_core.specs.Formats.{AreFormatsOf}
+use Rattle.meta_shared_core.specs.declared.format.Format.{Format}
 use Rattle.meta_shared_core.specs.declared.formats.Formats.{Formats}
 use Rattle.meta_shared_core.proofs.Growing.{meant_grows}
 use Rattle.meta_shared_core.specs.declared.entities.EntityRefs.{EntityRefs}
@@ -22,7 +27,7 @@ use Rattle.meta_shared_core.specs.declared.word.Word.{Word}
 use Rattle.meta_shared_core.specs.declared.word.Word.TheVariants.{Kind as AKind, Root as ARoot, Derived as ADerived}
 use Rattle.meta_shared_core.specs.Kinds.{kind_of, HoldsNoVariable, EntitiesHoldNoVariable, ImmediatesHoldNoVariable}
 use Rattle.meta_shared_core.specs.Words.{Meanings, AreMeant, Grows, IsKindOfWord}
-use Rattle.meta_shared_core.specs.Rows.{AreOperandsOf, IsBuilderOf, AreBuildersOf, AddsRows, FitsNames, builder_name, row_name}
+use Rattle.meta_shared_core.specs.Rows.{AreOperandsOf, IsBuilderOf, AreBuildersOf, AddsRows, FitsNames, builder_name, row_name, row_format}
 
 -- something isn't nothing
 apart : {X : Type 0} (x : X) → None ≡ Some x → ⊥
@@ -85,21 +90,31 @@ operands_of vars m (row ∷ rows) [] meant h = absurd h
 operands_of vars m (row ∷ rows) (o ∷ operands) meant h = are_of_cons vars o operands (variable_of o) refl (λ n at. kind_below vars m row.word o.kind n meant h.0.kind at) (operands_of vars m rows operands meant h.1)
 
 -- an instruction that is what a row says names variables of these and formats of these alone
-row_fits : (vars : List TypeVarContent) (m : Meanings) (row : Row) (b : Builder) → AreMeant vars m → IsBuilderOf vars m row b → FitsNames vars m.formats b
-row_fits vars m row b meant h formats of = record {
+row_fitting : (vars : List TypeVarContent) (m : Meanings) (row : Row) (b : Builder) → AreMeant vars m → IsBuilderOf vars m row b → (formats : List InstructionFormat) → AreFormatsOf (length formats) m.formats → FitsBuilder vars formats b
+row_fitting vars m row b meant h formats of = record {
   format = subst (λ id. id < length formats) (sym h.format) (of row.format);
   outputs = operands_of vars m row.outputs.now (outputs_of b) meant h.outputs;
   inputs = operands_of vars m row.inputs.now (inputs_of b) meant h.inputs;
   second = λ s e. absurd (apart s (sym h.second ∙ e));
 }
 
+row_fits : (vars : List TypeVarContent) (m : Meanings) (row : Row) (b : Builder) → AreMeant vars m → IsBuilderOf vars m row b → FitsNames vars m.formats row.format b
+row_fits vars m row b meant h = record { number = h.format; fits = row_fitting vars m row b meant h }
+
 -- each of them does
-pub builders_fit : (vars : List TypeVarContent) (m : Meanings) (rows : List Row) (builders : List Builder) → AreMeant vars m → AreBuildersOf vars m rows builders → (k : ℕ) (b : Builder) → slice_get builders k ≡ Some b → FitsNames vars m.formats b
-builders_fit vars m [] [] meant h k b at = absurd (apart b at)
-builders_fit vars m [] (c ∷ builders) meant h k b at = absurd h
-builders_fit vars m (row ∷ rows) [] meant h k b at = absurd h
-builders_fit vars m (row ∷ rows) (c ∷ builders) meant h zero b at = subst (FitsNames vars m.formats) (same_Some _ _ at) (row_fits vars m row c meant h.0)
-builders_fit vars m (row ∷ rows) (c ∷ builders) meant h (suc k) b at = builders_fit vars m rows builders meant h.1 k b at
+pub builders_fit : (vars : List TypeVarContent) (m : Meanings) (rows : List Row) (builders : List Builder) → AreMeant vars m → AreBuildersOf vars m rows builders → AllZip (FitsNames vars m.formats) (map row_format rows) builders
+builders_fit vars m [] [] meant h = h
+builders_fit vars m [] (b ∷ builders) meant h = absurd h
+builders_fit vars m (row ∷ rows) [] meant h = absurd h
+builders_fit vars m (row ∷ rows) (b ∷ builders) meant h = (row_fits vars m row b meant h.0, builders_fit vars m rows builders meant h.1)
+
+-- one of those that fit, each with its format, fits with some format
+pub one_fits : (vars : List TypeVarContent) (f : Formats) (formats : List Format) (builders : List Builder) → AllZip (FitsNames vars f) formats builders → (k : ℕ) (b : Builder) → slice_get builders k ≡ Some b → (format : Format) × FitsNames vars f format b
+one_fits vars f [] [] h k b at = absurd (apart b at)
+one_fits vars f [] (c ∷ builders) h k b at = absurd h
+one_fits vars f (format ∷ formats) [] h k b at = absurd h
+one_fits vars f (format ∷ formats) (c ∷ builders) h zero b at = (format, subst (FitsNames vars f format) (same_Some _ _ at) h.0)
+one_fits vars f (format ∷ formats) (c ∷ builders) h (suc k) b at = one_fits vars f formats builders h.1 k b at
 
 -- the names are those of the rows
 pub builders_named : (vars : List TypeVarContent) (m : Meanings) (rows : List Row) (builders : List Builder) → AreBuildersOf vars m rows builders → map builder_name builders ≡ map row_name rows
@@ -109,8 +124,8 @@ builders_named vars m (row ∷ rows) [] h = absurd h
 builders_named vars m (row ∷ rows) (b ∷ builders) h = ap (λ n. n ∷ map builder_name builders) h.0.name ∙ ap (λ ns. row.name.now ∷ ns) (builders_named vars m rows builders h.1)
 
 -- no instruction fits too
-pub none_fit : {vars : List TypeVarContent} {f : Formats} {all : List Builder} → all ≡ [] → (k : ℕ) (b : Builder) → slice_get all k ≡ Some b → FitsNames vars f b
-none_fit none k b at = let at_none : slice_get [] k ≡ Some b = ap (λ xs. slice_get xs k) (sym none) ∙ at in absurd (cc)
+pub none_fit : (vars : List TypeVarContent) (f : Formats) {all : List Builder} → all ≡ [] → AllZip (FitsNames vars f) [] all
+none_fit vars f none = subst (AllZip (FitsNames vars f) []) (sym none) tt
 
 pub names_added : {vars : List TypeVarContent} {m : Meanings} {rows : List Row} {old new : List Builder} → AddsRows vars m rows old new → map builder_name new ≡ map builder_name old ++ map row_name rows
 names_added {vars} {m} {rows} {old} adds = ap (map builder_name) adds.is ∙ (map-append builder_name old adds.more ∙ ap (λ xs. map builder_name old ++ xs) (builders_named vars m rows adds.more adds.builders))
@@ -119,8 +134,8 @@ below_more : (v few all more : ℕ) → v < few → all ≡ few + more → v < a
 below_more v few all more l e = omega arith
 
 -- the variables of a greater registry are those of the smaller, and more
-fits_grow : {n : ℕ} {old new : List TypeVarContent} (f : Formats) (b : Builder) → Grows n old new → FitsNames old f b → FitsNames new f b
-fits_grow {n} {old} {new} f b grows h formats of =
+fitting_grows : {n : ℕ} {old new : List TypeVarContent} (f : Formats) (b : Builder) → Grows n old new → ((formats : List InstructionFormat) → AreFormatsOf (length formats) f → FitsBuilder old formats b) → (formats : List InstructionFormat) → AreFormatsOf (length formats) f → FitsBuilder new formats b
+fitting_grows {n} {old} {new} f b grows h formats of =
     let fits = h formats of in
     let longer : length new ≡ length old + length grows.more = ap length grows.is ∙ length-append old grows.more in
     record {
@@ -130,9 +145,12 @@ fits_grow {n} {old} {new} f b grows h formats of =
       second = λ s e. below_more s (length old) (length new) (length grows.more) (fits.second s e) longer;
     }
 
--- those that were there and those that are added name these variables and formats alone
-pub all_fit : {n : ℕ} {old new : List TypeVarContent} {m : Meanings} {rows : List Row} {start all : List Builder} → Grows n old new → AreMeant old m → AddsRows new m rows start all → ((k : ℕ) (b : Builder) → slice_get start k ≡ Some b → FitsNames old m.formats b) → (k : ℕ) (b : Builder) → slice_get all k ≡ Some b → FitsNames new m.formats b
-all_fit {n} {old} {new} {m} {rows} {start} {all} grows meant adds fit k b at = ⊎_elim
-    (λ e. fits_grow m.formats b grows (fit k b e))
-    (λ e. builders_fit new m rows adds.more (meant_grows grows meant) adds.builders e.0 b e.2)
-    (get_cases start adds.more k b (ap (λ xs. slice_get xs k) (sym adds.is) ∙ at))
+fits_grow : {n : ℕ} {old new : List TypeVarContent} (f : Formats) → Grows n old new → (format : Format) (b : Builder) → FitsNames old f format b → FitsNames new f format b
+fits_grow f grows format b h = record { number = h.number; fits = fitting_grows f b grows h.fits }
+
+-- those that were there and those that are added are of their formats, and name these variables alone
+pub all_fit : {n : ℕ} {old new : List TypeVarContent} {m : Meanings} {rows : List Row} {start all : List Builder} (formats : List Format) → Grows n old new → AreMeant old m → AddsRows new m rows start all → AllZip (FitsNames old m.formats) formats start → AllZip (FitsNames new m.formats) (formats ++ map row_format rows) all
+all_fit {n} {old} {new} {m} {rows} {start} {all} formats grows meant adds fit = subst (AllZip (FitsNames new m.formats) (formats ++ map row_format rows)) (sym adds.is)
+    (pairs_joined (FitsNames new m.formats) formats (map row_format rows) start adds.more
+    (pairs_imply (FitsNames old m.formats) (FitsNames new m.formats) (fits_grow m.formats grows) formats start fit)
+    (builders_fit new m rows adds.more (meant_grows grows meant) adds.builders))

@@ -8,3 +8,4 @@ mod Rooted
 pub mod Growing
 pub mod Made
 pub mod Fitting
+pub mod Named

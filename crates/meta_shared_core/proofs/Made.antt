@@ -11,10 +11,11 @@ use Rattle.meta_lists.proofs.Pairs.{pairs_joined}
 use Rattle.meta_typevar.specs.declared.content.TypeVarContent.{TypeVarContent}
 use Rattle.meta_operands.specs.declared.operand.Operand.{Operand}
 use Rattle.meta_inst.specs.Builder.{Builder}
+use Rattle.meta_shared_core.specs.declared.format.Format.{Format}
 use Rattle.meta_shared_core.specs.declared.row.OperandRow.{OperandRow}
 use Rattle.meta_shared_core.specs.declared.row.Row.{Row}
 use Rattle.meta_shared_core.specs.Words.{Meanings, Grows, is_derived, derived_count}
-use Rattle.meta_shared_core.specs.Rows.{IsOperandOf, AreOperandsOf, IsBuilderOf, AreBuildersOf, AddsRows, derived_among, derived_in_row, derived_in, is_derivable_row, rows_in, row_name, IsTable}
+use Rattle.meta_shared_core.specs.Rows.{IsOperandOf, AreOperandsOf, IsBuilderOf, AreBuildersOf, AddsRows, derived_among, derived_in_row, derived_in, is_derivable_row, rows_in, row_name, row_format, IsTable}
 use Rattle.meta_shared_core.proofs.Growing.{builders_grow}
 
 -- the operands of one row more
@@ -69,9 +70,10 @@ table_derivable (t ∷ tables) zero d within e = (and_parts (list_all is_derivab
 table_derivable (t ∷ tables) (suc k) d within e = table_derivable tables k d (omega arith) (and_parts (list_all is_derivable_row t.now) (list_all is_derivable_row (rows_in tables)) (sym (list_all-append is_derivable_row t.now (rows_in tables)) ∙ e)).1
 
 -- the rows of a table before those of others
-pub tables_joined : (names others : List (List ℕ)) (derived more : ℕ) (rows behind : List Row) → IsTable names derived rows → IsTable others more behind → IsTable (names ++ others) (derived + more) (rows ++ behind)
-tables_joined names others derived more rows behind first then = record {
+pub tables_joined : (names others : List (List ℕ)) (formats of : List Format) (derived more : ℕ) (rows behind : List Row) → IsTable names formats derived rows → IsTable others of more behind → IsTable (names ++ others) (formats ++ of) (derived + more) (rows ++ behind)
+tables_joined names others formats of derived more rows behind first then = record {
   are_named = map-append row_name rows behind ∙ (ap (λ xs. xs ++ map row_name behind) first.are_named ∙ ap (λ xs. names ++ xs) then.are_named);
+  are_of = map-append row_format rows behind ∙ (ap (λ xs. xs ++ map row_format behind) first.are_of ∙ ap (λ xs. formats ++ xs) then.are_of);
   are_derived = sum_by-append derived_in_row rows behind ∙ (ap (λ n. n + derived_in behind) first.are_derived ∙ ap (λ n. derived + n) then.are_derived);
   derivable = list_all-append is_derivable_row rows behind ∙ (ap (λ b. b && list_all is_derivable_row behind) first.derivable ∙ then.derivable);
 }

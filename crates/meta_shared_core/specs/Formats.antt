@@ -1,6 +1,7 @@
 -- The formats of the shared instruction set.
 --     place_of w                 the place of the format w among the 36, from 0
 --     id_of f w                  its number
+--     name_at w                  its name
 --     format_of imm entities row      the format that a row describes
 --     AreFormatsOf n f           each number is below n
 use Rattle.std.specs.Prelude.{◌≡◌, ℕ, ◌+◌, ◌<◌, ◌^◌, ◌&&◌, nat_lt, Bool, true, false, List, [], ◌∷◌, ◌++◌, Option, None, Some, length, map, take, slice_get, codes, count_by}
@@ -183,6 +184,13 @@ IsFormatRow row = is_format_row row ≡ true
 
 abbrev pub row_name : FormatRow → List ℕ
 row_name row = row.name.now
+
+abbrev pub format_name : InstructionFormat → List ℕ
+format_name format = format.name
+
+-- the name that stands at the place of a format
+abbrev pub name_at : Format → Option (List ℕ)
+name_at format = slice_get format_names (place_of format)
 
 -- the rows have the names of the formats, and each can be built
 pub record AreFormatRows (rows : List FormatRow) : Type 0 where

@@ -6,4 +6,5 @@ pub mod RootRows
 pub mod Words
 pub mod Rows
 pub mod CoreNames
+pub mod CoreFormats
 pub mod Settings

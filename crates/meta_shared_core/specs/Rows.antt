@@ -2,8 +2,8 @@
 --     IsOperandOf vars m row o       the operand is what the row says
 --     IsBuilderOf vars m row b       the instruction is what the row says
 --     AddsRows vars m rows old new   an instruction is added for each row, in order
---     FitsNames vars f b             the instruction names variables of vars and formats of f alone
-use Rattle.std.specs.Prelude.{◌≡◌, ◌+◌, ◌&&◌, ℕ, Bool, true, List, [], ◌∷◌, ◌++◌, length, map, Option, None, count_by, sum_by}
+--     FitsNames vars f format b      the instruction is of this format of f, and names variables of vars alone
+use Rattle.std.specs.Prelude.{◌≡◌, ◌+◌, ◌&&◌, ℕ, Bool, true, List, [], ◌∷◌, ◌++◌, length, map, slice_get, Option, None, count_by, sum_by}
 use Rattle.std.specs.List.{AllZip, flat_map, list_all}
 use Rattle.std.specs.Borrow.{Bor}
 use Rattle.std.specs.Option.{option_map}
@@ -15,8 +15,9 @@ use Rattle.meta_inst.specs.Builder.{Builder, inputs_of, outputs_of}
 use Rattle.meta_inst.specs.InstructionSet.{FitsBuilder}
 use Rattle.meta_inst.specs.Marks.{no_marks, terminator, branch, returning}
 use Rattle.meta_inst.specs.declared.marks.Marks.{Marks}
-use Rattle.meta_shared_core.specs.Formats.{AreFormatsOf, id_of}
+use Rattle.meta_shared_core.specs.Formats.{AreFormatsOf, format_name, id_of}
 use Rattle.meta_shared_core.specs.Words.{Meanings, IsKindOfWord, is_derived, is_derivable}
+use Rattle.meta_shared_core.specs.declared.format.Format.{Format}
 use Rattle.meta_shared_core.specs.declared.formats.Formats.{Formats}
 use Rattle.meta_shared_core.specs.declared.row.Mark.{Mark}
 use Rattle.meta_shared_core.specs.declared.row.Mark.TheVariants.{Branch, Terminator, Call, Return, Load, Store, Trap, OtherEffect, Idempotent, ImmMethod}
@@ -99,15 +100,25 @@ rows_in tables = flat_map (λ table. table.now) tables
 abbrev pub row_name : Row → List ℕ
 row_name row = row.name.now
 
--- the rows have these names, so many operands of derived variables, and each of these can be derived
-pub record IsTable (names : List (List ℕ)) (derived : ℕ) (rows : List Row) : Type 0 where
+abbrev pub row_format : Row → Format
+row_format row = row.format
+
+-- the rows have these names and these formats, so many operands of derived variables, and each of these can be derived
+pub record IsTable (names : List (List ℕ)) (formats : List Format) (derived : ℕ) (rows : List Row) : Type 0 where
   pub are_named : map row_name rows ≡ names
+  pub are_of : map row_format rows ≡ formats
   pub are_derived : derived_in rows ≡ derived
   pub derivable : list_all is_derivable_row rows ≡ true
 
 abbrev pub builder_name : Builder → List ℕ
 builder_name b = b.name
 
--- the instruction names variables of vars, and formats of f alone: it fits any formats that those of f are of
-abbrev pub FitsNames : List TypeVarContent → Formats → Builder → Type 0
-FitsNames vars f b = (formats : List InstructionFormat) → AreFormatsOf (length formats) f → FitsBuilder vars formats b
+-- the instruction has the number that this format has in f, and names variables of vars alone: it fits any formats that those of f
+-- are of
+pub record FitsNames (vars : List TypeVarContent) (f : Formats) (format : Format) (b : Builder) : Type 0 where
+  pub number : b.format ≡ id_of f format
+  pub fits : (formats : List InstructionFormat) → AreFormatsOf (length formats) f → FitsBuilder vars formats b
+
+-- the name of the format whose number an instruction has, if there is a format of this number
+abbrev pub named_format : List InstructionFormat → Builder → Option (List ℕ)
+named_format formats b = option_map format_name (slice_get formats b.format)

@@ -1,5 +1,6 @@
-ghost use Rattle.std.specs.Prelude.{◌≡◌, ◌≤◌, ℕ, IfOk, OnOk, length, map, slice_get, Some, []};
-ghost use Rattle.meta_inst.specs.Builder.{Builder};
+ghost use Rattle.std.specs.Prelude.{◌≡◌, ◌≤◌, IfOk, OnOk, length, map, []};
+ghost use Rattle.std.specs.List.{AllZip};
+ghost use Rattle.meta_shared_core.specs.CoreFormats.{core_formats};
 ghost use Rattle.meta_shared_core.specs.CoreNames.{core_names};
 ghost use Rattle.meta_shared_core.specs.Kinds.{EntitiesHoldNoVariable, ImmediatesHoldNoVariable};
 ghost use Rattle.meta_shared_core.specs.Roots.{AreNumberedRoots, AreRoots};
@@ -37,10 +38,10 @@ pub fn core_instructions(
     ensures numbers { IfOk result AreNumberedRoots }
     ensures few { OnOk result (length vars.new ≤ 100) }
 
-    // The instructions have their names in order, and name these variables and formats alone.
+    // The instructions have their names in order, and each is of its format and names these variables alone.
     ensures names { OnOk result (map builder_name all.new ≡ core_names) }
     ensures count { OnOk result (length all.new ≡ 72) }
-    ensures fit { OnOk result ((k : ℕ) (b : Builder) → slice_get all.new k ≡ Some b → FitsNames vars.new formats.now b) }
+    ensures fit { OnOk result (AllZip (FitsNames vars.new formats.now) core_formats all.new) }
 {
     let roots = Roots::new(alloc, vars)?;
     let names = Names::new(formats, imm, entities, &roots);

@@ -1,5 +1,6 @@
 ghost use Rattle.meta_shared_core.specs.Rows.{IsTable, rows_in};
 ghost use Rattle.meta_shared_core.specs.CoreNames.{core_names, control_flow_names, calls_names, lanes_names, vector_integers_names, memory_names, vector_loads_names, addresses_names, constants_names, selection_names};
+ghost use Rattle.meta_shared_core.specs.CoreFormats.{core_formats, control_flow_formats, calls_formats, lanes_formats, vector_integers_formats, memory_formats, vector_loads_formats, addresses_formats, constants_formats, selection_formats};
 
 use super::row::Row;
 use super::rows;
@@ -26,7 +27,7 @@ static CONTROL_FLOW: [Row; 8] = rows! {
 
 /// The instructions 1 to 8.
 fn control_flow() -> &'static [Row]
-    ensures { IsTable control_flow_names 0 result.now }
+    ensures { IsTable control_flow_names control_flow_formats 0 result.now }
 {
     &CONTROL_FLOW
 }
@@ -51,7 +52,7 @@ static CALLS: [Row; 7] = rows! {
 
 /// The instructions 9 to 15.
 fn calls() -> &'static [Row]
-    ensures { IsTable calls_names 0 result.now }
+    ensures { IsTable calls_names calls_formats 0 result.now }
 {
     &CALLS
 }
@@ -72,7 +73,7 @@ static LANES: [Row; 5] = rows! {
 
 /// The instructions 16 to 20.
 fn lanes() -> &'static [Row]
-    ensures { IsTable lanes_names 3 result.now }
+    ensures { IsTable lanes_names lanes_formats 3 result.now }
 {
     &LANES
 }
@@ -101,7 +102,7 @@ static VECTOR_INTEGERS: [Row; 9] = rows! {
 
 /// The instructions 21 to 29.
 fn vector_integers() -> &'static [Row]
-    ensures { IsTable vector_integers_names 0 result.now }
+    ensures { IsTable vector_integers_names vector_integers_formats 0 result.now }
 {
     &VECTOR_INTEGERS
 }
@@ -136,7 +137,7 @@ static MEMORY: [Row; 12] = rows! {
 
 /// The instructions 30 to 41.
 fn memory() -> &'static [Row]
-    ensures { IsTable memory_names 0 result.now }
+    ensures { IsTable memory_names memory_formats 0 result.now }
 {
     &MEMORY
 }
@@ -159,7 +160,7 @@ static VECTOR_LOADS: [Row; 6] = rows! {
 
 /// The instructions 42 to 47.
 fn vector_loads() -> &'static [Row]
-    ensures { IsTable vector_loads_names 0 result.now }
+    ensures { IsTable vector_loads_names vector_loads_formats 0 result.now }
 {
     &VECTOR_LOADS
 }
@@ -190,7 +191,7 @@ static ADDRESSES: [Row; 10] = rows! {
 
 /// The instructions 48 to 57.
 fn addresses() -> &'static [Row]
-    ensures { IsTable addresses_names 0 result.now }
+    ensures { IsTable addresses_names addresses_formats 0 result.now }
 {
     &ADDRESSES
 }
@@ -217,7 +218,7 @@ static CONSTANTS: [Row; 8] = rows! {
 
 /// The instructions 58 to 65.
 fn constants() -> &'static [Row]
-    ensures { IsTable constants_names 0 result.now }
+    ensures { IsTable constants_names constants_formats 0 result.now }
 {
     &CONSTANTS
 }
@@ -242,14 +243,14 @@ static SELECTION: [Row; 7] = rows! {
 
 /// The instructions 66 to 72.
 fn selection() -> &'static [Row]
-    ensures { IsTable selection_names 0 result.now }
+    ensures { IsTable selection_names selection_formats 0 result.now }
 {
     &SELECTION
 }
 
 /// The tables of the instructions 1 to 72.
 pub(crate) fn core_tables() -> [&'static [Row]; 9]
-    ensures { IsTable core_names 3 (rows_in result) }
+    ensures { IsTable core_names core_formats 3 (rows_in result) }
 {
     [
         control_flow(),

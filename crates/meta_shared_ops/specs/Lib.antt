@@ -1,1 +1,2 @@
 pub mod OpsNames
+pub mod OpsFormats

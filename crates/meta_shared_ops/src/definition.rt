@@ -1,10 +1,13 @@
-ghost use Rattle.std.specs.Prelude.{◌≡◌, ◌++◌, [], ℕ, IfOk, OnOk, All, length, map, slice_get, Some};
-ghost use Rattle.meta_inst.specs.Builder.{Builder};
+ghost use Rattle.std.specs.Prelude.{◌≡◌, ◌++◌, [], IfOk, OnOk, All, length, map};
+ghost use Rattle.std.specs.List.{AllZip};
 ghost use Rattle.meta_inst.specs.Faults.{names_of};
+ghost use Rattle.meta_shared_core.specs.CoreFormats.{core_formats};
 ghost use Rattle.meta_shared_core.specs.CoreNames.{core_names};
+ghost use Rattle.meta_shared_core.specs.Formats.{name_at};
 ghost use Rattle.meta_shared_core.specs.Kinds.{EntitiesHoldNoVariable, ImmediatesHoldNoVariable};
-ghost use Rattle.meta_shared_core.specs.Rows.{FitsNames, builder_name};
+ghost use Rattle.meta_shared_core.specs.Rows.{FitsNames, builder_name, named_format};
 ghost use Rattle.meta_shared_core.specs.Settings.{IsSharedGroup};
+ghost use Rattle.meta_shared_ops.specs.OpsFormats.{ops_formats};
 ghost use Rattle.meta_shared_ops.specs.OpsNames.{ops_names};
 
 use super::tables::ops_tables;
@@ -31,7 +34,7 @@ fn add_instructions(
     requires immediates { ImmediatesHoldNoVariable imm.now }
     requires entities { EntitiesHoldNoVariable entities.now }
     ensures names { OnOk result (map builder_name all.new ≡ core_names ++ ops_names) }
-    ensures fit { OnOk result ((k : ℕ) (b : Builder) → slice_get all.new k ≡ Some b → FitsNames vars.new formats.now b) }
+    ensures fit { OnOk result (AllZip (FitsNames vars.new formats.now) (core_formats ++ ops_formats) all.new) }
 {
     let roots = core_instructions(alloc, vars, all, formats, imm, entities)?;
     let names = Names::new(formats, imm, entities, &roots);
@@ -44,6 +47,7 @@ pub fn define(alloc: Global) -> Result<Declarations, AllocError>
     ensures formats { IfOk result (λ d. length d.set.formats ≡ 36) }
     ensures instructions { IfOk result (λ d. length d.set.instructions ≡ 163) }
     ensures names { IfOk result (λ d. names_of d.set ≡ core_names ++ ops_names) }
+    ensures of_formats { IfOk result (λ d. map (named_format d.set.formats) d.set.instructions ≡ map name_at (core_formats ++ ops_formats)) }
     ensures groups { IfOk result (λ d. length d.groups ≡ 1) }
     ensures group { IfOk result (λ d. All IsSharedGroup d.groups) }
 {

@@ -1,6 +1,7 @@
 ghost use Rattle.std.specs.Prelude.{take, drop};
 ghost use Rattle.meta_shared_core.specs.Rows.{IsTable, rows_in};
 ghost use Rattle.meta_shared_ops.specs.OpsNames.{ops_names, arithmetic_names, division_names, overflow_names, bitwise_names, bit_counts_names, floats_names, rounding_names, casts_names, lane_widths_names, extension_names, number_casts_names, last_rows_names};
+ghost use Rattle.meta_shared_ops.specs.OpsFormats.{ops_formats, arithmetic_formats, division_formats, overflow_formats, bitwise_formats, bit_counts_formats, floats_formats, rounding_formats, casts_formats, lane_widths_formats, extension_formats, number_casts_formats, last_rows_formats};
 
 use meta_shared_core::{Row, rows};
 
@@ -30,7 +31,7 @@ static ARITHMETIC: [Row; 10] = rows! {
 
 /// The instructions 73 to 82.
 fn arithmetic() -> &'static [Row]
-    ensures { IsTable arithmetic_names 1 result.now }
+    ensures { IsTable arithmetic_names arithmetic_formats 1 result.now }
 {
     &ARITHMETIC
 }
@@ -49,7 +50,7 @@ static DIVISION: [Row; 4] = rows! {
 
 /// The instructions 83 to 86.
 fn division() -> &'static [Row]
-    ensures { IsTable division_names 0 result.now }
+    ensures { IsTable division_names division_formats 0 result.now }
 {
     &DIVISION
 }
@@ -82,7 +83,7 @@ static OVERFLOW: [Row; 11] = rows! {
 
 /// The instructions 87 to 97.
 fn overflow() -> &'static [Row]
-    ensures { IsTable overflow_names 0 result.now }
+    ensures { IsTable overflow_names overflow_formats 0 result.now }
 {
     &OVERFLOW
 }
@@ -111,7 +112,7 @@ static BITWISE: [Row; 9] = rows! {
 
 /// The instructions 98 to 106.
 fn bitwise() -> &'static [Row]
-    ensures { IsTable bitwise_names 0 result.now }
+    ensures { IsTable bitwise_names bitwise_formats 0 result.now }
 {
     &BITWISE
 }
@@ -134,7 +135,7 @@ static BIT_COUNTS: [Row; 6] = rows! {
 
 /// The instructions 107 to 112.
 fn bit_counts() -> &'static [Row]
-    ensures { IsTable bit_counts_names 0 result.now }
+    ensures { IsTable bit_counts_names bit_counts_formats 0 result.now }
 {
     &BIT_COUNTS
 }
@@ -169,7 +170,7 @@ static FLOATS: [Row; 12] = rows! {
 
 /// The instructions 113 to 124.
 fn floats() -> &'static [Row]
-    ensures { IsTable floats_names 1 result.now }
+    ensures { IsTable floats_names floats_formats 1 result.now }
 {
     &FLOATS
 }
@@ -188,7 +189,7 @@ static ROUNDING: [Row; 4] = rows! {
 
 /// The instructions 125 to 128.
 fn rounding() -> &'static [Row]
-    ensures { IsTable rounding_names 0 result.now }
+    ensures { IsTable rounding_names rounding_formats 0 result.now }
 {
     &ROUNDING
 }
@@ -207,7 +208,7 @@ static CASTS: [Row; 4] = rows! {
 
 /// The instructions 129 to 132.
 fn casts() -> &'static [Row]
-    ensures { IsTable casts_names 2 result.now }
+    ensures { IsTable casts_names casts_formats 2 result.now }
 {
     &CASTS
 }
@@ -236,7 +237,7 @@ static LANE_WIDTHS: [Row; 9] = rows! {
 
 /// The instructions 133 to 141.
 fn lane_widths() -> &'static [Row]
-    ensures { IsTable lane_widths_names 7 result.now }
+    ensures { IsTable lane_widths_names lane_widths_formats 7 result.now }
 {
     &LANE_WIDTHS
 }
@@ -259,7 +260,7 @@ static EXTENSION: [Row; 6] = rows! {
 
 /// The instructions 142 to 147.
 fn extension() -> &'static [Row]
-    ensures { IsTable extension_names 4 result.now }
+    ensures { IsTable extension_names extension_formats 4 result.now }
 {
     &EXTENSION
 }
@@ -284,7 +285,7 @@ static NUMBER_CASTS: [Row; 7] = rows! {
 
 /// The instructions 148 to 154.
 fn number_casts() -> &'static [Row]
-    ensures { IsTable number_casts_names 0 result.now }
+    ensures { IsTable number_casts_names number_casts_formats 0 result.now }
 {
     &NUMBER_CASTS
 }
@@ -299,7 +300,7 @@ static HALVES: [Row; 2] = rows! {
 
 /// The instructions 155 and 156.
 fn halves() -> &'static [Row]
-    ensures { IsTable (take 2 last_rows_names) 3 result.now }
+    ensures { IsTable (take 2 last_rows_names) (take 2 last_rows_formats) 3 result.now }
 {
     &HALVES
 }
@@ -320,7 +321,7 @@ static ATOMICS: [Row; 5] = rows! {
 
 /// The instructions 157 to 161.
 fn atomics() -> &'static [Row]
-    ensures { IsTable (take 5 (drop 2 last_rows_names)) 0 result.now }
+    ensures { IsTable (take 5 (drop 2 last_rows_names)) (take 5 (drop 2 last_rows_formats)) 0 result.now }
 {
     &ATOMICS
 }
@@ -335,14 +336,14 @@ static LAST_ROWS: [Row; 2] = rows! {
 
 /// The instructions 162 and 163.
 fn last_rows() -> &'static [Row]
-    ensures { IsTable (drop 7 last_rows_names) 1 result.now }
+    ensures { IsTable (drop 7 last_rows_names) (drop 7 last_rows_formats) 1 result.now }
 {
     &LAST_ROWS
 }
 
 /// The tables of the instructions 73 to 163.
 pub(crate) fn ops_tables() -> [&'static [Row]; 14]
-    ensures { IsTable ops_names 19 (rows_in result) }
+    ensures { IsTable ops_names ops_formats 19 (rows_in result) }
 {
     [
         arithmetic(),

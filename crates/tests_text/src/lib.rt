@@ -8,6 +8,8 @@ mod buffers;
 #[cfg(test)]
 mod copies;
 #[cfg(test)]
+mod ends;
+#[cfg(test)]
 mod expect;
 #[cfg(test)]
 mod faults;

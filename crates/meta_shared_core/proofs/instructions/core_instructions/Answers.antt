@@ -1,11 +1,12 @@
-use Rattle.std.proofs.Common.{◌∙◌, ◌++◌, arith, length, length-append, map, sym, ap, subst}
+use Rattle.std.proofs.Common.{◌∙◌, ◌++◌, [], arith, length, length-append, map, sym, ap, subst}
+use Rattle.std.specs.List.{AllZip}
 use Rattle.std.proofs.lemmas.List.{length-map}
 use Rattle.std.proofs.lemmas.Result.{IfOk-from_err}
 use Rattle.meta_shared_core.specs.CoreNames.{core_names}
 use Rattle.meta_shared_core.specs.Roots.{AreRoots}
 use Rattle.meta_shared_core.specs.Words.{Meanings, AreMeant}
 use Rattle.meta_shared_core.proofs.Growing.{meant_grows}
-use Rattle.meta_shared_core.specs.Rows.{builder_name, row_name, rows_in, FitsNames}
+use Rattle.meta_shared_core.specs.Rows.{builder_name, row_name, row_format, rows_in, FitsNames}
 use Rattle.meta_shared_core.proofs.Fitting.{all_fit, none_fit, names_added}
 use Rattle.meta_shared_core.proofs.instructions.core_instructions.Goals as goal
 
@@ -18,10 +19,11 @@ unfolding core_names
 returns-clause-count c = sym (length-map c.push_tables.new.all builder_name) ∙ ap length (returns-clause-names c)
 
 pub returns-clause-fit : goal.returns-clause-fit
-returns-clause-fit c = λ k b at.
+returns-clause-fit c =
     let meant : AreMeant c.new.new.vars c.new-names.result = subst (AreMeant c.new.new.vars) (sym c.new-names.ensures) (record { immediates = c.requires.immediates; entities = c.requires.entities; roots = c.in_ok-roots.ensures.roots }) in
-    subst (λ f. FitsNames c.push_tables.new.vars f b) (ap (λ (m : Meanings). m.formats) c.new-names.ensures)
-    (all_fit c.in_ok-push_tables.ensures.grows meant c.in_ok-push_tables.ensures.rows (none_fit c.requires.no_instruction) k b at)
+    subst (λ formats. AllZip (FitsNames c.push_tables.new.vars c.args.formats.now) formats c.push_tables.new.all) c.core_tables.ensures.are_of
+    (subst (λ f. AllZip (FitsNames c.push_tables.new.vars f) (map row_format (rows_in c.core_tables.result)) c.push_tables.new.all) (ap (λ (m : Meanings). m.formats) c.new-names.ensures)
+    (all_fit [] c.in_ok-push_tables.ensures.grows meant c.in_ok-push_tables.ensures.rows (none_fit c.new.new.vars c.new-names.result.formats c.requires.no_instruction)))
 
 pub push_tables-requires-clause-meant : goal.push_tables-requires-clause-meant
 push_tables-requires-clause-meant c = subst (AreMeant c.new.new.vars) (sym c.new-names.ensures) (record { immediates = c.requires.immediates; entities = c.requires.entities; roots = c.in_ok-roots.ensures.roots })

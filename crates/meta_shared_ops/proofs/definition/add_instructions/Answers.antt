@@ -1,8 +1,10 @@
 use Rattle.std.proofs.Common.{◌∙◌, ◌++◌, List, ℕ, map, sym, ap, subst}
+use Rattle.std.specs.List.{AllZip}
 use Rattle.std.proofs.lemmas.Result.{IfOk-from_err}
+use Rattle.meta_shared_core.specs.CoreFormats.{core_formats}
 use Rattle.meta_shared_core.specs.CoreNames.{core_names}
 use Rattle.meta_shared_core.specs.Words.{Meanings, AreMeant}
-use Rattle.meta_shared_core.specs.Rows.{row_name, rows_in, FitsNames}
+use Rattle.meta_shared_core.specs.Rows.{row_name, row_format, rows_in, FitsNames}
 use Rattle.meta_shared_core.proofs.Fitting.{all_fit, names_added}
 use Rattle.meta_shared_ops.proofs.definition.add_instructions.Goals as goal
 
@@ -16,12 +18,13 @@ returns-clause-names c =
     ∙ (ap (λ xs. xs ++ map row_name (rows_in c.ops_tables.result)) c.in_ok-roots.ensures.names ∙ ap (λ xs. core_names ++ xs) c.ops_tables.ensures.are_named)
 
 pub returns-clause-fit : goal.returns-clause-fit
-returns-clause-fit c = λ k b at.
+returns-clause-fit c =
     let formats = ap (λ (m : Meanings). m.formats) c.new-names.ensures in
     let meant : AreMeant c.core_instructions.new.vars c.new-names.result = subst (AreMeant c.core_instructions.new.vars) (sym c.new-names.ensures) (record { immediates = c.requires.immediates; entities = c.requires.entities; roots = c.in_ok-roots.ensures.roots }) in
-    subst (λ f. FitsNames c.push_tables.new.vars f b) formats
-    (all_fit c.in_ok-push_tables.ensures.grows meant c.in_ok-push_tables.ensures.rows
-    (λ j d e. subst (λ f. FitsNames c.core_instructions.new.vars f d) (sym formats) (c.in_ok-roots.ensures.fit j d e)) k b at)
+    subst (λ more. AllZip (FitsNames c.push_tables.new.vars c.args.formats.now) (core_formats ++ more) c.push_tables.new.all) c.ops_tables.ensures.are_of
+    (subst (λ f. AllZip (FitsNames c.push_tables.new.vars f) (core_formats ++ map row_format (rows_in c.ops_tables.result)) c.push_tables.new.all) formats
+    (all_fit core_formats c.in_ok-push_tables.ensures.grows meant c.in_ok-push_tables.ensures.rows
+    (subst (λ f. AllZip (FitsNames c.core_instructions.new.vars f) core_formats c.core_instructions.new.all) (sym formats) c.in_ok-roots.ensures.fit)))
 
 pub returns-in_err-roots-clause-names : goal.returns-in_err-roots-clause-names
 returns-in_err-roots-clause-names c = IfOk-from_err c.from_residual.result _ c.from_residual.ensures.0

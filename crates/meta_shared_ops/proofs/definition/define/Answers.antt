@@ -4,13 +4,19 @@ use Rattle.std.proofs.lemmas.Result.{IfOk-from_err}
 use Rattle.meta_inst.specs.Faults.{names_of}
 use Rattle.meta_settings.specs.GroupDeclaration.{GroupDeclaration}
 use Rattle.meta_declared.specs.AllDeclared.{Declared}
+use Rattle.meta_shared_core.specs.CoreFormats.{core_formats}
 use Rattle.meta_shared_core.specs.CoreNames.{core_names}
+use Rattle.meta_shared_core.specs.Formats.{AreNumberedFrom}
+use Rattle.meta_shared_core.specs.Rows.{named_format}
 use Rattle.meta_shared_core.specs.Settings.{IsSharedGroup}
+use Rattle.meta_shared_core.proofs.Fitting.{one_fits}
+use Rattle.meta_shared_core.proofs.Named.{all_named, each_named}
+use Rattle.meta_shared_ops.specs.OpsFormats.{ops_formats}
 use Rattle.meta_shared_ops.specs.OpsNames.{ops_names}
 use Rattle.meta_shared_ops.proofs.definition.define.Goals as goal
 
 pub new-requires-4 : goal.new-requires-4
-new-requires-4 c = λ k b at. c.in_ok-add_instructions.ensures.fit k b at c.new-3.new.table c.in_ok-formats.ensures.of
+new-requires-4 c = λ k b at. (one_fits c.add_instructions.new.vars c.in_ok-formats.formats (core_formats ++ ops_formats) c.add_instructions.new.all c.in_ok-add_instructions.ensures.fit k b at).1.fits c.new-3.new.table c.in_ok-formats.ensures.of
 
 pub returns-clause-names : goal.returns-clause-names
 returns-clause-names c = ap (λ (d : Declared). names_of d.set) c.new-4.ensures ∙ c.in_ok-add_instructions.ensures.names
@@ -18,6 +24,13 @@ returns-clause-names c = ap (λ (d : Declared). names_of d.set) c.new-4.ensures 
 pub returns-clause-instructions : goal.returns-clause-instructions
 unfolding core_names ops_names
 returns-clause-instructions c = sym (length-map c.new-4.result.set.instructions _) ∙ ap length (returns-clause-names c)
+
+pub returns-clause-of_formats : goal.returns-clause-of_formats
+returns-clause-of_formats c =
+    let none = c.new-table.ensures in
+    let numbers : AreNumberedFrom 0 c.in_ok-formats.formats = subst (λ n. AreNumberedFrom n c.in_ok-formats.formats) (ap length none) c.in_ok-formats.ensures.numbers in
+    ap (λ (d : Declared). map (named_format d.set.formats) d.set.instructions) c.new-4.ensures
+    ∙ each_named c.add_instructions.new.vars c.new-3.new.table c.in_ok-formats.formats (core_formats ++ ops_formats) c.add_instructions.new.all (all_named c.in_ok-formats.ensures.added none) numbers c.in_ok-add_instructions.ensures.fit
 
 -- the only group is the shared one
 one_shared : (groups : List GroupDeclaration) (g : GroupDeclaration) → groups ≡ g ∷ [] → IsSharedGroup g → (k : ℕ) (d : GroupDeclaration) → k < length groups → IsSharedGroup (get_or groups k d)
@@ -45,6 +58,9 @@ returns-in_err-entities-clause-instructions c = IfOk-from_err c.from_residual.re
 pub returns-in_err-entities-clause-names : goal.returns-in_err-entities-clause-names
 returns-in_err-entities-clause-names c = IfOk-from_err c.from_residual.result _ c.from_residual.ensures.0
 
+pub returns-in_err-entities-clause-of_formats : goal.returns-in_err-entities-clause-of_formats
+returns-in_err-entities-clause-of_formats c = IfOk-from_err c.from_residual.result _ c.from_residual.ensures.0
+
 pub returns-in_err-entities-clause-groups : goal.returns-in_err-entities-clause-groups
 returns-in_err-entities-clause-groups c = IfOk-from_err c.from_residual.result _ c.from_residual.ensures.0
 
@@ -59,6 +75,9 @@ returns-in_err-imm-clause-instructions c = IfOk-from_err c.from_residual-in_err-
 
 pub returns-in_err-imm-clause-names : goal.returns-in_err-imm-clause-names
 returns-in_err-imm-clause-names c = IfOk-from_err c.from_residual-in_err-imm.result _ c.from_residual-in_err-imm.ensures.0
+
+pub returns-in_err-imm-clause-of_formats : goal.returns-in_err-imm-clause-of_formats
+returns-in_err-imm-clause-of_formats c = IfOk-from_err c.from_residual-in_err-imm.result _ c.from_residual-in_err-imm.ensures.0
 
 pub returns-in_err-imm-clause-groups : goal.returns-in_err-imm-clause-groups
 returns-in_err-imm-clause-groups c = IfOk-from_err c.from_residual-in_err-imm.result _ c.from_residual-in_err-imm.ensures.0
@@ -75,6 +94,9 @@ returns-in_err-formats-clause-instructions c = IfOk-from_err c.from_residual-in_
 pub returns-in_err-formats-clause-names : goal.returns-in_err-formats-clause-names
 returns-in_err-formats-clause-names c = IfOk-from_err c.from_residual-in_err-formats.result _ c.from_residual-in_err-formats.ensures.0
 
+pub returns-in_err-formats-clause-of_formats : goal.returns-in_err-formats-clause-of_formats
+returns-in_err-formats-clause-of_formats c = IfOk-from_err c.from_residual-in_err-formats.result _ c.from_residual-in_err-formats.ensures.0
+
 pub returns-in_err-formats-clause-groups : goal.returns-in_err-formats-clause-groups
 returns-in_err-formats-clause-groups c = IfOk-from_err c.from_residual-in_err-formats.result _ c.from_residual-in_err-formats.ensures.0
 
@@ -89,6 +111,9 @@ returns-in_err-add_instructions-clause-instructions c = IfOk-from_err c.from_res
 
 pub returns-in_err-add_instructions-clause-names : goal.returns-in_err-add_instructions-clause-names
 returns-in_err-add_instructions-clause-names c = IfOk-from_err c.from_residual-in_err-add_instructions.result _ c.from_residual-in_err-add_instructions.ensures.0
+
+pub returns-in_err-add_instructions-clause-of_formats : goal.returns-in_err-add_instructions-clause-of_formats
+returns-in_err-add_instructions-clause-of_formats c = IfOk-from_err c.from_residual-in_err-add_instructions.result _ c.from_residual-in_err-add_instructions.ensures.0
 
 pub returns-in_err-add_instructions-clause-groups : goal.returns-in_err-add_instructions-clause-groups
 returns-in_err-add_instructions-clause-groups c = IfOk-from_err c.from_residual-in_err-add_instructions.result _ c.from_residual-in_err-add_instructions.ensures.0
@@ -105,6 +130,9 @@ returns-in_err-define-clause-instructions c = IfOk-from_err c.from_residual-in_e
 pub returns-in_err-define-clause-names : goal.returns-in_err-define-clause-names
 returns-in_err-define-clause-names c = IfOk-from_err c.from_residual-in_err-define.result _ c.from_residual-in_err-define.ensures.0
 
+pub returns-in_err-define-clause-of_formats : goal.returns-in_err-define-clause-of_formats
+returns-in_err-define-clause-of_formats c = IfOk-from_err c.from_residual-in_err-define.result _ c.from_residual-in_err-define.ensures.0
+
 pub returns-in_err-define-clause-groups : goal.returns-in_err-define-clause-groups
 returns-in_err-define-clause-groups c = IfOk-from_err c.from_residual-in_err-define.result _ c.from_residual-in_err-define.ensures.0
 
@@ -119,6 +147,9 @@ returns-in_err-push-clause-instructions c = IfOk-from_err c.from_residual-in_err
 
 pub returns-in_err-push-clause-names : goal.returns-in_err-push-clause-names
 returns-in_err-push-clause-names c = IfOk-from_err c.from_residual-in_err-push.result _ c.from_residual-in_err-push.ensures.0
+
+pub returns-in_err-push-clause-of_formats : goal.returns-in_err-push-clause-of_formats
+returns-in_err-push-clause-of_formats c = IfOk-from_err c.from_residual-in_err-push.result _ c.from_residual-in_err-push.ensures.0
 
 pub returns-in_err-push-clause-groups : goal.returns-in_err-push-clause-groups
 returns-in_err-push-clause-groups c = IfOk-from_err c.from_residual-in_err-push.result _ c.from_residual-in_err-push.ensures.0

@@ -1,0 +1,20 @@
+ghost use Rattle.std.specs.Prelude.{◌≡◌, ◌↔◌, None};
+ghost use Rattle.meta_run.specs.declared.ending.Ending.{Ending};
+
+use meta_run::Ending;
+
+/// What an ending other than `Done` was about, for a person (this project's own).
+pub fn about(ending: Ending) -> Option<&'static str>
+    ensures { (result ≡ None) ↔ (ending ≡ Ending.Done) }
+{
+    match ending {
+        Ending::Done => None,
+        Ending::Refused => Some("the declarations are refused"),
+        Ending::Usage => Some("the words are no command: --help has the commands"),
+        Ending::ReadFault => Some("standard input could not be read"),
+        Ending::WriteFault => Some("standard output could not be written"),
+        Ending::OutOfMemory => Some("out of memory"),
+        Ending::TooLong => Some("standard input is longer than 1048576 bytes"),
+        Ending::Rejected => Some("the input is rejected"),
+    }
+}
