@@ -1,5 +1,5 @@
 -- A command answers an input with one output at most.
-use Rattle.std.proofs.Common.{◌≡◌, inl, inr, ℕ, List, [], ◌∷◌, ◌++◌, sym, ap, ◌∙◌, subst}
+use Rattle.std.proofs.Common.{◌≡◌, inl, inr, true, false, ℕ, List, [], ◌∷◌, ◌++◌, sym, ap, ◌∙◌, subst}
 use Rattle.meta_typevar.specs.Registry.{HoldTypeSets}
 use Rattle.meta_inst.specs.InstructionSet.{InstructionSet}
 use Rattle.meta_meaning.specs.Tables.{TableContents}
