@@ -30,7 +30,7 @@ fn binary(alloc: Global, formats: &mut FormatTable) -> Result<FormatId, Trouble>
 }
 
 /// The variables, which are added to the registry.
-fn variables(alloc: Global, vars: &mut TypeVars) -> Result<Variables, Trouble> {
+fn roots(alloc: Global, vars: &mut TypeVars) -> Result<Variables, Trouble> {
     let second = built(alloc, &["ints", "8..64"])?;
     let second = fresh_root(alloc, vars, "P", "", second)?;
     let result = built(alloc, &["ints", "*"])?;
@@ -67,7 +67,7 @@ fn mix(
 /// Declarations of the instructions of these names, each a `mix`.
 fn of_names(alloc: Global, names: &[&str]) -> Result<Declarations, Trouble> {
     let (mut vars, mut formats) = (TypeVars::new(alloc), FormatTable::new(alloc));
-    let variables = variables(alloc, &mut vars)?;
+    let variables = roots(alloc, &mut vars)?;
     let format = binary(alloc, &mut formats)?;
     let mut all = AllInstructions::new(alloc);
     for name in names {

@@ -39,5 +39,5 @@ fn main(rt: HostRuntime) -> io::Result<()> {
     let mut answers = String::new(rt.alloc());
     let mut session = begin(rt.alloc())?;
     add_answers(rt.alloc(), &mut session, lines.as_str(), &mut answers)?;
-    io::writer(rt).write_all(answers.as_bytes())
+    io::writer(&rt).write_all(answers.as_bytes())
 }
