@@ -77,7 +77,8 @@ compared() {
 
 compared 1000
 compared 10000
-compared 1000000 || exit 1
+compared 1000000
+status=$?
 
 empty=$(counted "$folder/none" "$verify") || exit 1
 for step in 1 16; do
@@ -85,3 +86,4 @@ for step in 1 16; do
     count=$(counted "$folder/list" "$verify") || exit 1
     awk -v step="$step" -v a="$((count - empty))" 'BEGIN { printf "50000 parameters, %d apart: %.0f instructions a line\n", step, a / 50000 }'
 done
+exit "$status"
