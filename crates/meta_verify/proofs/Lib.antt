@@ -1,0 +1,10 @@
+pub mod ListLemmas
+pub mod StatementLemmas
+pub mod EnvironmentLemmas
+pub mod DefineLemmas
+pub mod CheckerLemmas
+pub mod OneAnswer
+pub mod OneReply
+pub mod Meaning
+pub mod VerdictLemmas
+pub mod Runs

@@ -1,0 +1,127 @@
+-- What is wrong by the tables of declarations is wrong as they mean.
+use Rattle.std.proofs.Common.{◌≡◌, ◌↔◌, inl, inr, ℕ, ◌==◌, cond, Bool, true, false, List, [], ◌∷◌, map, take, length, All, Option, Some, None, sym, subst}
+use Rattle.std.proofs.lemmas.List.Elements.{All-nil, All-cons, All-head, All-tail, All-map, All-weaker}
+use Rattle.meta_types.specs.TypeParts.{TypeParts, IsType}
+use Rattle.meta_inst.specs.Faults.{IsValid}
+use Rattle.meta_inst.specs.InstructionSet.{InstructionSet}
+use Rattle.meta_meaning.specs.Tables.{TableContents, Allows}
+use Rattle.meta_opcode_tables.specs.TablesOf.{AreTablesOf, AcceptsOpcode}
+use Rattle.meta_words.specs.Lines.{lines_of}
+use Rattle.meta_answers.specs.Question.{HasTypes}
+use Rattle.meta_answers.specs.Answer.{AllowedReply, AcceptedReply}
+use Rattle.meta_answers.specs.declared.reply.Reply.TheVariants as reply
+use Rattle.meta_answers.proofs.Meant.{accepted, opcode_is}
+use Rattle.meta_verify.specs.Statement.{TypedValue, Application, Statement, OfParameter, OfApplication, IsTyped, CanApply, CanBeStated, defined_by}
+use Rattle.meta_verify.specs.Environment.{Environment, nothing_defined, with_value, with_values, HaveTypes}
+use Rattle.meta_verify.specs.Wrong.{question_of, LacksName, IsRepliedTo, IsAccepted, IsMistake, IsFaultless, IsWrong, Answers, Feeds}
+use Rattle.meta_verify.specs.Verdict.{LeadTo, IsAnsweredAt, AreRightTo, IsVerdict}
+use Rattle.meta_verify.proofs.OneAnswer.{right_not_wrong}
+use Rattle.meta_verify.proofs.OneReply.{one_accepted}
+use Rattle.meta_verify.specs.declared.reason.Reason.{Reason}
+use Rattle.meta_verify.specs.declared.reason.Reason.TheVariants.{Bad, Unknown, Undefined, Redefined, Refused}
+
+-- each type is one that can be named
+abbrev HasNamedTypes : Environment → Type 0
+HasNamedTypes env = (v : ℕ) (t : TypeParts) → env v ≡ Some t → IsType t
+
+types_named : (env : Environment) (values : List ℕ) (types : List TypeParts) → HasNamedTypes env → HaveTypes env values types → All IsType types
+types_named env [] [] named h = All-nil IsType
+types_named env [] (t ∷ ts) named h = absurd (cc)
+types_named env (v ∷ vs) [] named h = absurd (cc)
+types_named env (v ∷ vs) (t ∷ ts) named h =
+    let first : env v ≡ Some t = cc in
+    let others : map env vs ≡ map (λ t. Some t) ts = cc in
+    All-cons IsType t ts (named v t first) (types_named env vs ts named others)
+
+one_named : (env : Environment) (r : TypedValue) → HasNamedTypes env → IsTyped r → HasNamedTypes (with_value env r)
+one_named env r named is v t e = by_test (r.value == v) e
+  where
+    by_test : (b : Bool) → cond b (Some r.type) (env v) ≡ Some t → IsType t
+    by_test true e = let same : r.type ≡ t = cc in subst IsType same is.is_type
+    by_test false e = named v t e
+
+all_named : (env : Environment) (rs : List TypedValue) → HasNamedTypes env → All IsTyped rs → HasNamedTypes (with_values env rs)
+all_named env [] named h = named
+all_named env (r ∷ rs) named h = all_named (with_value env r) rs (one_named env r named (All-head IsTyped r rs h)) (All-tail IsTyped r rs h)
+
+results_typed : (s : Statement) → CanBeStated s → All IsTyped (defined_by s)
+results_typed (OfParameter r) can = All-cons IsTyped r [] can (All-nil IsTyped)
+results_typed (OfApplication a) can = can.results
+
+question_typed : (a : Application) (types : List TypeParts) → CanApply a → All IsType types → HasTypes (question_of a types)
+question_typed a types can h = record {
+  control = can.control;
+  second = can.second;
+  results = All-map IsType (λ (r : TypedValue). r.type) a.results (All-weaker IsTyped (λ (r : TypedValue). IsType r.type) (λ r is. is.is_type) a.results can.results);
+  values = h;
+}
+
+-- where no value is defined
+nothing_named : HasNamedTypes nothing_defined
+nothing_named v t e = absurd (cc)
+
+module _ (d : InstructionSet) (tables : TableContents) (made : AreTablesOf d tables) (means : (op : ℕ) (c e : Option ℕ) (rs vs : List ℕ) → (Allows tables op c e rs vs ↔ AcceptsOpcode d op c e rs vs)) where
+  -- what no instruction is called no opcode is called
+  lacks_back : (s : Statement) → LacksName (AcceptedReply d) s → LacksName (AllowedReply tables) s
+  lacks_back (OfParameter r) h = h
+  lacks_back (OfApplication a) h = λ op e.
+      let (k, b, number, at, is) = opcode_is d tables made op a.name e in
+      h k b at is
+
+  replied : (env : Environment) (a : Application) (answer : _) → HasNamedTypes env → CanApply a → IsRepliedTo (AllowedReply tables) env a answer → IsRepliedTo (AcceptedReply d) env a answer
+  replied env a answer named can (types, have, h) =
+      (types, have, accepted d tables made means (question_of a types) (question_typed a types can (types_named env a.values types named have)) answer h)
+
+  accepts : (env : Environment) (s : Statement) → HasNamedTypes env → CanBeStated s → IsAccepted (AllowedReply tables) env s → IsAccepted (AcceptedReply d) env s
+  accepts env (OfParameter r) named can h = h
+  accepts env (OfApplication a) named can h = replied env a reply.Accept named can h
+
+  mistake : (env : Environment) (s : Statement) (reason : Reason) → HasNamedTypes env → CanBeStated s → IsMistake (AllowedReply tables) env s reason → IsMistake (AcceptedReply d) env s reason
+  mistake env s Bad named can h = h
+  mistake env (OfParameter r) Unknown named can h = h
+  mistake env (OfApplication a) Unknown named can h = accepted d tables made means (question_of a []) (question_typed a [] can (All-nil IsType)) reply.Unknown h
+  mistake env s (Undefined v) named can (known, u) = (λ l. known (lacks_back s l), u)
+  mistake env s (Redefined v) named can (known, u, r) = (λ l. known (lacks_back s l), u, r)
+  mistake env (OfParameter r) Refused named can (known, u, f, h) = absurd h
+  mistake env (OfApplication a) Refused named can (known, u, f, h) = (λ l. known (lacks_back (OfApplication a) l), u, f, replied env a reply.Refuse named can h)
+
+  faultless : (env : Environment) (s : Statement) → HasNamedTypes env → CanBeStated s → IsFaultless (AllowedReply tables) env s → IsFaultless (AcceptedReply d) env s
+  faultless env s named can h = record { named = λ l. h.named (lacks_back s l); defined = h.defined; fresh = h.fresh; accepted = accepts env s named can h.accepted }
+
+  wrong : (env : Environment) (line : List ℕ) (reason : Reason) → HasNamedTypes env → IsWrong (AllowedReply tables) env line reason → IsWrong (AcceptedReply d) env line reason
+  wrong env line reason named (inl (s, states, h)) = inl (s, states, mistake env s reason named states.can h)
+  wrong env line reason named (inr h) = inr h
+
+  answers : (env env' : Environment) (line : List ℕ) (answer : Option Reason) → HasNamedTypes env → Answers (AllowedReply tables) env line answer env' → Answers (AcceptedReply d) env line answer env' × HasNamedTypes env'
+  answers env env' line None named (s, (states, h), e) = ((s, (states, faultless env s named states.can h), e), subst HasNamedTypes (sym e) (all_named env (defined_by s) named (results_typed s states.can)))
+  answers env env' line (Some reason) named (h, e) = ((wrong env line reason named h, e), subst HasNamedTypes (sym e) named)
+
+  feeds_mean : (env env' : Environment) (line : List ℕ) (answer : Option Reason) → HasNamedTypes env → Feeds (AllowedReply tables) env line answer env' → Feeds (AcceptedReply d) env line answer env' × HasNamedTypes env'
+  feeds_mean env env' [] answer named (a, e) = ((a, e), subst HasNamedTypes (sym e) named)
+  feeds_mean env env' (c ∷ cs) answer named h = answers env env' (c ∷ cs) answer named h
+
+  leads_mean : (env env' : Environment) (lines : List (List ℕ)) → HasNamedTypes env → LeadTo (AllowedReply tables) env lines env' → LeadTo (AcceptedReply d) env lines env' × HasNamedTypes env'
+  leads_mean env env' [] named e = (e, subst HasNamedTypes (sym e) named)
+  leads_mean env env' (line ∷ lines) named (answer, between, fed, rest) =
+      let meant = feeds_mean env between line answer named fed in
+      let others = leads_mean between env' lines meant.1 rest in
+      ((answer, between, meant.0, others.0), others.1)
+
+  -- the answer to a line
+  pub answered_means : (lines : List (List ℕ)) (n : ℕ) (answer : Option Reason) → IsAnsweredAt (AllowedReply tables) lines n answer → IsAnsweredAt (AcceptedReply d) lines n answer
+  answered_means lines n answer h =
+      let leads = leads_mean nothing_defined h.before (take n lines) nothing_named h.leads in
+      record { line = h.line; at = h.at; before = h.before; leads = leads.0; behind = h.behind; fed = (feeds_mean h.before h.behind h.line answer leads.1 h.fed).0 }
+
+  -- and what is said of an input, where the declarations are valid
+  module _ (valid : IsValid d) where
+    rights_mean : (lines : List (List ℕ)) (count : ℕ) → AreRightTo (AllowedReply tables) lines count → AreRightTo (AcceptedReply d) lines count
+    rights_mean lines count h = record {
+      each = λ n l. answered_means lines n None (h.each n l);
+      none_wrong = λ n reason l. right_not_wrong (AcceptedReply d) (one_accepted d valid) lines n reason (answered_means lines n None (h.each n l));
+    }
+
+    pub verdict_means : (input : List ℕ) (is_rejection : Bool) (text : List ℕ) → IsVerdict (AllowedReply tables) input is_rejection text → IsVerdict (AcceptedReply d) input is_rejection text
+    verdict_means input false text (right, is) = (rights_mean (lines_of input) (length (lines_of input)) right, is)
+    verdict_means input true text (n, reason, first, is) =
+        (n, reason, record { wrong = answered_means (lines_of input) n (Some reason) first.wrong; before = rights_mean (lines_of input) n first.before }, is)

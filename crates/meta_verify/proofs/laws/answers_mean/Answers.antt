@@ -1,0 +1,8 @@
+use Rattle.meta_verify.proofs.Meaning.{answered_means, verdict_means}
+use Rattle.meta_verify.proofs.laws.answers_mean.Goals as goal
+
+pub returns-clause-line : goal.returns-clause-line
+returns-clause-line c = λ d t made means lines n answer h. answered_means d t made means lines n answer h
+
+pub returns-clause-verdict : goal.returns-clause-verdict
+returns-clause-verdict c = λ d t valid made means input is_rejection text h. verdict_means d.set t made means valid.set input is_rejection text h

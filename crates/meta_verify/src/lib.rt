@@ -1,0 +1,20 @@
+//! A checker of lists of typed lines: each line is a parameter, or an instruction applied to values.
+//!
+//! `Checker` keeps which values are defined, and of which types, and says of each line whether it is right by tables, or why it is
+//! wrong. `verify` says the same of a whole input, over declarations.
+#![tactic(auto)]
+
+mod checker;
+mod defined;
+mod laws;
+mod reason;
+mod statement;
+mod verdict;
+mod verifier;
+
+pub use checker::Checker;
+pub use laws::{answers_mean, one_verdict};
+pub use meta_run::Ending as VerifyStatus;
+pub use reason::Reason;
+pub use statement::{Application, Statement, TypedNumber};
+pub use verifier::verify;

@@ -1,0 +1,229 @@
+ghost use Rattle.std.specs.Prelude.{◌≡◌, ◌≢◌, ℕ, ◌<◌, true, false, List, [], ◌∷◌, length, map, All, IfOk, IfSome, IfNone, codes};
+ghost use Rattle.meta_words.specs.Words.{pieces_of};
+ghost use Rattle.meta_types.specs.TypeNumber.{IsTypeNumber};
+ghost use Rattle.meta_verify.specs.Statement as spec;
+ghost use Rattle.meta_verify.specs.Statement.{TypedValue, IsTyped, IsValue, IsStatement, value_text, typed_text, list_text};
+ghost use Rattle.meta_verify.specs.Numbers.{typed, stated, IsTypedNumber, HasTypeNumbers};
+
+use meta_types::type_number;
+use meta_words::{Pieces, cut, number_u32, parse_control};
+use std::alloc::{AllocError, Global};
+
+/// A value and its type (this project's own).
+#[derive(Clone, Copy, Debug, PartialEq, Eq)]
+pub struct TypedNumber {
+    /// The number of the value.
+    pub value: u32,
+    /// The number of the type.
+    pub number: u16,
+}
+
+/// An instruction applied to values (this project's own).
+#[derive(Drop)]
+pub struct Application<'a> {
+    /// The name of the instruction, as it stands in the line: any bytes but spaces.
+    pub name: &'a [u8],
+    /// The number of the controlling type, if there is one.
+    pub control: Option<u16>,
+    /// That of the second controlling type, if there is one.
+    pub second: Option<u16>,
+    /// What it defines.
+    pub results: Vec<TypedNumber>,
+    /// The numbers of the values that it is applied to.
+    pub values: Vec<u32>,
+}
+
+/// What a line states (this project's own).
+#[derive(Drop)]
+pub enum Statement<'a> {
+    /// A parameter of the list: `param V T`.
+    Parameter(TypedNumber),
+    /// An instruction applied to values: `line NAME CTRL RESULTS VALUES`.
+    Applied(Application<'a>),
+}
+
+/// The value that the word names: `v` and its number.
+fn parse_value(word: &[u8]) -> Option<u32>
+    ensures some { IfSome result (λ v. word.now ≡ value_text v) }
+    ensures small { IfSome result IsValue }
+    ensures none { IfNone result ((v : ℕ) → IsValue v → word.now ≢ value_text v) }
+{
+    match word {
+        [b'v', digits @ ..] => number_u32(digits),
+        _ => None,
+    }
+}
+
+/// The value and the type that the word names: `v1:i32`.
+fn parse_typed(word: &[u8]) -> Option<TypedNumber>
+    ensures some { IfSome result (λ r. word.now ≡ typed_text (typed r)) }
+    ensures known { IfSome result IsTypedNumber }
+    ensures none { IfNone result ((r : TypedValue) → IsTyped r → word.now ≢ typed_text r) }
+{
+    let (front, rest) = cut(word, b':');
+    let value = parse_value(front)?;
+    let name = rest?;
+    let number = type_number(name)?;
+    Some(TypedNumber { value, number })
+}
+
+/// Reads the values that the word lists. It is false where it is no list of values.
+fn read_values(values: &mut Vec<u32>, word: &[u8]) -> Result<bool, AllocError>
+    requires { values.old.items ≡ [] }
+    ensures known { All IsValue values.new.items }
+    ensures found { IfOk result (λ read. read ≡ true → list_text (map value_text values.new.items) ≡ word.now) }
+    ensures none { IfOk result (λ read. read ≡ false → (vs : List ℕ) → All IsValue vs → list_text (map value_text vs) ≢ word.now) }
+{
+    if word == b"-".as_slice() {
+        return Ok(true);
+    }
+    for piece in Pieces::new(word, b',') {
+        let Some(value) = parse_value(piece) else {
+            return Ok(false);
+        };
+        values.push(value)?;
+    }
+    Ok(true)
+}
+
+/// Reads the values with their types that the word lists. It is false where it is no such list.
+fn read_results(results: &mut Vec<TypedNumber>, word: &[u8]) -> Result<bool, AllocError>
+    requires { results.old.items ≡ [] }
+    ensures known { All IsTypedNumber results.new.items }
+    ensures found { IfOk result (λ read. read ≡ true → list_text (map typed_text (map typed results.new.items)) ≡ word.now) }
+    ensures none { IfOk result (λ read. read ≡ false → (rs : List TypedValue) → All IsTyped rs → list_text (map typed_text rs) ≢ word.now) }
+{
+    if word == b"-".as_slice() {
+        return Ok(true);
+    }
+    for piece in Pieces::new(word, b',') {
+        let Some(result) = parse_typed(piece) else {
+            return Ok(false);
+        };
+        results.push(result)?;
+    }
+    Ok(true)
+}
+
+/// The words behind `param` in a line of three words. The last may have no bytes.
+#[derive(Clone, Copy)]
+struct ParameterWords<'a> {
+    value: &'a [u8],
+    name: &'a [u8],
+}
+
+/// The words of the line, where it is `param` and two more words.
+fn parameter_words(line: &[u8]) -> Option<ParameterWords<'_>>
+    ensures words { IfSome result (λ w. pieces_of 32 line.now ≡ codes "param" ∷ w.value.now ∷ w.name.now ∷ []) }
+    ensures none { IfNone result ((value name : List ℕ) → pieces_of 32 line.now ≢ codes "param" ∷ value ∷ name ∷ []) }
+{
+    let mut words = Pieces::new(line, b' ');
+    let command = words.next()?;
+    if command != b"param".as_slice() {
+        return None;
+    }
+    let value = words.next()?;
+    let name = words.next()?;
+    if words.next().is_some() {
+        return None;
+    }
+    Some(ParameterWords { value, name })
+}
+
+/// The parameter that the line states.
+fn parse_parameter(line: &[u8]) -> Option<TypedNumber>
+    ensures found { IfSome result (λ r. IsStatement line.now (spec.OfParameter (typed r))) }
+    ensures known { IfSome result IsTypedNumber }
+    ensures none { IfNone result ((r : TypedValue) → ¬ IsStatement line.now (spec.OfParameter r)) }
+{
+    let words = parameter_words(line)?;
+    let value = parse_value(words.value)?;
+    let number = type_number(words.name)?;
+    Some(TypedNumber { value, number })
+}
+
+/// The words behind `line` in a line of five words.
+#[derive(Clone, Copy)]
+struct ApplicationWords<'a> {
+    name: &'a [u8],
+    control: &'a [u8],
+    results: &'a [u8],
+    values: &'a [u8],
+}
+
+/// The words of the line, where it is `line` and four more words. The last three may have no bytes.
+fn application_words(line: &[u8]) -> Option<ApplicationWords<'_>>
+    ensures words { IfSome result (λ w. pieces_of 32 line.now ≡ codes "line" ∷ w.name.now ∷ w.control.now ∷ w.results.now ∷ w.values.now ∷ []) }
+    ensures named { IfSome result (λ w. 0 < length w.name.now) }
+    ensures none { IfNone result ((name control results values : List ℕ) → 0 < length name → pieces_of 32 line.now ≢ codes "line" ∷ name ∷ control ∷ results ∷ values ∷ []) }
+{
+    let mut words = Pieces::new(line, b' ');
+    let command = words.next()?;
+    if command != b"line".as_slice() {
+        return None;
+    }
+    let name = words.next()?;
+    if name.is_empty() {
+        return None;
+    }
+    let control = words.next()?;
+    let results = words.next()?;
+    let values = words.next()?;
+    if words.next().is_some() {
+        return None;
+    }
+    Some(ApplicationWords {
+        name,
+        control,
+        results,
+        values,
+    })
+}
+
+impl<'a> Application<'a> {
+    /// The application that the line states.
+    fn parse(alloc: Global, line: &'a [u8]) -> Result<Option<Application<'a>>, AllocError>
+        ensures found { IfOk result (λ o. IfSome o (λ a. IsStatement line.now (stated (Statement.Applied a)))) }
+        ensures known { IfOk result (λ o. IfSome o (λ a. HasTypeNumbers (Statement.Applied a))) }
+        ensures none { IfOk result (λ o. IfNone o ((a : spec.Application) → ¬ IsStatement line.now (spec.OfApplication a))) }
+    {
+        let Some(words) = application_words(line) else {
+            return Ok(None);
+        };
+        let Some(controls) = parse_control(words.control) else {
+            return Ok(None);
+        };
+        let mut results = Vec::new(alloc);
+        if !read_results(&mut results, words.results)? {
+            return Ok(None);
+        }
+        let mut values = Vec::new(alloc);
+        if !read_values(&mut values, words.values)? {
+            return Ok(None);
+        }
+        Ok(Some(Application {
+            name: words.name,
+            control: controls.control,
+            second: controls.second,
+            results,
+            values,
+        }))
+    }
+}
+
+impl<'a> Statement<'a> {
+    /// What the line states, and `None` exactly where it states nothing.
+    pub fn parse(alloc: Global, line: &'a [u8]) -> Result<Option<Statement<'a>>, AllocError>
+        ensures found { IfOk result (λ o. IfSome o (λ s. IsStatement line.now (stated s))) }
+        ensures known { IfOk result (λ o. IfSome o HasTypeNumbers) }
+        ensures none { IfOk result (λ o. IfNone o ((s : spec.Statement) → ¬ IsStatement line.now s)) }
+    {
+        if let Some(parameter) = parse_parameter(line) {
+            return Ok(Some(Statement::Parameter(parameter)));
+        }
+        match Application::parse(alloc, line)? {
+            Some(application) => Ok(Some(Statement::Applied(application))),
+            None => Ok(None),
+        }
+    }
+}
