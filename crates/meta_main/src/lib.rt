@@ -4,17 +4,17 @@
 //! A program is what it says of itself, a `Manual`, and what it does with its words, an `impl Program`; its `main` is a call of `start`.
 #![tactic(auto)]
 
-mod about;
 mod asked;
 mod manual;
 mod misuse;
 mod program;
+mod telling;
 mod usage;
 mod word;
 
-pub use about::about;
 pub use asked::Asked;
 pub use manual::{Command, Manual, Range};
 pub use misuse::Misuse;
 pub use program::{Program, start};
+pub use telling::about;
 pub use usage::usage_line;

@@ -1,6 +1,6 @@
-use super::about::about;
 use super::asked::Asked;
 use super::manual::Manual;
+use super::telling::about;
 use super::usage::usage_line;
 use meta_run::Ending;
 use meta_text::{Sink, Source, StdSink, StdSource};

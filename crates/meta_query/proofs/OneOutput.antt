@@ -16,7 +16,7 @@ use Rattle.meta_answers.specs.Query.{Asked, Asks}
 use Rattle.meta_answers.specs.Answer.{IsOutput}
 use Rattle.meta_query.specs.declared.command.Command.{Command}
 use Rattle.meta_query.specs.declared.command.Command.TheVariants.{Query, Recheck, Tables, Types, Settings, Instructions, Builder, Synth}
-use Rattle.meta_query.specs.Recheck.{IsTold, IsAnswerBy, IsRecheckOf}
+use Rattle.meta_query.specs.Recheck.{line_of, IsTold, IsAnswerBy, IsRecheckOf}
 use Rattle.meta_query.specs.Synthesis.{IsSynthOutput}
 use Rattle.meta_query.specs.Run.{IsBuiltText, IsRechecked, IsOutputOf}
 use Rattle.meta_query.proofs.Marks.{same_cut}
@@ -29,12 +29,12 @@ module _ (one_asked : (line : List ℕ) (q p : Asked) → Asks line q → Asks l
   one_told line t queries a b h g = h.is ∙ ap (λ x. line ++ x) (same_answers t one_asked (lines_of queries) h.answers g.answers h.are_answers g.are_answers) ∙ sym g.is
 
   one_answer_by : (tables : WholeTables) (text queries a b : List ℕ) → IsAnswerBy tables text queries a → IsAnswerBy tables text queries b → a ≡ b
-  one_answer_by tables text queries a b (inl (reads, told)) (inl (read, tells)) = one_told _ tables queries a b told tells
+  one_answer_by tables text queries a b (inl (reads, told)) (inl (read, tells)) = one_told (line_of true) tables queries a b told tells
   one_answer_by tables text queries a b (inl (reads, told)) (inr (inl g)) = absurd (g.others (one_read text g.read tables g.reads reads))
   one_answer_by tables text queries a b (inl (reads, told)) (inr (inr g)) = absurd (g.reads_none tables reads)
   one_answer_by tables text queries a b (inr (inl h)) (inl (reads, told)) = absurd (h.others (one_read text h.read tables h.reads reads))
   one_answer_by tables text queries a b (inr (inl h)) (inr (inl g)) =
-      one_told _ g.read queries a b (subst (λ t. IsTold _ t queries a) (one_read text h.read g.read h.reads g.reads) h.told) g.told
+      one_told (line_of false) g.read queries a b (subst (λ t. IsTold (line_of false) t queries a) (one_read text h.read g.read h.reads g.reads) h.told) g.told
   one_answer_by tables text queries a b (inr (inl h)) (inr (inr g)) = absurd (g.reads_none h.read h.reads)
   one_answer_by tables text queries a b (inr (inr h)) (inl (reads, told)) = absurd (h.reads_none tables reads)
   one_answer_by tables text queries a b (inr (inr h)) (inr (inl g)) = absurd (h.reads_none g.read g.reads)
@@ -70,7 +70,7 @@ module _ (one_tables : (d : Declared) (t u : WholeTables) → HoldTypeSets d.set
     same_output d Query input a b valid sets h g = one_query d input a b valid h g
     same_output d Recheck input a b valid sets (t, of, is) (u, too, tells) =
         one_recheck_of u input a b (subst (λ x. IsRecheckOf x input a) (one_tables d t u sets of too) is) tells
-    same_output d Tables input a b valid sets (none, t, of, is) (no, u, too, tells) = is ∙ ap (table_text Three) (one_tables d t u sets of too) ∙ sym tells
+    same_output d Tables input a b valid sets (none, t, of, is) (nothing, u, too, tells) = is ∙ ap (table_text Three) (one_tables d t u sets of too) ∙ sym tells
     same_output d Types input a b valid sets h g = h.1 ∙ sym g.1
     same_output d Settings input a b valid sets h g = h.1 ∙ sym g.1
     same_output d Instructions input a b valid sets h g = one_built_text _ d a b h.1 g.1

@@ -1,12 +1,36 @@
 ghost use Rattle.std.specs.Prelude.{◌≡◌, ℕ, List};
+ghost use Rattle.meta_typevar.specs.Registry.{HoldTypeSets};
+ghost use Rattle.meta_declared.specs.AllDeclared.{Declared, AreValid};
 ghost use Rattle.meta_query.specs.Command.{AreWordsOf};
 ghost use Rattle.meta_query.specs.Recheck.{IsCut};
+ghost use Rattle.meta_query.specs.Run.{IsOutputOf};
 ghost use Rattle.meta_query.specs.declared.command.Command.{Command};
+
+use meta_answers::{asks_one_query, one_output};
+use meta_declared::one_built;
+use meta_gen::one_table_of_declarations;
+use meta_synth::{one_summary, one_synth};
+use meta_table_reader::a_text_reads_as_one;
 
 /// Words are those of one command at most.
 pub fn one_command()
     ensures { (c d : Command) (words : List (List ℕ)) → AreWordsOf c words → AreWordsOf d words → c ≡ d }
 {}
+
+/// A command answers an input over valid declarations with one output at most, since the tables of declarations are one, and so is
+/// what is built of them. The variables have sets of types, as those of `Declarations` always do.
+pub fn one_output_of_a_command()
+    ensures { (d : Declared) (c : Command) (input a b : List ℕ) → AreValid d → HoldTypeSets d.set.vars
+        → IsOutputOf d c input a → IsOutputOf d c input b → a ≡ b }
+{
+    one_output();
+    asks_one_query();
+    a_text_reads_as_one();
+    one_table_of_declarations();
+    one_built();
+    one_synth();
+    one_summary();
+}
 
 /// An input of `recheck` is cut in one way: it has one text and one list of queries.
 pub fn one_cut()

@@ -16,7 +16,7 @@ mod synthesis;
 
 pub use command::Command;
 pub use commands::COMMANDS;
-pub use laws::{one_command, one_cut};
+pub use laws::{one_command, one_cut, one_output_of_a_command};
 pub use meta_answers::{
     Inference, Lines, Query, Question, Reply, answer_line, asks_one_query, asks_one_question,
     one_output, push_answers,

@@ -6,6 +6,7 @@ ghost use Rattle.meta_query.specs.Synthesis.{IsSynthOutput};
 use meta_gen::{Declarations, generate};
 use meta_synth::{summary, synth};
 use meta_types::Text;
+use meta_words::number_u32;
 use std::alloc::{AllocError, Global};
 
 /// The number that a word writes: decimal, with no zero before it, at most 4,294,967,295.
@@ -13,8 +14,7 @@ pub(crate) fn number_in(word: &Text) -> Option<u32>
     ensures some { IfSome result (λ n. word.now ≡ decimal n) }
     ensures none { IfNone result ((n : ℕ) → n < 2 ^ 32 → word.now ≢ decimal n) }
 {
-    let number = meta_words::number_in(word.as_bytes(), 4_294_967_295)?;
-    Some(number as u32)
+    number_u32(word.as_bytes())
 }
 
 /// The summary of the tables of these declarations, which are those of the number, with LF.

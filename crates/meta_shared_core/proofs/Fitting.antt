@@ -109,12 +109,12 @@ builders_fit vars m (row ∷ rows) [] meant h = absurd h
 builders_fit vars m (row ∷ rows) (b ∷ builders) meant h = (row_fits vars m row b meant h.0, builders_fit vars m rows builders meant h.1)
 
 -- one of those that fit, each with its format, fits with some format
-pub one_fits : {vars : List TypeVarContent} {f : Formats} (formats : List Format) (builders : List Builder) → AllZip (FitsNames vars f) formats builders → (k : ℕ) (b : Builder) → slice_get builders k ≡ Some b → (format : Format) × FitsNames vars f format b
-one_fits [] [] h k b at = absurd (apart b at)
-one_fits [] (c ∷ builders) h k b at = absurd h
-one_fits (format ∷ formats) [] h k b at = absurd h
-one_fits {vars} {f} (format ∷ formats) (c ∷ builders) h zero b at = (format, subst (FitsNames vars f format) (same_Some _ _ at) h.0)
-one_fits (format ∷ formats) (c ∷ builders) h (suc k) b at = one_fits formats builders h.1 k b at
+pub one_fits : (vars : List TypeVarContent) (f : Formats) (formats : List Format) (builders : List Builder) → AllZip (FitsNames vars f) formats builders → (k : ℕ) (b : Builder) → slice_get builders k ≡ Some b → (format : Format) × FitsNames vars f format b
+one_fits vars f [] [] h k b at = absurd (apart b at)
+one_fits vars f [] (c ∷ builders) h k b at = absurd h
+one_fits vars f (format ∷ formats) [] h k b at = absurd h
+one_fits vars f (format ∷ formats) (c ∷ builders) h zero b at = (format, subst (FitsNames vars f format) (same_Some _ _ at) h.0)
+one_fits vars f (format ∷ formats) (c ∷ builders) h (suc k) b at = one_fits vars f formats builders h.1 k b at
 
 -- the names are those of the rows
 pub builders_named : (vars : List TypeVarContent) (m : Meanings) (rows : List Row) (builders : List Builder) → AreBuildersOf vars m rows builders → map builder_name builders ≡ map row_name rows
@@ -124,8 +124,8 @@ builders_named vars m (row ∷ rows) [] h = absurd h
 builders_named vars m (row ∷ rows) (b ∷ builders) h = ap (λ n. n ∷ map builder_name builders) h.0.name ∙ ap (λ ns. row.name.now ∷ ns) (builders_named vars m rows builders h.1)
 
 -- no instruction fits too
-pub none_fit : {vars : List TypeVarContent} {f : Formats} {all : List Builder} → all ≡ [] → AllZip (FitsNames vars f) [] all
-none_fit {vars} {f} none = subst (AllZip (FitsNames vars f) []) (sym none) tt
+pub none_fit : (vars : List TypeVarContent) (f : Formats) {all : List Builder} → all ≡ [] → AllZip (FitsNames vars f) [] all
+none_fit vars f none = subst (AllZip (FitsNames vars f) []) (sym none) tt
 
 pub names_added : {vars : List TypeVarContent} {m : Meanings} {rows : List Row} {old new : List Builder} → AddsRows vars m rows old new → map builder_name new ≡ map builder_name old ++ map row_name rows
 names_added {vars} {m} {rows} {old} adds = ap (map builder_name) adds.is ∙ (map-append builder_name old adds.more ∙ ap (λ xs. map builder_name old ++ xs) (builders_named vars m rows adds.more adds.builders))
@@ -149,8 +149,8 @@ fits_grow : {n : ℕ} {old new : List TypeVarContent} (f : Formats) → Grows n 
 fits_grow f grows format b h = record { number = h.number; fits = fitting_grows f b grows h.fits }
 
 -- those that were there and those that are added are of their formats, and name these variables alone
-pub all_fit : {n : ℕ} {old new : List TypeVarContent} {m : Meanings} {rows : List Row} {start all : List Builder} {formats : List Format} → Grows n old new → AreMeant old m → AddsRows new m rows start all → AllZip (FitsNames old m.formats) formats start → AllZip (FitsNames new m.formats) (formats ++ map row_format rows) all
-all_fit {n} {old} {new} {m} {rows} {start} {all} {formats} grows meant adds fit = subst (AllZip (FitsNames new m.formats) (formats ++ map row_format rows)) (sym adds.is)
+pub all_fit : {n : ℕ} {old new : List TypeVarContent} {m : Meanings} {rows : List Row} {start all : List Builder} (formats : List Format) → Grows n old new → AreMeant old m → AddsRows new m rows start all → AllZip (FitsNames old m.formats) formats start → AllZip (FitsNames new m.formats) (formats ++ map row_format rows) all
+all_fit {n} {old} {new} {m} {rows} {start} {all} formats grows meant adds fit = subst (AllZip (FitsNames new m.formats) (formats ++ map row_format rows)) (sym adds.is)
     (pairs_joined (FitsNames new m.formats) formats (map row_format rows) start adds.more
     (pairs_imply (FitsNames old m.formats) (FitsNames new m.formats) (fits_grow m.formats grows) formats start fit)
     (builders_fit new m rows adds.more (meant_grows grows meant) adds.builders))

@@ -53,10 +53,10 @@ named_one table f format b named numbers is =
     let place : b.format ≡ place_of format = omega (arith, is, numbers format) in
     sym (slice_get-map format_name table b.format) ∙ (ap (λ names. slice_get names b.format) named ∙ ap (slice_get format_names) place)
 
-pub each_named : {vars : List TypeVarContent} (table : List InstructionFormat) (f : Formats) (formats : List Format) (builders : List Builder) → map format_name table ≡ format_names → AreNumberedFrom 0 f → AllZip (FitsNames vars f) formats builders → map (named_format table) builders ≡ map name_at formats
-each_named table f [] [] named numbers h = refl
-each_named table f [] (b ∷ builders) named numbers h = absurd h
-each_named table f (format ∷ formats) [] named numbers h = absurd h
-each_named table f (format ∷ formats) (b ∷ builders) named numbers h =
+pub each_named : (vars : List TypeVarContent) (table : List InstructionFormat) (f : Formats) (formats : List Format) (builders : List Builder) → map format_name table ≡ format_names → AreNumberedFrom 0 f → AllZip (FitsNames vars f) formats builders → map (named_format table) builders ≡ map name_at formats
+each_named vars table f [] [] named numbers h = refl
+each_named vars table f [] (b ∷ builders) named numbers h = absurd h
+each_named vars table f (format ∷ formats) [] named numbers h = absurd h
+each_named vars table f (format ∷ formats) (b ∷ builders) named numbers h =
     ap (λ n. n ∷ map (named_format table) builders) (named_one table f format b named numbers h.0.number)
-    ∙ ap (λ ns. name_at format ∷ ns) (each_named table f formats builders named numbers h.1)
+    ∙ ap (λ ns. name_at format ∷ ns) (each_named vars table f formats builders named numbers h.1)

@@ -2,10 +2,7 @@ ghost use Rattle.std.specs.Prelude.{◌≡◌, ◌↔◌, ◌<◌, ◌==◌, IsT
 ghost use Rattle.meta_meaning.specs.Tables.{Allows, no_type_set};
 ghost use Rattle.meta_synth.specs.Summary.{IsFound, TakesEverywhere, CountsTo};
 
-use meta_gen::Tables;
-
-/// The type set offset of an opcode without a control.
-const NO_TYPE_SET: u16 = 65535;
+use meta_gen::{NO_TYPE_SET, Tables};
 
 /// Whether the opcode is found by its name.
 fn is_found(tables: &Tables, opcode: u16) -> bool
@@ -34,15 +31,15 @@ fn accepts_all(
     opcode: u16,
     control: Option<u16>,
     number: u16,
-    counts: (u8, u8),
+    counts: (usize, usize),
 ) -> bool
     requires results { counts.0 < 8 }
     requires values { counts.1 < 8 }
     ensures { IsTrue result ↔ Allows tables.now.opcodes opcode control None (replicate counts.0 number) (replicate counts.1 number) }
 {
     let numbers = [number; 7];
-    let results = &numbers[..counts.0 as usize];
-    let values = &numbers[..counts.1 as usize];
+    let results = &numbers[..counts.0];
+    let values = &numbers[..counts.1];
     tables.accepts(opcode, control, results, values)
 }
 
@@ -53,7 +50,7 @@ fn takes_everywhere(tables: &Tables, opcode: u16, number: u16) -> bool
     match tables.constraints(opcode) {
         Some(constraints) => {
             let control = control_of(constraints.typeset_offset, number);
-            let counts = (constraints.flags % 8, constraints.flags / 32 % 8);
+            let counts = (constraints.result_count(), constraints.value_count());
             accepts_all(tables, opcode, control, number, counts)
         }
         None => false,

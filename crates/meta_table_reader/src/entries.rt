@@ -11,12 +11,9 @@ ghost use Rattle.meta_types.specs.Name.{IsName};
 
 use super::lists::list_count;
 use meta_cursor::Cursor;
-use meta_gen::OpcodeConstraints;
+use meta_gen::{NO_TYPE_SET, OpcodeConstraints};
 use meta_table_text::Version;
 use std::alloc::{AllocError, Global};
-
-/// The place of a type set that stands in tables where there is none.
-const NO_TYPE_SET: u16 = 65535;
 
 /// The place of a type set, or that there is none, by what the version shows for it.
 fn offset_of(version: Version, shown: u16) -> u16

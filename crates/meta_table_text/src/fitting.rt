@@ -3,8 +3,8 @@ ghost use Rattle.std.specs.List.{list_all};
 ghost use Rattle.meta_opcode_tables.specs.Constraint.{number_constraint_of};
 ghost use Rattle.meta_table_text.specs.Fits.{IsSmall, LacksSecondSet, HasNoSecondSet, asks_of_no_second, Fits};
 
-use super::version::{NO_TYPE_SET, Version};
-use meta_gen::{Constraint, Tables};
+use super::version::Version;
+use meta_gen::{Constraint, NO_TYPE_SET, Tables};
 
 /// Whether there are at most 255 opcodes and 255 type sets.
 fn is_small(tables: &Tables) -> bool

@@ -5,8 +5,8 @@ ghost use Rattle.meta_table_text.specs.OpcodeText.{name_at, format_at, camel_at,
 
 use super::constraint_text::push_constraints_comment;
 use super::type_set_text::{push_block_end, push_set_comment};
-use super::version::{NO_TYPE_SET, Version};
-use meta_gen::{Constraint, OpcodeConstraints, Tables};
+use super::version::Version;
+use meta_gen::{Constraint, NO_TYPE_SET, OpcodeConstraints, Tables};
 use meta_types::{Text, camel_case};
 use std::alloc::{AllocError, Global};
 
@@ -113,18 +113,18 @@ fn push_flags_comment(out: &mut String, name: &str, flags: u8) -> Result<(), All
 }
 
 /// So many of the constraints, or those that there are, from this place on.
-fn part(constraints: &[Constraint], place: u16, count: u8) -> &[Constraint]
+fn part(constraints: &[Constraint], place: u16, count: usize) -> &[Constraint]
     ensures { result.now ≡ take count (drop place constraints.now) }
 {
     let behind = &constraints[constraints.len().min(place as usize)..];
-    &behind[..behind.len().min(count as usize)]
+    &behind[..behind.len().min(count)]
 }
 
 /// The constraints of an entry.
 fn constraints_of(tables: &Tables, entry: OpcodeConstraints) -> &[Constraint]
     ensures { map number_constraint_of result.now ≡ constraints_of tables.now.opcodes (entry_of entry) }
 {
-    let count = entry.flags % 8 + entry.flags / 32 % 8;
+    let count = entry.result_count() + entry.value_count();
     part(tables.operand_constraints(), entry.constraint_offset, count)
 }
 

@@ -1,8 +1,7 @@
 ghost use Rattle.std.specs.Prelude.{◌≡◌};
 ghost use Rattle.meta_table_text.specs.Version.{number_of, none_of, offset_shown};
 
-/// The place of a type set that stands in tables where there is none.
-pub(crate) const NO_TYPE_SET: u16 = 65535;
+use meta_gen::NO_TYPE_SET;
 
 /// A version of the text of tables (this project's own). An earlier version shows less: where it can't tell tables from others,
 /// they don't fit it.

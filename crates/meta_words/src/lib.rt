@@ -9,6 +9,6 @@ mod type_list;
 
 pub use control::{ControlNumbers, parse_control};
 pub use lines::Lines;
-pub use number::number_in;
+pub use number::{number_in, number_u8, number_u16, number_u32};
 pub use pieces::{Pieces, cut, end_of};
 pub use type_list::read_types;

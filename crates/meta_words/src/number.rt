@@ -40,3 +40,30 @@ pub fn number_in(word: &[u8], most: u64) -> Option<u64>
     let number = number_of(word)?;
     if number <= most { Some(number) } else { None }
 }
+
+/// As `number_in`, for the numbers of 8 bits.
+pub fn number_u8(word: &[u8]) -> Option<u8>
+    ensures some { IfSome result (λ n. word.now ≡ decimal n) }
+    ensures none { IfNone result ((n : ℕ) → n < 2 ^ 8 → word.now ≢ decimal n) }
+{
+    let number = number_in(word, 255)?;
+    Some(number as u8)
+}
+
+/// As `number_in`, for the numbers of 16 bits.
+pub fn number_u16(word: &[u8]) -> Option<u16>
+    ensures some { IfSome result (λ n. word.now ≡ decimal n) }
+    ensures none { IfNone result ((n : ℕ) → n < 2 ^ 16 → word.now ≢ decimal n) }
+{
+    let number = number_in(word, 65_535)?;
+    Some(number as u16)
+}
+
+/// As `number_in`, for the numbers of 32 bits.
+pub fn number_u32(word: &[u8]) -> Option<u32>
+    ensures some { IfSome result (λ n. word.now ≡ decimal n) }
+    ensures none { IfNone result ((n : ℕ) → n < 2 ^ 32 → word.now ≢ decimal n) }
+{
+    let number = number_in(word, 4_294_967_295)?;
+    Some(number as u32)
+}

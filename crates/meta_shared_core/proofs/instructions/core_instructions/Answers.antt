@@ -1,4 +1,4 @@
-use Rattle.std.proofs.Common.{◌∙◌, ◌++◌, arith, length, length-append, map, sym, ap, subst}
+use Rattle.std.proofs.Common.{◌∙◌, ◌++◌, [], arith, length, length-append, map, sym, ap, subst}
 use Rattle.std.specs.List.{AllZip}
 use Rattle.std.proofs.lemmas.List.{length-map}
 use Rattle.std.proofs.lemmas.Result.{IfOk-from_err}
@@ -23,7 +23,7 @@ returns-clause-fit c =
     let meant : AreMeant c.new.new.vars c.new-names.result = subst (AreMeant c.new.new.vars) (sym c.new-names.ensures) (record { immediates = c.requires.immediates; entities = c.requires.entities; roots = c.in_ok-roots.ensures.roots }) in
     subst (λ formats. AllZip (FitsNames c.push_tables.new.vars c.args.formats.now) formats c.push_tables.new.all) c.core_tables.ensures.are_of
     (subst (λ f. AllZip (FitsNames c.push_tables.new.vars f) (map row_format (rows_in c.core_tables.result)) c.push_tables.new.all) (ap (λ (m : Meanings). m.formats) c.new-names.ensures)
-    (all_fit c.in_ok-push_tables.ensures.grows meant c.in_ok-push_tables.ensures.rows (none_fit c.requires.no_instruction)))
+    (all_fit [] c.in_ok-push_tables.ensures.grows meant c.in_ok-push_tables.ensures.rows (none_fit c.new.new.vars c.new-names.result.formats c.requires.no_instruction)))
 
 pub push_tables-requires-clause-meant : goal.push_tables-requires-clause-meant
 push_tables-requires-clause-meant c = subst (AreMeant c.new.new.vars) (sym c.new-names.ensures) (record { immediates = c.requires.immediates; entities = c.requires.entities; roots = c.in_ok-roots.ensures.roots })

@@ -23,7 +23,7 @@ returns-clause-fit c =
     let meant : AreMeant c.core_instructions.new.vars c.new-names.result = subst (AreMeant c.core_instructions.new.vars) (sym c.new-names.ensures) (record { immediates = c.requires.immediates; entities = c.requires.entities; roots = c.in_ok-roots.ensures.roots }) in
     subst (λ more. AllZip (FitsNames c.push_tables.new.vars c.args.formats.now) (core_formats ++ more) c.push_tables.new.all) c.ops_tables.ensures.are_of
     (subst (λ f. AllZip (FitsNames c.push_tables.new.vars f) (core_formats ++ map row_format (rows_in c.ops_tables.result)) c.push_tables.new.all) formats
-    (all_fit c.in_ok-push_tables.ensures.grows meant c.in_ok-push_tables.ensures.rows
+    (all_fit core_formats c.in_ok-push_tables.ensures.grows meant c.in_ok-push_tables.ensures.rows
     (subst (λ f. AllZip (FitsNames c.core_instructions.new.vars f) core_formats c.core_instructions.new.all) (sym formats) c.in_ok-roots.ensures.fit)))
 
 pub returns-in_err-roots-clause-names : goal.returns-in_err-roots-clause-names

@@ -4,17 +4,19 @@ use Rattle.std.proofs.lemmas.Result.{IfOk-from_err}
 use Rattle.meta_inst.specs.Faults.{names_of}
 use Rattle.meta_settings.specs.GroupDeclaration.{GroupDeclaration}
 use Rattle.meta_declared.specs.AllDeclared.{Declared}
+use Rattle.meta_shared_core.specs.CoreFormats.{core_formats}
 use Rattle.meta_shared_core.specs.CoreNames.{core_names}
 use Rattle.meta_shared_core.specs.Formats.{AreNumberedFrom}
 use Rattle.meta_shared_core.specs.Rows.{named_format}
 use Rattle.meta_shared_core.specs.Settings.{IsSharedGroup}
 use Rattle.meta_shared_core.proofs.Fitting.{one_fits}
 use Rattle.meta_shared_core.proofs.Named.{all_named, each_named}
+use Rattle.meta_shared_ops.specs.OpsFormats.{ops_formats}
 use Rattle.meta_shared_ops.specs.OpsNames.{ops_names}
 use Rattle.meta_shared_ops.proofs.definition.define.Goals as goal
 
 pub new-requires-4 : goal.new-requires-4
-new-requires-4 c = λ k b at. (one_fits _ _ c.in_ok-add_instructions.ensures.fit k b at).1.fits c.new-3.new.table c.in_ok-formats.ensures.of
+new-requires-4 c = λ k b at. (one_fits c.add_instructions.new.vars c.in_ok-formats.formats (core_formats ++ ops_formats) c.add_instructions.new.all c.in_ok-add_instructions.ensures.fit k b at).1.fits c.new-3.new.table c.in_ok-formats.ensures.of
 
 pub returns-clause-names : goal.returns-clause-names
 returns-clause-names c = ap (λ (d : Declared). names_of d.set) c.new-4.ensures ∙ c.in_ok-add_instructions.ensures.names
@@ -28,7 +30,7 @@ returns-clause-of_formats c =
     let none = c.new-table.ensures in
     let numbers : AreNumberedFrom 0 c.in_ok-formats.formats = subst (λ n. AreNumberedFrom n c.in_ok-formats.formats) (ap length none) c.in_ok-formats.ensures.numbers in
     ap (λ (d : Declared). map (named_format d.set.formats) d.set.instructions) c.new-4.ensures
-    ∙ each_named _ _ _ _ (all_named c.in_ok-formats.ensures.added none) numbers c.in_ok-add_instructions.ensures.fit
+    ∙ each_named c.add_instructions.new.vars c.new-3.new.table c.in_ok-formats.formats (core_formats ++ ops_formats) c.add_instructions.new.all (all_named c.in_ok-formats.ensures.added none) numbers c.in_ok-add_instructions.ensures.fit
 
 -- the only group is the shared one
 one_shared : (groups : List GroupDeclaration) (g : GroupDeclaration) → groups ≡ g ∷ [] → IsSharedGroup g → (k : ℕ) (d : GroupDeclaration) → k < length groups → IsSharedGroup (get_or groups k d)
