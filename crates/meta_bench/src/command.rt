@@ -43,7 +43,10 @@ impl Subject {
     /// The subject of this name and size.
     fn of(name: &str, size: &Text) -> Option<Subject> {
         match name {
-            "instructions" => Some(Subject::Instructions(small_number_of(size, MOST_INSTRUCTIONS)?)),
+            "instructions" => Some(Subject::Instructions(small_number_of(
+                size,
+                MOST_INSTRUCTIONS,
+            )?)),
             "tables" => Some(Subject::Tables(small_number_of(size, MOST_INSTRUCTIONS)?)),
             "settings" => Some(Subject::Settings(small_number_of(size, u16::MAX)?)),
             _ => Some(Subject::Inputs(Shown::of(name)?, number_of(size, u32::MAX)?)),

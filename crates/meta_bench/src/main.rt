@@ -37,7 +37,7 @@ fn written<K: Sink>(alloc: Global, sink: &mut K, line: &str, ending: Ending) -> 
 }
 
 /// Does what the command says, and writes what the tables hold, or the fault by which the declarations are refused.
-fn measure<K: Sink>(alloc: Global, command: &Command, sink: &mut K) -> Ending
+fn answer<K: Sink>(alloc: Global, command: &Command, sink: &mut K) -> Ending
     requires { 0 < command.now.times }
 {
     match measured(alloc, command) {
@@ -59,7 +59,7 @@ impl Program for Bench {
         sink: &mut K,
     ) -> Ending {
         match Command::of(words) {
-            Some(command) => measure(alloc, &command, sink),
+            Some(command) => answer(alloc, &command, sink),
             None => Ending::Usage,
         }
     }

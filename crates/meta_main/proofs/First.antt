@@ -1,9 +1,8 @@
 -- The first word that asks for anything.
-use Rattle.std.proofs.Common.{◌≡◌, ◌≢◌, ℕ, ◌+◌, ◌<◌, ◌≤◌, ◌⊎◌, inl, inr, ⊎_elim, List, [], ◌∷◌, codes, length, get_or, slice_get, Some, None, refl, subst, sym, ap, ◌∙◌, arith}
+use Rattle.std.proofs.Common.{◌≡◌, ℕ, ◌+◌, ◌<◌, ◌≤◌, ◌⊎◌, ⊎_elim, List, length, get_or, slice_get, Some, refl, subst, sym, ◌∙◌, arith}
 use Rattle.std.proofs.lemmas.Bool.{cases_lt}
 use Rattle.std.proofs.lemmas.Option.{same_Some, slice_get_read, slice_get_within}
-use Rattle.meta_lists.specs.First.{IsFirst}
-use Rattle.meta_main.specs.Asked.{IsHelp, IsVersion, AsksAt, StandsAt, FirstAsks}
+use Rattle.meta_main.specs.Asked.{IsHelp, IsVersion, AsksAt, FirstAsks}
 
 -- what stands at a place is the word that was read there
 there : (words : List (List ℕ)) (k : ℕ) (word other : List ℕ) → k < length words → word ≡ get_or words k word → slice_get words k ≡ Some other → other ≡ word

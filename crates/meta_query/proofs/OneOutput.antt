@@ -1,5 +1,5 @@
 -- A command answers an input with one output at most.
-use Rattle.std.proofs.Common.{◌≡◌, inl, inr, ℕ, List, [], ◌∷◌, ◌++◌, sym, ap, ◌∙◌, subst}
+use Rattle.std.proofs.Common.{◌≡◌, inl, inr, true, false, ℕ, List, [], ◌∷◌, ◌++◌, sym, ap, ◌∙◌, subst}
 use Rattle.meta_typevar.specs.Registry.{HoldTypeSets}
 use Rattle.meta_inst.specs.InstructionSet.{InstructionSet}
 use Rattle.meta_meaning.specs.Tables.{TableContents}
@@ -11,7 +11,7 @@ use Rattle.meta_synth.specs.Summary.{IsSummaryOf}
 use Rattle.meta_table_reader.specs.Readable.{Reads}
 use Rattle.meta_table_text.specs.TableText.{table_text}
 use Rattle.meta_table_text.specs.declared.version.Version.TheVariants.{Three}
-use Rattle.meta_answers.specs.Lines.{lines_of}
+use Rattle.meta_words.specs.Lines.{lines_of}
 use Rattle.meta_answers.specs.Query.{Asked, Asks}
 use Rattle.meta_answers.specs.Answer.{IsOutput}
 use Rattle.meta_query.specs.declared.command.Command.{Command}

@@ -65,12 +65,7 @@ impl Answerer for Command {
     }
 
     /// The output of the command.
-    fn answer(
-        &self,
-        alloc: Global,
-        built: &Built<'_>,
-        input: &[u8],
-    ) -> Result<Answer, AllocError> {
+    fn answer(&self, alloc: Global, built: &Built<'_>, input: &[u8]) -> Result<Answer, AllocError> {
         Ok(Answer {
             text: output_of(alloc, *self, built, input)?,
             is_rejection: false,

@@ -27,12 +27,7 @@ pub trait Answerer {
         ensures { result ≡ reads self.now };
 
     /// What the input is answered with, over what was built of declarations. Where there is no input, it is empty.
-    fn answer(
-        &self,
-        alloc: Global,
-        built: &Built<'_>,
-        input: &[u8],
-    ) -> Result<Answer, AllocError>
+    fn answer(&self, alloc: Global, built: &Built<'_>, input: &[u8]) -> Result<Answer, AllocError>
         requires within { length input.now ≤ longest_input }
         requires no_input { reads self.now ≡ false → input.now ≡ [] }
         ensures { IfOk result (λ answer. texts self.now built.now.declared input.now answer.is_rejection (string_bytes answer.text)) };

@@ -3,10 +3,11 @@ use Rattle.std.proofs.Common.{◌≡◌, ℕ, ◌+◌, ◌-◌, ◌<◌, ◌==�
 use Rattle.std.specs.List.{slice_split, onto_first, position_or_len, join_with_byte}
 use Rattle.std.proofs.lemmas.List.Splits.{slice_split_first, slice_split_none, slice_split_at, slice_split-cons_yes, slice_split-cons_no, join_with_byte-slice_split}
 use Rattle.std.proofs.lemmas.List.{take_rest}
-use Rattle.std.proofs.lemmas.List.Sums.{prefix_len-le-length, fails_before_first}
+use Rattle.std.proofs.lemmas.List.Sums.{prefix_len-le-length, fails_before_first, position_or_len_is}
 use Rattle.std.proofs.lemmas.Bool.Decides.{nat_tests}
 use Rattle.std.proofs.lemmas.List.Elements.{All-nil, All-cons, All-head, All-tail, All-same, All-weaker}
-use Rattle.std.proofs.lemmas.Bool.{cases_Bool}
+use Rattle.std.proofs.lemmas.Bool.{cases_Bool, false_from_ne_true}
+use Rattle.memchr.specs.Find.{IsFirstByte, is_byte}
 use Rattle.meta_words.specs.Words.{pieces_of}
 
 -- the first piece ends at the first element that passes
@@ -67,13 +68,13 @@ pieces_of-join byte piece (next ∷ more) h =
     first_piece byte piece (join_with_byte byte (next ∷ more)) (All-head (λ x. All (λ b. b ≢ byte) x) piece (next ∷ more) h)
     ∙ ap (λ ps. piece ∷ ps) (pieces_of-join byte next more (All-tail (λ x. All (λ b. b ≢ byte) x) piece (next ∷ more) h))
 
--- the first place where a test passes, and the length where there is none
-pub place_or_len : {X : Type 0} (p : X → Bool) (xs : List X) (r : Option ℕ) → r ≡ cond (ltb (position_or_len p xs) (length xs)) (Some (position_or_len p xs)) None → unwrap_or r (length xs) ≡ position_or_len p xs
-place_or_len p xs r e = ap (λ r. unwrap_or r (length xs)) e ∙ by_test (ltb (position_or_len p xs) (length xs)) refl
-  where
-    by_test : (b : Bool) → ltb (position_or_len p xs) (length xs) ≡ b → unwrap_or (cond b (Some (position_or_len p xs)) None) (length xs) ≡ position_or_len p xs
-    by_test true is = refl
-    by_test false is = let most = prefix_len-le-length (λ x. not (p x)) xs in grind (arith, nat_tests)
+-- the first place of a byte, and the length where there is none
+pub byte_or_len : (stop : ℕ) (xs : List ℕ) (r : Option ℕ) → IsFirstByte (is_byte stop) xs r → unwrap_or r (length xs) ≡ position_or_len (λ b. b == stop) xs
+byte_or_len stop xs None none =
+    sym (position_or_len_is (λ b. b == stop) xs (length xs) 0 (omega arith) (λ k low. false_from_ne_true _ (none k (omega arith) low)) (λ low. absurd (omega (arith, low))))
+byte_or_len stop xs (Some k) (first, at) =
+    let high = first.high in
+    sym (position_or_len_is (λ b. b == stop) xs k 0 (omega (arith, high)) (λ j low. false_from_ne_true _ (first.before j (omega arith) low)) (λ low. at))
 
 -- where the first place is the length, the text is one piece
 pub no_place : (byte : ℕ) (text : List ℕ) (end : ℕ) → end ≡ position_or_len (λ b. b == byte) text → end ≡ length text → pieces_of byte text ≡ text ∷ []
