@@ -1,0 +1,5 @@
+pub mod Matching
+pub mod Comparison
+pub mod Verdict
+pub mod AuditLine
+pub mod AuditRun

@@ -1,0 +1,108 @@
+ghost use Rattle.std.specs.Prelude.{◌≡◌, ◌↔◌, ℕ, Option, IsTrue, IfSome};
+ghost use Rattle.meta_inst.specs.Which.{both};
+ghost use Rattle.meta_meaning.specs.Tables.{ControlNumberFits};
+ghost use Rattle.meta_opcode_tables.specs.Demand.{which_of};
+ghost use Rattle.meta_opcode_tables.specs.WellFormed.{IsTypeNumber, IsWellFormedOpcodes};
+ghost use Rattle.meta_audit.specs.Comparison.{SameNumbers, SamePlace, paired};
+
+use super::controls::{END, LEAST, some_control};
+use super::forms::{have_one_form, reads_at};
+use meta_opcode_tables::{OpcodeTables, Which};
+
+/// Two tables, and a place of an operand constraint in each.
+#[derive(Clone, Copy)]
+pub(crate) struct Places<'t> {
+    pub(crate) own: &'t OpcodeTables,
+    pub(crate) other: &'t OpcodeTables,
+    pub(crate) at: usize,
+    pub(crate) other_at: usize,
+}
+
+impl<'t> Places<'t> {
+    /// Whether under these numbers of the controls, which are those of types, the same numbers pass at both places.
+    fn same_numbers(self, ctrl: Option<u16>, second: Option<u16>) -> bool
+        requires own { IsWellFormedOpcodes self.own.now }
+        requires other { IsWellFormedOpcodes self.other.now }
+        requires ctrl { IfSome ctrl IsTypeNumber }
+        requires second { IfSome second IsTypeNumber }
+        ensures { IsTrue result ↔ SameNumbers self.entry.own.now self.entry.other.now (both ctrl second) self.entry.at self.entry.other_at }
+    {
+        for n in LEAST..END {
+            if self.own.operand_passes(ctrl, second, self.at, n)
+                != self.other.operand_passes(ctrl, second, self.other_at, n)
+            {
+                return false;
+            }
+        }
+        true
+    }
+
+    /// The same under this number of the control that is meant, and that number of the other beside it.
+    fn same_beside(self, which: Which, number: Option<u16>, beside: Option<u16>) -> bool
+        requires own { IsWellFormedOpcodes self.own.now }
+        requires other { IsWellFormedOpcodes self.other.now }
+        requires number { IfSome number IsTypeNumber }
+        requires beside { IfSome beside IsTypeNumber }
+        ensures { IsTrue result ↔ SameNumbers self.entry.own.now self.entry.other.now (paired (which_of which) number beside) self.entry.at self.entry.other_at }
+    {
+        match which {
+            Which::First => self.same_numbers(number, beside),
+            Which::Second => self.same_numbers(beside, number),
+        }
+    }
+
+    /// The same under each number of the control that is meant, whose offset in the own tables this is.
+    fn same_under_each(self, which: Which, offset: u16, beside: Option<u16>) -> bool
+        requires own { IsWellFormedOpcodes self.own.now }
+        requires other { IsWellFormedOpcodes self.other.now }
+        requires beside { IfSome beside IsTypeNumber }
+        ensures { IsTrue result ↔ ((c : Option ℕ) → ControlNumberFits self.entry.own.now offset c → SameNumbers self.entry.own.now self.entry.other.now (paired (which_of which) c beside) self.entry.at self.entry.other_at) }
+    {
+        if self.own.control_fits(offset, None) {
+            return self.same_beside(which, None, beside);
+        }
+        for n in LEAST..END {
+            if self.own.control_fits(offset, Some(n)) && !self.same_beside(which, Some(n), beside) {
+                return false;
+            }
+        }
+        true
+    }
+
+    /// The same, where `number` is one of those. It is enough where neither constraint depends on them.
+    fn same_under(self, which: Which, offset: u16, number: Option<u16>, beside: Option<u16>) -> bool
+        requires own { IsWellFormedOpcodes self.own.now }
+        requires other { IsWellFormedOpcodes self.other.now }
+        requires fits { ControlNumberFits self.own.now offset number }
+        requires beside { IfSome beside IsTypeNumber }
+        ensures { IsTrue result ↔ ((c : Option ℕ) → ControlNumberFits self.entry.own.now offset c → SameNumbers self.entry.own.now self.entry.other.now (paired (which_of which) c beside) self.entry.at self.entry.other_at) }
+    {
+        if reads_at(self.own, which, self.at) || reads_at(self.other, which, self.other_at) {
+            return self.same_under_each(which, offset, beside);
+        }
+        self.same_beside(which, number, beside)
+    }
+
+    /// Whether the same numbers pass at both places under all numbers of the two controls, whose offsets in the own tables these are.
+    /// A constraint depends on one control at most, so each control is tried beside one number of the other. Where the constraints have
+    /// one form no number is tested.
+    pub(crate) fn same(self, first: u16, second: u16) -> bool
+        requires own { IsWellFormedOpcodes self.own.now }
+        requires other { IsWellFormedOpcodes self.other.now }
+        ensures { IsTrue result ↔ SamePlace self.entry.own.now self.entry.other.now first second self.entry.at self.entry.other_at }
+    {
+        if have_one_form(self.own, self.other, self.at, self.other_at) {
+            return true;
+        }
+        let Some(ctrl) = some_control(self.own, first) else {
+            return true;
+        };
+        let Some(beside) = some_control(self.own, second) else {
+            return true;
+        };
+        if !self.same_under(Which::First, first, ctrl, beside) {
+            return false;
+        }
+        self.same_under(Which::Second, second, beside, ctrl)
+    }
+}
