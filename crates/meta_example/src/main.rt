@@ -23,9 +23,9 @@ use trouble::Trouble;
 
 /// Runs the words over the machine.
 #[derive(Clone, Copy)]
-struct Machine;
+struct Example;
 
-impl Program for Machine {
+impl Program for Example {
     fn run<S: Source, K: Sink>(
         &self,
         alloc: Global,
@@ -42,5 +42,5 @@ impl Program for Machine {
 }
 
 fn main(rt: HostRuntime) -> ExitCode {
-    start(&rt, &MANUAL, &Machine)
+    start(&rt, &MANUAL, &Example)
 }
