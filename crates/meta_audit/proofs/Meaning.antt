@@ -19,7 +19,8 @@ use Rattle.meta_meaning.proofs.Constrained.{has_constraint}
 use Rattle.meta_meaning.proofs.ControlFamily.{as_long, accepts_from_admits, admits_from_accepts}
 use Rattle.meta_meaning.proofs.Listed.{types_of_numbers, AreNumbersOf-append, AreNumbersOf-length, number_at, type_at, number_of_type, number_of_none}
 use Rattle.meta_opcode_tables.specs.TablesOf.{AcceptsOpcode}
-use Rattle.meta_opcode_tables.specs.WellFormed.{IsTypeNumber, IsWellFormedOpcodes}
+use Rattle.meta_types.specs.TypeNumber.{type_with, IsTypeNumber}
+use Rattle.meta_opcode_tables.specs.WellFormed.{IsWellFormedOpcodes}
 use Rattle.meta_opcode_tables.proofs.Derivations.{none_bad}
 use Rattle.meta_audit.specs.Matching.{CanHave, IsSetOf, MatchesEntry, Matches}
 use Rattle.meta_audit.specs.Verdict.{AreAsMany, AllMatch}
@@ -33,8 +34,8 @@ module _ (sets : Sets) (tables : TableContents) (offset : ℕ) where
   type_from (Some v) c (there, contains) fits =
       let (n, c_is, has) = fitting tables offset there c fits in
       let r : IsTypeNumber n = contained_typed tables offset n has in
-      let member = (contains r.type_of r.is_type).0 (subst (SetContains tables offset) (sym r.numbered) has) in
-      (Some r.type_of, (r.is_type, c_is ∙ ap Some (sym r.numbered)), (r.type_of, refl, member))
+      let member = (contains (type_with n) r.is_type).0 (subst (SetContains tables offset) (sym r.numbered) has) in
+      (Some (type_with n), (r.is_type, c_is ∙ ap Some (sym r.numbered)), (type_with n, refl, member))
 
   -- the number of a type that fits the control fits the offset
   number_from : (v : Option Variable) (e : Option TypeParts) (c : Option ℕ) → IsSetOf sets v tables offset → IsNumberOf e c → ControlFits sets v e → ControlNumberFits tables offset c
@@ -58,8 +59,8 @@ module _ (sets : Sets) (i : Instruction) (control : Option Variable) (tables : T
     accepts_allowed a =
         let (e, e_number, e_fits) = type_from sets tables entry.typeset_offset control c is.type_set first in
         let (g, g_number, g_fits) = type_from sets tables entry.second_offset i.second d is.second_set second in
-        let (ts, are_rs) = types_of_numbers rs (λ k n at. let r = typed k n (get_stays rs vs k n at) in (r.type_of, r.is_type, r.numbered)) in
-        let (us, are_vs) = types_of_numbers vs (λ k n at. let r = typed (length rs + k) n (get_right rs vs k ∙ at) in (r.type_of, r.is_type, r.numbered)) in
+        let (ts, are_rs) = types_of_numbers rs (λ k n at. typed k n (get_stays rs vs k n at)) in
+        let (us, are_vs) = types_of_numbers vs (λ k n at. typed (length rs + k) n (get_right rs vs k ∙ at)) in
         record {
           control_type = e;
           second_type = g;

@@ -4,9 +4,11 @@ use Rattle.std.proofs.lemmas.Bool.{MatchBool-at_true, MatchBool-at_false, eq-eqb
 use Rattle.std.proofs.lemmas.Option.{same_Some, none-some}
 use Rattle.meta_types.specs.TypeParts.{TypeParts, IsType, number_of}
 use Rattle.meta_types.proofs.AllTypes.{at_all, at_all_types}
+use Rattle.meta_types.proofs.TypeNumbers.{number_is_one}
 use Rattle.meta_inst.specs.Which.{Which, First, Second, both}
 use Rattle.meta_meaning.specs.Tables.{TableContents, NumberConstraint, ConcreteNumber, FreeOf, SameNumber, ByNumber, SetContains, ControlNumberFits, NumberPasses, PassesAt, no_type_set}
-use Rattle.meta_opcode_tables.specs.WellFormed.{IsTypeNumber, IsWellFormedConstraint, IsWellFormedOpcodes}
+use Rattle.meta_types.specs.TypeNumber.{type_with, IsTypeNumber}
+use Rattle.meta_opcode_tables.specs.WellFormed.{IsWellFormedConstraint, IsWellFormedOpcodes}
 use Rattle.meta_setting_tables.proofs.Everywhere.{at_place}
 use Rattle.meta_audit.specs.Comparison.{SameNumbers, SameControl}
 
@@ -22,7 +24,7 @@ all_low = refl
 -- and from 112 on
 pub in_range : (n : ℕ) → IsTypeNumber n → (112 ≤ n) × (n < 384)
 in_range n h =
-    let low : number_of h.type_of < 384 = ltb-true (number_of h.type_of) 384 (at_all_types is_low all_low h.type_of h.is_type) in
+    let low : number_of (type_with n) < 384 = ltb-true (number_of (type_with n)) 384 (at_all_types is_low all_low (type_with n) h.is_type) in
     let e = h.numbered in
     (omega (arith, e), omega (arith, e, low))
 
@@ -62,7 +64,7 @@ module _ (tables : TableContents) (j : ℕ) where
 
   -- a number that a set contains is that of a type
   pub contained_typed : (n : ℕ) → SetContains tables j n → IsTypeNumber n
-  contained_typed n h = record { type_of = h.contains.type_of; is_type = h.contains.contained.is_type; numbered = h.contains.numbered }
+  contained_typed n h = subst IsTypeNumber h.contains.numbered (number_is_one h.contains.type_of h.contains.contained.is_type)
 
   -- so is one that fits
   pub fitting_typed : (c : Option ℕ) → ControlNumberFits tables j c → IfSome c IsTypeNumber
@@ -85,7 +87,7 @@ module _ (tables : TableContents) (well : IsWellFormedOpcodes tables) (c d : Opt
       of_constraint (ConcreteNumber m) good passes = subst IsTypeNumber (sym passes) good
       of_constraint (FreeOf j) good passes = contained_typed tables j n passes
       of_constraint (SameNumber a) good passes = control_typed a n passes
-      of_constraint (ByNumber a f) good (u, is, steps) = record { type_of = steps.to; is_type = steps.steps.to; numbered = steps.number_to }
+      of_constraint (ByNumber a f) good (u, is, steps) = subst IsTypeNumber steps.number_to (number_is_one steps.to steps.steps.to)
 
 -- what is the same of all numbers from 112 to 383 is the same of all
 pub same_numbers : (own other : TableContents) → IsWellFormedOpcodes own → IsWellFormedOpcodes other → (c d : Option ℕ) → IfSome c IsTypeNumber → IfSome d IsTypeNumber → (p q : ℕ)

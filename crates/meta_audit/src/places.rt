@@ -2,7 +2,8 @@ ghost use Rattle.std.specs.Prelude.{◌≡◌, ◌↔◌, ℕ, Option, IsTrue, I
 ghost use Rattle.meta_inst.specs.Which.{both};
 ghost use Rattle.meta_meaning.specs.Tables.{ControlNumberFits};
 ghost use Rattle.meta_opcode_tables.specs.Demand.{which_of};
-ghost use Rattle.meta_opcode_tables.specs.WellFormed.{IsTypeNumber, IsWellFormedOpcodes};
+ghost use Rattle.meta_types.specs.TypeNumber.{IsTypeNumber};
+ghost use Rattle.meta_opcode_tables.specs.WellFormed.{IsWellFormedOpcodes};
 ghost use Rattle.meta_audit.specs.Comparison.{SameNumbers, SamePlace, paired};
 
 use super::controls::{END, LEAST, some_control};

@@ -25,10 +25,10 @@ use std::alloc::Global;
 use std::marker::Model;
 
 /// The most instructions that may be declared: opcodes have the numbers 1 to 4,095.
-const MAX_OPCODES: usize = 4095;
+pub const MAX_OPCODES: usize = 4095;
 
 /// The most type sets that may be needed: their places in tables have 16 bits, and 65,535 stands for none.
-const MAX_TYPE_SETS: usize = 4095;
+pub const MAX_TYPE_SETS: usize = 4095;
 
 /// What is built of an instruction set: its instructions, the formats that they use, and the type sets that they need.
 #[derive(Drop)]

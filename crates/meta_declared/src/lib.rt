@@ -12,6 +12,6 @@ mod instructions;
 mod laws;
 mod needed;
 
-pub use built::{Built, build_all};
+pub use built::{Built, MAX_OPCODES, MAX_TYPE_SETS, build_all};
 pub use declarations::Declarations;
 pub use laws::{one_built, one_first_fault};

@@ -14,7 +14,8 @@ use Rattle.meta_meaning.specs.Tables.{TableContents, OpcodeNumbers, NumberPasses
 use Rattle.meta_meaning.proofs.Family.{IsUsed}
 use Rattle.meta_meaning.proofs.ControlFamily.{ruling_of, as_long, accepts_from_admits, admits_from_accepts}
 use Rattle.meta_meaning.proofs.Only.{same_constraint}
-use Rattle.meta_meaning.proofs.Listed.{IsTypeNumber, types_of_numbers, AreNumbersOf-append, AreNumbersOf-length, number_at, type_at}
+use Rattle.meta_types.specs.TypeNumber.{IsTypeNumber}
+use Rattle.meta_meaning.proofs.Listed.{types_of_numbers, AreNumbersOf-append, AreNumbersOf-length, number_at, type_at}
 use Rattle.meta_meaning.proofs.Passing.{IsSound, constraint_sound, passing_typed, type_passes, number_passes, control_type, control_number}
 
 -- what the tables allow for an opcode, by its entry

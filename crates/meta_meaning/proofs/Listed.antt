@@ -4,11 +4,8 @@ use Rattle.std.proofs.lemmas.Option.{same_Some, none-some, slice_get-map}
 use Rattle.std.proofs.lemmas.List.{length-map, map-append}
 use Rattle.meta_lists.proofs.Places.{get_cases}
 use Rattle.meta_types.specs.TypeParts.{TypeParts, IsType, number_of}
+use Rattle.meta_types.specs.TypeNumber.{type_with, IsTypeNumber}
 use Rattle.meta_meaning.specs.Acceptance.{AreNumbersOf, IsNumberOf}
-
--- n is the number of a type
-abbrev pub IsTypeNumber : ℕ → Type 0
-IsTypeNumber n = (t : TypeParts) × IsType t × (number_of t ≡ n)
 
 -- numbers that are each that of a type are the numbers of a list of types
 pub types_of_numbers : (ns : List ℕ) → ((k n : ℕ) → slice_get ns k ≡ Some n → IsTypeNumber n) → (ts : List TypeParts) × AreNumbersOf ts ns
@@ -17,11 +14,11 @@ types_of_numbers (n ∷ ns) each = with_rest (each 0 n refl) (types_of_numbers n
   where
     -- the first type, in front of those of the rest
     with_rest : IsTypeNumber n → (ts : List TypeParts) × AreNumbersOf ts ns → (ts : List TypeParts) × AreNumbersOf ts (n ∷ ns)
-    with_rest (t, is, e) (ts, rest) = (t ∷ ts, record { types = types; numbers = ap₂ (λ (m : ℕ) (ms : List ℕ). m ∷ ms) (sym e) rest.numbers })
+    with_rest r (ts, rest) = (type_with n ∷ ts, record { types = types; numbers = ap₂ (λ (m : ℕ) (ms : List ℕ). m ∷ ms) (sym r.numbered) rest.numbers })
       where
         -- each of them is a type
-        types : (k : ℕ) (u : TypeParts) → slice_get (t ∷ ts) k ≡ Some u → IsType u
-        types zero u at = subst IsType (same_Some t u at) is
+        types : (k : ℕ) (u : TypeParts) → slice_get (type_with n ∷ ts) k ≡ Some u → IsType u
+        types zero u at = subst IsType (same_Some (type_with n) u at) r.is_type
         types (suc k) u at = rest.types k u at
 
 -- two lists of types joined have the numbers of the two joined

@@ -14,7 +14,9 @@ use Rattle.meta_meaning.specs.Tables.{TableContents, NumberConstraint, SetContai
 use Rattle.meta_types.proofs.Numbers.{one_number}
 use Rattle.meta_meaning.proofs.Members.{numbers_of_members}
 use Rattle.meta_meaning.proofs.Chains.{agrees_type}
-use Rattle.meta_meaning.proofs.Listed.{IsTypeNumber, type_of_number, number_of_type, number_of_none}
+use Rattle.meta_types.specs.TypeNumber.{IsTypeNumber}
+use Rattle.meta_types.proofs.TypeNumbers.{number_is_one}
+use Rattle.meta_meaning.proofs.Listed.{type_of_number, number_of_type, number_of_none}
 
 -- what a constraint names are a type or a set of types
 abbrev pub IsSound : Constraint → Type 0
@@ -48,16 +50,16 @@ module _ (tables : TableContents) (j : ℕ) (s : TypeSetParts) (is : IsTypeSet s
 module _ (tables : TableContents) (e : Which → Option TypeParts) (c : Which → Option ℕ) (numbered : (a : Which) → IsNumberOf (e a) (c a)) where
   -- a number that passes what stands for a constraint is that of a type
   pub passing_typed : (x : Constraint) (y : NumberConstraint) (n : ℕ) → IsSound x → StandsFor tables x y → NumberPasses tables c y n → IsTypeNumber n
-  passing_typed (Concrete t) y n sound stands p = (t, sound, sym (subst (λ z. NumberPasses tables c z n) stands p))
+  passing_typed (Concrete t) y n sound stands p = subst IsTypeNumber (sym (subst (λ z. NumberPasses tables c z n) stands p)) (number_is_one t sound)
   passing_typed (Free s) y n sound (j, stands, holds) p =
       let (t, m, is) = member_of_set tables j s sound holds n (subst (λ z. NumberPasses tables c z n) stands p) in
-      (t, m.is_type, is)
+      subst IsTypeNumber is (number_is_one t m.is_type)
   passing_typed (Same a) y n sound stands p =
       let (t, _, is, number) = type_of_number (e a) (c a) n (numbered a) (subst (λ z. NumberPasses tables c z n) stands p) in
-      (t, is, number)
+      subst IsTypeNumber number (number_is_one t is)
   passing_typed (By a f) y n sound stands p =
       let (u, _, steps) = subst (λ z. NumberPasses tables c z n) stands p in
-      (steps.to, steps.steps.to, steps.number_to)
+      subst IsTypeNumber steps.number_to (number_is_one steps.to steps.steps.to)
 
   -- where the number of a type passes what stands for a constraint, the type passes it
   pub type_passes : (x : Constraint) (y : NumberConstraint) (t : TypeParts) → IsSound x → IsType t → StandsFor tables x y → NumberPasses tables c y (number_of t) → Passes e x t

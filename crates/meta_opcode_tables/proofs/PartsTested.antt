@@ -8,20 +8,22 @@ use Rattle.std.proofs.lemmas.List.Elements.{All-map}
 use Rattle.meta_types.specs.Name.{IsName}
 use Rattle.meta_types.specs.SharedNames.{AreDistinct}
 use Rattle.meta_types.specs.TypeParts.{TypeParts, IsType, number_of}
+use Rattle.meta_types.specs.TypeNumber.{type_with, IsTypeNumber}
+use Rattle.meta_types.proofs.TypeNumbers.{number_is_one}
 use Rattle.meta_types.specs.ValueTypes.{type_parts_of}
 use Rattle.meta_types.specs.declared.value_type.ValueType.{ValueType}
 use Rattle.meta_typevar.specs.MaskSets.{AreMasks}
 use Rattle.meta_typevar.specs.declared.masks.Masks.{Masks}
 use Rattle.meta_opcode_tables.specs.Constraint.{number_constraint_of, entry_of}
-use Rattle.meta_opcode_tables.specs.WellFormed.{IsTypeNumber, IsWellFormedConstraint, IsWellFormedEntry, AreWellFormedParts}
+use Rattle.meta_opcode_tables.specs.WellFormed.{IsWellFormedConstraint, IsWellFormedEntry, AreWellFormedParts}
 use Rattle.meta_opcode_tables.specs.declared.constraint.Constraint.{Constraint}
 use Rattle.meta_opcode_tables.specs.declared.constraint.OpcodeConstraints.{OpcodeConstraints}
 use Rattle.meta_opcode_tables.proofs.ValidNames.{all_unmapped}
 
 -- whether a type was found tells whether there is one
 pub type_found : (n : ℕ) (o : Option ValueType) (r : Bool) → r ≡ is_some o → IfSome o (λ t. number_of (type_parts_of t) ≡ n) → IfNone o ((t : TypeParts) → IsType t → number_of t ≢ n) → ((t : ValueType) → IsType (type_parts_of t)) → IsTrue r ↔ IsTypeNumber n
-type_found n None r is found none each = (λ t. absurd (false≢true (sym is ∙ t)), λ h. absurd (none h.type_of h.is_type h.numbered))
-type_found n (Some t) r is found none each = (λ _. record { type_of = type_parts_of t; is_type = each t; numbered = found }, λ _. is)
+type_found n None r is found none each = (λ t. absurd (false≢true (sym is ∙ t)), λ h. absurd (none (type_with n) h.is_type h.numbered))
+type_found n (Some t) r is found none each = (λ _. subst IsTypeNumber found (number_is_one (type_parts_of t) (each t)), λ _. is)
 
 -- a test that failed, of what something asks
 pub fails : (r : Bool) (P Q : Type 0) → r ≡ false → IsTrue r ↔ Q → (P → Q) → IsTrue false ↔ P

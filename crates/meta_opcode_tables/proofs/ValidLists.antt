@@ -7,6 +7,7 @@ use Rattle.std.proofs.lemmas.Option.{same_Some, slice_get_within}
 use Rattle.meta_lists.proofs.Places.{get_there, get_beside}
 use Rattle.meta_types.specs.TypeParts.{TypeParts, IsType}
 use Rattle.meta_types.specs.Function.{Function}
+use Rattle.meta_types.proofs.TypeNumbers.{number_is_one}
 use Rattle.meta_typevar.specs.Chain.{Agrees, IsFixed}
 use Rattle.meta_typevar.specs.TypeSetParts.{TypeSetParts}
 use Rattle.meta_typevar.specs.Variable.{Variable, Sets}
@@ -80,7 +81,7 @@ fixed_type s chain t h = reached_type chain h.member t h.inhabited.is_type (h.re
 -- what stands for the constraint of an operand is well-formed
 stands_well : (sets : Sets) (controls : Which → Option Variable) (w : Variable) (tables : TableContents) (c : TypeConstraint) (x : NumberConstraint) → IsConstraint sets controls w c → StandsFor tables c x → IsWellFormedConstraint (length tables.type_sets) x
 stands_well sets controls w tables (ConcreteType t) x is stands =
-    subst (IsWellFormedConstraint (length tables.type_sets)) (sym stands) (record { type_of = t; is_type = fixed_type (sets w.root) w.chain t is; numbered = refl })
+    subst (IsWellFormedConstraint (length tables.type_sets)) (sym stands) (number_is_one t (fixed_type (sets w.root) w.chain t is))
 stands_well sets controls w tables (FreeType s) x is (j, stands, held) =
     subst (IsWellFormedConstraint (length tables.type_sets)) (sym stands) (slice_get_within tables.type_sets j held.masks held.is_set)
 stands_well sets controls w tables (SameType a) x is stands = subst (IsWellFormedConstraint (length tables.type_sets)) (sym stands) tt

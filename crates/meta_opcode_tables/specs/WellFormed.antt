@@ -5,7 +5,7 @@
 use Rattle.std.specs.Prelude.{◌≡◌, ◌≢◌, ◌⊎◌, ◌<◌, ◌≤◌, ◌+◌, ℕ, List, All, length, map}
 use Rattle.meta_types.specs.Name.{IsName}
 use Rattle.meta_types.specs.SharedNames.{AreDistinct}
-use Rattle.meta_types.specs.TypeParts.{TypeParts, IsType, number_of}
+use Rattle.meta_types.specs.TypeNumber.{IsTypeNumber}
 use Rattle.meta_typevar.specs.MaskSets.{AreMasks}
 use Rattle.meta_typevar.specs.declared.masks.Masks.{Masks}
 use Rattle.meta_meaning.specs.Tables.{NumberConstraint, ConcreteNumber, FreeOf, SameNumber, ByNumber, OpcodeNumbers, TableContents, no_type_set, result_count, value_count, SaysDesignated, SaysDiffers}
@@ -13,12 +13,6 @@ use Rattle.meta_unique.specs.NameSlots.{AreNameSlots}
 use Rattle.meta_opcode_tables.specs.Constraint.{number_constraint_of, entry_of}
 use Rattle.meta_opcode_tables.specs.declared.constraint.Constraint.{Constraint}
 use Rattle.meta_opcode_tables.specs.declared.constraint.OpcodeConstraints.{OpcodeConstraints}
-
--- n is the number of a type
-pub record IsTypeNumber (n : ℕ) : Type 0 where
-  pub type_of : TypeParts
-  pub is_type : IsType type_of
-  pub numbered : number_of type_of ≡ n
 
 -- where there are so many type sets, an operand constraint that names a type by its number or a type set by its place names one
 -- that there is

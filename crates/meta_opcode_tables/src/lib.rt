@@ -21,5 +21,6 @@ pub use laws::{
     one_table_of_an_instruction_set, tables_mean_the_declarations,
     tables_of_valid_declarations_are_well_formed,
 };
+pub use meta_declared::{MAX_OPCODES, MAX_TYPE_SETS};
 pub use opcode_tables::OpcodeTables;
-pub use parts::{MAX_CONSTRAINTS, MAX_OPCODES, MAX_TYPE_SETS, opcodes_from_parts};
+pub use parts::{MAX_CONSTRAINTS, opcodes_from_parts};

@@ -6,19 +6,17 @@ ghost use Rattle.meta_typevar.specs.MaskSets.{AreMasks};
 ghost use Rattle.meta_meaning.specs.Tables.{TableContents, no_type_set, SaysDesignated, SaysDiffers};
 ghost use Rattle.meta_opcode_tables.specs.Constraint.{number_constraint_of, entry_of};
 ghost use Rattle.meta_opcode_tables.specs.MaskParts.{IsMaskOf};
-ghost use Rattle.meta_opcode_tables.specs.WellFormed.{IsTypeNumber, IsWellFormedConstraint, IsSetOffset, IsWellFormedEntry, AreWellFormedParts, IsWellFormedOpcodes, HaveParts};
+ghost use Rattle.meta_types.specs.TypeNumber.{IsTypeNumber};
+ghost use Rattle.meta_opcode_tables.specs.WellFormed.{IsWellFormedConstraint, IsSetOffset, IsWellFormedEntry, AreWellFormedParts, IsWellFormedOpcodes, HaveParts};
 
 use super::constraint::{Constraint, Demand, NO_TYPE_SET, OpcodeConstraints};
 use super::opcode_tables::OpcodeTables;
+use meta_declared::{MAX_OPCODES, MAX_TYPE_SETS};
 use meta_types::{EarlierNames, Text, ValueType, each_type_is_one_value, is_name};
 use meta_typevar::Masks;
 use std::alloc::{AllocError, Global};
 
-/// The most opcodes that tables may have.
-pub const MAX_OPCODES: usize = 4095;
-/// The most type sets that they may have.
-pub const MAX_TYPE_SETS: usize = 4095;
-/// The most operand constraints that they may have.
+/// The most operand constraints that tables may have.
 pub const MAX_CONSTRAINTS: usize = 65_535;
 
 /// All lane counts of scalars and fixed vectors, and all of dynamic vectors.

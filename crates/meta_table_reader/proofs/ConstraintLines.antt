@@ -2,6 +2,7 @@
 use Rattle.std.proofs.Common.{◌≡◌, ℕ, ◌<◌, ◌^◌, List, [], ◌∷◌, ◌++◌, map, slice_index, codes, append_assoc, refl, sym, ap, ◌∙◌, subst, arith}
 use Rattle.std.specs.Fmt.{decimal}
 use Rattle.meta_types.specs.TypeParts.{number_of}
+use Rattle.meta_types.specs.TypeNumber.{type_with, IsTypeNumber}
 use Rattle.meta_types.specs.TypeText.{rust_name_of}
 use Rattle.meta_types.proofs.Names.{one_name}
 use Rattle.meta_meaning.specs.Tables.{NumberConstraint, ConcreteNumber, FreeOf, SameNumber, ByNumber}
@@ -9,7 +10,7 @@ use Rattle.meta_opcode_tables.specs.Constraint.{number_constraint_of}
 use Rattle.meta_text.specs.Lines.{at, text_of}
 use Rattle.meta_table_text.specs.ConstraintText.{type_text, constraint_text, constraint_line}
 use Rattle.meta_cursor.proofs.Cancel.{cancel_front, cancel_item, cancel_number}
-use Rattle.meta_table_reader.specs.Shown.{IsShownType, IsShownConstraint}
+use Rattle.meta_table_reader.specs.Shown.{IsShownConstraint}
 use Rattle.meta_table_reader.specs.Words.{small_letter, IsOfControl}
 use Rattle.meta_table_reader.proofs.TypesRead.{capitals, come_back, capitals_lack_parenthesis, type_text_is}
 use Rattle.meta_table_reader.proofs.Controls.{named, named_back, word_lacks, form_letter, concrete_letter, free_letter, is_concrete, is_free, is_of_control}
@@ -27,10 +28,10 @@ regroup : (a b c d : List ℕ) → ((a ++ b) ++ c) ++ d ≡ a ++ (b ++ (c ++ d))
 regroup a b c d = simp append_assoc
 
 -- the line of a type's constraint, and then the rest
-pub concrete_opened : (n : ℕ) (rest : List ℕ) (shown : IsShownType n) → constraint_line (ConcreteNumber n) ++ rest ≡ before_type ++ (capitals shown.type_of ++ (codes "),\n" ++ rest))
+pub concrete_opened : (n : ℕ) (rest : List ℕ) (shown : IsTypeNumber n) → constraint_line (ConcreteNumber n) ++ rest ≡ before_type ++ (capitals (type_with n) ++ (codes "),\n" ++ rest))
 unfolding constraint_line
 concrete_opened n rest shown =
-    let t = shown.type_of in
+    let t = type_with n in
     let written : type_text n ≡ rust_name_of t = ap type_text (sym shown.numbered) ∙ type_text_is t shown.is_type in
     ap (λ (w : List ℕ). text_of (at 1 (codes "OperandConstraint::" ∷ ((codes "Concrete(" ++ (w ++ codes ")")) ∷ (codes "," ∷ []))) ∷ []) ++ rest) written
     ∙ ap (λ (w : List ℕ). before_type ++ w) (regroup (capitals t) (codes ")") (codes ",\n") rest)
@@ -47,10 +48,10 @@ form_opened n rest = ap (λ (w : List ℕ). before_form ++ w) (append_assoc (con
 
 -- ---- the line tells the constraint
 
-concrete_told : (m n : ℕ) (r s : List ℕ) → IsShownType m → IsShownType n → constraint_line (ConcreteNumber m) ++ r ≡ constraint_line (ConcreteNumber n) ++ s → (m ≡ n) × (r ≡ s)
+concrete_told : (m n : ℕ) (r s : List ℕ) → IsTypeNumber m → IsTypeNumber n → constraint_line (ConcreteNumber m) ++ r ≡ constraint_line (ConcreteNumber n) ++ s → (m ≡ n) × (r ≡ s)
 concrete_told m n r s one other e =
-    let t = one.type_of in
-    let u = other.type_of in
+    let t = type_with m in
+    let u = type_with n in
     let (names, left) = cancel_item 41 (capitals t) (capitals u) (codes "),\n" ++ r) (codes "),\n" ++ s) (capitals_lack_parenthesis t one.is_type) (capitals_lack_parenthesis u other.is_type) refl refl (cancel_front before_type _ _ (sym (concrete_opened m r one) ∙ e ∙ concrete_opened n s other)) in
     let same = one_name t u one.is_type other.is_type (sym (come_back t one.is_type) ∙ ap (map small_letter) names ∙ come_back u other.is_type) in
     (sym one.numbered ∙ ap number_of same ∙ other.numbered, cancel_front (codes "),\n") r s left)

@@ -9,6 +9,7 @@ use Rattle.std.proofs.lemmas.List.Elements.{All-map, All-weaker, All-take, All-d
 use Rattle.std.proofs.lemmas.Grind.{flat_map-append}
 use Rattle.std.proofs.lemmas.Option.{get_or_from_slice_get, slice_get_within}
 use Rattle.meta_types.specs.Name.{IsName}
+use Rattle.meta_types.specs.TypeNumber.{type_with}
 use Rattle.meta_types.specs.CamelCase.{camel_case_of}
 use Rattle.meta_meaning.specs.Tables.{TableContents, OpcodeNumbers, NumberConstraint, ConcreteNumber, FreeOf, SameNumber, ByNumber, at_opcode, no_type_set, result_count, value_count}
 use Rattle.meta_table_text.specs.declared.version.Version.{Version}
@@ -30,8 +31,8 @@ use Rattle.meta_table_reader.proofs.NameBytes.{camel_case_lacks}
 
 pub constraint_lacks : (c : NumberConstraint) → IsShownConstraint c → HasNoEnd (constraint_text c)
 constraint_lacks (ConcreteNumber n) shown =
-    let named = ap type_text (sym shown.numbered) ∙ type_text_is shown.type_of shown.is_type in
-    both_lack 10 (type_text n) (codes ")") (ap (lacks 10) named ∙ rust_name_lacks shown.type_of shown.is_type) refl
+    let named = ap type_text (sym shown.numbered) ∙ type_text_is (type_with n) shown.is_type in
+    both_lack 10 (type_text n) (codes ")") (ap (lacks 10) named ∙ rust_name_lacks (type_with n) shown.is_type) refl
 constraint_lacks (FreeOf j) small = both_lack 10 (decimal j) (codes ")") (number_lacks 10 refl j (omega (arith, small))) refl
 constraint_lacks (SameNumber which) shown = word_no_end (SameNumber which) tt
 constraint_lacks (ByNumber which f) shown = word_no_end (ByNumber which f) tt

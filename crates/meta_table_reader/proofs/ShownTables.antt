@@ -60,7 +60,7 @@ masks_shown m are =
 -- ---- constraints and entries
 
 constraint_shown : (sets : ℕ) → sets ≤ 4095 → (n : NumberConstraint) → IsWellFormedConstraint sets n → IsShownConstraint n
-constraint_shown sets few (ConcreteNumber n) is = record { type_of = is.type_of; is_type = is.is_type; numbered = is.numbered }
+constraint_shown sets few (ConcreteNumber n) is = is
 constraint_shown sets few (FreeOf j) is = omega (arith, few, is)
 constraint_shown sets few (SameNumber which) is = tt
 constraint_shown sets few (ByNumber which f) is = tt

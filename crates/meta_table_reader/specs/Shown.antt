@@ -5,7 +5,7 @@
 --     AreShownOpcodes v t    all of this holds in the tables of an instruction set
 use Rattle.std.specs.Prelude.{◌≡◌, ℕ, ◌<◌, ◌^◌, ◌⊎◌, ⊤, length, All}
 use Rattle.meta_types.specs.Name.{IsName}
-use Rattle.meta_types.specs.TypeParts.{TypeParts, IsType, number_of}
+use Rattle.meta_types.specs.TypeNumber.{IsTypeNumber}
 use Rattle.meta_typevar.specs.declared.masks.Masks.{Masks}
 use Rattle.meta_meaning.specs.Tables.{NumberConstraint, ConcreteNumber, FreeOf, SameNumber, ByNumber, OpcodeNumbers, TableContents, no_type_set}
 use Rattle.meta_table_text.specs.declared.version.Version.{Version}
@@ -19,15 +19,9 @@ pub record AreShownMasks (m : Masks) : Type 0 where
   pub ints : m.ints < 2 ^ 8
   pub floats : m.floats < 2 ^ 8
 
--- a type has the number
-pub record IsShownType (n : ℕ) : Type 0 where
-  pub type_of : TypeParts
-  pub is_type : IsType type_of
-  pub numbered : number_of type_of ≡ n
-
 -- a constraint of a type has the number of one, and that of a type set a place of 16 bits
 abbrev pub IsShownConstraint : NumberConstraint → Type 0
-IsShownConstraint (ConcreteNumber n) = IsShownType n
+IsShownConstraint (ConcreteNumber n) = IsTypeNumber n
 IsShownConstraint (FreeOf j) = j < 2 ^ 16
 IsShownConstraint (SameNumber which) = ⊤
 IsShownConstraint (ByNumber which f) = ⊤

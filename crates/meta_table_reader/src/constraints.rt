@@ -6,7 +6,8 @@ ghost use Rattle.meta_types.specs.TypeParts.{TypeParts, IsType, number_of, name_
 ghost use Rattle.meta_meaning.specs.Tables.{NumberConstraint, ConcreteNumber, FreeOf};
 ghost use Rattle.meta_opcode_tables.specs.Constraint.{number_constraint_of};
 ghost use Rattle.meta_table_text.specs.ConstraintText.{constraint_text, constraint_line};
-ghost use Rattle.meta_table_reader.specs.Shown.{IsShownType, IsShownConstraint};
+ghost use Rattle.meta_types.specs.TypeNumber.{IsTypeNumber};
+ghost use Rattle.meta_table_reader.specs.Shown.{IsShownConstraint};
 ghost use Rattle.meta_table_reader.specs.Words.{small_letter, control_word, IsOfControl};
 
 use super::item::Item;
@@ -71,7 +72,7 @@ fn type_number(alloc: Global, name: &[u8]) -> Result<u16, AllocError>
 
 /// Reads the line of the constraint of a type.
 fn concrete(alloc: Global, cursor: &mut Cursor) -> Result<Constraint, AllocError>
-    ensures { IfOk result (λ c. (n : ℕ) (rest : List ℕ) → IsShownType n → cursor.old ≡ constraint_line (ConcreteNumber n) ++ rest → (number_constraint_of c ≡ ConcreteNumber n) × (cursor.new ≡ rest)) }
+    ensures { IfOk result (λ c. (n : ℕ) (rest : List ℕ) → IsTypeNumber n → cursor.old ≡ constraint_line (ConcreteNumber n) ++ rest → (number_constraint_of c ≡ ConcreteNumber n) × (cursor.new ≡ rest)) }
 {
     let name = cursor.until("    OperandConstraint::Concrete(ir::types::", b')');
     cursor.pass("),\n");

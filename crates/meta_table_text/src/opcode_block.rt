@@ -101,11 +101,15 @@ fn push_fields(
 
 /// Adds the comment on the flags of the opcode that has this name in Rust source.
 #[tactic(auto, unfolding(crate::specs::OpcodeText::flags_comment))]
-fn push_flags_comment(out: &mut String, name: &str, flags: u8) -> Result<(), AllocError>
-    ensures { OnOk result (string_bytes out.new ≡ string_bytes out.old ++ flags_comment name.now flags) }
+fn push_flags_comment(
+    out: &mut String,
+    name: &str,
+    entry: OpcodeConstraints,
+) -> Result<(), AllocError>
+    ensures { OnOk result (string_bytes out.new ≡ string_bytes out.old ++ flags_comment name.now entry.flags) }
 {
-    let (results, values) = (flags % 8, flags / 32 % 8);
-    let (designated, differs) = (flags / 8 % 2 == 1, flags / 16 % 2 == 1);
+    let (results, values) = (entry.result_count(), entry.value_count());
+    let (designated, differs) = (entry.designated_controls(), entry.first_result_differs());
     write!(
         out,
         "        // {name}: fixed_results={results}, use_typevar_operand={designated}, requires_typevar_operand={differs}, fixed_values={values}\n"
@@ -175,7 +179,7 @@ fn push_comments(
     ensures { OnOk result (string_bytes out.new ≡ string_bytes out.old ++ entry_comments version tables.now.opcodes opcode (entry_of entry)) }
 {
     let name = camel_of(alloc, tables, opcode)?;
-    push_flags_comment(out, name.as_str(), entry.flags)?;
+    push_flags_comment(out, name.as_str(), entry)?;
     push_constraints_comment(alloc, out, constraints_of(tables, entry))?;
     push_control_comment(out, tables, "Polymorphic over ", entry.typeset_offset)?;
     push_second_comment(out, version, tables, entry)
