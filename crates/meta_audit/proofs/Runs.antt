@@ -9,35 +9,11 @@ use Rattle.meta_run.specs.declared.ending.Ending.TheVariants as ends
 use Rattle.meta_run.specs.declared.status.Status.{Status}
 use Rattle.meta_run.specs.declared.status.Status.TheVariants.{Done, Refused, Usage, ReadFault, WriteFault, OutOfMemory, TooLong}
 use Rattle.meta_run.specs.Run.{IsRefusedWhole, IsRefusedInPart, Did, NeverRises}
+use Rattle.meta_run.specs.Status.{WritesNothing}
 use Rattle.meta_run.proofs.Runs as lemma
+use Rattle.meta_run.proofs.Statuses.{status_is}
 use Rattle.meta_audit.specs.AuditLine.{IsAuditLine}
-use Rattle.meta_audit.specs.AuditRun.{audit_texts, IsAuditedWhole, IsAuditedInPart, IsRun, WritesNothing, AuditsText, RefusesDeclarations, Completes}
-
--- ---- the statuses
-
--- the status that an ending has
-abbrev status_at : Ending → Status
-status_at ends.Done = Done
-status_at ends.Refused = Refused
-status_at ends.Usage = Usage
-status_at ends.ReadFault = ReadFault
-status_at ends.WriteFault = WriteFault
-status_at ends.OutOfMemory = OutOfMemory
-status_at ends.TooLong = TooLong
-status_at ends.Rejected = Done
-
-back : (s : Status) → status_at (ending_of s) ≡ s
-back Done = refl
-back Refused = refl
-back Usage = refl
-back ReadFault = refl
-back WriteFault = refl
-back OutOfMemory = refl
-back TooLong = refl
-
--- the status of a run that ended as another status says
-status_is : (s t : Status) → ending_of s ≡ ending_of t → s ≡ t
-status_is s t e = sym (back s) ∙ ap status_at e ∙ back t
+use Rattle.meta_audit.specs.AuditRun.{audit_texts, IsAuditedWhole, IsAuditedInPart, IsRun, AuditsText, RefusesDeclarations, Completes}
 
 -- ---- a run
 

@@ -8,17 +8,13 @@ use Rattle.meta_run.specs.Run as ran
 use Rattle.meta_run.specs.Run.{Texts, refusal}
 use Rattle.meta_run.specs.declared.ending.Ending.{Ending}
 use Rattle.meta_run.specs.declared.status.Status.{Status}
-use Rattle.meta_run.specs.declared.status.Status.TheVariants.{Done, Refused, Usage, ReadFault, TooLong, OutOfMemory}
+use Rattle.meta_run.specs.declared.status.Status.TheVariants.{Done, Refused, TooLong, OutOfMemory}
 use Rattle.meta_audit.specs.AuditLine.{IsAuditLine}
 
 -- the texts that answer the text of tables: its line. No text rejects one
 abbrev pub audit_texts : Texts
 audit_texts d input false line = IsAuditLine d input line
 audit_texts d input true line = ⊥
-
--- after these nothing was written
-abbrev pub WritesNothing : Status → Type 0
-WritesNothing status = (status ≡ Usage) ⊎ ((status ≡ ReadFault) ⊎ ((status ≡ TooLong) ⊎ (status ≡ OutOfMemory)))
 
 -- a source and a sink, by what they tell, before and after a run over declarations
 module _ {S K : Type 0} (left : S → Option (List ℕ)) (reads : S → ℕ) (taken : K → Option (List ℕ)) (writes : K → ℕ) (d : Declared) (s s' : S) (k k' : K) where

@@ -2,7 +2,8 @@ ghost use Rattle.std.specs.Prelude.{◌≡◌, ◌≢◌, ◌≤◌, ◌⊎◌, 
 ghost use Rattle.meta_text.specs.Outside.{Rose, longest_input, GaveMore, GaveAtMost};
 ghost use Rattle.meta_declared.specs.AllDeclared.{AreValid};
 ghost use Rattle.meta_run.specs.Run.{IsRefusedWhole, IsRefusedInPart, NeverRises};
-ghost use Rattle.meta_audit.specs.AuditRun.{IsAuditedWhole, IsAuditedInPart, IsRun, WritesNothing, AuditsText, RefusesDeclarations, Completes};
+ghost use Rattle.meta_run.specs.Status.{WritesNothing};
+ghost use Rattle.meta_audit.specs.AuditRun.{IsAuditedWhole, IsAuditedInPart, IsRun, AuditsText, RefusesDeclarations, Completes};
 
 use super::answering::Auditor;
 use meta_gen::{Declarations, one_first_fault};

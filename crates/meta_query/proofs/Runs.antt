@@ -10,38 +10,14 @@ use Rattle.meta_run.specs.declared.status.Status.{Status}
 use Rattle.meta_run.specs.declared.status.Status.TheVariants.{Done, Refused, Usage, ReadFault, WriteFault, OutOfMemory, TooLong}
 use Rattle.meta_run.specs.Run.{IsRefusedWhole, IsRefusedInPart, Did, NeverRises}
 use Rattle.meta_run.specs.Run as ran
+use Rattle.meta_run.specs.Status.{WritesNothing}
 use Rattle.meta_run.proofs.Runs as lemma
+use Rattle.meta_run.proofs.Statuses.{status_is}
 use Rattle.meta_query.specs.Command.{AreWordsOf, IsCommand}
 use Rattle.meta_query.specs.declared.command.Command.{Command}
 use Rattle.meta_query.specs.declared.command.Command.TheVariants.{Query, Recheck, Tables, Types, Settings, Instructions, Builder, Synth}
-use Rattle.meta_query.specs.Run.{IsOutputOf, has_input, HasInput, texts_of, IsReading, WritesText, IsAnsweredWhole, IsAnsweredInPart, IsRun, WritesNothing, AnswersInput, WritesTexts, RefusesDeclarations, Completes}
+use Rattle.meta_query.specs.Run.{IsOutputOf, has_input, HasInput, texts_of, IsReading, WritesText, IsAnsweredWhole, IsAnsweredInPart, IsRun, AnswersInput, WritesTexts, RefusesDeclarations, Completes}
 use Rattle.meta_query.proofs.Commands.{same_command}
-
--- ---- the statuses
-
--- the status that an ending has
-abbrev status_at : Ending → Status
-status_at ends.Done = Done
-status_at ends.Refused = Refused
-status_at ends.Usage = Usage
-status_at ends.ReadFault = ReadFault
-status_at ends.WriteFault = WriteFault
-status_at ends.OutOfMemory = OutOfMemory
-status_at ends.TooLong = TooLong
-status_at ends.Rejected = Done
-
-back : (s : Status) → status_at (ending_of s) ≡ s
-back Done = refl
-back Refused = refl
-back Usage = refl
-back ReadFault = refl
-back WriteFault = refl
-back OutOfMemory = refl
-back TooLong = refl
-
--- the status of a run that ended as another status says
-status_is : (s t : Status) → ending_of s ≡ ending_of t → s ≡ t
-status_is s t e = sym (back s) ∙ ap status_at e ∙ back t
 
 -- ---- the commands
 

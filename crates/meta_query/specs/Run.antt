@@ -19,7 +19,7 @@ use Rattle.meta_run.specs.Run as ran
 use Rattle.meta_run.specs.Run.{Texts, refusal}
 use Rattle.meta_run.specs.declared.ending.Ending.{Ending}
 use Rattle.meta_run.specs.declared.status.Status.{Status}
-use Rattle.meta_run.specs.declared.status.Status.TheVariants.{Done, Refused, Usage, ReadFault, TooLong, OutOfMemory}
+use Rattle.meta_run.specs.declared.status.Status.TheVariants.{Done, Refused, TooLong, OutOfMemory}
 use Rattle.meta_query.specs.Command.{AreWordsOf, IsCommand}
 use Rattle.meta_query.specs.declared.command.Command.{Command}
 use Rattle.meta_query.specs.declared.command.Command.TheVariants.{Query, Recheck, Tables, Types, Settings, Instructions, Builder, Synth}
@@ -77,10 +77,6 @@ IsReading words = (command : Command) × AreWordsOf command words × HasInput co
 abbrev pub texts_of : Command → Texts
 texts_of command d input false output = IsOutputOf d command input output
 texts_of command d input true output = ⊥
-
--- after these nothing was written
-abbrev pub WritesNothing : Status → Type 0
-WritesNothing status = (status ≡ Usage) ⊎ ((status ≡ ReadFault) ⊎ ((status ≡ TooLong) ⊎ (status ≡ OutOfMemory)))
 
 -- a source and a sink, by what they tell, before and after a run over declarations
 module _ {S K : Type 0} (left : S → Option (List ℕ)) (reads : S → ℕ) (taken : K → Option (List ℕ)) (writes : K → ℕ) (d : Declared) (s s' : S) (k k' : K) where

@@ -2,9 +2,10 @@ ghost use Rattle.std.specs.Prelude.{◌≡◌, ◌≢◌, ◌≤◌, ◌⊎◌};
 ghost use Rattle.meta_text.specs.Outside.{Rose, longest_input, GaveMore, GaveAtMost};
 ghost use Rattle.meta_declared.specs.AllDeclared.{AreValid};
 ghost use Rattle.meta_run.specs.Run.{IsRefusedWhole, IsRefusedInPart, NeverRises};
+ghost use Rattle.meta_run.specs.Status.{WritesNothing};
 ghost use Rattle.meta_query.specs.Command.{AreWordsOf, IsCommand};
 ghost use Rattle.meta_query.specs.declared.command.Command.{Command};
-ghost use Rattle.meta_query.specs.Run.{WritesText, IsReading, IsAnsweredWhole, IsAnsweredInPart, IsRun, WritesNothing, AnswersInput, WritesTexts, RefusesDeclarations, Completes};
+ghost use Rattle.meta_query.specs.Run.{WritesText, IsReading, IsAnsweredWhole, IsAnsweredInPart, IsRun, AnswersInput, WritesTexts, RefusesDeclarations, Completes};
 
 use super::command::Command;
 use meta_gen::{Declarations, one_first_fault};

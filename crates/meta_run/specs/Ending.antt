@@ -1,5 +1,5 @@
 -- How a run ended.
-use Rattle.std.specs.Prelude.{ℕ, Bool, true, false}
+use Rattle.std.specs.Prelude.{◌≡◌, ◌⊎◌, ℕ, Bool, true, false}
 use Rattle.meta_run.specs.declared.ending.Ending.{Ending}
 use Rattle.meta_run.specs.declared.ending.Ending.TheVariants.{Done, Refused, Usage, ReadFault, WriteFault, OutOfMemory, TooLong, Rejected}
 use Rattle.meta_run.specs.declared.status.Status.{Status}
@@ -15,6 +15,10 @@ code_of WriteFault = 4
 code_of OutOfMemory = 5
 code_of TooLong = 6
 code_of Rejected = 7
+
+-- after these nothing was written
+abbrev pub WritesNothing : Ending → Type 0
+WritesNothing ending = (ending ≡ Usage) ⊎ ((ending ≡ ReadFault) ⊎ ((ending ≡ TooLong) ⊎ (ending ≡ OutOfMemory)))
 
 -- how a run ends whose text was written whole, by whether that is a rejection
 abbrev pub written_as : Bool → Ending

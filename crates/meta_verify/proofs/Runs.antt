@@ -3,12 +3,12 @@ use Rattle.std.proofs.Common.{◌≡◌, ◌≢◌, ◌≤◌, ◌⊎◌, ◌↔
 use Rattle.meta_types.specs.declared.fault.DefinitionError.{DefinitionError}
 use Rattle.meta_declared.specs.AllDeclared.{Declared, ShowsFirst, AreValid}
 use Rattle.meta_text.specs.Outside.{Rose, longest_input, GaveMore, GaveAtMost}
-use Rattle.meta_run.specs.Ending.{written_as}
+use Rattle.meta_run.specs.Ending.{WritesNothing, written_as}
 use Rattle.meta_run.specs.declared.ending.Ending.{Ending}
 use Rattle.meta_run.specs.declared.ending.Ending.TheVariants.{Done, Refused, Usage, ReadFault, WriteFault, OutOfMemory, TooLong, Rejected}
 use Rattle.meta_run.specs.Run.{IsRefusedWhole, IsRefusedInPart, IsAnsweredWhole, IsAnsweredInPart, Did, NeverRises}
 use Rattle.meta_run.proofs.Runs as lemma
-use Rattle.meta_verify.specs.Verifier.{verdicts, WritesNothing, IsRun, SaysRight, SaysWrong, ChecksLines, RefusesDeclarations, Completes}
+use Rattle.meta_verify.specs.Verifier.{verdicts, IsRun, SaysRight, SaysWrong, ChecksLines, RefusesDeclarations, Completes}
 
 module _ {S K : Type 0} (left : S → Option (List ℕ)) (reads : S → ℕ) (taken : K → Option (List ℕ)) (writes : K → ℕ) (d : Declared) (s s' : S) (k k' : K) (words : List (List ℕ)) (ending : Ending) (run : IsRun left reads taken writes d s s' k k' words ending) where
   -- what a run did that ended so

@@ -9,17 +9,13 @@ use Rattle.meta_answers.specs.Answer.{AcceptedReply}
 use Rattle.meta_run.specs.Run as ran
 use Rattle.meta_run.specs.Run.{Texts, refusal}
 use Rattle.meta_run.specs.declared.ending.Ending.{Ending}
-use Rattle.meta_run.specs.declared.ending.Ending.TheVariants.{Done, Refused, Usage, ReadFault, OutOfMemory, TooLong, Rejected}
+use Rattle.meta_run.specs.declared.ending.Ending.TheVariants.{Done, Refused, OutOfMemory, TooLong, Rejected}
 use Rattle.meta_verify.specs.Verdict.{right_text, wrong_text, AreRight, IsFirstWrong, IsVerdict}
 use Rattle.meta_verify.specs.declared.reason.Reason.{Reason}
 
 -- what is said of an input over declarations, as they mean
 abbrev pub verdicts : Texts
 verdicts d input is_rejection text = IsVerdict (AcceptedReply d.set) input is_rejection text
-
--- after these nothing was written
-abbrev pub WritesNothing : Ending → Type 0
-WritesNothing ending = (ending ≡ Usage) ⊎ ((ending ≡ ReadFault) ⊎ ((ending ≡ TooLong) ⊎ (ending ≡ OutOfMemory)))
 
 -- a source and a sink, by what they tell, before and after a run over declarations
 module _ {S K : Type 0} (left : S → Option (List ℕ)) (reads : S → ℕ) (taken : K → Option (List ℕ)) (writes : K → ℕ) (d : Declared) (s s' : S) (k k' : K) where

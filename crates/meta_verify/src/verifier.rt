@@ -1,8 +1,9 @@
 ghost use Rattle.std.specs.Prelude.{◌≡◌, ◌≢◌, ◌≤◌, ◌⊎◌, ◌↔◌, [], true, false};
 ghost use Rattle.meta_text.specs.Outside.{Rose, longest_input, GaveMore, GaveAtMost};
 ghost use Rattle.meta_declared.specs.AllDeclared.{AreValid};
+ghost use Rattle.meta_run.specs.Ending.{WritesNothing};
 ghost use Rattle.meta_run.specs.Run.{IsAnsweredWhole, IsAnsweredInPart, IsRefusedWhole, IsRefusedInPart, NeverRises};
-ghost use Rattle.meta_verify.specs.Verifier.{verdicts, IsRun, WritesNothing, ChecksLines, RefusesDeclarations, Completes};
+ghost use Rattle.meta_verify.specs.Verifier.{verdicts, IsRun, ChecksLines, RefusesDeclarations, Completes};
 
 use super::laws::answers_mean;
 use super::verdict::verdict;
