@@ -72,20 +72,24 @@ entry_fields v e =
     ++ (place_line (codes "typeset_offset") (offset_shown v e.typeset_offset)
     ++ (second_line v e ++ place_line (codes "constraint_offset") e.constraint_offset))
 
--- the comment on the flags: `// Brif: fixed_results=0, use_typevar_operand=true, requires_typevar_operand=true, fixed_values=1`
-unfoldable pub flags_comment : List ℕ → ℕ → List ℕ
-flags_comment name flags = text_of (
+-- the comment on counts of results and values, and on what is said of the designated operand
+abbrev pub counts_comment : List ℕ → ℕ → Bool → Bool → ℕ → List ℕ
+counts_comment name results designated differs values = text_of (
     at 2 (
     codes "// "
     ∷ (name
     ∷ (codes ": fixed_results="
-    ∷ (decimal (result_count flags)
+    ∷ (decimal results
     ∷ (codes ", use_typevar_operand="
-    ∷ (bool_text (flags / 8 % 2 == 1)
-    ∷ (codes ", requires_typevar_operand=" ∷ (bool_text (flags / 16 % 2 == 1) ∷ (codes ", fixed_values=" ∷ (decimal (value_count flags) ∷ [])))))))))
+    ∷ (bool_text designated
+    ∷ (codes ", requires_typevar_operand=" ∷ (bool_text differs ∷ (codes ", fixed_values=" ∷ (decimal values ∷ [])))))))))
     )
     ∷ []
     )
+
+-- the comment on the flags: `// Brif: fixed_results=0, use_typevar_operand=true, requires_typevar_operand=true, fixed_values=1`
+unfoldable pub flags_comment : List ℕ → ℕ → List ℕ
+flags_comment name flags = counts_comment name (result_count flags) (flags / 8 % 2 == 1) (flags / 16 % 2 == 1) (value_count flags)
 
 -- the constraints of the entry: those of its results, and then those of its values
 abbrev pub constraints_of : TableContents → OpcodeNumbers → List NumberConstraint
