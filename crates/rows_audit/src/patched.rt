@@ -1,0 +1,93 @@
+use rows_words::{Trouble, number, pair_of};
+use std::alloc::{AllocError, Global};
+use std::str;
+
+/// A text that the lines of a patch make of the lines of another.
+#[derive(Drop)]
+struct Patching<'t> {
+    lines: Vec<&'t str>,
+    at: usize,
+    text: Vec<u8>,
+}
+
+impl<'t> Patching<'t> {
+    /// The next line of the other text, which is passed over.
+    fn next_line(&mut self) -> Result<&'t str, Trouble> {
+        let Some(line) = self.lines.get(self.at).copied() else {
+            return Err(Trouble::NoCase);
+        };
+        self.at = self.at.saturating_add(1);
+        Ok(line)
+    }
+
+    /// Adds a line.
+    fn push(&mut self, line: &str) -> Result<(), AllocError> {
+        self.text.extend_from_slice(line.as_bytes())?;
+        self.text.push(b'\n')?;
+        Ok(())
+    }
+
+    /// Adds so many lines, from the next on.
+    fn push_next(&mut self, count: usize) -> Result<(), Trouble> {
+        for _ in 0..count {
+            let line = self.next_line()?;
+            self.push(line)?;
+        }
+        Ok(())
+    }
+
+    /// Adds the next line, with other bytes between its first ones and its last ones: `FIRST LAST BYTES`.
+    fn push_changed(&mut self, words: &str) -> Result<(), Trouble> {
+        let (first, rest) = pair_of(words, ' ')?;
+        let (last, bytes) = pair_of(rest, ' ')?;
+        let (first, last) = (number::<usize>(first)?, number::<usize>(last)?);
+        let line = self.next_line()?.as_bytes();
+        if first > line.len() || last > line.len() {
+            return Err(Trouble::NoCase);
+        }
+        self.text.extend_from_slice(&line[..first])?;
+        self.text.extend_from_slice(bytes.as_bytes())?;
+        self.text.extend_from_slice(&line[line.len() - last..])?;
+        self.text.push(b'\n')?;
+        Ok(())
+    }
+
+    /// Adds lines as they stand: `COUNT` from the next on, or `LINE COUNT` from the line with this number on, counted from 1.
+    fn push_lines(&mut self, words: &str) -> Result<(), Trouble> {
+        match words.split_once(' ') {
+            Some((line, count)) => {
+                self.at = number::<usize>(line)?.saturating_sub(1);
+                self.push_next(number(count)?)
+            }
+            None => self.push_next(number(words)?),
+        }
+    }
+
+    /// Adds what a line of a patch says: `+LINE` adds this line, `~FIRST LAST BYTES` the next one with other bytes in its middle, and
+    /// numbers add lines as they stand.
+    fn push_patch(&mut self, line: &str) -> Result<(), Trouble> {
+        if let Some(added) = line.strip_prefix('+') {
+            return Ok(self.push(added)?);
+        }
+        match line.strip_prefix('~') {
+            Some(words) => self.push_changed(words),
+            None => self.push_lines(line),
+        }
+    }
+}
+
+/// The text that a patch, line by line, makes of another.
+pub(crate) fn patched(alloc: Global, bytes: &[u8], patch: &[u8]) -> Result<Vec<u8>, Trouble> {
+    let (Ok(text), Ok(patch)) = (str::from_utf8(bytes), str::from_utf8(patch)) else {
+        return Err(Trouble::NoCase);
+    };
+    let mut patched = Patching {
+        lines: text.lines().collect(alloc)?,
+        at: 0,
+        text: Vec::new(alloc),
+    };
+    for line in patch.lines() {
+        patched.push_patch(line)?;
+    }
+    Ok(patched.text)
+}
