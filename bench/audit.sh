@@ -1,62 +1,88 @@
 #!/bin/sh
 # Times the auditor, and counts what it tests:
 #   bench/audit.sh
-# It prints the processor time of one audit of the shared tables, of 163 opcodes, and of one of the tables of 4,095 opcodes of two
+# First comes the processor time of an audit of the shared tables, of 163 opcodes, and of one of the tables of 4,095 opcodes of two
 # controls, each of any of 153 types; of each also the time that making the tables takes, which is a part of it, and what is left for
-# the comparison. Then it prints the instructions of the processor in a run over the text of the shared tables, and over some of the
-# texts that other programs wrote, and how many numbers were tested against a constraint: the calls of one function, as callgrind
-# counts them.
-# The program `rows_audit`, which is proved and built first where that is still to be done, declares once and audits so many times.
-# What one audit takes is the difference between a run of many and a run of one, shared out; of three runs of each the least counts.
-# The status is 1 where a run fails, and 125 where the program couldn't be built.
+# the comparison. What one takes is the difference between a run of many and a run of one, shared out; of three runs of each the least
+# counts. The program `rows_audit` declares them.
+# Then come the instructions of the processor in a run of `meta_audit_cli` over the text of the shared tables, and over some that other
+# programs wrote, and how many numbers were tested against a constraint: the calls of one function, as callgrind counts them. The last
+# line has an operand that is always of one type, under a control of 4 types, and under one of 4 and another of 2, where the text
+# names a function of the first control: 5 passes of 544 tests for each, one for each type of a control that a constraint reads, beside
+# one of the other, and one for the other, and not 8 for the second.
+# The programs are proved and built first where that is still to be done. The status is 1 where a run fails, where an audit of 4,095
+# opcodes takes a second, or where the shared text takes 200,000 tests; and 125 where a program couldn't be built or there is no
+# valgrind.
 set -u
 
 . "$(dirname "$0")/programs.sh"
 
+built meta_audit_cli --version
+audit=$program
 built rows_audit
-folder=$(mktemp -d) || exit 125
+rows=$program
+if ! command -v valgrind > /dev/null; then
+    printf 'no valgrind\n' >&2
+    exit 125
+fi
+folder=$(mktemp -d) || exit 1
 trap 'rm -rf "$folder"' EXIT
+cd "$top/crates/rows_audit/data" || exit 1
 
 # The milliseconds of one of so many audits, or of as many makings of the tables, of declarations.
 per_call() {
     printf '%%%% %s\n%s 1\n' "$1" "$2" > "$folder/one"
     printf '%%%% %s\n%s %s\n' "$1" "$2" "$3" > "$folder/many"
-    one=$(least "$folder/one" "$program") || return 1
-    many=$(least "$folder/many" "$program") || return 1
+    one=$(least "$folder/one" "$rows") || return 1
+    many=$(least "$folder/many" "$rows") || return 1
     awk -v one="$one" -v many="$many" -v times="$3" 'BEGIN { printf "%.2f\n", 1000 * (many - one) / (times - 1) }'
 }
 
-# What an audit of declarations takes, and what of that the tables take.
+# What an audit of declarations takes, and what of that the tables take. It fails where that is a second.
 compare() {
     whole=$(per_call "$1" own "$3") || return 1
     made=$(per_call "$1" generate "$3") || return 1
-    awk -v name="$2" -v whole="$whole" -v made="$made" \
-        'BEGIN { printf "%s: %s ms an audit, %s ms of it the tables, %.2f ms the comparison\n", name, whole, made, whole - made }'
+    awk -v name="$2" -v whole="$whole" -v made="$made" 'BEGIN {
+        printf "%s: %.2f ms an audit, %.2f ms of it the tables, %.2f ms the comparison\n", name, whole, made, whole - made
+        exit !(whole < 1000)
+    }'
 }
 
 # The calls of the test of a number in a file of callgrind, which names a function once, behind its number.
 tests() {
     awk '/^c?fn=\(/ {
              id = $0; sub(/^c?fn=/, "", id); sub(/\).*/, ")", id)
-             if (/OpcodeTables::operand_passes/) wanted[id] = 1
+             if (/operand_passes/) wanted[id] = 1
              if (/^cfn=/) called = id
          }
          /^calls=/ && called in wanted { split($1, n, "="); sum += n[2] }
          END { print sum + 0 }' "$1"
 }
 
-# What a run over the lines of a part does, behind its name.
+# What a run of a program over the input does, behind a name, with fewer tests than so many.
 over() {
-    printf '%%%% shared\n%b\n' "$2" > "$folder/input"
-    (cd "$top/crates/rows_audit/data" &&
-        valgrind --tool=callgrind --callgrind-out-file="$folder/calls" "$program" < "$folder/input" > /dev/null 2> "$folder/log") || return 1
-    printf '%s: %s instructions, %s tests of a number\n' "$1" "$(awk '/Collected/ { print $NF }' "$folder/log")" "$(tests "$folder/calls")"
+    valgrind --tool=callgrind --callgrind-out-file="$folder/calls" "$3" < "$folder/input" > "$folder/out" 2> "$folder/log" || return 1
+    count=$(tests "$folder/calls")
+    printf '%s: %s, %s instructions, %s tests of a number\n' "$1" "$(head -n 1 "$folder/out")" "$(awk '/Collected/ { print $NF }' "$folder/log")" "$count"
+    [ "$count" -lt "$2" ]
+}
+
+# The same over the text that the lines write.
+over_text() {
+    printf '%%%% shared\n%b\n' "$2" > "$folder/lines"
+    "$rows" < "$folder/lines" > "$folder/input" || return 1
+    over "$1" "$3" "$audit"
 }
 
 processor
-compare shared '163 opcodes' 1001 || exit 1
-compare many '4,095 opcodes of two controls' 101 || exit 1
-over 'the shared text' 'edit 3\naudit' || exit 1
-for file in 00 08 11 05; do
-    over "the text $file" "file $file" || exit 1
-done
+status=0
+compare shared '163 opcodes' 1001 || status=1
+compare many '4,095 opcodes of two controls' 101 || status=1
+over_text 'the shared text' 'edit 3\nwrite' 200000 || status=1
+over_text 'lists of its own' 'edit 2\nwrite 00' 200000 || status=1
+over_text 'other flags' 'edit 3\nwrite 08' 2000000 || status=1
+over_text 'opcode 69 differs' 'edit 3\nwrite 05' 2000000 || status=1
+over_text 'opcode 92 differs' 'edit 2\nwrite 10' 2000000 || status=1
+printf '%%%% two\nedit 3\nall Concrete(ir::types::I8) => AsTruthy\naudit\n' > "$folder/input"
+over 'a function of a control for one type' 5441 "$rows" || status=1
+exit $status

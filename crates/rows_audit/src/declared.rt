@@ -81,8 +81,8 @@ fn with_second(builder: InstructionBuilder, tv: TypeVar) -> InstructionBuilder {
     builder.second_control(tv)
 }
 
-/// Adds the instructions: `add` of one variable, `less` with an output that is always of one type, `pick` with an input of any float, and
-/// `convert`, whose float is a second control.
+/// Adds the instructions: `add` of one variable, `less` with an output that is always of one type, `pick` with an input of any float,
+/// `convert`, whose float is a second control, and `compare`, which has both such an output and such a control.
 fn add_instructions(
     alloc: Global,
     all: &mut AllInstructions,
@@ -95,7 +95,9 @@ fn add_instructions(
     group.push(of_operands(alloc, "less", format, &[int, int], truth)?)?;
     group.push(of_operands(alloc, "pick", format, &[int, float], int)?)?;
     let convert = of_operands(alloc, "convert", format, &[int, float], float)?;
-    group.push(with_second(convert, float))
+    group.push(with_second(convert, float))?;
+    let compare = of_operands(alloc, "compare", format, &[int, float], truth)?;
+    group.push(with_second(compare, float))
 }
 
 /// The group of this name, with entries of these names: a boolean and a number.
@@ -207,7 +209,7 @@ fn groups(alloc: Global, name: &str) -> Result<Vec<SettingGroupBuilder>, Trouble
     Ok(groups)
 }
 
-/// The declarations of this name. `two` are four instructions and two groups; `swapped` have these groups in the other order; `renamed`
+/// The declarations of this name. `two` are five instructions and two groups; `swapped` have these groups in the other order; `renamed`
 /// have a group of another name, and an entry whose name differs in case; `fewer` have the first group alone, and `refused` show a fault.
 /// `many` have 4,095 instructions of two controls.
 pub(crate) fn declared(alloc: Global, name: &str) -> Result<Declarations, Trouble> {

@@ -178,16 +178,17 @@ impl<'d> Session<'d> {
         }
     }
 
-    /// Does what the words of a line say that edits nothing: `edit N` begins with the text of the tables in that version, `other NAME N`
-    /// with that of the tables of other declarations; `audit WORDS` runs the auditor over the text and the input behind it, `verdict` asks
-    /// `audit`, and `digest` writes the SHA-256 of the text; `patched NAME` runs the auditor over the text that the patch in a file makes
-    /// of this one, behind the SHA-256 of that text, and `write NAME` writes that text;
-    /// `own TIMES` asks `audit` so many times about the tables of the declarations, and `generate TIMES` makes these so many times.
+    /// Does what the words of a line say that edits nothing. `edit N` begins with the text of the tables in that version, and
+    /// `other NAME N` with that of the tables of other declarations. `audit WORDS` runs the auditor over the text and the input behind
+    /// it, `verdict` asks `audit`, `digest` writes the SHA-256 of the text, and `write` the text. `patched NAME` runs the auditor over
+    /// what the patch in a file makes of the text, behind the SHA-256 of that, and `write NAME` writes it. `own TIMES` asks `audit` so
+    /// many times about the tables of the declarations, and `generate TIMES` makes these so many times.
     fn ask(&mut self, rt: &HostRuntime, words: &str, input: &str) -> io::Result<()> {
         let (word, rest) = words.split_once(' ').unwrap_or((words, ""));
         let begun = match word {
             "audit" => return self.run_edited(rt, rest, input),
             "patched" => return self.run_patched(rt, &fs::read(rt, rest)?),
+            "write" if rest.is_empty() => return io::writer(rt).write_all(self.edited.as_bytes()),
             "write" => return self.write_patched(rt, &fs::read(rt, rest)?),
             "verdict" => return self.write_verdict(rt),
             "digest" => return write_digest(rt, self.edited.as_bytes()),
