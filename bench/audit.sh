@@ -67,22 +67,30 @@ over() {
     [ "$count" -lt "$2" ]
 }
 
-# The same over the text that the lines write.
+# The same over the text that the lines write, which are the other words.
 over_text() {
-    printf '%%%% shared\n%b\n' "$2" > "$folder/lines"
+    name=$1
+    most=$2
+    shift 2
+    printf '%s\n' '%% shared' "$@" > "$folder/lines"
     "$rows" < "$folder/lines" > "$folder/input" || return 1
-    over "$1" "$3" "$audit"
+    over "$name" "$most" "$audit"
+}
+
+# The lines that edit a text behind a comment of the stored rows.
+edits() {
+    awk -v comment="$1" '$0 == comment { found = 1; next } found && /^(#|verdict)/ { exit } found' ../stdin
 }
 
 processor
 status=0
 compare shared '163 opcodes' 1001 || status=1
 compare many '4,095 opcodes of two controls' 101 || status=1
-over_text 'the shared text' 'edit 3\nwrite' 200000 || status=1
-over_text 'lists of its own' 'edit 2\nwrite 00' 200000 || status=1
-over_text 'other flags' 'edit 3\nwrite 08' 2000000 || status=1
-over_text 'opcode 69 differs' 'edit 3\nwrite 05' 2000000 || status=1
-over_text 'opcode 92 differs' 'edit 2\nwrite 10' 2000000 || status=1
+over_text 'the shared text' 200000 'edit 3' write || status=1
+over_text 'lists of its own' 200000 'edit 2' 'write 00' || status=1
+over_text 'one type as a type set' 200000 "$(edits '# One type as that type set, in the place of each constraint that names it.')" write || status=1
+over_text 'opcode 69 differs' 200000 'edit 3' 'write 05' || status=1
+over_text 'opcode 92 differs' 200000 'edit 2' 'write 10' || status=1
 printf '%%%% two\nedit 3\nall Concrete(ir::types::I8) => AsTruthy\naudit\n' > "$folder/input"
 over 'a function of a control for one type' 5441 "$rows" || status=1
 exit $status

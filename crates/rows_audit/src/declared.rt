@@ -82,17 +82,19 @@ fn with_second(builder: InstructionBuilder, tv: TypeVar) -> InstructionBuilder {
 }
 
 /// Adds the instructions: `add` of one variable, `less` with an output that is always of one type, `pick` with an input of any float,
-/// `convert`, whose float is a second control, and `compare`, which has both such an output and such a control.
+/// `convert`, whose float is a second control, and `compare`, which has both such an output and such a control. The second has the name
+/// that is given.
 fn add_instructions(
     alloc: Global,
     all: &mut AllInstructions,
     format: FormatId,
     variables: Variables,
+    less: &str,
 ) -> Result<(), AllocError> {
     let Variables { int, float, truth } = variables;
     let mut group = InstructionGroupBuilder::new(all);
     group.push(of_operands(alloc, "add", format, &[int, int], int)?)?;
-    group.push(of_operands(alloc, "less", format, &[int, int], truth)?)?;
+    group.push(of_operands(alloc, less, format, &[int, int], truth)?)?;
     group.push(of_operands(alloc, "pick", format, &[int, float], int)?)?;
     let convert = of_operands(alloc, "convert", format, &[int, float], float)?;
     group.push(with_second(convert, float))?;
@@ -125,14 +127,18 @@ fn declarations_of(
     Ok(Declarations::new(vars, formats, all, groups))
 }
 
-/// Declarations of those instructions, and of these groups.
-fn with_groups(alloc: Global, groups: Vec<SettingGroupBuilder>) -> Result<Declarations, Trouble> {
+/// Declarations of those instructions, of which the second has this name, and of these groups.
+fn with_groups(
+    alloc: Global,
+    less: &str,
+    groups: Vec<SettingGroupBuilder>,
+) -> Result<Declarations, Trouble> {
     let mut vars = TypeVars::new(alloc);
     let mut formats = FormatTable::new(alloc);
     let mut all = AllInstructions::new(alloc);
     let variables = make_variables(alloc, &mut vars)?;
     let format = format_of(alloc, &mut formats, 2)?;
-    add_instructions(alloc, &mut all, format, variables)?;
+    add_instructions(alloc, &mut all, format, variables, less)?;
     declarations_of(vars, formats, all, groups)
 }
 
@@ -210,13 +216,14 @@ fn groups(alloc: Global, name: &str) -> Result<Vec<SettingGroupBuilder>, Trouble
 }
 
 /// The declarations of this name. `two` are five instructions and two groups; `swapped` have these groups in the other order; `renamed`
-/// have a group of another name, and an entry whose name differs in case; `fewer` have the first group alone, and `refused` show a fault.
-/// `many` have 4,095 instructions of two controls.
+/// have a group of another name, and an entry whose name differs in case; `cased` have an instruction whose name does; `fewer` have the
+/// first group alone, and `refused` show a fault. `many` have 4,095 instructions of two controls.
 pub(crate) fn declared(alloc: Global, name: &str) -> Result<Declarations, Trouble> {
     match name {
         "shared" => Ok(define(alloc)?),
         "nothing" => Ok(nothing(alloc)),
         "many" => many(alloc, 4095),
-        _ => with_groups(alloc, groups(alloc, name)?),
+        "cased" => with_groups(alloc, "Less", groups(alloc, "two")?),
+        _ => with_groups(alloc, "less", groups(alloc, name)?),
     }
 }
