@@ -1,16 +1,22 @@
 #!/usr/bin/env python3
-"""Measures the merge gate from nothing, on a clean clone of what is committed: `bench/gate.py [FOLDER]`.
+"""Measures the whole test from nothing, on a clean clone of what is committed: `bench/gate.py [FOLDER]`.
 
-It runs `rt ci --anew` there, looks four times a second at the checks below it, and prints a line a crate: the processor minutes of
-its proof, of the proof of its tests, of its must-fail edits (with the check that they begin with) and of building its programs.
-The flag `--anew`, which proves what earlier runs on the machine kept too, and the names and words of the checks that are looked at
-are of the kit rattle-kit-13f (`rt help`, `rt version`). With a kit that has no such flag, leave it out below, and run this on a machine
-that has kept nothing, or once the folder in which that kit keeps proofs was moved away (rattle-kit-13f: `rattle-kept`, beside its own).
-Then come the sum, the wall minutes, and the longest chain of proofs, by the wall minutes that each took. Run it with nothing else
-running. FOLDER keeps the clone and the log of the gate, `gate.log`; without one they go.
+It runs `./test` there, which is the gate `rt ci` and, where cargo is, the comparison behind it. It looks four times a second at the checks
+below it, and prints a line a crate: the processor minutes of its proof, of the proof of its tests, of its must-fail edits (with the check
+of the crate as it stands that belongs to them) and of building its programs. Then come the sum, the processor and wall minutes of the gate
+and of the comparison, the longest chain of proofs, by the wall minutes that each took, and the gate's last line. Run it with nothing else
+running, and as `taskset -c 0,1 bench/gate.py` for two processors. FOLDER keeps the clone and the log of the test, `gate.log`; without
+one they go.
+
+A kit whose `rt ci` proves everything each time, as rattle-kit-13b, needs nothing more. With a kit that keeps what passed between runs, as
+rattle-kit-13f does in a folder `rattle-kept` beside its own, move that folder away first: else only what changed since is measured. Where
+no proof of a crate was seen, a line says so.
+
+A check is known by the name and words of its process, and an edit by its folder (`rt-edit..`), which are the same in both kits.
 """
 
 import os
+import re
 import resource
 import subprocess
 import sys
@@ -58,11 +64,19 @@ def check_of(pid):
     return name, "program" if "--crate-checked" in words else "proof"
 
 
+def is_gate(pid):
+    """Returns whether a process is `rt ci`, a program of Python."""
+    words = read(f"/proc/{pid}/cmdline").decode(errors="replace").split("\0")
+    return words[-2:] == ["ci", ""] and os.path.basename(words[-3]) == "rt" if len(words) > 3 else False
+
+
 class Gate:
     """What was seen of the checks of a run: processor seconds, and when each kind of a crate's checks began and ended."""
 
     def __init__(self):
         self.seen, self.spans = {}, {}
+        # When `rt ci` was last seen, and its processor seconds then.
+        self.ended, self.seconds = None, 0.0
 
     def look(self, top):
         now, all_of = time.time(), parents()
@@ -78,6 +92,8 @@ class Gate:
                 self.seen[pid, start] = what, seconds
                 begun = self.spans.get(what, (now, now))[0]
                 self.spans[what] = begun, now
+            elif is_gate(pid):
+                self.ended, self.seconds = now, seconds
 
     def minutes(self):
         """Returns the processor minutes of each crate by their kind."""
@@ -116,17 +132,8 @@ def longest_chain(below, cost):
     return max(chain(it) for it in below)
 
 
-def run(folder):
-    """Runs the gate and prints what it took; returns its status."""
-    gate, begun = Gate(), time.time()
-    with open(f"{folder}/../gate.log", "w", encoding="utf-8") as log:
-        ran = subprocess.Popen(["rt", "ci", "--anew"], cwd=folder, stdin=subprocess.DEVNULL, stdout=log, stderr=log)
-        while ran.poll() is None:
-            gate.look(ran.pid)
-            time.sleep(0.25)
-    wall = (time.time() - begun) / 60
-    used = resource.getrusage(resource.RUSAGE_CHILDREN)
-    total, below, found = (used.ru_utime + used.ru_stime) / 60, crates(folder), gate.minutes()
+def table(below, found):
+    """Prints a line a crate, and the sum."""
     print("| Crate | " + " | ".join(("Proof", "Tests", "Edits", "Program", "Together")) + " |")
     print("|---|" + "--:|" * 5)
     for name in below:
@@ -134,10 +141,31 @@ def run(folder):
         print(f"| `{name}` | " + " | ".join(f"{it:.1f}" if it else "" for it in [*of.values(), sum(of.values())]) + " |")
     sums = [sum(of[kind] for of in found.values()) for kind in KINDS]
     print("| all crates | " + " | ".join(f"{it:.1f}" for it in [*sums, sum(sums)]) + " |")
-    print(f"\nprocessor minutes in all, with runs and what rt does itself: {total:.1f}; wall minutes: {wall:.1f}")
+
+
+def run(folder):
+    """Runs the test and prints what it took; returns its status."""
+    gate, begun, before = Gate(), time.time(), resource.getrusage(resource.RUSAGE_CHILDREN)
+    with open(f"{folder}/../gate.log", "w", encoding="utf-8") as log:
+        ran = subprocess.Popen(["./test"], cwd=folder, stdin=subprocess.DEVNULL, stdout=log, stderr=log)
+        while ran.poll() is None:
+            gate.look(ran.pid)
+            time.sleep(0.25)
+    wall, after = (time.time() - begun) / 60, resource.getrusage(resource.RUSAGE_CHILDREN)
+    total = (after.ru_utime + after.ru_stime - before.ru_utime - before.ru_stime) / 60
+    of_gate = ((gate.ended or begun) - begun) / 60
+    below, log = crates(folder), read(f"{folder}/../gate.log").decode(errors="replace").rstrip("\n").split("\n")
+    table(below, gate.minutes())
+    kit = subprocess.run(["rt", "version"], capture_output=True, text=True).stdout.strip()
+    print(f"\n{len(os.sched_getaffinity(0))} processors, {kit}")
+    print(f"the gate, with runs and what rt does itself: {gate.seconds / 60:.1f} processor minutes, {of_gate:.1f} wall minutes")
+    print(f"what ./test does behind it: {total - gate.seconds / 60:.1f} processor minutes, {wall - of_gate:.1f} wall minutes")
     length, names = longest_chain(below, lambda name: gate.wall(name, "proof"))
     print(f"longest chain of proofs: {length:.1f} wall minutes: {', '.join(names)}")
-    print(read(f"{folder}/../gate.log").decode(errors="replace").rstrip("\n").split("\n")[-1])
+    unseen = [name for name in below if (name, "proof") not in gate.spans]
+    if unseen:
+        print(f"not from nothing, or not reached: no proof was seen of {', '.join(unseen)}")
+    print("\n".join(dict.fromkeys([it for it in log if re.fullmatch(r"\d+ passed, \d+ failed", it)] + log[-1:])))
     return ran.returncode
 
 
