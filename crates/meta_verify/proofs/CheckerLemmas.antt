@@ -1,8 +1,8 @@
 -- Why a line is wrong, by tables.
-use Rattle.std.proofs.Common.{◌≡◌, ◌↔◌, ℕ, nat_eq, Bool, true, false, cond, List, [], ◌∷◌, map, All, Option, Some, None, IfSome, IfNone, is_some, Result, Ok, Err, OnErr, IsTrue, refl, sym, ap, ap₂, ◌∙◌, subst}
+use Rattle.std.proofs.Common.{◌≡◌, ◌↔◌, ℕ, nat_eq, Bool, true, false, cond, List, [], ◌∷◌, map, get_or, All, Option, Some, None, IfSome, IfNone, is_some, Result, Ok, Err, OnErr, IsTrue, refl, sym, ap, ap₂, ◌∙◌, subst}
 use Rattle.std.specs.Option.{option_map}
 use Rattle.std.specs.Ordering.{nat_cmp}
-use Rattle.std.specs.BTreeMap.{BTreeMap, get, is_at}
+use Rattle.std.specs.BTreeMap.{get, is_at}
 use Rattle.std.specs.Cmp.{unsigned_tied}
 use Rattle.std.specs.Map.{lookup}
 use Rattle.std.proofs.lemmas.Bool.{false≢true}
@@ -13,11 +13,12 @@ use Rattle.meta_meaning.specs.Tables.{TableContents, at_opcode, Allows}
 use Rattle.meta_opcode_tables.specs.Contents.{IsOpcodeNamed}
 use Rattle.meta_types.specs.TypeNumber.{type_with, IsTypeNumber}
 use Rattle.meta_answers.specs.Answer.{AllowsAsked, AllowedReply}
-use Rattle.meta_verify.specs.Statement.{TypedValue, OfParameter, OfApplication}
-use Rattle.meta_verify.specs.Environment.{Environment, with_values, first_undefined, first_redefined, HaveTypes}
+use Rattle.meta_verify.specs.Statement.{TypedValue, Statement, OfParameter, OfApplication}
+use Rattle.meta_verify.specs.Environment.{Environment, nothing_defined, with_values, first_undefined, first_redefined, HaveTypes}
 use Rattle.meta_verify.specs.Numbers.{typed, applied, IsTypedNumber, HasNumbers}
-use Rattle.meta_verify.specs.Defined.{environment_of, entries_of, definitions}
+use Rattle.meta_verify.specs.Defined.{number_at, environment_of, Entries, entries_of, definitions}
 use Rattle.meta_verify.specs.Wrong.{Replies, question_of, IsMistake, IsFaultless, Answers, Feeds}
+use Rattle.meta_verify.specs.declared.known.KnownTypes.{KnownTypes}
 use Rattle.meta_verify.specs.declared.reason.Reason.{Reason}
 use Rattle.meta_verify.specs.declared.reason.Reason.TheVariants.{Undefined, Redefined, Refused}
 use Rattle.meta_verify.specs.declared.statement.TypedNumber.{TypedNumber}
@@ -64,22 +65,43 @@ entry_there (e ∷ es) v = by_test (nat_eq v e.0) (entry_there es v)
 same_test : (v : ℕ) → is_at (nat_cmp v) ≡ nat_eq v
 same_test v = λ i k. unsigned_tied v k i
 
-at_value : (m : BTreeMap ℕ ℕ) (v : ℕ) → environment_of m v ≡ definitions (entries_of m) v
-at_value m v = ap (λ test. option_map type_with (lookup test m.entries)) (same_test v) ∙ entry_there m.entries v
+at_value : (m : KnownTypes) (v : ℕ) → environment_of m v ≡ definitions (entries_of m) v
+at_value m v = by_test (nat_eq (get_or m.near.items v 0) 0) (ap (λ test. option_map type_with (lookup test m.others.entries)) (same_test v) ∙ entry_there m.others.entries v)
+  where
+    by_test : (b : Bool) → option_map type_with (get nat_cmp m.others v) ≡ lookup (nat_eq v) (map (λ (e : ℕ × ℕ). (e.0, type_with e.1)) m.others.entries)
+        → option_map type_with (cond b (get nat_cmp m.others v) (Some (get_or m.near.items v 0))) ≡ cond b (lookup (nat_eq v) (map (λ (e : ℕ × ℕ). (e.0, type_with e.1)) m.others.entries)) (Some (type_with (get_or m.near.items v 0)))
+    by_test true behind = behind
+    by_test false behind = refl
 
-pub seen : (m : BTreeMap ℕ ℕ) (l : List (ℕ × TypeParts)) → entries_of m ≡ l → environment_of m ≡ definitions l
+pub seen : (m : KnownTypes) (l : Entries) → entries_of m ≡ l → environment_of m ≡ definitions l
 seen m l e = (λ i v. at_value m v i) ∙ ap definitions e
 
 -- a map that defines the same, and one that defines more
-pub seen_same : (m n : BTreeMap ℕ ℕ) (l k : List (ℕ × TypeParts)) → entries_of m ≡ l → entries_of n ≡ k → ((v : ℕ) → environment_of n v ≡ environment_of m v) → definitions k ≡ definitions l
+pub seen_same : (m n : KnownTypes) (l k : Entries) → entries_of m ≡ l → entries_of n ≡ k → ((v : ℕ) → environment_of n v ≡ environment_of m v) → definitions k ≡ definitions l
 seen_same m n l k e f h = sym (seen n k f) ∙ (λ i v. h v i) ∙ seen m l e
 
-pub seen_more : (m n : BTreeMap ℕ ℕ) (l k : List (ℕ × TypeParts)) (rs : List TypedValue) → entries_of m ≡ l → entries_of n ≡ k → ((v : ℕ) → environment_of n v ≡ with_values (environment_of m) rs v) → definitions k ≡ with_values (definitions l) rs
+pub seen_more : (m n : KnownTypes) (l k : Entries) (rs : List TypedValue) → entries_of m ≡ l → entries_of n ≡ k → ((v : ℕ) → environment_of n v ≡ with_values (environment_of m) rs v) → definitions k ≡ with_values (definitions l) rs
 seen_more m n l k rs e f h = sym (seen n k f) ∙ (λ i v. h v i) ∙ ap (λ (env : Environment). with_values env rs) (seen m l e)
 
 -- results of which none is defined before
-pub fresh_there : (m : BTreeMap ℕ ℕ) (l : List (ℕ × TypeParts)) (rs : List TypedValue) → entries_of m ≡ l → first_redefined (definitions l) rs ≡ None → first_redefined (environment_of m) rs ≡ None
+pub fresh_there : (m : KnownTypes) (l : Entries) (rs : List TypedValue) → entries_of m ≡ l → first_redefined (definitions l) rs ≡ None → first_redefined (environment_of m) rs ≡ None
 fresh_there m l rs e h = ap (λ (env : Environment). first_redefined env rs) (seen m l e) ∙ h
+
+-- nothing is defined where no value has a number
+pub nothing_seen : (m : KnownTypes) (l : Entries) → entries_of m ≡ l → ((v : ℕ) → number_at m v ≡ None) → definitions l ≡ nothing_defined
+nothing_seen m l e none = sym (seen m l e) ∙ (λ i v. option_map type_with (none v i))
+
+-- what is said by what is held is said by what a contract sees
+module _ (tables : TableContents) (m : KnownTypes) (l : Entries) (s : Statement) (e : entries_of m ≡ l) (o : Option Reason) where
+  pub mistake_seen : (reason : Reason) → o ≡ Some reason → IfSome o (λ r. IsMistake (AllowedReply tables) (environment_of m) s r) → IsMistake (AllowedReply tables) (definitions l) s reason
+  mistake_seen reason is h =
+      subst (λ (env : Environment). IsMistake (AllowedReply tables) env s reason) (seen m l e)
+      (subst (λ o. IfSome o (λ r. IsMistake (AllowedReply tables) (environment_of m) s r)) is h)
+
+  pub faultless_seen : o ≡ None → IfNone o (IsFaultless (AllowedReply tables) (environment_of m) s) → IsFaultless (AllowedReply tables) (definitions l) s
+  faultless_seen is h =
+      subst (λ (env : Environment). IsFaultless (AllowedReply tables) env s) (seen m l e)
+      (subst (λ o. IfNone o (IsFaultless (AllowedReply tables) (environment_of m) s)) is h)
 
 -- a parameter that is defined before, and one that isn't
 pub parameter_redefined : (env : Environment) (r : TypedNumber) (R : Replies) → is_some (env r.value) ≡ true → IsMistake R env (OfParameter (typed r)) (Redefined r.value)
@@ -103,16 +125,16 @@ parameter_faultless env r R o e = subst (λ o. IfNone o (IsFaultless R env (OfPa
     by_test true is = tt
     by_test false is = parameter_right env r R is
 
--- whether a value is defined, as a contract sees it
-pub seen_there : (m : BTreeMap ℕ ℕ) (l : List (ℕ × TypeParts)) (v : ℕ) → entries_of m ≡ l → is_some (definitions l v) ≡ is_some (get nat_cmp m v)
-seen_there m l v e = ap (λ (env : Environment). is_some (env v)) (sym (seen m l e)) ∙ defined_is (get nat_cmp m v)
-
 -- what holds where an error is answered
 pub on_err_weaker : {T E P Q : Type 0} (r : Result T E) → (P → Q) → OnErr r P → OnErr r Q
 on_err_weaker (Ok x) f h = tt
 on_err_weaker (Err e) f h = f h
 
--- the decoding says no
+pub on_err_there : {T E P : Type 0} (r : Result T E) → P → OnErr r P
+on_err_there (Ok x) h = tt
+on_err_there (Err e) h = h
+
+-- what is decided so, and is said not to be
 pub says_no : (b : Bool) (P : Type 0) → (IsTrue b ↔ P) → b ≡ false → P → ⊥
 says_no b P decides off h = false≢true (sym off ∙ decides.1 h)
 

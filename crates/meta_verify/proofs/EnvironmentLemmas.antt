@@ -3,7 +3,7 @@ use Rattle.std.proofs.Common.{◌≡◌, ℕ, ◌+◌, ◌<◌, ◌||◌, not, B
 use Rattle.std.specs.Option.{option_map}
 use Rattle.std.specs.Cmp.{unsigned_tied}
 use Rattle.std.specs.Ordering.{nat_cmp}
-use Rattle.std.specs.BTreeMap.{BTreeMap, get, is_at}
+use Rattle.std.specs.BTreeMap.{is_at}
 use Rattle.std.specs.BTreeSet.{BTreeSet, contains}
 use Rattle.std.proofs.lemmas.Option.{slice_get-get_or}
 use Rattle.std.proofs.lemmas.List.{map-append}
@@ -14,7 +14,8 @@ use Rattle.meta_types.specs.TypeNumber.{type_with, IsTypeNumber}
 use Rattle.meta_verify.specs.Statement.{TypedValue}
 use Rattle.meta_verify.specs.Environment.{Environment, with_value, with_values, first_undefined, first_redefined, HaveTypes}
 use Rattle.meta_verify.specs.Numbers.{typed}
-use Rattle.meta_verify.specs.Defined.{environment_of, AreTypeNumbers}
+use Rattle.meta_verify.specs.Defined.{number_at, environment_of, AreTypeNumbers}
+use Rattle.meta_verify.specs.declared.known.KnownTypes.{KnownTypes}
 use Rattle.meta_verify.specs.declared.statement.TypedNumber.{TypedNumber}
 
 -- one value more at the end
@@ -116,6 +117,13 @@ is_fresh false false c h k e = e
 is_fresh false true c h k e = absurd (cc)
 is_fresh true b c h k e = absurd (cc)
 
+-- a value that isn't told to be defined before isn't
+pub not_before : (b : Bool) (v : ℕ) (o : Option ℕ) → o ≡ cond b (Some v) None → is_some o ≡ false → b ≡ false
+not_before true v o e none =
+    let both : true ≡ false = sym (ap is_some e) ∙ none in
+    absurd (cc)
+not_before false v o e none = refl
+
 pub redefined_next : (env : Environment) (rs : List TypedNumber) (i : ℕ) (d : TypedNumber) (seen : Bool) → i < length rs
     → is_some (env (get_or rs i d).value) ≡ false → true ≡ not seen
     → is_some (with_values env (map typed (take i rs)) (get_or rs i d).value) ≡ (is_some (env (get_or rs i d).value) || seen)
@@ -134,9 +142,9 @@ pub undefined_next : (env : Environment) (vs : List ℕ) (i v n : ℕ) → slice
 undefined_next env vs i v n at has e =
     sym (undefined_later env v (drop (i + 1) vs) (type_with n) has) ∙ ap (first_undefined env) (sym (drop_next vs i v at)) ∙ e
 
--- what a look-up copied is what is defined
-pub has_type : (m : BTreeMap ℕ ℕ) (v n : ℕ) (o : Option ℕ) → o ≡ get nat_cmp m v → o ≡ Some n → environment_of m v ≡ Some (type_with n)
+-- what a look-up found is what is defined
+pub has_type : (m : KnownTypes) (v n : ℕ) (o : Option ℕ) → o ≡ number_at m v → o ≡ Some n → environment_of m v ≡ Some (type_with n)
 has_type m v n o is some = ap (option_map type_with) (sym is ∙ some)
 
-pub known_there : (m : BTreeMap ℕ ℕ) (v n : ℕ) (o : Option ℕ) → o ≡ get nat_cmp m v → o ≡ Some n → AreTypeNumbers m → IsTypeNumber n
+pub known_there : (m : KnownTypes) (v n : ℕ) (o : Option ℕ) → o ≡ number_at m v → o ≡ Some n → AreTypeNumbers m → IsTypeNumber n
 known_there m v n o is some known = subst (λ o. IfSome o IsTypeNumber) (sym is ∙ some) (known v)

@@ -176,6 +176,11 @@ module _ (line name control results values : List ℕ) (pieces : pieces_of 32 li
 pub no_parameter : (line : List ℕ) → ((value name : List ℕ) → pieces_of 32 line ≢ codes "param" ∷ value ∷ name ∷ []) → (r : TypedValue) → IsStatement line (OfParameter r) → ⊥
 no_parameter line none r h = none (value_text r.value) (name_of r.type) (pieces_are line (OfParameter r) h)
 
+-- a line that begins with another byte has another first word
+pub no_param_word : (line : List ℕ) → ((rest : List ℕ) → line ≢ 112 ∷ rest) → (value name : List ℕ) → pieces_of 32 line ≢ codes "param" ∷ value ∷ name ∷ []
+no_param_word line none value name e =
+    none (97 ∷ 114 ∷ 97 ∷ 109 ∷ 32 ∷ join_with_byte 32 (value ∷ name ∷ [])) (sym (join_with_byte-slice_split 32 line) ∙ ap (join_with_byte 32) e)
+
 -- nor is one whose words are no value or no type
 pub no_parameter_value : (line value name : List ℕ) → pieces_of 32 line ≡ codes "param" ∷ value ∷ name ∷ [] → ((v : ℕ) → IsValue v → value ≢ value_text v) → (r : TypedValue) → IsStatement line (OfParameter r) → ⊥
 no_parameter_value line value name pieces none r h =

@@ -1,25 +1,35 @@
--- Which values a map defines.
-use Rattle.std.specs.Prelude.{ℕ, nat_eq, List, map, IfSome}
+-- Which values are held to be defined.
+--     number_at types v        the number of the type of a value, where it is defined
+--     definitions entries      the values that are defined, with their types
+use Rattle.std.specs.Prelude.{ℕ, nat_eq, ◌==◌, List, map, slice_index, Option, Some, IfSome, if◌then◌else◌}
 use Rattle.std.specs.Ordering.{nat_cmp}
 use Rattle.std.specs.Map.{lookup}
 use Rattle.std.specs.Option.{option_map}
-use Rattle.std.specs.BTreeMap.{BTreeMap, get}
+use Rattle.std.specs.BTreeMap.{get}
 use Rattle.meta_types.specs.TypeParts.{TypeParts}
 use Rattle.meta_types.specs.TypeNumber.{type_with, IsTypeNumber}
 use Rattle.meta_verify.specs.Environment.{Environment}
+use Rattle.meta_verify.specs.declared.known.KnownTypes.{KnownTypes}
 
--- the types with the numbers that the map has
-abbrev pub environment_of : BTreeMap ℕ ℕ → Environment
-environment_of m v = option_map type_with (get nat_cmp m v)
+-- the number of the type of a value: that at its place in the list, or where there is none, which 0 says, that of the map
+abbrev pub number_at : KnownTypes → ℕ → Option ℕ
+number_at types v = if slice_index types.near.items v == 0 then get nat_cmp types.others v else Some (slice_index types.near.items v)
 
--- each number that the map has is one of a type
-abbrev pub AreTypeNumbers : BTreeMap ℕ ℕ → Type 0
-AreTypeNumbers m = (v : ℕ) → IfSome (get nat_cmp m v) IsTypeNumber
+-- the types with these numbers
+abbrev pub environment_of : KnownTypes → Environment
+environment_of types v = option_map type_with (number_at types v)
 
--- the values that the map has, with the types of the numbers, in order
-abbrev pub entries_of : BTreeMap ℕ ℕ → List (ℕ × TypeParts)
-entries_of m = map (λ (e : ℕ × ℕ). (e.0, type_with e.1)) m.entries
+-- each number is one of a type
+abbrev pub AreTypeNumbers : KnownTypes → Type 0
+AreTypeNumbers types = (v : ℕ) → IfSome (number_at types v) IsTypeNumber
 
--- what such a list defines
-abbrev pub definitions : List (ℕ × TypeParts) → Environment
-definitions entries v = lookup (nat_eq v) entries
+-- the numbers of the types of the first values, by value, 0 for one that isn't there; and other values with their types, in order
+abbrev pub Entries : Type 0
+Entries = List ℕ × List (ℕ × TypeParts)
+
+abbrev pub entries_of : KnownTypes → Entries
+entries_of types = (types.near.items, map (λ (e : ℕ × ℕ). (e.0, type_with e.1)) types.others.entries)
+
+-- what such entries define
+abbrev pub definitions : Entries → Environment
+definitions entries v = if slice_index entries.0 v == 0 then lookup (nat_eq v) entries.1 else Some (type_with (slice_index entries.0 v))

@@ -1,46 +1,40 @@
-ghost use Rattle.std.specs.Prelude.{◌≡◌, ℕ, List, map, All, Option, None, Some, is_some, if◌then◌else◌, IfOk, IfSome, IfNone, OnOk, OnErr};
+ghost use Rattle.std.specs.Prelude.{◌≡◌, ℕ, List, Option, None, IfOk, IfSome, IfNone, OnOk, OnErr};
 ghost use Rattle.std.specs.Option.{option_map};
 ghost use Rattle.meta_types.specs.TypeParts.{number_of};
 ghost use Rattle.meta_answers.specs.Answer.{AllowedReply};
 ghost use Rattle.meta_verify.specs.Environment.{nothing_defined, with_values, first_redefined};
 ghost use Rattle.meta_verify.specs.Defined.{definitions};
-ghost use Rattle.meta_verify.specs.Numbers.{typed, applied, stated, HasNumbers, HasTypeNumbers};
+ghost use Rattle.meta_verify.specs.Numbers.{stated, HasTypeNumbers};
 ghost use Rattle.meta_verify.specs.Statement as spec;
-ghost use Rattle.meta_verify.specs.declared.reason.Reason.TheVariants.{Redefined};
 ghost use Rattle.meta_verify.specs.Wrong.{IsMistake, IsFaultless, Answers, Feeds};
 
-use super::defined::{define_all, look_up, redefined};
+use super::defined::define_all;
+use super::known::KnownTypes;
+use super::lists::Lists;
+use super::mistake::mistake_of;
 use super::reason::Reason;
-use super::statement::{Application, Statement, TypedNumber};
+use super::statement::Statement;
 use meta_gen::Tables;
 use std::alloc::{AllocError, Global};
-use std::collections::BTreeMap;
 use std::marker::Model;
 
 /// Which values the lines so far define, and of which types. A contract sees them by `definitions` (this project's own).
 #[derive(Drop)]
 pub struct Checker {
-    types: BTreeMap<u32, u16>,
+    types: KnownTypes,
+    lists: Lists,
     alloc: Global,
 }
 
 impl Model for Checker {
     ghost use Rattle.std.specs.Prelude.{ℕ, List};
-    ghost use Rattle.meta_types.specs.TypeParts.{TypeParts};
-    ghost use Rattle.meta_verify.specs.Defined.{entries_of, AreTypeNumbers};
+    ghost use Rattle.meta_verify.specs.Defined.{Entries, entries_of, AreTypeNumbers};
 
-    ghost Value = { List (ℕ × TypeParts) };
+    ghost Value = { Entries };
 
     ghost view = { λ c. entries_of c.types };
 
     ghost invariant = { λ c. AreTypeNumbers c.types };
-}
-
-/// The numbers of the types of the results.
-fn numbers_of(alloc: Global, results: &[TypedNumber]) -> Result<Vec<u16>, AllocError>
-    ensures { IfOk result (λ v. v.items ≡ map (λ r. r.number) results.now) }
-{
-    results.iter().map(|r| r.number).collect(alloc)
 }
 
 impl Checker {
@@ -49,7 +43,8 @@ impl Checker {
         ensures { definitions result ≡ nothing_defined }
     {
         Checker {
-            types: BTreeMap::new(alloc),
+            types: KnownTypes::new(alloc),
+            lists: Lists::new(alloc),
             alloc,
         }
     }
@@ -58,50 +53,7 @@ impl Checker {
     pub fn type_of(&self, value: u32) -> Option<u16>
         ensures { result ≡ option_map number_of (definitions self.now value) }
     {
-        self.types.get(&value).copied()
-    }
-
-    /// Why a parameter is wrong: where it is defined before.
-    fn redefined_by(&self, parameter: &TypedNumber) -> Option<Reason>
-        ensures { result ≡ (if is_some (definitions self.now parameter.now.value) then Some (Redefined parameter.now.value) else None) }
-    {
-        if self.types.contains_key(&parameter.value) {
-            return Some(Reason::Redefined(parameter.value));
-        }
-        None
-    }
-
-    /// Why the application is wrong, by the tables, and `None` exactly where it is right.
-    fn mistake_in(
-        &self,
-        tables: &Tables,
-        application: &Application<'_>,
-    ) -> Result<Option<Reason>, AllocError>
-        requires { HasNumbers application.now }
-        ensures mistake { IfOk result (λ o. IfSome o (λ reason. IsMistake (AllowedReply tables.now.opcodes) (definitions self.now) (spec.OfApplication (applied application.now)) reason)) }
-        ensures none { IfOk result (λ o. IfNone o (IsFaultless (AllowedReply tables.now.opcodes) (definitions self.now) (spec.OfApplication (applied application.now)))) }
-    {
-        let Some(opcode) = tables.find_opcode(application.name) else {
-            return Ok(Some(Reason::Unknown));
-        };
-        let mut values = Vec::new(self.alloc);
-        if let Some(value) = look_up(&self.types, &application.values, &mut values)? {
-            return Ok(Some(Reason::Undefined(value)));
-        }
-        if let Some(value) = redefined(self.alloc, &self.types, &application.results)? {
-            return Ok(Some(Reason::Redefined(value)));
-        }
-        let results = numbers_of(self.alloc, &application.results)?;
-        if !tables.accepts2(
-            opcode,
-            application.control,
-            application.second,
-            &results,
-            &values,
-        ) {
-            return Ok(Some(Reason::Refused));
-        }
-        Ok(None)
+        self.types.get(value)
     }
 
     /// Why what is stated is wrong, by the tables, and `None` exactly where it is right.
@@ -114,10 +66,8 @@ impl Checker {
         ensures mistake { IfOk result (λ o. IfSome o (λ reason. IsMistake (AllowedReply tables.now.opcodes) (definitions self.now) (stated statement.now) reason)) }
         ensures none { IfOk result (λ o. IfNone o (IsFaultless (AllowedReply tables.now.opcodes) (definitions self.now) (stated statement.now))) }
     {
-        match statement {
-            Statement::Parameter(parameter) => Ok(self.redefined_by(parameter)),
-            Statement::Applied(application) => self.mistake_in(tables, application),
-        }
+        let mut lists = Lists::new(self.alloc);
+        mistake_of(self.alloc, &self.types, tables, statement, &mut lists)
     }
 
     /// Defines what is stated, of which nothing is defined before. Where there is no memory for all of it, nothing more is defined.
@@ -143,7 +93,8 @@ impl Checker {
         ensures added { IfOk result (λ answer. (line : List ℕ) → spec.IsStatement line (stated statement.now) → Answers (AllowedReply tables.now.opcodes) (definitions self.old) line answer (definitions self.new)) }
         ensures kept { OnErr result (definitions self.new ≡ definitions self.old) }
     {
-        if let Some(reason) = self.mistake(tables, statement)? {
+        let mistake = mistake_of(self.alloc, &self.types, tables, statement, &mut self.lists)?;
+        if let Some(reason) = mistake {
             return Ok(Some(reason));
         }
         self.define(statement)?;
@@ -160,9 +111,11 @@ impl Checker {
         if line.is_empty() {
             return Ok(None);
         }
-        let Some(statement) = Statement::parse(self.alloc, line)? else {
+        let Some(statement) = Statement::parse_in(&mut self.lists, line)? else {
             return Ok(Some(Reason::Bad));
         };
-        self.add(tables, &statement)
+        let answer = self.add(tables, &statement);
+        self.lists.keep(statement);
+        answer
     }
 }

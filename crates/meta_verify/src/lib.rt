@@ -6,7 +6,10 @@
 
 mod checker;
 mod defined;
+mod known;
 mod laws;
+mod lists;
+mod mistake;
 mod reason;
 mod statement;
 mod verdict;

@@ -1,10 +1,11 @@
-ghost use Rattle.std.specs.Prelude.{◌≡◌, ◌≢◌, ℕ, ◌<◌, true, false, List, [], ◌∷◌, length, map, All, IfOk, IfSome, IfNone, codes};
+ghost use Rattle.std.specs.Prelude.{◌≡◌, ◌≢◌, ◌↔◌, ℕ, ◌<◌, true, false, List, [], ◌∷◌, length, map, All, IfOk, IfSome, IfNone, IsTrue, codes};
 ghost use Rattle.meta_words.specs.Words.{pieces_of};
 ghost use Rattle.meta_types.specs.TypeNumber.{IsTypeNumber};
 ghost use Rattle.meta_verify.specs.Statement as spec;
 ghost use Rattle.meta_verify.specs.Statement.{TypedValue, IsTyped, IsValue, IsStatement, value_text, typed_text, list_text};
 ghost use Rattle.meta_verify.specs.Numbers.{typed, stated, IsTypedNumber, HasTypeNumbers};
 
+use super::lists::Lists;
 use meta_types::type_number;
 use meta_words::{Pieces, cut, number_u32, parse_control};
 use std::alloc::{AllocError, Global};
@@ -67,14 +68,21 @@ fn parse_typed(word: &[u8]) -> Option<TypedNumber>
     Some(TypedNumber { value, number })
 }
 
-/// Reads the values that the word lists. It is false where it is no list of values.
+/// Whether the word is `-`, which lists nothing.
+fn is_dash(word: &[u8]) -> bool
+    ensures { IsTrue result ↔ (word.now ≡ codes "-") }
+{
+    matches!(word, b"-")
+}
+
+/// Reads the values that the word lists, in place of what was there. It is false where it is no list of values.
 fn read_values(values: &mut Vec<u32>, word: &[u8]) -> Result<bool, AllocError>
-    requires { values.old.items ≡ [] }
     ensures known { All IsValue values.new.items }
     ensures found { IfOk result (λ read. read ≡ true → list_text (map value_text values.new.items) ≡ word.now) }
     ensures none { IfOk result (λ read. read ≡ false → (vs : List ℕ) → All IsValue vs → list_text (map value_text vs) ≢ word.now) }
 {
-    if word == b"-".as_slice() {
+    values.clear();
+    if is_dash(word) {
         return Ok(true);
     }
     for piece in Pieces::new(word, b',') {
@@ -86,14 +94,14 @@ fn read_values(values: &mut Vec<u32>, word: &[u8]) -> Result<bool, AllocError>
     Ok(true)
 }
 
-/// Reads the values with their types that the word lists. It is false where it is no such list.
+/// Reads the values with their types that the word lists, in place of what was there. It is false where it is no such list.
 fn read_results(results: &mut Vec<TypedNumber>, word: &[u8]) -> Result<bool, AllocError>
-    requires { results.old.items ≡ [] }
     ensures known { All IsTypedNumber results.new.items }
     ensures found { IfOk result (λ read. read ≡ true → list_text (map typed_text (map typed results.new.items)) ≡ word.now) }
     ensures none { IfOk result (λ read. read ≡ false → (rs : List TypedValue) → All IsTyped rs → list_text (map typed_text rs) ≢ word.now) }
 {
-    if word == b"-".as_slice() {
+    results.clear();
+    if is_dash(word) {
         return Ok(true);
     }
     for piece in Pieces::new(word, b',') {
@@ -103,6 +111,13 @@ fn read_results(results: &mut Vec<TypedNumber>, word: &[u8]) -> Result<bool, All
         results.push(result)?;
     }
     Ok(true)
+}
+
+/// Whether the line begins with the first byte of `param`.
+fn begins_with_p(line: &[u8]) -> bool
+    ensures { result ≡ false → (rest : List ℕ) → line.now ≢ 112 ∷ rest }
+{
+    matches!(line, [b'p', ..])
 }
 
 /// The words behind `param` in a line of three words. The last may have no bytes.
@@ -117,6 +132,9 @@ fn parameter_words(line: &[u8]) -> Option<ParameterWords<'_>>
     ensures words { IfSome result (λ w. pieces_of 32 line.now ≡ codes "param" ∷ w.value.now ∷ w.name.now ∷ []) }
     ensures none { IfNone result ((value name : List ℕ) → pieces_of 32 line.now ≢ codes "param" ∷ value ∷ name ∷ []) }
 {
+    if !begins_with_p(line) {
+        return None;
+    }
     let mut words = Pieces::new(line, b' ');
     let command = words.next()?;
     if command != b"param".as_slice() {
@@ -142,6 +160,13 @@ fn parse_parameter(line: &[u8]) -> Option<TypedNumber>
     Some(TypedNumber { value, number })
 }
 
+/// Whether the word is `line`.
+fn is_line(word: &[u8]) -> bool
+    ensures { IsTrue result ↔ (word.now ≡ codes "line") }
+{
+    matches!(word, b"line")
+}
+
 /// The words behind `line` in a line of five words.
 #[derive(Clone, Copy)]
 struct ApplicationWords<'a> {
@@ -158,8 +183,7 @@ fn application_words(line: &[u8]) -> Option<ApplicationWords<'_>>
     ensures none { IfNone result ((name control results values : List ℕ) → 0 < length name → pieces_of 32 line.now ≢ codes "line" ∷ name ∷ control ∷ results ∷ values ∷ []) }
 {
     let mut words = Pieces::new(line, b' ');
-    let command = words.next()?;
-    if command != b"line".as_slice() {
+    if !is_line(words.next()?) {
         return None;
     }
     let name = words.next()?;
@@ -181,8 +205,8 @@ fn application_words(line: &[u8]) -> Option<ApplicationWords<'_>>
 }
 
 impl<'a> Application<'a> {
-    /// The application that the line states.
-    fn parse(alloc: Global, line: &'a [u8]) -> Result<Option<Application<'a>>, AllocError>
+    /// The application that the line states, in these lists.
+    fn parse_in(lists: &mut Lists, line: &'a [u8]) -> Result<Option<Application<'a>>, AllocError>
         ensures found { IfOk result (λ o. IfSome o (λ a. IsStatement line.now (stated (Statement.Applied a)))) }
         ensures known { IfOk result (λ o. IfSome o (λ a. HasTypeNumbers (Statement.Applied a))) }
         ensures none { IfOk result (λ o. IfNone o ((a : spec.Application) → ¬ IsStatement line.now (spec.OfApplication a))) }
@@ -193,11 +217,11 @@ impl<'a> Application<'a> {
         let Some(controls) = parse_control(words.control) else {
             return Ok(None);
         };
-        let mut results = Vec::new(alloc);
+        let mut results = lists.take_results();
         if !read_results(&mut results, words.results)? {
             return Ok(None);
         }
-        let mut values = Vec::new(alloc);
+        let mut values = lists.take_values();
         if !read_values(&mut values, words.values)? {
             return Ok(None);
         }
@@ -218,10 +242,23 @@ impl<'a> Statement<'a> {
         ensures known { IfOk result (λ o. IfSome o HasTypeNumbers) }
         ensures none { IfOk result (λ o. IfNone o ((s : spec.Statement) → ¬ IsStatement line.now s)) }
     {
+        let mut lists = Lists::new(alloc);
+        Statement::parse_in(&mut lists, line)
+    }
+
+    /// The same, in these lists.
+    pub(crate) fn parse_in(
+        lists: &mut Lists,
+        line: &'a [u8],
+    ) -> Result<Option<Statement<'a>>, AllocError>
+        ensures found { IfOk result (λ o. IfSome o (λ s. IsStatement line.now (stated s))) }
+        ensures known { IfOk result (λ o. IfSome o HasTypeNumbers) }
+        ensures none { IfOk result (λ o. IfNone o ((s : spec.Statement) → ¬ IsStatement line.now s)) }
+    {
         if let Some(parameter) = parse_parameter(line) {
             return Ok(Some(Statement::Parameter(parameter)));
         }
-        match Application::parse(alloc, line)? {
+        match Application::parse_in(lists, line)? {
             Some(application) => Ok(Some(Statement::Applied(application))),
             None => Ok(None),
         }

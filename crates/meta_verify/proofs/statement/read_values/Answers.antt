@@ -1,15 +1,14 @@
-use Rattle.std.proofs.Common.{◌∙◌, sym}
-use Rattle.std.specs.Cmp.Lexicographic.{other_text}
 use Rattle.std.proofs.lemmas.List.Elements.{All-push}
 use Rattle.meta_verify.specs.Statement.{IsValue, value_text}
 use Rattle.meta_verify.proofs.ListLemmas.{refused, listed, one_more}
 use Rattle.meta_verify.proofs.StatementLemmas.{value_no_comma}
+use Rattle.meta_verify.proofs.CheckerLemmas.{says_no}
 use Rattle.meta_verify.proofs.statement.read_values.Goals as goal
 
 pub returns-in_default-clause-none : goal.returns-in_default-clause-none
 returns-in_default-clause-none c = λ e vs can.
     refused IsValue value_text value_no_comma c.loop-piece.values.items vs c.in-Some.piece.now c.args.word.now _ _
-    (λ e. other_text _ _ c.if-eq.ensures (e ∙ sym c.as_slice.ensures))
+    (says_no c.is_dash.result _ c.is_dash.ensures c.if-is_dash.false)
     c.loop-piece.invariant.named c.in-Some.ensures.steps c.in_default.ensures.none can
 
 pub returns-clause-found : goal.returns-clause-found

@@ -12,6 +12,7 @@ pub define_all-requires : goal.define_all-requires
 define_all-requires c = record {
   fresh = fresh_there c.self.inside.types c.args.self.now (typed c.in-Parameter.parameter ∷ []) c.self.view_is
       (subst (λ s. first_redefined (definitions c.args.self.now) (defined_by (stated s)) ≡ None) c.in-Parameter.is c.requires.fresh);
+  numbered = All-cons IsTypedNumber c.in-Parameter.parameter [] (subst HasTypeNumbers c.in-Parameter.is c.requires.known) (All-nil IsTypedNumber);
 }
 
 pub define_all-requires-in-Applied : goal.define_all-requires-in-Applied
@@ -19,13 +20,14 @@ define_all-requires-in-Applied c = record {
   fresh = subst (λ rs. first_redefined (environment_of c.self.inside.types) (map typed rs) ≡ None) (sym c.deref.ensures.value)
       (fresh_there c.self.inside.types c.args.self.now (map typed c.in-Applied.application.results.items) c.self.view_is
       (subst (λ s. first_redefined (definitions c.args.self.now) (defined_by (stated s)) ≡ None) c.in-Applied.is c.requires.fresh));
+  numbered = subst (All IsTypedNumber) (sym c.deref.ensures.value) (subst HasTypeNumbers c.in-Applied.is c.requires.known).results;
 }
 
 pub invariant_of-self : goal.invariant_of-self
-invariant_of-self c = c.define_all.ensures.known c.self.invariant (All-cons IsTypedNumber c.in-Parameter.parameter [] (subst HasTypeNumbers c.in-Parameter.is c.requires.known) (All-nil IsTypedNumber))
+invariant_of-self c = c.define_all.ensures.known c.self.invariant
 
 pub invariant_of-self-in-Applied : goal.invariant_of-self-in-Applied
-invariant_of-self-in-Applied c = c.define_all-in-Applied.ensures.known c.self.invariant (subst (All IsTypedNumber) (sym c.deref.ensures.value) (subst HasTypeNumbers c.in-Applied.is c.requires.known).results)
+invariant_of-self-in-Applied c = c.define_all-in-Applied.ensures.known c.self.invariant
 
 pub returns-in-Parameter-clause-defined : goal.returns-in-Parameter-clause-defined
 returns-in-Parameter-clause-defined c =

@@ -1,0 +1,62 @@
+ghost use Rattle.std.specs.Prelude.{◌≡◌, []};
+ghost use Rattle.meta_verify.specs.declared.statement.Application.{Application};
+ghost use Rattle.meta_verify.specs.declared.statement.Statement.TheVariants.{Applied};
+
+use super::statement::{Statement, TypedNumber};
+use std::alloc::Global;
+use std::mem::replace;
+
+/// Lists that a line's are made in, and that serve for all lines, one after another (this project's own).
+#[derive(Drop)]
+pub(crate) struct Lists {
+    /// For the results of a line.
+    pub(crate) results: Vec<TypedNumber>,
+    /// For its values.
+    pub(crate) values: Vec<u32>,
+    /// For the numbers of the types of its results.
+    pub(crate) result_numbers: Vec<u16>,
+    /// For those of its values.
+    pub(crate) value_numbers: Vec<u16>,
+    alloc: Global,
+}
+
+impl Lists {
+    /// Lists of nothing.
+    pub(crate) fn new(alloc: Global) -> Lists
+        ensures results { result.results.items ≡ [] }
+        ensures values { result.values.items ≡ [] }
+    {
+        Lists {
+            results: Vec::new(alloc),
+            values: Vec::new(alloc),
+            result_numbers: Vec::new(alloc),
+            value_numbers: Vec::new(alloc),
+            alloc,
+        }
+    }
+
+    /// Takes the list for results.
+    pub(crate) fn take_results(&mut self) -> Vec<TypedNumber>
+        ensures { result ≡ self.old.results }
+    {
+        replace(&mut self.results, Vec::new(self.alloc))
+    }
+
+    /// Takes the list for values.
+    pub(crate) fn take_values(&mut self) -> Vec<u32>
+        ensures { result ≡ self.old.values }
+    {
+        replace(&mut self.values, Vec::new(self.alloc))
+    }
+
+    /// Takes back those of a statement that isn't needed any more.
+    pub(crate) fn keep(&mut self, statement: Statement<'_>)
+        ensures results { (a : Application) → statement.entry ≡ Applied a → self.new.results ≡ a.results }
+        ensures values { (a : Application) → statement.entry ≡ Applied a → self.new.values ≡ a.values }
+    {
+        if let Statement::Applied(application) = statement {
+            self.results = application.results;
+            self.values = application.values;
+        }
+    }
+}
