@@ -4,8 +4,9 @@
 #   bench/verify.sh
 # The lines are the queries of bench/queries.txt that are accepted, one for each of the 163 instructions, again and again: `accept`
 # asks by types, and `line` names values, which are parameters of these types, and defines new ones. The third size is the longest
-# list that an input has room for. The last part has 50,000 parameters whose numbers are 1 apart, and as many whose numbers share
-# their last four bits. The programs `meta_query_cli` and `meta_verify_cli` are proved and built first where that is still to be done.
+# list that an input has room for. The last part has 50,000 parameters whose numbers are 1 apart, which stand in a list, and as many
+# whose numbers are 32 apart, which stand in an ordered map. The programs `meta_query_cli` and `meta_verify_cli` are proved and built
+# first where that is still to be done.
 # Instructions are counted by `valgrind --tool=callgrind`. The status is 1 where a run fails, or where a line of the longest list takes
 # twice the instructions of a query or more, and 125 where a program couldn't be built or there is no valgrind.
 set -u
@@ -81,7 +82,7 @@ compared 1000000
 status=$?
 
 empty=$(counted "$folder/none" "$verify") || exit 1
-for step in 1 16; do
+for step in 1 32; do
     parameters 50000 "$step" > "$folder/list"
     count=$(counted "$folder/list" "$verify") || exit 1
     awk -v step="$step" -v a="$((count - empty))" 'BEGIN { printf "50000 parameters, %d apart: %.0f instructions a line\n", step, a / 50000 }'
