@@ -1,0 +1,91 @@
+ghost use Rattle.std.specs.Prelude.{◌≡◌, IfOk, None};
+
+use meta_gen::Declarations;
+use meta_inst::{AllInstructions, InstructionBuilder, InstructionGroupBuilder};
+use meta_operands::{FormatId, FormatTable, InstructionFormatBuilder, Operand, OperandKind};
+use meta_shared_ops::define;
+use meta_types::Text;
+use meta_typevar::{TypeVar, TypeVars};
+use rows_declaring::{built, fresh_root, instruction};
+use rows_words::Trouble;
+use std::alloc::{AllocError, Global};
+
+/// The variables of `mix`.
+#[derive(Clone, Copy)]
+struct Variables {
+    /// An integer of 8 to 64 bits, the second control.
+    second: TypeVar,
+    /// Any integer, the control.
+    result: TypeVar,
+}
+
+/// The format of two values.
+fn binary(alloc: Global, formats: &mut FormatTable) -> Result<FormatId, Trouble> {
+    if !formats.has_room() {
+        return Err(Trouble::NoCase);
+    }
+    let name = Text::new(alloc, "Binary")?;
+    let format = InstructionFormatBuilder::new(alloc, name).value().value();
+    Ok(format.build(formats)?)
+}
+
+/// The variables, which are added to the registry.
+fn roots(alloc: Global, vars: &mut TypeVars) -> Result<Variables, Trouble> {
+    let second = built(alloc, &["ints", "8..64"])?;
+    let second = fresh_root(alloc, vars, "P", "", second)?;
+    let result = built(alloc, &["ints", "*"])?;
+    let result = fresh_root(alloc, vars, "Q", "", result)?;
+    Ok(Variables { second, result })
+}
+
+/// An operand of the values of a variable.
+fn operand(alloc: Global, name: &str, tv: TypeVar) -> Result<Operand, AllocError> {
+    let kind = OperandKind::of(alloc, tv)?;
+    Ok(Operand::new(Text::new(alloc, name)?, kind))
+}
+
+/// `a = NAME x, y`, where x and y have the type of the second control, and a that of the control.
+fn mix(
+    alloc: Global,
+    name: &str,
+    format: FormatId,
+    variables: Variables,
+) -> Result<InstructionBuilder, AllocError> {
+    let mut inputs = Vec::new(alloc);
+    inputs.push(operand(alloc, "x", variables.second)?)?;
+    inputs.push(operand(alloc, "y", variables.second)?)?;
+    let mut outputs = Vec::new(alloc);
+    outputs.push(operand(alloc, "a", variables.result)?)?;
+    let builder = instruction(alloc, name, "", format)?;
+    let builder = builder.operands_in(inputs).operands_out(outputs);
+    if builder.has_second_control() {
+        return Ok(builder);
+    }
+    Ok(builder.second_control(variables.second))
+}
+
+/// Declarations of the instructions of these names, each a `mix`.
+fn of_names(alloc: Global, names: &[&str]) -> Result<Declarations, Trouble> {
+    let (mut vars, mut formats) = (TypeVars::new(alloc), FormatTable::new(alloc));
+    let variables = roots(alloc, &mut vars)?;
+    let format = binary(alloc, &mut formats)?;
+    let mut all = AllInstructions::new(alloc);
+    for name in names {
+        let builder = mix(alloc, name, format, variables)?;
+        InstructionGroupBuilder::new(&mut all).push(builder)?;
+    }
+    if !Declarations::fits(&vars, &formats, &all) {
+        return Err(Trouble::NoCase);
+    }
+    Ok(Declarations::new(vars, formats, all, Vec::new(alloc)))
+}
+
+/// The declarations of this name: the shared ones; `mix` alone, which has a second control; or `mix` twice, which are refused.
+pub(crate) fn declarations(alloc: Global, name: &str) -> Result<Declarations, Trouble> {
+    match name {
+        "shared" => Ok(define(alloc)?),
+        "mix" => of_names(alloc, &["mix"]),
+        "twice" => of_names(alloc, &["mix", "mix"]),
+        _ => Err(Trouble::BadLine),
+    }
+}

@@ -1,0 +1,194 @@
+use super::declared::declarations;
+use super::outside::Outside;
+use meta_gen::{Declarations, Tables, generate};
+use meta_types::{DefinitionError, Text};
+use meta_verify::Checker;
+use rows_edits::decoded;
+use rows_words::{Case, Trouble};
+use std::alloc::{AllocError, Global};
+
+/// The rows that are answered: what is declared, with its tables; a checker; the input of the next run, which lines put together; and
+/// how its source and its sink behave.
+///
+/// `over NAME` takes other declarations, and `new` another checker. `add < TEXT`, `repeat COUNT < TEXT` and
+/// `numbers COUNT FIRST STEP < TEXT`, which has `@` where the number stands, add to the input. `run WORDS < TEXT` adds the text too,
+/// and tells how a run ends over the input, of which nothing is left. `source STEP FAIL` and `sink ROOM STEP FAIL` tell how both behave
+/// from there on. `feed < LINE` feeds the checker, and `type V` asks it for a type.
+#[derive(Drop)]
+pub(crate) struct Session {
+    declarations: Declarations,
+    tables: Result<Tables, DefinitionError>,
+    checker: Checker,
+    input: Vec<u8>,
+    outside: Outside,
+}
+
+/// The words of a run, a text each.
+fn run_words(alloc: Global, words: &[&str]) -> Result<Vec<Text>, Trouble> {
+    let mut all = Vec::new(alloc);
+    for word in words {
+        all.push(Text::new(alloc, word)?)?;
+    }
+    Ok(all)
+}
+
+/// Adds bytes so many times.
+fn push_times(out: &mut Vec<u8>, count: u32, bytes: &[u8]) -> Result<(), Trouble> {
+    for _ in 0..count {
+        out.extend_from_slice(bytes)?;
+    }
+    Ok(())
+}
+
+/// Adds, for each of so many numbers, what stands before it, the number, and what stands behind it.
+fn push_numbers(
+    alloc: Global,
+    out: &mut Vec<u8>,
+    numbers: [u64; 3],
+    before: &[u8],
+    behind: &[u8],
+) -> Result<(), Trouble> {
+    let [count, first, step] = numbers;
+    let mut number = first;
+    for _ in 0..count {
+        let text = format!(in alloc; "{number}")?;
+        out.extend_from_slice(before)?;
+        out.extend_from_slice(text.as_bytes())?;
+        out.extend_from_slice(behind)?;
+        number = number.saturating_add(step);
+    }
+    Ok(())
+}
+
+impl Session {
+    /// Nothing is put together, over the shared declarations.
+    pub(crate) fn new(alloc: Global) -> Result<Session, Trouble> {
+        let declarations = declarations(alloc, "shared")?;
+        let tables = generate(alloc, &declarations);
+        Ok(Session {
+            declarations,
+            tables,
+            checker: Checker::new(alloc),
+            input: Vec::new(alloc),
+            outside: Outside::well(),
+        })
+    }
+
+    /// Takes the declarations of this name, and tells how many instructions they have, or how they are refused.
+    fn over(&mut self, alloc: Global, name: &str, case: &mut Case<'_>) -> Result<(), Trouble> {
+        self.declarations = declarations(alloc, name)?;
+        self.tables = generate(alloc, &self.declarations);
+        match &self.tables {
+            Ok(tables) => {
+                case.shown(&tables.opcode_count());
+                case.text(" instructions");
+            }
+            Err(fault) => case.made(fault.line(alloc)),
+        }
+        Ok(())
+    }
+
+    /// Adds to the input what the words ask for, and tells how long it is.
+    fn add(
+        &mut self,
+        alloc: Global,
+        asked: &str,
+        text: &str,
+        case: &mut Case<'_>,
+    ) -> Result<(), Trouble> {
+        match asked {
+            "repeat" => push_times(&mut self.input, case.number(), &decoded(alloc, text)?)?,
+            "numbers" => {
+                let numbers = [case.number(), case.number(), case.number()];
+                let (before, behind) = text.split_once('@').unwrap_or((text, ""));
+                let (before, behind) = (decoded(alloc, before)?, decoded(alloc, behind)?);
+                push_numbers(alloc, &mut self.input, numbers, &before, &behind)?;
+            }
+            _ => push_times(&mut self.input, 1, &decoded(alloc, text)?)?,
+        }
+        case.shown(&self.input.len());
+        case.text(" bytes");
+        Ok(())
+    }
+
+    /// Runs the words over the input and the text.
+    fn run(&mut self, alloc: Global, text: &str, case: &mut Case<'_>) -> Result<(), Trouble> {
+        push_times(&mut self.input, 1, &decoded(alloc, text)?)?;
+        let words = run_words(alloc, case.rest())?;
+        self.outside
+            .run(alloc, &self.declarations, &words, &self.input, case)?;
+        self.input.clear();
+        Ok(())
+    }
+
+    /// Takes how the source behaves.
+    fn set_source(&mut self, case: &mut Case<'_>) {
+        self.outside.source_step = case.number();
+        self.outside.failing_read = case.number();
+    }
+
+    /// Takes how the sink behaves.
+    fn set_sink(&mut self, case: &mut Case<'_>) {
+        self.outside.room = case.number();
+        self.outside.sink_step = case.number();
+        self.outside.failing_write = case.number();
+    }
+
+    /// Feeds a line to the checker, and tells its reason, `-` for none.
+    fn feed(&mut self, alloc: Global, text: &str, case: &mut Case<'_>) -> Result<(), Trouble> {
+        let Ok(tables) = &self.tables else {
+            return Err(Trouble::NoCase);
+        };
+        let line = decoded(alloc, text)?;
+        let mut said = String::new(alloc);
+        match self.checker.feed(tables, &line)? {
+            Some(reason) => reason.push(&mut said)?,
+            None => said.push('-')?,
+        }
+        case.text(said.as_str());
+        Ok(())
+    }
+
+    /// Does what the words of a line ask, which may have a text behind them.
+    fn answer(&mut self, alloc: Global, text: &str, case: &mut Case<'_>) -> Result<(), Trouble> {
+        let asked = case.word();
+        match asked {
+            "over" => {
+                let name = case.word();
+                self.over(alloc, name, case)?;
+            }
+            "new" => self.checker = Checker::new(alloc),
+            "source" => self.set_source(case),
+            "sink" => self.set_sink(case),
+            "run" => self.run(alloc, text, case)?,
+            "feed" => self.feed(alloc, text, case)?,
+            "type" => {
+                let value = case.number();
+                case.number_or_dash(self.checker.type_of(value));
+            }
+            "add" | "repeat" | "numbers" => self.add(alloc, asked, text, case)?,
+            _ => return Err(Trouble::BadLine),
+        }
+        case.end_words();
+        Ok(())
+    }
+
+    /// Adds the answer to a line.
+    pub(crate) fn answer_line(
+        &mut self,
+        alloc: Global,
+        line: &str,
+        answers: &mut String,
+    ) -> Result<(), AllocError> {
+        if line.is_empty() || line.starts_with('#') {
+            answers.push_str(line)?;
+            return answers.push('\n');
+        }
+        let (words, text) = line.split_once(" < ").unwrap_or((line, ""));
+        let mut case = Case::of(alloc, words)?;
+        if let Err(trouble) = self.answer(alloc, text, &mut case) {
+            case.refuse(trouble);
+        }
+        case.end(answers)
+    }
+}
