@@ -56,10 +56,15 @@ abbrev pub names_text : List Command → List ℕ
 names_text [] = []
 names_text (command ∷ commands) = command.name.now ++ flat_map behind_comma commands
 
+-- which commands there are: where there is none, no word is taken
+abbrev pub commands_text : List Command → List ℕ
+commands_text [] = codes "the program takes no words"
+commands_text (command ∷ commands) = codes "the commands are " ++ names_text (command ∷ commands)
+
 -- the line names the wrong word and the commands
 pub record IsUsageLine (commands : List Command) (words : List (List ℕ)) (line : List ℕ) : Type 0 where
   pub misuse : Misuse
   pub is_misuse : IsMisuse commands words misuse
   pub wrong : List ℕ
   pub is_wrong : IsWrong words misuse wrong
-  pub is : line ≡ wrong ++ (codes ": the commands are " ++ (names_text commands ++ codes "; --help says more"))
+  pub is : line ≡ wrong ++ (codes ": " ++ (commands_text commands ++ codes "; --help says more"))

@@ -1,6 +1,6 @@
 ghost use Rattle.std.specs.Prelude.{◌≡◌, ◌↔◌, ◌<◌, ◌≤◌, IfOk, IsTrue, string_bytes};
 ghost use Rattle.meta_main.specs.Misuse.{AreWordsOf};
-ghost use Rattle.meta_main.specs.Usage.{IsPlain, IsShown, IsShownAt, IsWrongBehind, IsWrong, names_text, IsUsageLine};
+ghost use Rattle.meta_main.specs.Usage.{IsPlain, IsShown, IsShownAt, IsWrongBehind, IsWrong, names_text, commands_text, IsUsageLine};
 
 use super::manual::{Command, Manual};
 use super::misuse::Misuse;
@@ -20,6 +20,19 @@ fn names(alloc: Global, commands: &[Command]) -> Result<String, AllocError>
         }
     }
     Ok(names)
+}
+
+/// Which commands there are: where there is none, no word is taken.
+fn commands_text(alloc: Global, commands: &[Command]) -> Result<String, AllocError>
+    ensures { IfOk result (λ text. string_bytes text ≡ commands_text commands.now) }
+{
+    match commands {
+        [] => String::from_str(alloc, "the program takes no words"),
+        _ => {
+            let names = names(alloc, commands)?;
+            format!(in alloc; "the commands are {names}")
+        }
+    }
 }
 
 /// Whether the byte is a letter, a digit, a mark or a space of ASCII.
@@ -101,6 +114,6 @@ pub fn usage_line(alloc: Global, manual: &Manual, words: &[Text]) -> Result<Stri
         return String::from_str(alloc, "no command");
     };
     let wrong = wrong(alloc, words, misuse)?;
-    let names = names(alloc, manual.commands)?;
-    format!(in alloc; "{wrong}: the commands are {names}; --help says more")
+    let commands = commands_text(alloc, manual.commands)?;
+    format!(in alloc; "{wrong}: {commands}; --help says more")
 }
