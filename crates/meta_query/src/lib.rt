@@ -15,7 +15,7 @@ mod running;
 mod synthesis;
 
 pub use command::Command;
-pub use command_list::COMMANDS;
+pub use command_list::{COMMANDS, listed_commands};
 pub use laws::{one_command, one_cut, one_output_of_a_command};
 pub use meta_answers::{
     Inference, Lines, Query, Question, Reply, answer_line, asks_one_query, asks_one_question,

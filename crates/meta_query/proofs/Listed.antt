@@ -1,0 +1,113 @@
+-- The entries of a manual that list the commands of `run`, and which commands their words are.
+use Rattle.std.proofs.Common.{◌≡◌, ◌∙◌, ◌<◌, ◌^◌, ◌⊎◌, inl, inr, ℕ, zero, suc, List, [], ◌∷◌, length, refl, sym, ap, ap₂, subst, arith}
+use Rattle.std.proofs.lemmas.List.{nil_from_length}
+use Rattle.std.specs.Prelude.{codes, slice_get, Option, Some, None}
+use Rattle.std.specs.Fmt.{decimal}
+use Rattle.meta_query.specs.Command.{name_of, words_behind, HasNumber, IsCommand}
+use Rattle.meta_main.specs.Misuse.{AreWordsOf as AreListed, IsNumberIn, AreNumbersIn, AreNumbersTo}
+use Rattle.meta_main.specs.declared.manual.Range.{Range}
+use Rattle.meta_main.specs.declared.manual.Command.{Command as Entry}
+use Rattle.meta_query.specs.declared.command.Command.{Command}
+use Rattle.meta_query.specs.declared.command.Command.TheVariants.{Query, Recheck, Tables, Types, Settings, Instructions, Builder, Synth}
+
+-- what two filled options hold
+abbrev inner : {A : Type 0} → A → Option A → A
+inner d None = d
+inner d (Some x) = x
+
+some_same : {A : Type 0} (a b : A) → Some a ≡ Some b → a ≡ b
+some_same a b e = ap (inner a) e
+
+-- the numbers of 32 bits
+abbrev pub range : Range
+range = record { least = 0; most = 4294967295 }
+
+-- ---- the numbers behind a name
+
+no_numbers : AreNumbersIn [] []
+no_numbers = record { count = refl; numbers = λ k r word less at word_at. absurd (omega (arith, less)) }
+
+one_place : (n : ℕ) → n < 2 ^ 32 → AreNumbersTo 1 (range ∷ []) (decimal n ∷ [])
+one_place n few zero r word less at word_at =
+    let number : IsNumberIn range (decimal n) = record { number = n; written = refl; least = omega arith; most = omega (arith, few) } in
+    subst (λ w. IsNumberIn r w) (some_same (decimal n) word word_at) (subst (λ x. IsNumberIn x (decimal n)) (some_same range r at) number)
+one_place n few (suc k) r word less at word_at = absurd (omega (arith, less))
+
+one_number : (n : ℕ) → n < 2 ^ 32 → AreNumbersIn (range ∷ []) (decimal n ∷ [])
+one_number n few = record { count = refl; numbers = one_place n few }
+
+-- what stands behind a name with one number
+number_behind : (behind : List (List ℕ)) → AreNumbersIn (range ∷ []) behind → (n : ℕ) × (n < 2 ^ 32) × (behind ≡ decimal n ∷ [])
+number_behind [] h = absurd (omega (arith, h.count))
+number_behind (word ∷ []) h =
+    let it = h.numbers 0 range word (omega arith) refl refl in
+    (it.number, omega (arith, it.most), ap (λ w. w ∷ []) it.written)
+number_behind (word ∷ other ∷ words) h = absurd (omega (arith, h.count))
+
+-- ---- an entry of each command
+
+-- the ranges of the entry of a command
+abbrev pub ranges_of : Command → List Range
+ranges_of Query = []
+ranges_of Recheck = []
+ranges_of Tables = []
+ranges_of Types = []
+ranges_of Settings = []
+ranges_of Instructions = []
+ranges_of Builder = []
+ranges_of (Synth n) = range ∷ []
+
+numbers_of : (c : Command) → HasNumber c → AreNumbersIn (ranges_of c) (words_behind c)
+numbers_of Query h = no_numbers
+numbers_of Recheck h = no_numbers
+numbers_of Tables h = no_numbers
+numbers_of Types h = no_numbers
+numbers_of Settings h = no_numbers
+numbers_of Instructions h = no_numbers
+numbers_of Builder h = no_numbers
+numbers_of (Synth n) h = one_number n h
+
+-- the entries have one of the command
+pub record HaveEntry (entries : List Entry) (c : Command) : Type 0 where
+  pub place : ℕ
+  pub entry : Entry
+  pub at : slice_get entries place ≡ Some entry
+  pub name : entry.name.now ≡ name_of c
+  pub numbers : entry.numbers.now ≡ ranges_of c
+
+pub listed : (entries : List Entry) → ((c : Command) → HaveEntry entries c) → (words : List (List ℕ)) → IsCommand words → AreListed entries words
+listed entries have words h =
+    let it = have h.0 in
+    record {
+      command = it.entry;
+      behind = words_behind h.0;
+      are = h.1.are ∙ ap (λ n. n ∷ words_behind h.0) (sym it.name);
+      named = record { place = it.place; at = it.at; name_is = refl };
+      numbers = subst (λ r. AreNumbersIn r (words_behind h.0)) (sym it.numbers) (numbers_of h.0 h.1.number);
+    }
+
+-- ---- a command of each entry
+
+-- the entry is that of a command without a number, or of `synth`
+abbrev pub IsEntry : Entry → Type 0
+IsEntry entry = ((c : Command) × HasNumber c × (words_behind c ≡ []) × (entry.name.now ≡ name_of c) × (entry.numbers.now ≡ [])) ⊎ ((entry.name.now ≡ codes "synth") × (entry.numbers.now ≡ range ∷ []))
+
+abbrev pub AreEntries : List Entry → Type 0
+AreEntries [] = Unit
+AreEntries (entry ∷ entries) = IsEntry entry × AreEntries entries
+
+entry_at : (entries : List Entry) → AreEntries entries → (k : ℕ) (entry : Entry) → slice_get entries k ≡ Some entry → IsEntry entry
+entry_at [] all k entry e = absurd (cc)
+entry_at (x ∷ entries) all zero entry e = subst IsEntry (some_same x entry e) all.0
+entry_at (x ∷ entries) all (suc k) entry e = entry_at entries all.1 k entry e
+
+of_entry : (entries : List Entry) (words : List (List ℕ)) (h : AreListed entries words) → IsEntry h.command → IsCommand words
+of_entry entries words h (inl (c, number, none, name, no_ranges)) =
+    let behind : h.behind ≡ words_behind c = nil_from_length h.behind (h.numbers.count ∙ ap length no_ranges) ∙ sym none in
+    (c, record { number = number; are = h.are ∙ ap₂ (λ n b. n ∷ b) name behind })
+of_entry entries words h (inr (name, one)) =
+    let it = number_behind h.behind (subst (λ r. AreNumbersIn r h.behind) one h.numbers) in
+    (Synth it.0, record { number = it.1; are = h.are ∙ ap₂ (λ n b. n ∷ b) name it.2 })
+
+pub commanded : (entries : List Entry) → AreEntries entries → (words : List (List ℕ)) → AreListed entries words → IsCommand words
+commanded entries all words h = of_entry entries words h (entry_at entries all h.named.place h.command h.named.at)
