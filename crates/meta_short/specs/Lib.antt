@@ -1,0 +1,5 @@
+pub mod Short
+pub mod Parts
+pub mod Manners
+pub mod Reading
+pub mod Written

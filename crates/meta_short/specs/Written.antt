@@ -1,0 +1,21 @@
+-- What the code writes of a statement.
+--     manner_in m                     how the lines of an opcode are written, as the program holds it
+--     AddsShort tables s before after     the short form of what is stated was added to a text
+use Rattle.std.specs.Prelude.{◌≡◌, ℕ, List, ◌++◌, map}
+use Rattle.meta_meaning.specs.Tables.{TableContents}
+use Rattle.meta_opcode_tables.specs.Constraint.{number_constraint_of}
+use Rattle.meta_verify.specs.Statement.{Statement}
+use Rattle.meta_short.specs.Short.{Manner, short_text}
+use Rattle.meta_short.specs.Manners.{is_open, IsMannerIn}
+use Rattle.meta_short.specs.Reading.{HasManner}
+use Rattle.meta_short.specs.declared.manner.Manner.{Manner as HeldManner}
+
+-- what is left out, where the results have these constraints
+abbrev pub manner_in : HeldManner → Manner
+manner_in m = record { leaves_out = m.leaves_out; opened = map is_open (map number_constraint_of m.results.now) }
+
+-- the text was what it is before, and what is stated stands behind it, with the types left out that its manner by the tables leaves out
+pub record AddsShort (tables : TableContents) (s : Statement) (before after : List ℕ) : Type 0 where
+  pub manner : Manner
+  pub has_manner : HasManner (IsMannerIn tables) s manner
+  pub is : after ≡ before ++ short_text manner s

@@ -1,0 +1,14 @@
+//! Typed lines with the types left out that follow from what is written, as `v1 = iadd v0, v0`.
+//!
+//! `print_line` writes the short form of a line. For one environment a text reads as one line at most, by the tables and as the
+//! declarations mean (`one_line_reads`).
+#![tactic(auto)]
+
+mod laws;
+mod manner;
+mod print;
+mod push;
+
+pub use laws::{one_line_reads, one_short_form, short_forms_mean};
+pub use manner::{Manner, value_constraints};
+pub use print::{print_line, push_line, push_short};

@@ -1,0 +1,108 @@
+ghost use Rattle.std.specs.Prelude.{◌≡◌, ◌≢◌, ◌↔◌, ◌+◌, ℕ, List, map, take, drop, get_or, false, IsSome, IfSome, IfNone, Some};
+ghost use Rattle.meta_meaning.specs.Tables.{OpcodeNumbers, at_opcode};
+ghost use Rattle.meta_opcode_tables.specs.Constraint.{number_constraint_of, entry_of};
+ghost use Rattle.meta_opcode_tables.specs.Contents.{IsOpcode};
+ghost use Rattle.meta_short.specs.Manners.{is_open, is_control, manner_of, value_constraints, result_constraints};
+ghost use Rattle.meta_short.specs.Written.{manner_in};
+
+use meta_gen::{Constraint, NO_TYPE_SET, OpcodeConstraints, Tables};
+use meta_types::Text;
+
+/// Whether a result under this constraint is written with its type: the constraint leaves several.
+fn is_open(constraint: Constraint) -> bool
+    ensures { result ≡ is_open (number_constraint_of constraint) }
+{
+    matches!(
+        constraint,
+        Constraint::Free(_)
+            | Constraint::Narrower
+            | Constraint::Wider
+            | Constraint::Narrower2
+            | Constraint::Wider2
+    )
+}
+
+/// Whether a value under this constraint has the controlling type.
+fn is_control(constraint: Constraint) -> bool
+    ensures { result ≡ is_control (number_constraint_of constraint) }
+{
+    matches!(constraint, Constraint::Same)
+}
+
+/// So many of the constraints, or those that there are, from this place on.
+fn part(constraints: &[Constraint], place: usize, count: usize) -> &[Constraint]
+    ensures { result.now ≡ take count (drop place constraints.now) }
+{
+    let behind = &constraints[constraints.len().min(place)..];
+    &behind[..behind.len().min(count)]
+}
+
+/// The constraints of the results of an entry.
+fn result_constraints(tables: &Tables, entry: OpcodeConstraints) -> &[Constraint]
+    ensures { map number_constraint_of result.now ≡ result_constraints tables.now.opcodes (entry_of entry) }
+{
+    let place = usize::from(entry.constraint_offset);
+    part(tables.operand_constraints(), place, entry.result_count())
+}
+
+/// The constraints of the values of an entry (this project's own).
+pub fn value_constraints(tables: &Tables, entry: OpcodeConstraints) -> &[Constraint]
+    ensures { map number_constraint_of result.now ≡ value_constraints tables.now.opcodes (entry_of entry) }
+{
+    let place = usize::from(entry.constraint_offset) + entry.result_count();
+    part(tables.operand_constraints(), place, entry.value_count())
+}
+
+/// Whether some value has the controlling type.
+fn has_control(constraints: &[Constraint]) -> bool
+    ensures { result ≡ list_any is_control (map number_constraint_of constraints.now) }
+{
+    constraints.iter().any(|c| is_control(*c))
+}
+
+/// Whether the control of an entry is left out where it stands alone.
+fn leaves_out(tables: &Tables, entry: OpcodeConstraints) -> bool
+    ensures { result ≡ (manner_of tables.now.opcodes (entry_of entry)).leaves_out }
+{
+    entry.designated_controls()
+        && entry.second_offset == NO_TYPE_SET
+        && has_control(value_constraints(tables, entry))
+}
+
+/// How the lines of an opcode are written: its name, and which types are left out (this project's own).
+#[derive(Clone, Copy)]
+pub struct Manner<'t> {
+    /// The name of the opcode.
+    pub name: &'t Text,
+    /// Whether the controlling type is left out where it stands alone: it is the type of a value.
+    pub leaves_out: bool,
+    /// The constraints of the results, which say whether a result is written with its type.
+    pub results: &'t [Constraint],
+}
+
+impl<'t> Manner<'t> {
+    /// How the lines of an opcode are written, and `None` exactly where it isn't 1 to `opcode_count`.
+    pub fn of(tables: &'t Tables, opcode: u16) -> Option<Manner<'t>>
+        ensures opcode { IsSome result ↔ IsOpcode tables.now.opcodes opcode }
+        ensures name { IfSome result (λ m. at_opcode tables.now.opcodes.names opcode ≡ Some m.name.now) }
+        ensures manner { IfSome result (λ m. (entry : OpcodeNumbers) → at_opcode tables.now.opcodes.entries opcode ≡ Some entry → manner_in m ≡ manner_of tables.now.opcodes entry) }
+    {
+        let entry = tables.constraints(opcode)?;
+        let name = tables.opcode_name(opcode)?;
+        Some(Manner {
+            name,
+            leaves_out: leaves_out(tables, entry),
+            results: result_constraints(tables, entry),
+        })
+    }
+
+    /// Whether the result at this place, from 0, is written with its type.
+    pub fn is_opened(&self, place: usize) -> bool
+        ensures { result ≡ get_or (manner_in self.now).opened place false }
+    {
+        match self.results.get(place) {
+            Some(constraint) => is_open(*constraint),
+            None => false,
+        }
+    }
+}

@@ -1,0 +1,127 @@
+ghost use Rattle.std.specs.Prelude.{◌≡◌, ◌++◌, map, IfSome, OnOk, All, string_bytes, Bool};
+ghost use Rattle.std.specs.Option.{option_map};
+ghost use Rattle.meta_types.specs.TypeParts.{name_of};
+ghost use Rattle.meta_types.specs.TypeNumber.{type_with, IsTypeNumber};
+ghost use Rattle.meta_verify.specs.Statement.{value_text};
+ghost use Rattle.meta_verify.specs.Numbers.{typed, applied, IsTypedNumber, HasNumbers};
+ghost use Rattle.meta_short.specs.Short.{shortened, short_results, short_result_text, joined, behind, control_written, values_written, results_part, parameter_text, short_application};
+ghost use Rattle.meta_short.specs.Written.{manner_in};
+
+use super::manner::Manner;
+use meta_types::ValueType;
+use meta_verify::{Application, TypedNumber};
+use std::alloc::AllocError;
+
+/// Adds the name of the type that has the number.
+fn push_type(number: u16, out: &mut String) -> Result<(), AllocError>
+    requires { IsTypeNumber number }
+    ensures { OnOk result (string_bytes out.new ≡ string_bytes out.old ++ name_of (type_with number)) }
+{
+    match ValueType::from_number(number) {
+        Some(t) => write!(out, "{t}"),
+        None => Ok(()),
+    }
+}
+
+/// Adds a result, with its type where that is written: `v1`, or `v1:i32`.
+fn push_result(r: TypedNumber, is_opened: bool, out: &mut String) -> Result<(), AllocError>
+    requires { IsTypedNumber r }
+    ensures { OnOk result (string_bytes out.new ≡ string_bytes out.old ++ short_result_text (shortened is_opened (typed r))) }
+{
+    write!(out, "v{}", r.value)?;
+    if is_opened {
+        out.push_str(":")?;
+        push_type(r.number, out)?;
+    }
+    Ok(())
+}
+
+/// Adds what stands before the name: the results and ` = `, or nothing.
+fn push_results(
+    manner: &Manner<'_>,
+    results: &[TypedNumber],
+    out: &mut String,
+) -> Result<(), AllocError>
+    requires { All IsTypedNumber results.now }
+    ensures { OnOk result (string_bytes out.new ≡ string_bytes out.old ++ results_part (map short_result_text (short_results (manner_in manner.now).opened (map typed results.now)))) }
+{
+    for k in 0..results.len() {
+        if k > 0 {
+            out.push_str(", ")?;
+        }
+        push_result(results[k], manner.is_opened(k), out)?;
+    }
+    if results.is_empty() {
+        return Ok(());
+    }
+    out.push_str(" = ")
+}
+
+/// Adds what stands behind the name for the controlling types: `.i32`, `.i32/i64`, or nothing.
+fn push_control(
+    leaves_out: bool,
+    control: Option<u16>,
+    second: Option<u16>,
+    out: &mut String,
+) -> Result<(), AllocError>
+    requires control { IfSome control IsTypeNumber }
+    requires second { IfSome second IsTypeNumber }
+    ensures { OnOk result (string_bytes out.new ≡ string_bytes out.old ++ behind 46 (control_written leaves_out (option_map type_with control) (option_map type_with second))) }
+{
+    let Some(first) = control else {
+        return Ok(());
+    };
+    if leaves_out && second.is_none() {
+        return Ok(());
+    }
+    out.push_str(".")?;
+    push_type(first, out)?;
+    match second {
+        Some(number) => {
+            out.push_str("/")?;
+            push_type(number, out)
+        }
+        None => Ok(()),
+    }
+}
+
+/// Adds what stands behind that for the values: ` v0, v1`, or nothing.
+fn push_values(values: &[u32], out: &mut String) -> Result<(), AllocError>
+    ensures { OnOk result (string_bytes out.new ≡ string_bytes out.old ++ behind 32 (values_written (map value_text values.now))) }
+{
+    for k in 0..values.len() {
+        out.push_str(if k == 0 { " " } else { ", " })?;
+        write!(out, "v{}", values[k])?;
+    }
+    Ok(())
+}
+
+/// Adds the line of an application in this manner.
+pub(crate) fn push_application(
+    manner: &Manner<'_>,
+    application: &Application<'_>,
+    out: &mut String,
+) -> Result<(), AllocError>
+    requires named { manner.now.name.now ≡ application.now.name.now }
+    requires known { HasNumbers application.now }
+    ensures { OnOk result (string_bytes out.new ≡ string_bytes out.old ++ short_application (manner_in manner.now) (applied application.now)) }
+{
+    push_results(manner, &application.results, out)?;
+    out.push_str(manner.name.as_str())?;
+    push_control(
+        manner.leaves_out,
+        application.control,
+        application.second,
+        out,
+    )?;
+    push_values(&application.values, out)
+}
+
+/// Adds the line of a parameter.
+pub(crate) fn push_parameter(parameter: TypedNumber, out: &mut String) -> Result<(), AllocError>
+    requires { IsTypedNumber parameter }
+    ensures { OnOk result (string_bytes out.new ≡ string_bytes out.old ++ parameter_text (typed parameter)) }
+{
+    write!(out, "param v{} ", parameter.value)?;
+    push_type(parameter.number, out)
+}
