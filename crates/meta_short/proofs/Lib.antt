@@ -1,0 +1,6 @@
+pub mod SplitLemmas
+pub mod ShortLemmas
+pub mod Determined
+pub mod OneLine
+pub mod MannersMean
+pub mod Meaning
