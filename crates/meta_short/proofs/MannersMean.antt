@@ -127,10 +127,10 @@ one_manner_of : (sets : Sets) (i : Instruction) (control : Option Variable) (m n
 one_manner_of sets i control m n h k =
     let left = both_ways m.leaves_out n.leaves_out h.leaves_out k.leaves_out in
     let marks = same_places m.opened n.opened (h.count ∙ sym k.count) (λ j l.
-        let (o, at) = get_there m.opened j l in
-        let (w, there) = get_beside m.opened i.results j o h.count at in
-        let (p, also) = get_beside m.opened n.opened j o (h.count ∙ sym k.count) at in
-        at ∙ ap (λ x. Some x) (both_ways o p (h.opened j w o there at) (k.opened j w p there also)) ∙ sym also) in
+    let (o, at) = get_there m.opened j l in
+    let (w, there) = get_beside m.opened i.results j o h.count at in
+    let (p, also) = get_beside m.opened n.opened j o (h.count ∙ sym k.count) at in
+    at ∙ ap (λ x. Some x) (both_ways o p (h.opened j w o there at) (k.opened j w p there also)) ∙ sym also) in
     λ z. record { leaves_out = left z; opened = marks z }
 
 module _ (sets : Sets) (i : Instruction) (control : Option Variable) (tables : TableContents) (entry : OpcodeNumbers) (controlled : IsControl sets i control) (good : HasBadSecond sets i → ⊥) (is : AreOpcodeNumbersOf sets i control tables entry) where
@@ -146,13 +146,12 @@ module _ (sets : Sets) (i : Instruction) (control : Option Variable) (tables : T
   open_is k w (Free s) y l op h stands = absurd (never_free sets i control k w s controlled l op h)
   open_is k w (Same a) y l op h stands =
       (λ o. (let no : false ≡ true = sym (ap is_open stands) ∙ o in absurd (cc)), λ ends. absurd (control_ends a w h.controls_is ends))
-  open_is k w (By a f) y l op h stands =
-      (
-        λ o. record { before = h.variable.chain; last = f; chain = h.derived.chain; relation = relation_is f (sym (ap is_open stands) ∙ o) },
-        λ ends.
-          let last : ends.last ≡ f = same_last ends.before h.variable.chain ends.last f (sym ends.chain ∙ h.derived.chain) in
-          ap is_open stands ∙ is_a_relation f (subst (λ g. (g ≡ Narrower) ⊎ (g ≡ Wider)) last ends.relation),
-      )
+  open_is k w (By a f) y l op h stands = (
+    λ o. record { before = h.variable.chain; last = f; chain = h.derived.chain; relation = relation_is f (sym (ap is_open stands) ∙ o) },
+    λ ends.
+        let last : ends.last ≡ f = same_last ends.before h.variable.chain ends.last f (sym ends.chain ∙ h.derived.chain) in
+        ap is_open stands ∙ is_a_relation f (subst (λ g. (g ≡ Narrower) ⊎ (g ≡ Wider)) last ends.relation),
+  )
 
   results_counted : length i.results ≡ result_count entry.flags
   results_counted = sym is.flags.results
@@ -166,10 +165,10 @@ module _ (sets : Sets) (i : Instruction) (control : Option Variable) (tables : T
   count_is : length (map is_open (result_constraints tables entry)) ≡ length i.results
   count_is =
       let there : length i.results ≤ length (drop entry.constraint_offset tables.operand_constraints) = enough (drop entry.constraint_offset tables.operand_constraints) (length i.results) (λ k l.
-          let (w, at) = get_there i.results k l in
-          let c = is.constraints k w (get_stays i.results i.values k w at) in
-          (c.number_constraint, get_drop tables.operand_constraints entry.constraint_offset k ∙ c.placed)) in
-      length-map is_open (result_constraints tables entry) ∙ length-take-le (result_count entry.flags) (drop entry.constraint_offset tables.operand_constraints) (let e = results_counted in omega (arith, there, e)) ∙ sym results_counted
+      let (w, at) = get_there i.results k l in
+      let c = is.constraints k w (get_stays i.results i.values k w at) in
+      (c.number_constraint, get_drop tables.operand_constraints entry.constraint_offset k ∙ c.placed)) in
+      length-map (result_constraints tables entry) is_open ∙ length-take-le (result_count entry.flags) (drop entry.constraint_offset tables.operand_constraints) (let e = results_counted in omega (arith, there, e)) ∙ sym results_counted
 
   opened_is : (k : ℕ) (w : Variable) (o : Bool) → slice_get i.results k ≡ Some w → slice_get (map is_open (result_constraints tables entry)) k ≡ Some o → (IsTrue o ↔ EndsInRelation w)
   opened_is k w o at mark =
@@ -204,18 +203,18 @@ module _ (sets : Sets) (i : Instruction) (control : Option Variable) (tables : T
 
   -- the designated operand has the controlling type, where its set hasn't one
   designated_first : (v : Variable) (x : Constraint) → i.second ≡ None → control ≡ Some v → (ControlHasOne sets control → ⊥) → IsConstraint sets (controls_of i control) v x → x ≡ Same First
-  designated_first v (Concrete t) none e open h =
-      absurd (open (v, e, one_from_fixed (sets v.root) t (subst (λ ch. IsFixed (sets v.root) ch t) (control_underived sets i control v controlled e) h)))
-  designated_first v (Free s) none e open h = absurd (h.other First e)
-  designated_first v (Same First) none e open h = refl
-  designated_first v (Same Second) none e open h = let no : None ≡ Some v = sym none ∙ h.controls_is in absurd (cc)
-  designated_first v (By a f) none e open h = absurd (not_empty h.variable.chain f (sym h.derived.chain ∙ control_underived sets i control v controlled e))
+  designated_first v (Concrete t) none e many h =
+      absurd (many (v, e, one_from_fixed (sets v.root) t (subst (λ ch. IsFixed (sets v.root) ch t) (control_underived sets i control v controlled e) h)))
+  designated_first v (Free s) none e many h = absurd (h.other First e)
+  designated_first v (Same First) none e many h = refl
+  designated_first v (Same Second) none e many h = let no : None ≡ Some v = sym none ∙ h.controls_is in absurd (cc)
+  designated_first v (By a f) none e many h = absurd (not_empty h.variable.chain f (sym h.derived.chain ∙ control_underived sets i control v controlled e))
 
   any_control : (v : Variable) → i.second ≡ None → control ≡ Some v → IsDesignated i v → (ControlHasOne sets control → ⊥) → list_any is_control (value_constraints tables entry) ≡ true
-  any_control v none e d open =
+  any_control v none e d many =
       let c = is.constraints (length i.results + d.place) v (get_right i.results i.values d.place ∙ d.is_value) in
       let l = slice_get_within i.values d.place v d.is_value in
-      let first = designated_first v c.constraint none e open c.is_constraint in
+      let first = designated_first v c.constraint none e many c.is_constraint in
       let stands : c.number_constraint ≡ SameNumber First = subst (λ x. StandsFor tables x c.number_constraint) first c.stands in
       let there = value_there d.place v c l in
       list_any_at is_control (value_constraints tables entry) d.place c.number_constraint (slice_get_within (value_constraints tables entry) d.place c.number_constraint there)
@@ -225,16 +224,17 @@ module _ (sets : Sets) (i : Instruction) (control : Option Variable) (tables : T
   left_forth out =
       let parts = and_parts (entry.flags / 8 % 2 == 1) _ out in
       let more = and_parts (entry.second_offset == no_type_set) _ parts.1 in
-      let any = any_there is_control (value_constraints tables entry) more.1 in
-      (second_none sets tables i.second entry.second_offset is.second_set (eqb-true entry.second_offset no_type_set more.0),
-      is.flags.designated.0 (eqb-true (entry.flags / 8 % 2) 1 parts.0),
-      several any.place any.element any.there (control_is any.element any.passes))
+      let any = any_there is_control (value_constraints tables entry) more.1 in (
+        second_none sets tables i.second entry.second_offset is.second_set (eqb-true entry.second_offset no_type_set more.0),
+        is.flags.designated.0 (eqb-true (entry.flags / 8 % 2) 1 parts.0),
+        several any.place any.element any.there (control_is any.element any.passes),
+      )
 
   left_back : (i.second ≡ None) × DesignatedControls i control × (ControlHasOne sets control → ⊥) → IsTrue (manner_of tables entry).leaves_out
-  left_back (none, controls, open) =
+  left_back (none, controls, many) =
       let (v, e, d) = controls in
       ap₂ ◌&&◌ (eq-eqb (entry.flags / 8 % 2) 1 (is.flags.designated.1 controls))
-      (ap₂ ◌&&◌ (eq-eqb entry.second_offset no_type_set (none_second sets tables i.second entry.second_offset is.second_set none)) (any_control v none e d open))
+      (ap₂ ◌&&◌ (eq-eqb entry.second_offset no_type_set (none_second sets tables i.second entry.second_offset is.second_set none)) (any_control v none e d many))
 
   -- the manner by tables is that of the instruction
   pub manner_is : IsMannerOf sets i control (manner_of tables entry)
@@ -265,10 +265,10 @@ module _ (d : InstructionSet) (tables : TableContents) (made : AreMade d tables)
   first_named k b name at is = record {
     holds = opcode_named d tables made.tables_of k b at ∙ ap (λ n. Some n) is;
     none_before = λ j l e.
-      let (p, c, number, there, named) = opcode_is d tables made.tables_of j name e in
-      let same : p ≡ k = different_names d made.valid p k name
-      (get_map (λ (x : Builder). x.name) d.instructions p c there ∙ ap (λ n. Some n) named) (get_map (λ (x : Builder). x.name) d.instructions k b at ∙ ap (λ n. Some n) is) in
-      omega (arith, l, number, same);
+        let (p, c, number, there, named) = opcode_is d tables made.tables_of j name e in
+        let same : p ≡ k = different_names d made.valid p k name
+        (get_map (λ (x : Builder). x.name) d.instructions p c there ∙ ap (λ n. Some n) named) (get_map (λ (x : Builder). x.name) d.instructions k b at ∙ ap (λ n. Some n) is) in
+        omega (arith, l, number, same);
   }
 
   pub manner_back : (name : List ℕ) (m : Manner) → IsMannerDeclared d name m → IsMannerIn tables name m

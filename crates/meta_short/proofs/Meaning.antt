@@ -85,11 +85,11 @@ module _ (d : InstructionSet) (tables : TableContents) (made : AreMade d tables)
     -- an instruction that accepts has the name
     has_declared : (s : Statement) → IsAccepted (AcceptedReply d) env s → LacksName (AcceptedReply d) s → ⊥
     has_declared (OfParameter r) h l = l
-    has_declared (OfApplication a) (types, have, b, asked, accepts) l = l asked.place b asked.at asked.named
+    has_declared (OfApplication a) (types, have, h) l = (let (b, asked, accepts) = h in l asked.place b asked.at asked.named)
 
     has_opcode : (s : Statement) → IsAccepted (AllowedReply tables) env s → LacksName (AllowedReply tables) s → ⊥
     has_opcode (OfParameter r) h l = l
-    has_opcode (OfApplication a) (types, have, op, is, allows) l = l op is.holds
+    has_opcode (OfApplication a) (types, have, h) l = (let (op, is, allows) = h in l op is.holds)
 
     faultless_forth : (s : Statement) → CanBeStated s → IsFaultless (AllowedReply tables) env s → IsFaultless (AcceptedReply d) env s
     faultless_forth s can h =

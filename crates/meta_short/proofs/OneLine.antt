@@ -52,8 +52,8 @@ is_plain_name name h =
     let bytes = all_name_bytes name h in
     record {
       space = All-weaker IsNameByte (λ b. b ≢ 32) (λ b is. (plain_byte b is).0) name bytes;
-      point = All-weaker IsNameByte (λ b. b ≢ 46) (λ b is. (plain_byte b is).1.0) name bytes;
-      equals = All-weaker IsNameByte (λ b. b ≢ 61) (λ b is. (plain_byte b is).1.1) name bytes;
+      point = All-weaker IsNameByte (λ b. b ≢ 46) (λ b is. (plain_byte b is).1) name bytes;
+      equals = All-weaker IsNameByte (λ b. b ≢ 61) (λ b is. (plain_byte b is).2) name bytes;
     }
 
 all_at : (names : List (List ℕ)) (k : ℕ) (name : List ℕ) → All IsName names → slice_get names k ≡ Some name → IsName name
@@ -161,11 +161,12 @@ module _ (tables : TableContents) (op : ℕ) (entry : OpcodeNumbers) (at : at_op
 param_lacks : (r : TypedValue) → IsTyped r → Lacks 61 (parameter_text r)
 param_lacks r h =
     All-append (λ b. b ≢ 61) (codes "param ") (value_text r.value ++ 32 ∷ name_of r.type)
-    (All-cons (λ b. b ≢ 61) 112 _ (omega arith) (All-cons (λ b. b ≢ 61) 97 _ (omega arith) (All-cons (λ b. b ≢ 61) 114 _ (omega arith) (All-cons (λ b. b ≢ 61) 97 _ (omega arith) (All-cons (λ b. b ≢ 61) 109 _ (omega arith) (All-cons (λ b. b ≢ 61) 32 [] (omega arith) (All-nil (λ b. b ≢ 61))))))))
+    (All-cons (λ b. b ≢ 61) 112 (97 ∷ 114 ∷ 97 ∷ 109 ∷ 32 ∷ []) (omega arith) (All-cons (λ b. b ≢ 61) 97 (114 ∷ 97 ∷ 109 ∷ 32 ∷ []) (omega arith) (All-cons (λ b. b ≢ 61) 114 (97 ∷ 109 ∷ 32 ∷ []) (omega arith) (All-cons (λ b. b ≢ 61) 97 (109 ∷ 32 ∷ []) (omega arith) (All-cons (λ b. b ≢ 61) 109 (32 ∷ []) (omega arith) (All-cons (λ b. b ≢ 61) 32 [] (omega arith) (All-nil (λ b. b ≢ 61))))))))
     (All-append (λ b. b ≢ 61) (value_text r.value) (32 ∷ name_of r.type) (value_lacks 61 r.value equals h.value) (All-cons (λ b. b ≢ 61) 32 (name_of r.type) (omega arith) (type_lacks 61 r.type equals h.is_type)))
 
 word_lacks : Lacks 32 (codes "param")
-word_lacks = All-cons (λ b. b ≢ 32) 112 _ (omega arith) (All-cons (λ b. b ≢ 32) 97 _ (omega arith) (All-cons (λ b. b ≢ 32) 114 _ (omega arith) (All-cons (λ b. b ≢ 32) 97 _ (omega arith) (All-cons (λ b. b ≢ 32) 109 [] (omega arith) (All-nil (λ b. b ≢ 32))))))
+word_lacks =
+    All-cons (λ b. b ≢ 32) 112 (97 ∷ 114 ∷ 97 ∷ 109 ∷ []) (omega arith) (All-cons (λ b. b ≢ 32) 97 (114 ∷ 97 ∷ 109 ∷ []) (omega arith) (All-cons (λ b. b ≢ 32) 114 (97 ∷ 109 ∷ []) (omega arith) (All-cons (λ b. b ≢ 32) 97 (109 ∷ []) (omega arith) (All-cons (λ b. b ≢ 32) 109 [] (omega arith) (All-nil (λ b. b ≢ 32))))))
 
 -- what stands behind `param` is no list of values
 no_values : (r : TypedValue) (vs : List ℕ) → IsTyped r → All IsValue vs → Some (value_text r.value ++ 32 ∷ name_of r.type) ≡ values_written (map value_text vs) → ⊥
@@ -213,14 +214,16 @@ one_parameter r q h k e =
 
 module _ (tables : TableContents) (well : IsWellFormedOpcodes tables) (env : Environment) where
   named_plain : (a : Application) → IsAccepted (AllowedReply tables) env (OfApplication a) → IsPlain a.name
-  named_plain a (types, have, op, named, allows) = name_plain tables op a.name well named.holds
+  named_plain a (types, have, h) = (let (op, named, allows) = h in name_plain tables op a.name well named.holds)
 
   one_application : (m n : Manner) (a b : Application) → CanApply a → CanApply b → IsAccepted (AllowedReply tables) env (OfApplication a) → IsAccepted (AllowedReply tables) env (OfApplication b)
       → IsMannerIn tables a.name m → IsMannerIn tables b.name n → short_application m a ≡ short_application n b → a ≡ b
   one_application m n a b ca cb fa fb hm hn e =
       let parts = same_parts m n a b (named_plain a fa) (named_plain b fb) ca cb e in
-      let (types, have, op, named, allows) = fa in
-      let (others, has, other, also, allowed) = fb in
+      let (types, have, replied) = fa in
+      let (op, named, allows) = replied in
+      let (others, has, answered) = fb in
+      let (other, also, allowed) = answered in
       let manner : m ≡ n = one_manner tables a.name b.name m n parts.names hm hn in
       let same_types : others ≡ types = same_found others types (sym has ∙ ap (map env) (sym parts.values) ∙ have) in
       let same_op : other ≡ op = same_opcode tables b.name a.name other op (sym parts.names) also named in

@@ -3,4 +3,4 @@ use Rattle.meta_short.proofs.Meaning.{one_line_declared}
 use Rattle.meta_short.proofs.laws.one_line_reads.Goals as goal
 
 pub returns : goal.returns
-returns c = (one_line, one_line_declared)
+returns c = record { tables = one_line; declared = one_line_declared }
