@@ -4,3 +4,4 @@ pub mod Determined
 pub mod OneLine
 pub mod MannersMean
 pub mod Meaning
+pub mod Writing

@@ -1,7 +1,7 @@
 -- What the code writes of a statement.
 --     manner_in m                     how the lines of an opcode are written, as the program holds it
 --     AddsShort tables s before after     the short form of what is stated was added to a text
-use Rattle.std.specs.Prelude.{◌≡◌, ℕ, List, ◌++◌, map}
+use Rattle.std.specs.Prelude.{◌≡◌, ℕ, zero, suc, List, [], ◌++◌, map, codes}
 use Rattle.meta_meaning.specs.Tables.{TableContents}
 use Rattle.meta_opcode_tables.specs.Constraint.{number_constraint_of}
 use Rattle.meta_verify.specs.Statement.{Statement}
@@ -19,3 +19,8 @@ pub record AddsShort (tables : TableContents) (s : Statement) (before after : Li
   pub manner : Manner
   pub has_manner : HasManner (IsMannerIn tables) s manner
   pub is : after ≡ before ++ short_text manner s
+
+-- what stands before the text at a place of a list: nothing before the first
+abbrev pub before_place : ℕ → List ℕ
+before_place zero = []
+before_place (suc k) = codes ", "

@@ -1,7 +1,9 @@
-ghost use Rattle.std.specs.Prelude.{◌≡◌, ◌≢◌, ◌↔◌, ◌+◌, ℕ, List, map, take, drop, get_or, false, IsSome, IfSome, IfNone, Some};
+ghost use Rattle.std.specs.Prelude.{◌≡◌, ◌≢◌, ◌↔◌, ◌+◌, ℕ, List, map, take, drop, get_or, false, IsSome, IfSome, IfNone, None, Some};
+ghost use Rattle.std.specs.List.{list_any};
 ghost use Rattle.meta_meaning.specs.Tables.{OpcodeNumbers, at_opcode};
 ghost use Rattle.meta_opcode_tables.specs.Constraint.{number_constraint_of, entry_of};
 ghost use Rattle.meta_opcode_tables.specs.Contents.{IsOpcode};
+ghost use Rattle.meta_opcode_tables.specs.declared.constraint.Constraint.{Constraint as ConstraintForm};
 ghost use Rattle.meta_short.specs.Manners.{is_open, is_control, manner_of, value_constraints, result_constraints};
 ghost use Rattle.meta_short.specs.Written.{manner_in};
 
@@ -41,7 +43,7 @@ fn part(constraints: &[Constraint], place: usize, count: usize) -> &[Constraint]
 fn result_constraints(tables: &Tables, entry: OpcodeConstraints) -> &[Constraint]
     ensures { map number_constraint_of result.now ≡ result_constraints tables.now.opcodes (entry_of entry) }
 {
-    let place = usize::from(entry.constraint_offset);
+    let place = entry.constraint_offset as usize;
     part(tables.operand_constraints(), place, entry.result_count())
 }
 
@@ -49,13 +51,13 @@ fn result_constraints(tables: &Tables, entry: OpcodeConstraints) -> &[Constraint
 pub fn value_constraints(tables: &Tables, entry: OpcodeConstraints) -> &[Constraint]
     ensures { map number_constraint_of result.now ≡ value_constraints tables.now.opcodes (entry_of entry) }
 {
-    let place = usize::from(entry.constraint_offset) + entry.result_count();
+    let place = entry.constraint_offset as usize + entry.result_count();
     part(tables.operand_constraints(), place, entry.value_count())
 }
 
 /// Whether some value has the controlling type.
 fn has_control(constraints: &[Constraint]) -> bool
-    ensures { result ≡ list_any is_control (map number_constraint_of constraints.now) }
+    ensures { result ≡ list_any (λ (c : ConstraintForm). is_control (number_constraint_of c)) constraints.now }
 {
     constraints.iter().any(|c| is_control(*c))
 }
@@ -64,9 +66,13 @@ fn has_control(constraints: &[Constraint]) -> bool
 fn leaves_out(tables: &Tables, entry: OpcodeConstraints) -> bool
     ensures { result ≡ (manner_of tables.now.opcodes (entry_of entry)).leaves_out }
 {
-    entry.designated_controls()
-        && entry.second_offset == NO_TYPE_SET
-        && has_control(value_constraints(tables, entry))
+    if !entry.designated_controls() {
+        return false;
+    }
+    if entry.second_offset != NO_TYPE_SET {
+        return false;
+    }
+    has_control(value_constraints(tables, entry))
 }
 
 /// How the lines of an opcode are written: its name, and which types are left out (this project's own).
@@ -85,10 +91,11 @@ impl<'t> Manner<'t> {
     pub fn of(tables: &'t Tables, opcode: u16) -> Option<Manner<'t>>
         ensures opcode { IsSome result ↔ IsOpcode tables.now.opcodes opcode }
         ensures name { IfSome result (λ m. at_opcode tables.now.opcodes.names opcode ≡ Some m.name.now) }
-        ensures manner { IfSome result (λ m. (entry : OpcodeNumbers) → at_opcode tables.now.opcodes.entries opcode ≡ Some entry → manner_in m ≡ manner_of tables.now.opcodes entry) }
+        ensures manner { IfSome result (λ m. (entry : OpcodeNumbers) × (at_opcode tables.now.opcodes.entries opcode ≡ Some entry) × (manner_in m ≡ manner_of tables.now.opcodes entry)) }
+        ensures none { IfNone result (at_opcode tables.now.opcodes.names opcode ≡ None) }
     {
-        let entry = tables.constraints(opcode)?;
         let name = tables.opcode_name(opcode)?;
+        let entry = tables.constraints(opcode)?;
         Some(Manner {
             name,
             leaves_out: leaves_out(tables, entry),

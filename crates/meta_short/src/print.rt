@@ -1,4 +1,4 @@
-ghost use Rattle.std.specs.Prelude.{◌≡◌, ◌⊎◌, ℕ, List, [], true, false, IfOk, IfSome, IfNone, string_bytes};
+ghost use Rattle.std.specs.Prelude.{◌≡◌, ◌⊎◌, ◌++◌, ℕ, List, [], true, false, IfOk, IfSome, IfNone, string_bytes};
 ghost use Rattle.meta_answers.specs.Answer.{AllowedReply};
 ghost use Rattle.meta_verify.specs.Numbers.{stated, HasNumbers, HasTypeNumbers};
 ghost use Rattle.meta_verify.specs.Numbers as numbers;

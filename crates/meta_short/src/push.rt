@@ -1,11 +1,11 @@
-ghost use Rattle.std.specs.Prelude.{◌≡◌, ◌++◌, map, IfSome, OnOk, All, string_bytes, Bool};
+ghost use Rattle.std.specs.Prelude.{◌≡◌, ◌++◌, map, Some, None, IfSome, OnOk, All, string_bytes};
 ghost use Rattle.std.specs.Option.{option_map};
 ghost use Rattle.meta_types.specs.TypeParts.{name_of};
 ghost use Rattle.meta_types.specs.TypeNumber.{type_with, IsTypeNumber};
 ghost use Rattle.meta_verify.specs.Statement.{value_text};
 ghost use Rattle.meta_verify.specs.Numbers.{typed, applied, IsTypedNumber, HasNumbers};
 ghost use Rattle.meta_short.specs.Short.{shortened, short_results, short_result_text, joined, behind, control_written, values_written, results_part, parameter_text, short_application};
-ghost use Rattle.meta_short.specs.Written.{manner_in};
+ghost use Rattle.meta_short.specs.Written.{manner_in, before_place};
 
 use super::manner::Manner;
 use meta_types::ValueType;
@@ -23,15 +23,48 @@ fn push_type(number: u16, out: &mut String) -> Result<(), AllocError>
     }
 }
 
+/// Adds a value: `v1`.
+fn push_value(value: u32, out: &mut String) -> Result<(), AllocError>
+    ensures { OnOk result (string_bytes out.new ≡ string_bytes out.old ++ value_text value) }
+{
+    write!(out, "v{value}")
+}
+
 /// Adds a result, with its type where that is written: `v1`, or `v1:i32`.
 fn push_result(r: TypedNumber, is_opened: bool, out: &mut String) -> Result<(), AllocError>
     requires { IsTypedNumber r }
     ensures { OnOk result (string_bytes out.new ≡ string_bytes out.old ++ short_result_text (shortened is_opened (typed r))) }
 {
-    write!(out, "v{}", r.value)?;
+    push_value(r.value, out)?;
     if is_opened {
         out.push_str(":")?;
-        push_type(r.number, out)?;
+        return push_type(r.number, out);
+    }
+    Ok(())
+}
+
+/// Adds what stands before the text at this place of a list: `, `, and nothing before the first.
+fn push_comma(place: usize, out: &mut String) -> Result<(), AllocError>
+    ensures { OnOk result (string_bytes out.new ≡ string_bytes out.old ++ before_place place) }
+{
+    if place == 0 {
+        return Ok(());
+    }
+    out.push_str(", ")
+}
+
+/// Adds the results, parted by a comma and a space.
+fn push_joined_results(
+    manner: &Manner<'_>,
+    results: &[TypedNumber],
+    out: &mut String,
+) -> Result<(), AllocError>
+    requires { All IsTypedNumber results.now }
+    ensures { OnOk result (string_bytes out.new ≡ string_bytes out.old ++ joined (map short_result_text (short_results (manner_in manner.now).opened (map typed results.now)))) }
+{
+    for k in 0..results.len() {
+        push_comma(k, out)?;
+        push_result(results[k], manner.is_opened(k), out)?;
     }
     Ok(())
 }
@@ -45,16 +78,23 @@ fn push_results(
     requires { All IsTypedNumber results.now }
     ensures { OnOk result (string_bytes out.new ≡ string_bytes out.old ++ results_part (map short_result_text (short_results (manner_in manner.now).opened (map typed results.now)))) }
 {
-    for k in 0..results.len() {
-        if k > 0 {
-            out.push_str(", ")?;
-        }
-        push_result(results[k], manner.is_opened(k), out)?;
-    }
     if results.is_empty() {
         return Ok(());
     }
+    push_joined_results(manner, results, out)?;
     out.push_str(" = ")
+}
+
+/// Adds what stands behind the name for one controlling type: `.i32`, or nothing where it is left out.
+fn push_alone(leaves_out: bool, number: u16, out: &mut String) -> Result<(), AllocError>
+    requires { IsTypeNumber number }
+    ensures { OnOk result (string_bytes out.new ≡ string_bytes out.old ++ behind 46 (control_written leaves_out (Some (type_with number)) None)) }
+{
+    if leaves_out {
+        return Ok(());
+    }
+    out.push_str(".")?;
+    push_type(number, out)
 }
 
 /// Adds what stands behind the name for the controlling types: `.i32`, `.i32/i64`, or nothing.
@@ -68,32 +108,38 @@ fn push_control(
     requires second { IfSome second IsTypeNumber }
     ensures { OnOk result (string_bytes out.new ≡ string_bytes out.old ++ behind 46 (control_written leaves_out (option_map type_with control) (option_map type_with second))) }
 {
-    let Some(first) = control else {
+    let Some(number) = control else {
         return Ok(());
     };
-    if leaves_out && second.is_none() {
-        return Ok(());
-    }
+    let Some(other) = second else {
+        return push_alone(leaves_out, number, out);
+    };
     out.push_str(".")?;
-    push_type(first, out)?;
-    match second {
-        Some(number) => {
-            out.push_str("/")?;
-            push_type(number, out)
-        }
-        None => Ok(()),
+    push_type(number, out)?;
+    out.push_str("/")?;
+    push_type(other, out)
+}
+
+/// Adds the values, parted by a comma and a space.
+fn push_joined_values(values: &[u32], out: &mut String) -> Result<(), AllocError>
+    ensures { OnOk result (string_bytes out.new ≡ string_bytes out.old ++ joined (map value_text values.now)) }
+{
+    for k in 0..values.len() {
+        push_comma(k, out)?;
+        push_value(values[k], out)?;
     }
+    Ok(())
 }
 
 /// Adds what stands behind that for the values: ` v0, v1`, or nothing.
 fn push_values(values: &[u32], out: &mut String) -> Result<(), AllocError>
     ensures { OnOk result (string_bytes out.new ≡ string_bytes out.old ++ behind 32 (values_written (map value_text values.now))) }
 {
-    for k in 0..values.len() {
-        out.push_str(if k == 0 { " " } else { ", " })?;
-        write!(out, "v{}", values[k])?;
+    if values.is_empty() {
+        return Ok(());
     }
-    Ok(())
+    out.push_str(" ")?;
+    push_joined_values(values, out)
 }
 
 /// Adds the line of an application in this manner.
@@ -122,6 +168,8 @@ pub(crate) fn push_parameter(parameter: TypedNumber, out: &mut String) -> Result
     requires { IsTypedNumber parameter }
     ensures { OnOk result (string_bytes out.new ≡ string_bytes out.old ++ parameter_text (typed parameter)) }
 {
-    write!(out, "param v{} ", parameter.value)?;
+    out.push_str("param ")?;
+    push_value(parameter.value, out)?;
+    out.push_str(" ")?;
     push_type(parameter.number, out)
 }
