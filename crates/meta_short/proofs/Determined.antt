@@ -127,7 +127,7 @@ no_second tables offset d h fits = subst (λ b. MatchBool b (d ≡ None) ((n : �
 
 module _ (tables : TableContents) (op : ℕ) (entry : OpcodeNumbers) (at : at_opcode tables.entries op ≡ Some entry) (vs : List ℕ) (j : ℕ) (x : NumberConstraint) (there : slice_get (value_constraints tables entry) j ≡ Some x) (is : x ≡ SameNumber First) where
   -- a left out control is the type of the value under its constraint
-  control_of : (c d : Option ℕ) (rs : List ℕ) (a : Allows tables op c d rs vs) (n : ℕ) → slice_get vs j ≡ Some n → c ≡ Some n
+  pub control_of : (c d : Option ℕ) (rs : List ℕ) (a : Allows tables op c d rs vs) (n : ℕ) → slice_get vs j ≡ Some n → c ≡ Some n
   control_of c d rs a n n_at =
       let e = same_entry tables op entry at vs c d rs a in
       let counted : length rs ≡ result_count entry.flags = a.results ∙ ap (λ (e : OpcodeNumbers). result_count e.flags) e in

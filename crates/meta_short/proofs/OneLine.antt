@@ -106,10 +106,10 @@ same_found (t ∷ ts) (u ∷ us) e =
     let others : map (λ t. Some t) ts ≡ map (λ t. Some t) us = cc in
     ap₂ ◌∷◌ first (same_found ts us others)
 
-typed_at : (rs : List TypedValue) (k : ℕ) (r : TypedValue) → All IsTyped rs → slice_get rs k ≡ Some r → IsType r.type
+pub typed_at : (rs : List TypedValue) (k : ℕ) (r : TypedValue) → All IsTyped rs → slice_get rs k ≡ Some r → IsType r.type
 typed_at rs k r all at = subst (λ (x : TypedValue). IsType x.type) (get_or_from_slice_get rs k r r at) (all k r (slice_get_within rs k r at)).is_type
 
-number_at : (rs : List TypedValue) (k : ℕ) (r : TypedValue) → slice_get rs k ≡ Some r → slice_get (map number_of (map (λ (x : TypedValue). x.type) rs)) k ≡ Some (number_of r.type)
+pub number_at : (rs : List TypedValue) (k : ℕ) (r : TypedValue) → slice_get rs k ≡ Some r → slice_get (map number_of (map (λ (x : TypedValue). x.type) rs)) k ≡ Some (number_of r.type)
 number_at rs k r at = get_map number_of (map (λ (x : TypedValue). x.type) rs) k r.type (get_map (λ (x : TypedValue). x.type) rs k r at)
 
 -- ---- controls

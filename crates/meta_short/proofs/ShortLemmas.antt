@@ -52,7 +52,7 @@ space = record { digit = λ h. (let l : 48 ≤ 32 = h.low in omega arith); value
 pub comma : IsMark 44
 comma = record { digit = λ h. (let l : 48 ≤ 44 = h.low in omega arith); value = omega arith; int = omega arith; float = omega arith; lanes = omega arith; dynamic = omega arith }
 
-colon : IsMark 58
+pub colon : IsMark 58
 colon = record { digit = λ h. (let l : 58 ≤ 57 = h.high in omega arith); value = omega arith; int = omega arith; float = omega arith; lanes = omega arith; dynamic = omega arith }
 
 pub equals : IsMark 61
@@ -116,7 +116,7 @@ control_lacks byte leaves_out (Some c) (Some d) mark slash point h k =
     All-cons (λ b. b ≢ byte) 46 (name_of c ++ 47 ∷ name_of d) point
     (All-append (λ b. b ≢ byte) (name_of c) (47 ∷ name_of d) (type_lacks byte c mark h) (All-cons (λ b. b ≢ byte) 47 (name_of d) slash (type_lacks byte d mark k)))
 
-values_lack : (byte : ℕ) (vs : List ℕ) → IsMark byte → 44 ≢ byte → 32 ≢ byte → All IsValue vs → Lacks byte (behind 32 (values_written (map value_text vs)))
+pub values_lack : (byte : ℕ) (vs : List ℕ) → IsMark byte → 44 ≢ byte → 32 ≢ byte → All IsValue vs → Lacks byte (behind 32 (values_written (map value_text vs)))
 values_lack byte [] mark no_comma no_space h = All-nil (λ b. b ≢ byte)
 values_lack byte (v ∷ vs) mark no_comma no_space h =
     All-cons (λ b. b ≢ byte) 32 _ no_space (lacks_joined byte (map value_text (v ∷ vs)) no_comma no_space

@@ -56,7 +56,7 @@ lacks_joined byte (t ∷ ts) comma space h = go t ts (All-head (Lacks byte) t ts
         (go (32 ∷ u) us (All-cons (λ b. b ≢ byte) 32 u space (All-head (Lacks byte) u us others)) (All-tail (Lacks byte) u us others)))
 
 -- the pieces between commas are the texts, each but the first behind a space
-joined_pieces : (t : List ℕ) (ts : List (List ℕ)) → All (Lacks 44) (t ∷ ts) → pieces_of 44 (joined (t ∷ ts)) ≡ t ∷ map (λ (u : List ℕ). 32 ∷ u) ts
+pub joined_pieces : (t : List ℕ) (ts : List (List ℕ)) → All (Lacks 44) (t ∷ ts) → pieces_of 44 (joined (t ∷ ts)) ≡ t ∷ map (λ (u : List ℕ). 32 ∷ u) ts
 joined_pieces t ts h =
     pieces_of-join 44 t (map (λ (u : List ℕ). 32 ∷ u) ts)
     (All-cons (Lacks 44) t (map (λ (u : List ℕ). 32 ∷ u) ts) (All-head (Lacks 44) t ts h)
