@@ -1,18 +1,17 @@
 -- What is left out of a line is determined by what is written, by tables.
-use Rattle.std.proofs.Common.{◌≡◌, ◌≢◌, ℕ, zero, suc, ◌+◌, ◌<◌, ◌≤◌, ◌/◌, ◌%◌, ◌==◌, ◌&&◌, ◌||◌, MatchBool, Bool, true, false, List, [], ◌∷◌, ◌++◌, map, length, take, drop, get_or, slice_get, Option, None, Some, refl, sym, ap, ap₂, ◌∙◌, subst, arith}
+use Rattle.std.proofs.Common.{◌≡◌, ℕ, zero, suc, ◌+◌, ◌<◌, ◌==◌, ◌||◌, MatchBool, Bool, true, false, List, [], ◌∷◌, map, length, take, drop, get_or, slice_get, Option, None, Some, refl, sym, ap, ap₂, ◌∙◌, subst, arith}
 use Rattle.std.specs.List.{list_any}
 use Rattle.std.proofs.lemmas.Option.{same_Some, slice_get_within, get_or_from_slice_get}
-use Rattle.std.proofs.lemmas.Bool.{and_parts}
-use Rattle.meta_lists.proofs.Places.{get_there, get_beside, get_stays, get_right, get_take, get_drop, get_taken}
+use Rattle.meta_lists.proofs.Places.{get_there, get_stays, get_right, get_take, get_drop, get_taken}
 use Rattle.meta_lists.proofs.Mapped.{get_map}
-use Rattle.meta_types.specs.TypeParts.{TypeParts, IsType, number_of}
+use Rattle.meta_types.specs.TypeParts.{number_of}
 use Rattle.meta_types.specs.Function.{Function, LaneOf, AsTruthy, HalfWidth, DoubleWidth, SplitLanes, MergeLanes, DynamicToVector, Narrower, Wider, IsFunction, Steps, StepsNumbers}
 use Rattle.meta_types.proofs.OneAnswer.{one}
 use Rattle.meta_types.proofs.Numbers.{one_number}
 use Rattle.meta_inst.specs.Which.{Which, First, Second, both}
 use Rattle.meta_meaning.specs.Tables.{TableContents, OpcodeNumbers, NumberConstraint, ConcreteNumber, FreeOf, SameNumber, ByNumber, NumberPasses, PassesAt, Allows, SetContains, ControlNumberFits, at_opcode, result_count, value_count, no_type_set}
 use Rattle.meta_verify.specs.Statement.{TypedValue}
-use Rattle.meta_short.specs.Short.{Manner, ShortResult, shortened, short_results}
+use Rattle.meta_short.specs.Short.{ShortResult, shortened, short_results}
 use Rattle.meta_short.specs.Manners.{is_relation, is_open, is_control, result_constraints, value_constraints, manner_of}
 
 -- a function that isn't a relation

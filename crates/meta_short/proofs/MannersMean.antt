@@ -1,13 +1,13 @@
 -- The manner of an opcode by tables is that of the instruction as it is declared.
-use Rattle.std.proofs.Common.{◌≡◌, ◌≢◌, ◌⊎◌, ◌↔◌, inl, inr, ℕ, zero, suc, ◌+◌, ◌<◌, ◌≤◌, ◌/◌, ◌%◌, ◌==◌, ◌&&◌, Bool, true, false, IsTrue, List, [], ◌∷◌, ◌++◌, map, take, drop, length, All, get_or, slice_get, Option, None, Some, refl, sym, ap, ap₂, ◌∙◌, subst, add-one, arith, eq-eqb}
+use Rattle.std.proofs.Common.{◌≡◌, ◌≢◌, ◌⊎◌, ◌↔◌, inl, inr, ℕ, zero, suc, ◌+◌, ◌<◌, ◌≤◌, ◌/◌, ◌%◌, ◌==◌, ◌&&◌, Bool, true, false, IsTrue, List, [], ◌∷◌, ◌++◌, map, drop, length, All, slice_get, Option, None, Some, refl, sym, ap, ap₂, ◌∙◌, subst, add-one, arith, eq-eqb}
 use Rattle.std.specs.List.{list_any}
 use Rattle.std.proofs.lemmas.Bool.{and_parts, eqb-true}
 use Rattle.std.proofs.lemmas.Option.{same_Some, slice_get_within, get_or_from_slice_get}
 use Rattle.std.proofs.lemmas.List.{length-map, length-take-le}
 use Rattle.std.proofs.lemmas.List.Folds.{list_any_at}
 use Rattle.meta_lists.specs.First.{IsFirst}
-use Rattle.meta_lists.proofs.Places.{get_there, get_beside, get_stays, get_right, get_seam, get_take, get_drop, get_taken, same_places}
-use Rattle.meta_lists.proofs.Mapped.{get_map, get_mapped}
+use Rattle.meta_lists.proofs.Places.{get_there, get_beside, get_stays, get_right, get_seam, get_take, get_drop, same_places}
+use Rattle.meta_lists.proofs.Mapped.{get_map}
 use Rattle.meta_lists.proofs.Pushed.{not_empty}
 use Rattle.meta_types.specs.TypeParts.{TypeParts, number_of}
 use Rattle.meta_types.specs.Function.{Function, LaneOf, AsTruthy, HalfWidth, DoubleWidth, SplitLanes, MergeLanes, DynamicToVector, Narrower, Wider}
@@ -19,7 +19,7 @@ use Rattle.meta_inst.specs.Instruction.{Instruction, IsOperand, IsDesignated, co
 use Rattle.meta_inst.specs.Builder.{Builder}
 use Rattle.meta_inst.specs.Control.{IsControl, HasBadSecond, IsRuled}
 use Rattle.meta_inst.specs.InstructionSet.{InstructionSet, root_sets, instruction_in_set}
-use Rattle.meta_inst.specs.Faults.{IsAt, names_of}
+use Rattle.meta_inst.specs.Faults.{IsAt}
 use Rattle.meta_inst.proofs.OneControl.{same_control}
 use Rattle.meta_meaning.specs.Constraint.{Constraint, Concrete, Free, Same, By, IsConstraint, IsFree}
 use Rattle.meta_meaning.specs.Tables.{TableContents, OpcodeNumbers, NumberConstraint, ConcreteNumber, FreeOf, SameNumber, ByNumber, StandsFor, Constrains, AreOpcodeNumbersOf, IsTypeSetOffset, DesignatedControls, at_opcode, result_count, value_count, no_type_set}
@@ -27,7 +27,6 @@ use Rattle.meta_meaning.specs.Inference.{EndsInRelation}
 use Rattle.meta_meaning.proofs.Candidates.{same_variable}
 use Rattle.meta_meaning.proofs.Fixedness.{fixed_from_one, one_from_fixed}
 use Rattle.meta_opcode_tables.specs.Contents.{IsOpcodeNamed}
-use Rattle.meta_opcode_tables.specs.TablesOf.{HoldsInstruction}
 use Rattle.meta_declared.proofs.DifferentNames.{different_names}
 use Rattle.meta_answers.proofs.Meant.{opcode_named, opcode_is}
 use Rattle.meta_short.specs.Short.{Manner}

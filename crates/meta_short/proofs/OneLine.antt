@@ -1,30 +1,28 @@
 -- For one environment a text reads as one line at most, by tables.
-use Rattle.std.proofs.Common.{◌≡◌, ◌≢◌, ◌⊎◌, inl, inr, ℕ, zero, suc, ◌+◌, ◌<◌, ◌≤◌, ◌/◌, ◌%◌, ◌==◌, ◌&&◌, Bool, true, false, List, [], ◌∷◌, ◌++◌, map, length, All, get_or, slice_get, Option, None, Some, IfSome, codes, refl, sym, ap, ap₂, ◌∙◌, subst, append-nil, arith}
+use Rattle.std.proofs.Common.{◌≡◌, ◌≢◌, ◌⊎◌, inl, inr, ℕ, zero, suc, ◌<◌, ◌≤◌, ◌/◌, ◌%◌, ◌==◌, Bool, true, false, List, [], ◌∷◌, ◌++◌, map, All, get_or, slice_get, Option, None, Some, IfSome, codes, refl, sym, ap, ap₂, ◌∙◌, subst, append-nil, arith}
 use Rattle.std.specs.Option.{option_map}
 use Rattle.std.specs.List.{join_with_byte}
 use Rattle.std.proofs.lemmas.Bool.{cases_order, and_parts}
 use Rattle.std.proofs.lemmas.Option.{same_Some, slice_get_within, get_or_from_slice_get}
-use Rattle.std.proofs.lemmas.List.Elements.{All-nil, All-cons, All-head, All-tail, All-append, All-map, All-weaker}
+use Rattle.std.proofs.lemmas.List.Elements.{All-nil, All-cons, All-head, All-append, All-weaker}
 use Rattle.meta_lists.specs.First.{IsFirst}
 use Rattle.meta_lists.proofs.Mapped.{get_map}
 use Rattle.meta_types.specs.Name.{IsLetter, IsNameByte, IsName}
 use Rattle.meta_types.specs.TypeParts.{TypeParts, IsType, number_of, name_of}
 use Rattle.meta_types.proofs.Names.{one_name}
 use Rattle.meta_types.proofs.Numbers.{one_number}
-use Rattle.meta_inst.specs.Which.{First}
-use Rattle.meta_meaning.specs.Tables.{TableContents, OpcodeNumbers, NumberConstraint, SameNumber, Allows, at_opcode, no_type_set}
+use Rattle.meta_meaning.specs.Tables.{TableContents, OpcodeNumbers, Allows, at_opcode, no_type_set}
 use Rattle.meta_opcode_tables.specs.Contents.{IsOpcodeNamed}
 use Rattle.meta_opcode_tables.specs.WellFormed.{IsWellFormedOpcodes}
 use Rattle.meta_words.specs.Control.{control_text, IsBehind}
 use Rattle.meta_words.proofs.ControlLemmas.{same_controls}
 use Rattle.meta_answers.specs.Answer.{AllowedReply}
-use Rattle.meta_answers.specs.declared.reply.Reply.TheVariants as reply
 use Rattle.meta_verify.specs.Statement.{TypedValue, Application, Statement, OfParameter, OfApplication, IsValue, IsTyped, CanApply, CanBeStated, value_text, words_of}
-use Rattle.meta_verify.specs.Environment.{Environment, HaveTypes}
-use Rattle.meta_verify.specs.Wrong.{question_of, IsAccepted, IsFaultless}
+use Rattle.meta_verify.specs.Environment.{Environment}
+use Rattle.meta_verify.specs.Wrong.{IsAccepted, IsFaultless}
 use Rattle.meta_verify.proofs.StatementLemmas.{one_value, one_statement}
 use Rattle.meta_short.specs.Short.{Manner, short_results, short_result_text, joined, behind, control_written, values_written, parameter_text, short_application, short_text}
-use Rattle.meta_short.specs.Parts.{IsPlain, AreSameParts}
+use Rattle.meta_short.specs.Parts.{IsPlain}
 use Rattle.meta_short.specs.Manners.{is_control, value_constraints, manner_of, IsMannerIn}
 use Rattle.meta_short.specs.Reading.{HasManner, IsShortIn}
 use Rattle.meta_short.proofs.SplitLemmas.{Lacks, one_split}

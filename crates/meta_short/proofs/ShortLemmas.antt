@@ -1,13 +1,11 @@
 -- A text with types left out gives its parts.
-use Rattle.std.proofs.Common.{◌≡◌, ◌≢◌, ℕ, ◌<◌, ◌≤◌, ◌==◌, Bool, true, false, List, [], ◌∷◌, ◌++◌, map, All, Option, None, Some, IfSome, codes, refl, sym, ap, ap₂, ◌∙◌, append-nil, append_assoc, arith}
+use Rattle.std.proofs.Common.{◌≡◌, ◌≢◌, ℕ, ◌≤◌, Bool, true, false, List, [], ◌∷◌, ◌++◌, map, All, Option, None, Some, IfSome, codes, refl, sym, ap, ap₂, ◌∙◌, append-nil, append_assoc, arith}
 use Rattle.std.specs.Option.{option_map}
 use Rattle.std.proofs.lemmas.List.Elements.{All-nil, All-cons, All-head, All-tail, All-append, All-map, All-weaker}
 use Rattle.meta_lists.proofs.Pushed.{not_empty}
 use Rattle.meta_types.specs.TypeParts.{TypeParts, IsType, name_of}
 use Rattle.meta_types.proofs.Names.{one_name}
-use Rattle.meta_words.specs.Control.{control_text, IsBehind}
 use Rattle.meta_words.proofs.NameLemmas.{IsDigit, lacks, name_lacks}
-use Rattle.meta_words.proofs.ControlLemmas.{same_controls}
 use Rattle.meta_verify.specs.Statement.{TypedValue, Application, IsValue, IsTyped, CanApply, value_text}
 use Rattle.meta_verify.proofs.StatementLemmas.{one_value}
 use Rattle.meta_short.specs.Short.{Manner, ShortResult, shortened, short_results, type_part, short_result_text, joined, behind, control_written, values_written, results_part, short_application}

@@ -1,5 +1,5 @@
 -- What is written of a line, part by part.
-use Rattle.std.proofs.Common.{◌≡◌, ◌⊎◌, inl, inr, IfSome, is_some, ℕ, zero, suc, ◌+◌, ◌<◌, ◌/◌, ◌%◌, ◌==◌, ◌||◌, ◌&&◌, Bool, true, false, IsTrue, List, [], ◌∷◌, ◌++◌, map, take, drop, length, get_or, slice_get, Option, None, Some, codes, Result, Ok, Err, is_ok, OnOk, if◌then◌else◌, refl, sym, ap, ap₂, ◌∙◌, subst, append-nil, append_assoc, arith}
+use Rattle.std.proofs.Common.{◌≡◌, ◌⊎◌, inl, inr, IfSome, is_some, ℕ, zero, suc, ◌+◌, ◌==◌, ◌||◌, Bool, true, false, IsTrue, List, [], ◌∷◌, ◌++◌, map, take, drop, length, get_or, slice_get, Option, None, Some, codes, Result, Ok, Err, is_ok, OnOk, if◌then◌else◌, refl, sym, ap, ap₂, ◌∙◌, append-nil, append_assoc, arith}
 use Rattle.std.specs.List.{list_any, join_with_byte}
 use Rattle.std.proofs.Math.Seq.{take-length}
 use Rattle.std.proofs.lemmas.Bool.{eqb-true}
@@ -17,7 +17,7 @@ use Rattle.meta_verify.specs.Wrong.{Replies, IsMistake, IsWrong}
 use Rattle.meta_verify.specs.declared.reason.Reason.{Reason}
 use Rattle.meta_verify.specs.Numbers.{typed}
 use Rattle.meta_verify.specs.declared.statement.TypedNumber.{TypedNumber}
-use Rattle.meta_short.specs.Short.{ShortResult, shortened, short_results, short_result_text, joined, behind, control_written, values_written, results_part, parameter_text}
+use Rattle.meta_short.specs.Short.{shortened, short_results, short_result_text, joined, behind, control_written, values_written, results_part, parameter_text}
 use Rattle.meta_short.specs.Written.{AddsShort, before_place}
 
 -- ---- texts that are added one after the other

@@ -1,7 +1,7 @@
 -- A line with types left out.
 --     Manner                  what is left out of the lines of an instruction
 --     short_text m s          what is stated, written so
-use Rattle.std.specs.Prelude.{ℕ, Bool, true, false, List, [], ◌∷◌, ◌++◌, map, Option, Some, None, if◌then◌else◌, codes}
+use Rattle.std.specs.Prelude.{ℕ, Bool, false, List, [], ◌∷◌, ◌++◌, map, Option, Some, None, if◌then◌else◌, codes}
 use Rattle.std.specs.List.{join_with_byte}
 use Rattle.meta_types.specs.TypeParts.{TypeParts, name_of}
 use Rattle.meta_words.specs.Control.{control_text}

@@ -1,4 +1,4 @@
-use Rattle.std.proofs.Common.{string_bytes, length, arith}
+use Rattle.std.proofs.Common.{string_bytes, arith}
 use Rattle.std.proofs.lemmas.Option.{slice_get-get_or}
 use Rattle.meta_short.specs.Written.{manner_in}
 use Rattle.meta_short.proofs.Writing.{result_texts, joined_next, joined_all, text_at, texts_length}
