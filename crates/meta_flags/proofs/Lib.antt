@@ -8,3 +8,7 @@ pub mod TurningOn
 pub mod RequestLemmas
 pub mod AnswerLemmas
 pub mod Tomls
+pub mod Runs
+pub mod OneChange
+pub mod OneOutput
+pub mod FirstGroup

@@ -100,6 +100,25 @@ no_longer Toml (Enable m) word rest e = absurd (omega (arith, ap letter e))
 no_longer Toml (Get m) word rest e = absurd (omega (arith, ap letter e))
 no_longer Toml Toml word rest e = absurd (omega (arith, ap length e))
 
+-- requests of the same words are one
+pub same_request : (q r : Request) → request_words q ≡ request_words r → q ≡ r
+same_request (Set n v) (Set m w) e = let name : n ≡ m = cc in let value : v ≡ w = cc in (λ i. Set (name i) (value i))
+same_request (Set n v) (Enable m) e = absurd (omega (arith, ap length e))
+same_request (Set n v) (Get m) e = absurd (omega (arith, ap length e))
+same_request (Set n v) Toml e = absurd (omega (arith, ap length e))
+same_request (Enable n) (Set m w) e = absurd (omega (arith, ap length e))
+same_request (Enable n) (Enable m) e = let name : n ≡ m = cc in ap Enable name
+same_request (Enable n) (Get m) e = absurd (omega (arith, ap letter e))
+same_request (Enable n) Toml e = absurd (omega (arith, ap length e))
+same_request (Get n) (Set m w) e = absurd (omega (arith, ap length e))
+same_request (Get n) (Enable m) e = absurd (omega (arith, ap letter e))
+same_request (Get n) (Get m) e = let name : n ≡ m = cc in ap Get name
+same_request (Get n) Toml e = absurd (omega (arith, ap length e))
+same_request Toml (Set m w) e = absurd (omega (arith, ap length e))
+same_request Toml (Enable m) e = absurd (omega (arith, ap length e))
+same_request Toml (Get m) e = absurd (omega (arith, ap length e))
+same_request Toml Toml e = refl
+
 -- ---- a line
 
 module _ (line : List ℕ) where

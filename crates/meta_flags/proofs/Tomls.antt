@@ -20,3 +20,7 @@ no_lines (e ∷ es) = refl
 pub all_lines : (es : List ServedEntry) (state : State) (k : ℕ) (now all : List ℕ) → length state ≤ k → now ++ toml_lines (drop k es) (drop k state) ≡ all → now ≡ all
 all_lines es state k now all past before =
     sym (append-nil now) ∙ ap (λ t. now ++ t) (sym (ap (toml_lines (drop k es)) (drop_past state k (slice_get_past state k past)) ∙ no_lines (drop k es))) ∙ before
+
+-- the head is written, and then the lines
+pub head_written : (old name lines new : List ℕ) → new ≡ old ++ (91 ∷ (name ++ (93 ∷ (10 ∷ [])))) → new ++ lines ≡ old ++ (91 ∷ (name ++ (93 ∷ (10 ∷ lines))))
+head_written old name lines new e = ap (λ t. t ++ lines) e ∙ append_assoc old (91 ∷ (name ++ (93 ∷ (10 ∷ [])))) lines ∙ ap (λ t. old ++ (91 ∷ t)) (append_assoc name (93 ∷ (10 ∷ [])) lines)

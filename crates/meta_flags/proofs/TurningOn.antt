@@ -2,8 +2,13 @@
 use Rattle.std.proofs.Common.{◌≡◌, ℕ, zero, suc, ◌+◌, ◌<◌, ◌≤◌, Bool, true, false, List, [], ◌∷◌, length, map, take, slice_get, slice_set, Some, refl, sym, ap, ◌∙◌, subst, arith}
 use Rattle.std.specs.Prelude.{if◌then◌else◌}
 use Rattle.std.proofs.lemmas.Option.{same_Some}
-use Rattle.meta_flags.specs.Served.{SettingValue, BoolValue, State}
+use Rattle.meta_setting_tables.specs.declared.descriptor.Descriptor.{Descriptor}
+use Rattle.meta_setting_tables.specs.EntryValues.{is_on, masks_from}
+use Rattle.meta_setting_tables.specs.GroupTables.{GroupContents}
+use Rattle.meta_flags.specs.Served.{BoolValue, State, marks_in}
 use Rattle.meta_flags.specs.Changes.{turned_on}
+use Rattle.meta_flags.specs.Held.{AreSettings}
+use Rattle.meta_flags.proofs.Places.{settings_taken}
 
 -- what becomes of the values by as many marks as there are, is of as many values
 pub length-turned_on : (marks : List Bool) (state : State) → length (turned_on marks state) ≡ length state
@@ -36,3 +41,10 @@ pub one_off : (marks : List Bool) (k : ℕ) (state now : State) → slice_get ma
 one_off marks k state now at so_far =
     let next : suc k ≡ k + 1 = omega arith in
     so_far ∙ sym (off_at marks k state at) ∙ ap (λ n. turned_on (take n marks) state) next
+
+-- what is turned on by the masks of a preset, among the settings, is what it marks
+pub turned_by : (t : GroupContents) (state new : State) (offset : ℕ) (bytes : List ℕ) (some : List Descriptor) → AreSettings t.descriptors (length state) → bytes ≡ masks_from (length t.defaults) t.preset_masks offset → some ≡ take (length state) t.descriptors
+    → new ≡ turned_on (map (λ (d : Descriptor). is_on bytes d.offset d.detail) some) state → new ≡ turned_on (marks_in t offset) state
+turned_by t state new offset bytes some settings masks taken is =
+    let all = taken ∙ sym (settings_taken t.descriptors (length state) settings) in
+    is ∙ (λ i. turned_on (map (λ (d : Descriptor). is_on (masks i) d.offset d.detail) (all i)) state)

@@ -6,3 +6,4 @@ pub mod Request
 pub mod Replies
 pub mod FlagAnswers
 pub mod FlagsOutput
+pub mod FlagsRun

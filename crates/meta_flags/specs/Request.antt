@@ -28,7 +28,7 @@ Requests line r = AreWords line (request_words r)
 
 -- what a request of the program asks
 abbrev pub request_of : code.Request → Request
-request_of (asked.Set words) = Set words.name.now words.value.now
+request_of (asked.Set name value) = Set name.now value.now
 request_of (asked.Enable name) = Enable name.now
 request_of (asked.Get name) = Get name.now
 request_of asked.Toml = Toml

@@ -27,7 +27,7 @@ fn push_outcome(out: &mut String, outcome: Result<(), FlagError>) -> Result<(), 
 
 /// Adds a value as it is written by itself.
 fn push_value(out: &mut String, value: FlagValue<'_>) -> Result<(), AllocError>
-    ensures { OnOk result (string_bytes out.new ≡ string_bytes out.old ++ value_text (value_of value)) }
+    ensures { OnOk result (string_bytes out.new ≡ string_bytes out.old ++ value_text (value_of value.entry)) }
 {
     match value {
         FlagValue::Bool(truth) => write!(out, "{truth}"),
@@ -41,7 +41,7 @@ fn push_got(
     out: &mut String,
     outcome: Result<FlagValue<'_>, FlagError>,
 ) -> Result<(), AllocError>
-    ensures { OnOk result (string_bytes out.new ≡ string_bytes out.old ++ got_line (got outcome)) }
+    ensures { OnOk result (string_bytes out.new ≡ string_bytes out.old ++ got_line (got outcome.entry)) }
 {
     match outcome {
         Ok(value) => push_value(out, value)?,
@@ -56,7 +56,7 @@ fn push_served(
     flags: &mut Flags<'_>,
     request: Request<'_>,
 ) -> Result<(), AllocError>
-    ensures served { OnOk result ((text : List ℕ) × IsServed (served_in flags.old.group) (request_of request) flags.old.state flags.new.state text × (string_bytes out.new ≡ string_bytes out.old ++ text)) }
+    ensures served { OnOk result ((text : List ℕ) × IsServed (served_in flags.old.group) (request_of request.entry) flags.old.state flags.new.state text × (string_bytes out.new ≡ string_bytes out.old ++ text)) }
     ensures group { flags.new.group ≡ flags.old.group }
 {
     match request {
@@ -69,7 +69,7 @@ fn push_served(
 
 /// Adds the lines that answer what is asked where there is no group: no entry has a name, and there is no value.
 fn push_unserved(out: &mut String, request: Request<'_>) -> Result<(), AllocError>
-    ensures { OnOk result (string_bytes out.new ≡ string_bytes out.old ++ none_text (request_of request)) }
+    ensures { OnOk result (string_bytes out.new ≡ string_bytes out.old ++ none_text (request_of request.entry)) }
 {
     match request {
         Request::Set { .. } => push_outcome(out, Err(FlagError::Unknown)),
@@ -106,7 +106,7 @@ pub(crate) fn answers(
     mut flags: Option<Flags<'_>>,
     input: &[u8],
 ) -> Result<String, AllocError>
-    ensures { IfOk result (λ out. AreFlagAnswers (served_by flags) (state_of flags) (lines_of input.now) (string_bytes out)) }
+    ensures { IfOk result (λ out. AreFlagAnswers (served_by flags.entry) (state_of flags.entry) (lines_of input.now) (string_bytes out)) }
 {
     let mut out = String::new(alloc);
     for line in Lines::new(input) {

@@ -18,6 +18,6 @@ mod values;
 pub use flag_error::FlagError;
 pub use flag_value::FlagValue;
 pub use held::Flags;
-pub use laws::tables_serve_what_is_declared;
+pub use laws::{one_flags_output, tables_serve_what_is_declared};
 pub use meta_run::Status as FlagStatus;
 pub use serving::flags;

@@ -2,7 +2,8 @@ ghost use Rattle.std.specs.Prelude.{◌≡◌, ◌≢◌, ◌≤◌, ◌⊎◌, 
 ghost use Rattle.meta_text.specs.Outside.{Rose, longest_input, GaveMore, GaveAtMost};
 ghost use Rattle.meta_declared.specs.AllDeclared.{AreValid};
 ghost use Rattle.meta_run.specs.Run.{IsRefusedWhole, IsRefusedInPart, NeverRises};
-ghost use Rattle.meta_flags.specs.FlagsRun.{IsServedWhole, IsServedInPart, IsRun, WritesNothing, ServesLines, RefusesDeclarations, Completes};
+ghost use Rattle.meta_run.specs.Status.{WritesNothing};
+ghost use Rattle.meta_flags.specs.FlagsRun.{IsServedWhole, IsServedInPart, IsRun, ServesLines, RefusesDeclarations, Completes};
 
 use super::answering::answers;
 use super::held::Flags;
@@ -19,7 +20,7 @@ struct Service;
 
 impl Answerer for Service {
     ghost use Rattle.std.specs.Prelude.{true};
-    ghost use Rattle.meta_flags.specs.FlagsRun.{flags_texts};
+    ghost use Rattle.meta_flags.specs.FlagsOutput.{flags_texts};
 
     ghost reads = { λ _. true };
 
