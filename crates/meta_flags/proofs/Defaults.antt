@@ -1,5 +1,5 @@
 -- The defaults of entries, one entry after another.
-use Rattle.std.proofs.Common.{◌≡◌, ℕ, ◌+◌, ◌<◌, ◌≤◌, List, [], ◌∷◌, ◌++◌, append_assoc, append-nil, length, map, take, drop, slice_get, Option, None, Some, sym, ap, ◌∙◌, subst, arith}
+use Rattle.std.proofs.Common.{◌≡◌, ℕ, ◌+◌, ◌≤◌, List, [], ◌∷◌, ◌++◌, append_assoc, append-nil, length, take, drop, slice_get, Option, None, Some, sym, ap, ◌∙◌, subst, arith}
 use Rattle.std.specs.Prelude.{slice_index_or}
 use Rattle.std.proofs.lemmas.List.{length-drop, length-take}
 use Rattle.std.proofs.lemmas.Option.{slice_get_past, same_Some, none-some}
@@ -70,5 +70,5 @@ module _ (t : GroupContents) (index : ℕ) (d : Descriptor) (there : slice_get t
     -- which it has
     pub has_values : IsWellFormedGroup t → length values ≡ 0 → ⊥
     has_values well none =
-        let has : HasValues t.enumerators last place = subst (HasItsValues t.enumerators) is (at_place _ t.descriptors index d well.values there) in
+        let has : HasValues t.enumerators last place = subst (HasItsValues t.enumerators) is (at_place (λ (x : Descriptor). HasItsValues t.enumerators x.detail) t.descriptors index d well.values there) in
         some_values values t.enumerators last place own_values has.inside none

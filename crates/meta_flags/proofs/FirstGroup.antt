@@ -1,5 +1,5 @@
 -- What the tables of declarations serve.
-use Rattle.std.proofs.Common.{◌≡◌, ℕ, ◌<◌, ◌≤◌, inl, inr, List, length, slice_get, Option, None, Some, option_map, refl, sym, ap, ◌∙◌, arith}
+use Rattle.std.proofs.Common.{◌≡◌, ℕ, ◌≤◌, inl, inr, List, length, slice_get, Option, None, Some, option_map, refl, sym, ap, ◌∙◌, arith}
 use Rattle.std.specs.Prelude.{IfSome, IfNone}
 use Rattle.std.proofs.lemmas.Bool.{cases_lt}
 use Rattle.std.proofs.lemmas.Option.{slice_get_past, slice_get_within, none-some}
@@ -9,7 +9,7 @@ use Rattle.meta_settings.specs.LaidOut.{built_of}
 use Rattle.meta_setting_tables.specs.GroupTables.{GroupContents, AreTablesOfGroup}
 use Rattle.meta_declared.specs.AllDeclared.{Declared}
 use Rattle.meta_gen.specs.WholeTables.{WholeTables, AreWholeTablesOf, HasNoGroup}
-use Rattle.meta_flags.specs.Served.{Served, served_in, served_of, initial}
+use Rattle.meta_flags.specs.Served.{served_in, served_of, initial}
 use Rattle.meta_flags.specs.FlagAnswers.{initial_of}
 use Rattle.meta_flags.specs.FlagsOutput.{first_of}
 use Rattle.meta_flags.specs.Held.{FlagContents, served_by, state_of}

@@ -1,9 +1,9 @@
 -- What a line changes and answers is one.
-use Rattle.std.proofs.Common.{◌≡◌, ◌≢◌, inl, inr, ℕ, ◌<◌, Bool, List, length, slice_get, slice_set, Some, Result, Ok, Err, refl, sym, ap, ◌∙◌, subst, arith}
+use Rattle.std.proofs.Common.{◌≡◌, inl, inr, ℕ, ◌<◌, List, length, slice_get, slice_set, Result, Ok, Err, refl, sym, ap, ◌∙◌, subst, arith}
 use Rattle.std.proofs.lemmas.Bool.{cases_lt}
 use Rattle.std.proofs.lemmas.Fmt.{decimal_injective}
 use Rattle.std.proofs.lemmas.Option.{same_Some}
-use Rattle.meta_flags.specs.Served.{SettingValue, BoolValue, NumValue, EnumValue, EntryKind, BoolKind, NumKind, EnumKind, PresetKind, ServedEntry, Served, State}
+use Rattle.meta_flags.specs.Served.{SettingValue, NumValue, EntryKind, BoolKind, NumKind, EnumKind, PresetKind, ServedEntry, Served, State}
 use Rattle.meta_flags.specs.Changes.{HasNone, IsEntry, IsPresetKind, IsText, IsSet, IsOfPreset, IsNoValue, Sets, IsEnabled, IsNoSwitch, Enabled, IsOfNoSwitch, Enables, HasValue, Gets}
 use Rattle.meta_flags.specs.declared.flag_error.FlagError.{FlagError}
 use Rattle.meta_flags.specs.declared.flag_error.FlagError.TheVariants.{Unknown, Kind, Value}

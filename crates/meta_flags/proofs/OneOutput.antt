@@ -1,8 +1,8 @@
 -- The answers to the lines of an input are one.
-use Rattle.std.proofs.Common.{◌≡◌, inl, inr, List, [], ◌∷◌, ◌++◌, length, get_or, ℕ, Option, None, Some, Result, refl, sym, ap, ap₂, ◌∙◌, subst, arith}
-use Rattle.meta_flags.specs.Served.{SettingValue, Served, State}
+use Rattle.std.proofs.Common.{◌≡◌, inl, inr, List, [], ◌∷◌, ◌++◌, ℕ, Option, None, Some, sym, ap, ap₂, ◌∙◌, subst}
+use Rattle.meta_flags.specs.Served.{Served, State}
 use Rattle.meta_flags.specs.Replies.{change_line, got_line}
-use Rattle.meta_flags.specs.Request.{Request, Set, Enable, Get, Toml, request_words, Requests}
+use Rattle.meta_flags.specs.Request.{Request, Set, Enable, Get, Toml}
 use Rattle.meta_flags.specs.FlagAnswers.{IsServed, IsServedBy, IsLineServed, IsAnswered, AreFlagAnswers}
 use Rattle.meta_flags.proofs.OneChange.{one_set, one_enable, one_get}
 use Rattle.meta_flags.proofs.RequestLemmas.{request_pieces, same_request}
@@ -25,7 +25,7 @@ one_line g line old new next out text (inl (q, asks, a)) (inl (r, asked, b)) =
     one_served_by g r old new next out text (subst (λ (p : Request). IsServedBy g p old new out) same a) b
 one_line g line old new next out text (inl (q, asks, a)) (inr (none, n, e)) = absurd (none q asks)
 one_line g line old new next out text (inr (none, n, e)) (inl (r, asked, b)) = absurd (none r asked)
-one_line g line old new next out text (inr (none, n, e)) (inr (no, m, f)) = (n ∙ sym m, e ∙ sym f)
+one_line g line old new next out text (inr (none, n, e)) (inr (nothing, m, f)) = (n ∙ sym m, e ∙ sym f)
 
 one_answer : (g : Option Served) (line : List ℕ) (old new next : State) (out text : List ℕ) → IsAnswered g line old new out → IsAnswered g line old next text → (new ≡ next) × (out ≡ text)
 one_answer g [] old new next out text (n, e) (m, f) = (n ∙ sym m, e ∙ sym f)

@@ -1,13 +1,13 @@
 -- Settings stand before presets, so that the number of a setting is its place among the values.
-use Rattle.std.proofs.Common.{◌≡◌, ◌↔◌, ℕ, zero, suc, ◌+◌, ◌<◌, ◌≤◌, Bool, true, false, not, cond, List, [], ◌∷◌, ◌++◌, length, map, take, slice_get, Some, refl, sym, ap, ◌∙◌, length-append, arith}
-use Rattle.std.specs.List.{filter, flat_map}
+use Rattle.std.proofs.Common.{◌≡◌, ◌↔◌, ℕ, zero, suc, ◌+◌, ◌<◌, ◌≤◌, Bool, true, false, not, List, [], ◌∷◌, ◌++◌, length, map, take, refl, sym, ap, ◌∙◌, length-append, arith}
+use Rattle.std.specs.List.{flat_map}
 use Rattle.std.proofs.lemmas.Bool.{false≢true, cond-true, cond-false}
 use Rattle.meta_setting_tables.specs.declared.descriptor.Detail.{Detail}
 use Rattle.meta_setting_tables.specs.declared.descriptor.Detail.TheVariants.{Bool as BoolDetail, Enum as EnumDetail, Num as NumDetail, Preset as PresetDetail}
 use Rattle.meta_setting_tables.specs.declared.descriptor.Descriptor.{Descriptor}
 use Rattle.meta_setting_tables.specs.GroupTables.{GroupContents}
 use Rattle.meta_setting_tables.specs.WellFormed.{is_preset, own_byte_count, boolean_count, byte_count, IsPlaced, IsWellFormedGroup}
-use Rattle.meta_flags.specs.Served.{SettingValue, ServedEntry, State, default_of, settings_in, kind_in, served_entry, served_in, initial}
+use Rattle.meta_flags.specs.Served.{ServedEntry, State, default_of, settings_in, kind_in, served_entry}
 use Rattle.meta_flags.specs.Held.{AreSettings}
 
 -- how many settings there are

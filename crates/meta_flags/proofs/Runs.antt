@@ -1,5 +1,5 @@
 -- From how a run of the service ended to what it did.
-use Rattle.std.proofs.Common.{◌≡◌, ◌≢◌, ◌≤◌, ◌⊎◌, inl, inr, ℕ, Bool, true, false, List, [], ◌++◌, length, Option, Some, refl, sym, ap, ◌∙◌, subst, arith}
+use Rattle.std.proofs.Common.{◌≡◌, ◌≢◌, ◌≤◌, ◌⊎◌, inl, inr, ℕ, Bool, true, false, List, [], ◌++◌, Option, Some, sym, ap, ◌∙◌}
 use Rattle.meta_types.specs.declared.fault.DefinitionError.{DefinitionError}
 use Rattle.meta_declared.specs.AllDeclared.{Declared, ShowsFirst, AreValid}
 use Rattle.meta_text.specs.Outside.{Rose, longest_input, GaveMore, GaveAtMost}

@@ -1,10 +1,10 @@
 -- What is served by the tables of a declared group is what is served by the layout of the group.
-use Rattle.std.proofs.Common.{◌≡◌, ℕ, zero, suc, ◌+◌, ◌-◌, ◌*◌, ◌<◌, ◌≤◌, ◌==◌, inl, inr, Bool, true, false, not, List, [], ◌∷◌, ◌++◌, length, map, take, drop, slice_get, get_or, Option, None, Some, refl, sym, ap, ap₂, ◌∙◌, arith}
+use Rattle.std.proofs.Common.{◌≡◌, ℕ, suc, ◌+◌, ◌-◌, ◌*◌, ◌<◌, ◌≤◌, ◌==◌, inl, inr, Bool, true, false, not, List, [], ◌∷◌, length, map, take, drop, slice_get, get_or, Some, refl, sym, ap, ap₂, ◌∙◌, arith}
 use Rattle.std.specs.Option.{option_map}
 use Rattle.std.specs.Int.{bit_at}
 use Rattle.std.proofs.lemmas.Bool.{cond-true, cond-false, cases_lt}
 use Rattle.std.proofs.lemmas.List.{length-map, length-append}
-use Rattle.std.proofs.lemmas.Option.{slice_get-map, slice_get_within, slice_get-get_or, get_or_from_slice_get, slice_get_past}
+use Rattle.std.proofs.lemmas.Option.{slice_get-map, slice_get_within, get_or_from_slice_get}
 use Rattle.meta_lists.proofs.Places.{get_stays, get_right, same_places, get_there}
 use Rattle.meta_settings.specs.declared.setting.SpecificSetting.{SpecificSetting}
 use Rattle.meta_settings.specs.declared.setting.SpecificSetting.TheVariants.{Bool as ABool, Enum as AnEnum, Num as ANum}
@@ -19,7 +19,7 @@ use Rattle.meta_setting_tables.specs.GroupTables.{GroupContents, AreTablesOfGrou
 use Rattle.meta_setting_tables.specs.EntryValues.{is_on, masks_from, is_one_of}
 use Rattle.meta_setting_tables.specs.WellFormed.{is_preset}
 use Rattle.meta_setting_tables.proofs.Enabled.{AreAlike, alike, default_back}
-use Rattle.meta_flags.specs.Served.{ServedEntry, BoolKind, NumKind, EnumKind, PresetKind, EntryKind, kind_in, kind_of_setting, served_setting, served_preset, settings_in, marks_in, served_entry, served_in, served_of}
+use Rattle.meta_flags.specs.Served.{BoolKind, NumKind, EnumKind, PresetKind, kind_in, kind_of_setting, served_setting, served_preset, settings_in, marks_in, served_entry, served_in, served_of}
 
 -- a setting is of the same kind by its detail, the enumerators and the defaults
 same_kind : (t : GroupContents) (before : List PlacedSetting) (byte : ℕ) (specific : SpecificSetting) (detail : Detail) (value : ℕ) → IsDetailOf t.enumerators before specific detail → slice_get t.defaults byte ≡ Some value → HoldsDefault value specific → kind_in t byte detail ≡ kind_of_setting specific

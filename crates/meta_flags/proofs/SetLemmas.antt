@@ -1,11 +1,10 @@
 -- What is known of an entry by its detail.
-use Rattle.std.proofs.Common.{◌≡◌, ◌≢◌, ℕ, Bool, true, false, List, refl, sym, ap, subst}
-use Rattle.std.proofs.lemmas.Bool.{false≢true}
+use Rattle.std.proofs.Common.{◌≡◌, ℕ, false, List, refl, sym, subst}
 use Rattle.meta_setting_tables.specs.declared.descriptor.Detail.{Detail}
 use Rattle.meta_setting_tables.specs.declared.descriptor.Detail.TheVariants.{Bool as BoolDetail, Enum as EnumDetail, Num as NumDetail, Preset as PresetDetail}
 use Rattle.meta_setting_tables.specs.GroupTables.{GroupContents}
 use Rattle.meta_setting_tables.specs.WellFormed.{is_preset}
-use Rattle.meta_flags.specs.Served.{SettingValue, EntryKind, kind_in}
+use Rattle.meta_flags.specs.Served.{SettingValue, kind_in}
 use Rattle.meta_flags.specs.Changes.{IsPresetKind, IsText}
 use Rattle.meta_flags.proofs.GetLemmas.{no_preset}
 

@@ -1,6 +1,6 @@
 -- What a run of the service does.
 --     ServesLines, RefusesDeclarations, Completes      what a run does where nothing fails
-use Rattle.std.specs.Prelude.{◌≡◌, ◌≢◌, ℕ, ◌≤◌, ◌⊎◌, Bool, true, false, List, [], ◌++◌, length, Option, Some}
+use Rattle.std.specs.Prelude.{◌≡◌, ◌≢◌, ℕ, ◌≤◌, ◌⊎◌, true, false, List, [], ◌++◌, length, Option, Some}
 use Rattle.meta_types.specs.declared.fault.DefinitionError.{DefinitionError}
 use Rattle.meta_text.specs.Outside.{Rose, longest_input, GaveMore}
 use Rattle.meta_declared.specs.AllDeclared.{Declared, ShowsFirst, AreValid}

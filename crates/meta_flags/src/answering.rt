@@ -37,10 +37,7 @@ fn push_value(out: &mut String, value: FlagValue<'_>) -> Result<(), AllocError>
 }
 
 /// Adds the line that tells a value.
-fn push_got(
-    out: &mut String,
-    outcome: Result<FlagValue<'_>, FlagError>,
-) -> Result<(), AllocError>
+fn push_got(out: &mut String, outcome: Result<FlagValue<'_>, FlagError>) -> Result<(), AllocError>
     ensures { OnOk result (string_bytes out.new ≡ string_bytes out.old ++ got_line (got outcome.entry)) }
 {
     match outcome {

@@ -11,7 +11,11 @@ use meta_types::Text;
 use std::alloc::{AllocError, Global};
 
 /// Adds the line of a setting.
-pub(crate) fn push_line(out: &mut String, name: &Text, value: FlagValue<'_>) -> Result<(), AllocError>
+pub(crate) fn push_line(
+    out: &mut String,
+    name: &Text,
+    value: FlagValue<'_>,
+) -> Result<(), AllocError>
     ensures { OnOk result (string_bytes out.new ≡ string_bytes out.old ++ toml_line name.now (value_of value.entry)) }
 {
     let name = name.as_str();

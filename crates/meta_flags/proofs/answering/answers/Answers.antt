@@ -1,4 +1,4 @@
-use Rattle.std.proofs.Common.{◌≡◌, List, ℕ, Option, string_bytes, sym, ◌∙◌, subst}
+use Rattle.std.proofs.Common.{Option, string_bytes, ◌∙◌, subst}
 use Rattle.meta_words.specs.Lines.{lines_of}
 use Rattle.meta_flags.specs.Served.{Served}
 use Rattle.meta_flags.specs.FlagAnswers.{IsAnswered}

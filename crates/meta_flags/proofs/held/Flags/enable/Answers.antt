@@ -1,4 +1,4 @@
-use Rattle.std.proofs.Common.{◌≡◌, inl, inr, true, map, slice_set, refl, sym, ap, ◌∙◌, subst, arith}
+use Rattle.std.proofs.Common.{inl, inr, true, map, slice_set, refl, sym, ap, ◌∙◌, subst, arith}
 use Rattle.std.proofs.lemmas.List.{length-map, map-set}
 use Rattle.std.proofs.lemmas.Option.{none-some}
 use Rattle.meta_lists.proofs.Mapped.{get_mapped}
@@ -46,24 +46,28 @@ returns-in-Bool-clause-enabled c =
 pub returns-in-Enum-clause-enabled : goal.returns-in-Enum-clause-enabled
 returns-in-Enum-clause-enabled c =
     let t = c.self.inside.group.now in
-    let d = c.in-Some-descriptor.entry.now in
-    (subst (λ (f : FlagContents). IsOfNoSwitch (served_in f.group) c.args.name.now) c.self.view_is (record {
-      place = c.in-Some.index;
-      kind = kind_in t d.offset d.detail;
-      entry = is_entry t c.args.name.now c.in-Some.index d c.in-Some.ensures.found (sym c.in-Some-descriptor.ensures.entry);
-      no_switch = inr (_, ap (kind_in t d.offset) c.in-Enum.is);
-    }), refl)
+    let d = c.in-Some-descriptor.entry.now in (
+      subst (λ (f : FlagContents). IsOfNoSwitch (served_in f.group) c.args.name.now) c.self.view_is (record {
+        place = c.in-Some.index;
+        kind = kind_in t d.offset d.detail;
+        entry = is_entry t c.args.name.now c.in-Some.index d c.in-Some.ensures.found (sym c.in-Some-descriptor.ensures.entry);
+        no_switch = inr (_, ap (kind_in t d.offset) c.in-Enum.is);
+      }),
+      refl,
+    )
 
 pub returns-in-Num-clause-enabled : goal.returns-in-Num-clause-enabled
 returns-in-Num-clause-enabled c =
     let t = c.self.inside.group.now in
-    let d = c.in-Some-descriptor.entry.now in
-    (subst (λ (f : FlagContents). IsOfNoSwitch (served_in f.group) c.args.name.now) c.self.view_is (record {
-      place = c.in-Some.index;
-      kind = kind_in t d.offset d.detail;
-      entry = is_entry t c.args.name.now c.in-Some.index d c.in-Some.ensures.found (sym c.in-Some-descriptor.ensures.entry);
-      no_switch = inl (_, ap (kind_in t d.offset) c.in-Num.is);
-    }), refl)
+    let d = c.in-Some-descriptor.entry.now in (
+      subst (λ (f : FlagContents). IsOfNoSwitch (served_in f.group) c.args.name.now) c.self.view_is (record {
+        place = c.in-Some.index;
+        kind = kind_in t d.offset d.detail;
+        entry = is_entry t c.args.name.now c.in-Some.index d c.in-Some.ensures.found (sym c.in-Some-descriptor.ensures.entry);
+        no_switch = inl (_, ap (kind_in t d.offset) c.in-Num.is);
+      }),
+      refl,
+    )
 
 pub returns-in-Preset-clause-enabled : goal.returns-in-Preset-clause-enabled
 returns-in-Preset-clause-enabled c =

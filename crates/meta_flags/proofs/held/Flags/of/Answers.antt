@@ -1,4 +1,4 @@
-use Rattle.std.proofs.Common.{length, map, ap, ◌∙◌, arith}
+use Rattle.std.proofs.Common.{length, map, ap, arith}
 use Rattle.meta_setting_tables.proofs.Inside.{all_kinds}
 use Rattle.meta_flags.specs.Held.{value_of}
 use Rattle.meta_flags.proofs.Defaults.{all_defaults, held}

@@ -1,4 +1,4 @@
-use Rattle.std.proofs.Common.{◌≡◌, map, slice_set, refl, sym, ap, ◌∙◌, subst, arith}
+use Rattle.std.proofs.Common.{map, slice_set, refl, sym, ◌∙◌, subst, arith}
 use Rattle.std.proofs.lemmas.Bool.{false≢true}
 use Rattle.std.proofs.lemmas.List.{length-map, map-set}
 use Rattle.std.proofs.lemmas.Option.{none-some}
@@ -25,25 +25,29 @@ returns-in_default-descriptor-clause-set c =
 pub returns-then-is_preset-clause-set : goal.returns-then-is_preset-clause-set
 returns-then-is_preset-clause-set c =
     let t = c.self.inside.group.now in
-    let d = c.in-Some-descriptor.entry.now in
-    (subst (λ (f : FlagContents). IsOfPreset (served_in f.group) c.args.name.now) c.self.view_is (record {
-      place = c.in-Some.index;
-      kind = kind_in t d.offset d.detail;
-      entry = is_entry t c.args.name.now c.in-Some.index d c.in-Some.ensures.found (sym c.in-Some-descriptor.ensures.entry);
-      is_preset = preset_kind t d.offset d.detail (c.is_preset.ensures.0 c.if-is_preset.true);
-    }), refl)
+    let d = c.in-Some-descriptor.entry.now in (
+      subst (λ (f : FlagContents). IsOfPreset (served_in f.group) c.args.name.now) c.self.view_is (record {
+        place = c.in-Some.index;
+        kind = kind_in t d.offset d.detail;
+        entry = is_entry t c.args.name.now c.in-Some.index d c.in-Some.ensures.found (sym c.in-Some-descriptor.ensures.entry);
+        is_preset = preset_kind t d.offset d.detail (c.is_preset.ensures.0 c.if-is_preset.true);
+      }),
+      refl,
+    )
 
 pub returns-in_default-value_in-clause-set : goal.returns-in_default-value_in-clause-set
 returns-in_default-value_in-clause-set c =
     let t = c.self.inside.group.now in
-    let d = c.in-Some-descriptor.entry.now in
-    (subst (λ (f : FlagContents). IsNoValue (served_in f.group) c.args.name.now c.args.value.now) c.self.view_is (record {
-      place = c.in-Some.index;
-      kind = kind_in t d.offset d.detail;
-      entry = is_entry t c.args.name.now c.in-Some.index d c.in-Some.ensures.found (sym c.in-Some-descriptor.ensures.entry);
-      setting = setting_kind t d.offset d.detail (λ e. false≢true (sym c.if-is_preset.false ∙ c.is_preset.ensures.1 e));
-      none = c.in_default-value_in.ensures.none;
-    }), refl)
+    let d = c.in-Some-descriptor.entry.now in (
+      subst (λ (f : FlagContents). IsNoValue (served_in f.group) c.args.name.now c.args.value.now) c.self.view_is (record {
+        place = c.in-Some.index;
+        kind = kind_in t d.offset d.detail;
+        entry = is_entry t c.args.name.now c.in-Some.index d c.in-Some.ensures.found (sym c.in-Some-descriptor.ensures.entry);
+        setting = setting_kind t d.offset d.detail (λ e. false≢true (sym c.if-is_preset.false ∙ c.is_preset.ensures.1 e));
+        none = c.in_default-value_in.ensures.none;
+      }),
+      refl,
+    )
 
 pub index_mut-requires : goal.index_mut-requires
 index_mut-requires c =

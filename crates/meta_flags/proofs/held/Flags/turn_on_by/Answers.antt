@@ -3,7 +3,7 @@ use Rattle.std.proofs.Math.Seq.{take-append_seam}
 use Rattle.std.proofs.lemmas.List.{length-map}
 use Rattle.std.proofs.lemmas.Option.{same_Some}
 use Rattle.meta_setting_tables.specs.declared.descriptor.Descriptor.{Descriptor}
-use Rattle.meta_setting_tables.specs.EntryValues.{masks_from}
+use Rattle.meta_setting_tables.specs.EntryValues.{is_on, masks_from}
 use Rattle.meta_setting_tables.specs.GroupTables.{IsPresetIn}
 use Rattle.meta_flags.specs.declared.flag_value.FlagValue.{FlagValue}
 use Rattle.meta_flags.specs.Served.{marks_in}
@@ -24,7 +24,8 @@ returns-clause-on c = λ d is.
     let one : m.0 ≡ d = same_Some m.0 d (sym m.1.there ∙ own.there) in
     let masks = m.2 ∙ ap (λ (x : Descriptor). masks_from (length t.defaults) t.preset_masks x.offset) one in
     let count = c.len-count.ensures ∙ sym c.deref_mut.ensures.len ∙ ap length c.deref_mut.ensures.value ∙ sym (length-map items value_of) in
-    let on = c.turn_on.ensures ∙ ap (λ (vs : List FlagValue). turned_on _ (map value_of vs)) c.deref_mut.ensures.value in
+    let some = take c.len-count.result c.descriptors.result.now in
+    let on = c.turn_on.ensures ∙ ap (λ (vs : List FlagValue). turned_on (map (λ (x : Descriptor). is_on c.in-Some.masks.now x.offset x.detail) some) (map value_of vs)) c.deref_mut.ensures.value in
     ap (map value_of) whole
     ∙ subst (λ (f : FlagContents). map value_of new ≡ turned_on (marks_in f.group d.offset) f.state) c.self.view_is
-    (turned_by t (map value_of items) (map value_of new) d.offset c.in-Some.masks.now _ c.self.invariant.settings masks (λ i. take (count i) (c.descriptors.ensures.entries i)) on)
+    (turned_by t (map value_of items) (map value_of new) d.offset c.in-Some.masks.now some c.self.invariant.settings masks (λ i. take (count i) (c.descriptors.ensures.entries i)) on)

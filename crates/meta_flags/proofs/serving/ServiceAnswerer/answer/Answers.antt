@@ -1,8 +1,8 @@
-use Rattle.std.proofs.Common.{◌≡◌, List, ℕ, Option, string_bytes, ap, ◌∙◌, subst}
+use Rattle.std.proofs.Common.{Option, string_bytes, subst}
 use Rattle.meta_words.specs.Lines.{lines_of}
 use Rattle.meta_flags.specs.Served.{Served, State}
-use Rattle.meta_flags.specs.FlagAnswers.{initial_of, AreFlagAnswers, IsOutputOver}
-use Rattle.meta_flags.specs.Held.{served_by, state_of}
+use Rattle.meta_flags.specs.FlagAnswers.{AreFlagAnswers, IsOutputOver}
+use Rattle.meta_flags.specs.Held.{served_by}
 use Rattle.meta_flags.proofs.FirstGroup.{same_first, same_initial}
 use Rattle.meta_flags.proofs.serving.ServiceAnswerer.answer.Goals as goal
 
