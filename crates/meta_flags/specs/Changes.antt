@@ -27,7 +27,7 @@ IsText (NumKind default) text v = (n : ℕ) × (n < 256) × (text ≡ decimal n)
 IsText (EnumKind values) text v = Contains values text × (v ≡ EnumValue text)
 IsText (PresetKind marks) text v = ⊥
 
--- what becomes of the values where the first entry of the name has this kind and stands at e
+-- the setting of the name has the value that is written, and the other values are as they were
 pub record IsSet (g : Served) (name text : List ℕ) (old new : State) : Type 0 where
   pub place : ℕ
   pub kind : EntryKind
@@ -65,7 +65,7 @@ turned_on [] state = state
 turned_on (mark ∷ marks) [] = []
 turned_on (mark ∷ marks) (v ∷ vs) = (if mark then BoolValue true else v) ∷ turned_on marks vs
 
--- what becomes of the values where the entry of this kind at e is enabled
+-- what becomes of the values where the entry of this kind at e is enabled: a boolean is true, and of a preset what it marks
 abbrev pub IsEnabled : EntryKind → ℕ → State → State → Type 0
 IsEnabled (BoolKind default) e old new = new ≡ slice_set old e (BoolValue true)
 IsEnabled (NumKind default) e old new = ⊥
