@@ -1,0 +1,14 @@
+pub mod Entries
+pub mod Places
+pub mod GetLemmas
+pub mod SetLemmas
+pub mod SameServed
+pub mod Defaults
+pub mod TurningOn
+pub mod RequestLemmas
+pub mod AnswerLemmas
+pub mod Tomls
+pub mod Runs
+pub mod OneChange
+pub mod OneOutput
+pub mod FirstGroup

@@ -1,0 +1,111 @@
+-- What a service does to its values, and what it answers.
+--     Sets, Enables, Gets
+use Rattle.std.specs.Prelude.{◌≡◌, ◌≢◌, ◌⊎◌, ℕ, ◌<◌, Bool, true, false, List, [], ◌∷◌, slice_get, slice_set, Contains, Some, Result, Ok, Err, codes, if◌then◌else◌}
+use Rattle.std.specs.Fmt.{decimal}
+use Rattle.meta_flags.specs.Served.{SettingValue, BoolValue, NumValue, EnumValue, EntryKind, BoolKind, NumKind, EnumKind, PresetKind, ServedEntry, Served, State}
+use Rattle.meta_flags.specs.declared.flag_error.FlagError.{FlagError}
+use Rattle.meta_flags.specs.declared.flag_error.FlagError.TheVariants.{Unknown, Kind, Value}
+
+-- no entry has the name
+abbrev pub HasNone : Served → List ℕ → Type 0
+HasNone g name = (e : ℕ) (entry : ServedEntry) → slice_get g.entries e ≡ Some entry → entry.name ≢ name
+
+-- entry e, the first that has the name, is of this kind
+pub record IsEntry (g : Served) (name : List ℕ) (e : ℕ) (kind : EntryKind) : Type 0 where
+  pub at : slice_get g.entries e ≡ Some (record { name = name; kind = kind })
+  pub first : (j : ℕ) (entry : ServedEntry) → j < e → slice_get g.entries j ≡ Some entry → entry.name ≢ name
+
+-- it is a preset
+abbrev pub IsPresetKind : EntryKind → Type 0
+IsPresetKind kind = (marks : List Bool) × (kind ≡ PresetKind marks)
+
+-- the text writes the value, one that a setting of this kind may have: `true` or `false`, a decimal number without leading zeros from
+-- 0 to 255, or one of the values of the enum
+abbrev pub IsText : EntryKind → List ℕ → SettingValue → Type 0
+IsText (BoolKind default) text v = ((text ≡ codes "true") × (v ≡ BoolValue true)) ⊎ ((text ≡ codes "false") × (v ≡ BoolValue false))
+IsText (NumKind default) text v = (n : ℕ) × (n < 256) × (text ≡ decimal n) × (v ≡ NumValue n)
+IsText (EnumKind values) text v = Contains values text × (v ≡ EnumValue text)
+IsText (PresetKind marks) text v = ⊥
+
+-- the setting of the name has the value that is written, and the other values are as they were
+pub record IsSet (g : Served) (name text : List ℕ) (old new : State) : Type 0 where
+  pub place : ℕ
+  pub kind : EntryKind
+  pub entry : IsEntry g name place kind
+  pub value : SettingValue
+  pub is_text : IsText kind text value
+  pub changed : new ≡ slice_set old place value
+
+-- the entry of the name is a preset
+pub record IsOfPreset (g : Served) (name : List ℕ) : Type 0 where
+  pub place : ℕ
+  pub kind : EntryKind
+  pub entry : IsEntry g name place kind
+  pub is_preset : IsPresetKind kind
+
+-- the entry of the name is a setting, and no value of its kind is so written
+pub record IsNoValue (g : Served) (name text : List ℕ) : Type 0 where
+  pub place : ℕ
+  pub kind : EntryKind
+  pub entry : IsEntry g name place kind
+  pub setting : IsPresetKind kind → ⊥
+  pub none : (v : SettingValue) → IsText kind text v → ⊥
+
+-- the setting of the name gets the value that is written; else nothing changes, since no entry has the name, it is a preset's, or no
+-- value is so written
+abbrev pub Sets : Served → List ℕ → List ℕ → State → Result (Unit {0}) FlagError → State → Type 0
+Sets g name text old (Ok done) new = IsSet g name text old new
+Sets g name text old (Err Unknown) new = HasNone g name × (new ≡ old)
+Sets g name text old (Err Kind) new = IsOfPreset g name × (new ≡ old)
+Sets g name text old (Err Value) new = IsNoValue g name text × (new ≡ old)
+
+-- the values with each marked setting true
+abbrev pub turned_on : List Bool → State → State
+turned_on [] state = state
+turned_on (mark ∷ marks) [] = []
+turned_on (mark ∷ marks) (v ∷ vs) = (if mark then BoolValue true else v) ∷ turned_on marks vs
+
+-- what becomes of the values where the entry of this kind at e is enabled: a boolean is true, and of a preset what it marks
+abbrev pub IsEnabled : EntryKind → ℕ → State → State → Type 0
+IsEnabled (BoolKind default) e old new = new ≡ slice_set old e (BoolValue true)
+IsEnabled (NumKind default) e old new = ⊥
+IsEnabled (EnumKind values) e old new = ⊥
+IsEnabled (PresetKind marks) e old new = new ≡ turned_on marks old
+
+-- the entry is a number or an enum
+abbrev pub IsNoSwitch : EntryKind → Type 0
+IsNoSwitch kind = ((default : ℕ) × (kind ≡ NumKind default)) ⊎ ((values : List (List ℕ)) × (kind ≡ EnumKind values))
+
+pub record Enabled (g : Served) (name : List ℕ) (old new : State) : Type 0 where
+  pub place : ℕ
+  pub kind : EntryKind
+  pub entry : IsEntry g name place kind
+  pub changed : IsEnabled kind place old new
+
+pub record IsOfNoSwitch (g : Served) (name : List ℕ) : Type 0 where
+  pub place : ℕ
+  pub kind : EntryKind
+  pub entry : IsEntry g name place kind
+  pub no_switch : IsNoSwitch kind
+
+-- the boolean of the name, or each that the preset of the name marks, becomes true; else nothing changes, since no entry has the name,
+-- or it is a number's or an enum's
+abbrev pub Enables : Served → List ℕ → State → Result (Unit {0}) FlagError → State → Type 0
+Enables g name old (Ok done) new = Enabled g name old new
+Enables g name old (Err Unknown) new = HasNone g name × (new ≡ old)
+Enables g name old (Err Kind) new = IsOfNoSwitch g name × (new ≡ old)
+Enables g name old (Err Value) new = ⊥
+
+-- the setting of the name has the value
+pub record HasValue (g : Served) (name : List ℕ) (state : State) (v : SettingValue) : Type 0 where
+  pub place : ℕ
+  pub kind : EntryKind
+  pub entry : IsEntry g name place kind
+  pub setting : IsPresetKind kind → ⊥
+  pub there : slice_get state place ≡ Some v
+
+abbrev pub Gets : Served → List ℕ → State → Result SettingValue FlagError → Type 0
+Gets g name state (Ok v) = HasValue g name state v
+Gets g name state (Err Unknown) = HasNone g name
+Gets g name state (Err Kind) = IsOfPreset g name
+Gets g name state (Err Value) = ⊥

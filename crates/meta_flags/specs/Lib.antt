@@ -1,0 +1,9 @@
+pub mod Served
+pub mod Changes
+pub mod Held
+pub mod Toml
+pub mod Request
+pub mod Replies
+pub mod FlagAnswers
+pub mod FlagsOutput
+pub mod FlagsRun
