@@ -11,7 +11,7 @@ use rows_words::Trouble;
 use std::alloc::{AllocError, Global};
 
 /// The variables of `mix`.
-#[derive(Clone, Copy)]
+#[derive(Drop)]
 struct Variables {
     /// An integer of 8 to 64 bits, the second control.
     second: TypeVar,
@@ -49,7 +49,7 @@ fn mix(
     alloc: Global,
     name: &str,
     format: FormatId,
-    variables: Variables,
+    variables: &Variables,
 ) -> Result<InstructionBuilder, AllocError> {
     let mut inputs = Vec::new(alloc);
     inputs.push(operand(alloc, "x", variables.second)?)?;
@@ -64,15 +64,28 @@ fn mix(
     Ok(builder.second_control(variables.second))
 }
 
+/// Adds a `mix` of this name.
+fn add_mix(
+    alloc: Global,
+    all: &mut AllInstructions,
+    name: &str,
+    format: FormatId,
+    variables: &Variables,
+) -> Result<(), Trouble> {
+    let builder = mix(alloc, name, format, variables)?;
+    InstructionGroupBuilder::new(all).push(builder)?;
+    Ok(())
+}
+
 /// Declarations of the instructions of these names, each a `mix`.
 fn of_names(alloc: Global, names: &[&str]) -> Result<Declarations, Trouble> {
-    let (mut vars, mut formats) = (TypeVars::new(alloc), FormatTable::new(alloc));
+    let mut vars = TypeVars::new(alloc);
+    let mut formats = FormatTable::new(alloc);
+    let mut all = AllInstructions::new(alloc);
     let variables = roots(alloc, &mut vars)?;
     let format = binary(alloc, &mut formats)?;
-    let mut all = AllInstructions::new(alloc);
     for name in names {
-        let builder = mix(alloc, name, format, variables)?;
-        InstructionGroupBuilder::new(&mut all).push(builder)?;
+        add_mix(alloc, &mut all, name, format, &variables)?;
     }
     if !Declarations::fits(&vars, &formats, &all) {
         return Err(Trouble::NoCase);
