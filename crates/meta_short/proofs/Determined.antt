@@ -15,7 +15,7 @@ use Rattle.meta_short.specs.Short.{ShortResult, shortened, short_results}
 use Rattle.meta_short.specs.Manners.{is_relation, is_open, is_control, result_constraints, value_constraints, manner_of}
 
 -- a function that isn't a relation
-not_relation : (f : Function) → is_relation f ≡ false → IsFunction f
+pub not_relation : (f : Function) → is_relation f ≡ false → IsFunction f
 not_relation LaneOf h = ((λ e. absurd (cc)), (λ e. absurd (cc)))
 not_relation AsTruthy h = ((λ e. absurd (cc)), (λ e. absurd (cc)))
 not_relation HalfWidth h = ((λ e. absurd (cc)), (λ e. absurd (cc)))
@@ -27,7 +27,7 @@ not_relation Narrower h = absurd (cc)
 not_relation Wider h = absurd (cc)
 
 -- a function leads from a number to one number
-one_step : (f : Function) (u n m : ℕ) → IsFunction f → StepsNumbers f u n → StepsNumbers f u m → n ≡ m
+pub one_step : (f : Function) (u n m : ℕ) → IsFunction f → StepsNumbers f u n → StepsNumbers f u m → n ≡ m
 one_step f u n m is s t =
     let from : s.from ≡ t.from = one_number s.from t.from s.steps.from t.steps.from (s.number_from ∙ sym t.number_from) in
     let to : s.to ≡ t.to = one f t.from s.to t.to (record { is_function = is; steps = subst (λ v. Steps f v s.to) from s.steps }) (record { is_function = is; steps = t.steps }) in

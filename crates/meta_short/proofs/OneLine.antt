@@ -40,7 +40,7 @@ plain_byte c (inl l) = let low = letter_plain c l in (omega (arith, low), omega 
 plain_byte c (inr (inl (low, high))) = (omega (arith, low), omega (arith, low), omega (arith, low, high))
 plain_byte c (inr (inr e)) = (omega (arith, e), omega (arith, e), omega (arith, e))
 
-all_name_bytes : (name : List ℕ) → IsName name → All IsNameByte name
+pub all_name_bytes : (name : List ℕ) → IsName name → All IsNameByte name
 all_name_bytes [] h = absurd h
 all_name_bytes (c ∷ cs) (letter, more) = All-cons IsNameByte c cs (inl letter) more
 
@@ -54,7 +54,7 @@ is_plain_name name h =
       equals = All-weaker IsNameByte (λ b. b ≢ 61) (λ b is. (plain_byte b is).2) name bytes;
     }
 
-all_at : (names : List (List ℕ)) (k : ℕ) (name : List ℕ) → All IsName names → slice_get names k ≡ Some name → IsName name
+pub all_at : (names : List (List ℕ)) (k : ℕ) (name : List ℕ) → All IsName names → slice_get names k ≡ Some name → IsName name
 all_at names k name all at = subst IsName (get_or_from_slice_get names k name name at) (all k name (slice_get_within names k name at))
 
 pub name_plain : (tables : TableContents) (op : ℕ) (name : List ℕ) → IsWellFormedOpcodes tables → at_opcode tables.names op ≡ Some name → IsPlain name
@@ -72,7 +72,7 @@ one_least P n m h g = by_order (cases_order n m)
     by_order (inr (inr l)) = absurd (h.none_before m l g.holds)
 
 -- a name has one opcode, and its lines one manner
-same_opcode : (tables : TableContents) (a b : List ℕ) (op other : ℕ) → a ≡ b → IsFirst (IsOpcodeNamed tables.names a) op → IsFirst (IsOpcodeNamed tables.names b) other → op ≡ other
+pub same_opcode : (tables : TableContents) (a b : List ℕ) (op other : ℕ) → a ≡ b → IsFirst (IsOpcodeNamed tables.names a) op → IsFirst (IsOpcodeNamed tables.names b) other → op ≡ other
 same_opcode tables a b op other e h g = one_least (IsOpcodeNamed tables.names b) op other (subst (λ n. IsFirst (IsOpcodeNamed tables.names n) op) e h) g
 
 same_entry : (tables : TableContents) (op other : ℕ) (x y : OpcodeNumbers) → op ≡ other → at_opcode tables.entries op ≡ Some x → at_opcode tables.entries other ≡ Some y → x ≡ y

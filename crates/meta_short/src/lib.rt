@@ -10,5 +10,5 @@ mod print;
 mod push;
 
 pub use laws::{one_line_reads, one_short_form, short_forms_mean};
-pub use manner::{Manner, value_constraints};
+pub use manner::{Manner, is_control, value_constraints};
 pub use print::{print_line, push_line, push_short};

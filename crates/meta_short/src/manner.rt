@@ -24,8 +24,8 @@ fn is_open(constraint: Constraint) -> bool
     )
 }
 
-/// Whether a value under this constraint has the controlling type.
-fn is_control(constraint: Constraint) -> bool
+/// Whether a value under this constraint has the controlling type (this project's own).
+pub fn is_control(constraint: Constraint) -> bool
     ensures { result ≡ is_control (number_constraint_of constraint) }
 {
     matches!(constraint, Constraint::Same)

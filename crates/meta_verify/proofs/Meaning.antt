@@ -21,7 +21,7 @@ use Rattle.meta_verify.specs.declared.reason.Reason.{Reason}
 use Rattle.meta_verify.specs.declared.reason.Reason.TheVariants.{Bad, Unknown, Undefined, Redefined, Refused}
 
 -- each type is one that can be named
-abbrev HasNamedTypes : Environment → Type 0
+abbrev pub HasNamedTypes : Environment → Type 0
 HasNamedTypes env = (v : ℕ) (t : TypeParts) → env v ≡ Some t → IsType t
 
 types_named : (env : Environment) (values : List ℕ) (types : List TypeParts) → HasNamedTypes env → HaveTypes env values types → All IsType types
@@ -40,11 +40,11 @@ one_named env r named is v t e = by_test (r.value == v) e
     by_test true e = let same : r.type ≡ t = cc in subst IsType same is.is_type
     by_test false e = named v t e
 
-all_named : (env : Environment) (rs : List TypedValue) → HasNamedTypes env → All IsTyped rs → HasNamedTypes (with_values env rs)
+pub all_named : (env : Environment) (rs : List TypedValue) → HasNamedTypes env → All IsTyped rs → HasNamedTypes (with_values env rs)
 all_named env [] named h = named
 all_named env (r ∷ rs) named h = all_named (with_value env r) rs (one_named env r named (All-head IsTyped r rs h)) (All-tail IsTyped r rs h)
 
-results_typed : (s : Statement) → CanBeStated s → All IsTyped (defined_by s)
+pub results_typed : (s : Statement) → CanBeStated s → All IsTyped (defined_by s)
 results_typed (OfParameter r) can = All-cons IsTyped r [] can (All-nil IsTyped)
 results_typed (OfApplication a) can = can.results
 
@@ -57,7 +57,7 @@ question_typed a types can h = record {
 }
 
 -- where no value is defined
-nothing_named : HasNamedTypes nothing_defined
+pub nothing_named : HasNamedTypes nothing_defined
 nothing_named v t e = absurd (cc)
 
 module _ (d : InstructionSet) (tables : TableContents) (made : AreTablesOf d tables) (means : (op : ℕ) (c e : Option ℕ) (rs vs : List ℕ) → (Allows tables op c e rs vs ↔ AcceptsOpcode d op c e rs vs)) where

@@ -73,7 +73,7 @@ module _ (R : Replies) (one : (q : Question) (r s : Reply) → R q r → R q s �
   one_wrong env line a b (inr (bad, none)) (inl (t, also, g)) = absurd (none t also)
   one_wrong env line a b (inr (bad, none)) (inr (too, nothing)) = bad ∙ sym too
 
-  not_wrong : (env : Environment) (line : List ℕ) (s : Statement) (reason : Reason) → IsRight R env line s → IsWrong R env line reason → ⊥
+  pub not_wrong : (env : Environment) (line : List ℕ) (s : Statement) (reason : Reason) → IsRight R env line s → IsWrong R env line reason → ⊥
   not_wrong env line s reason (states, h) (inl (t, also, g)) = right_is_none env s reason h (subst (λ x. IsMistake R env x reason) (one_statement line t s also states) g)
   not_wrong env line s reason (states, h) (inr (bad, none)) = none s states
 

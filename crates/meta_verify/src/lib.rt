@@ -20,4 +20,5 @@ pub use laws::{answers_mean, one_verdict};
 pub use meta_run::Ending as VerifyStatus;
 pub use reason::Reason;
 pub use statement::{Application, Statement, TypedNumber};
+pub use verdict::wrong_line;
 pub use verifier::verify;

@@ -11,7 +11,7 @@ use meta_words::Lines;
 use std::alloc::{AllocError, Global};
 
 /// The text that says which line is the first wrong one, by its number, and why.
-fn wrong_line(alloc: Global, number: usize, reason: Reason) -> Result<String, AllocError>
+pub fn wrong_line(alloc: Global, number: usize, reason: Reason) -> Result<String, AllocError>
     ensures { IfOk result (λ text. string_bytes text ≡ wrong_text number reason) }
 {
     let mut text = format!(in alloc; "line {number}: ")?;

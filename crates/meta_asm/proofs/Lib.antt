@@ -1,0 +1,10 @@
+pub mod PartLemmas
+pub mod ResultLemmas
+pub mod WordLemmas
+pub mod LineLemmas
+pub mod WrittenLemmas
+pub mod ReaderLemmas
+pub mod ListingLemmas
+pub mod MeaningLemmas
+pub mod BackLemmas
+pub mod Runs

@@ -1,0 +1,14 @@
+use Rattle.std.proofs.Common.{◌≡◌, drop, string_bytes}
+use Rattle.meta_words.specs.Lines.{lines_of}
+use Rattle.meta_verify.specs.Defined.{definitions}
+use Rattle.meta_verify.proofs.VerdictLemmas.{AreRightSoFar}
+use Rattle.meta_asm.proofs.ListingLemmas.{AreWritten}
+use Rattle.meta_asm.proofs.listing.shortened.Given as goal
+
+-- the lines so far are right, lead to what is defined, and their short forms were written, and the others are left
+abbrev pub invariant-loop-line : goal.invariant-loop-line
+invariant-loop-line l = record {
+  left : drop l.number (lines_of l.fn.input) ≡ l.line-iterator;
+  right : AreRightSoFar l.tables.opcodes (lines_of l.fn.input) l.number (definitions l.checker);
+  written : AreWritten l.tables.opcodes (lines_of l.fn.input) l.number (definitions l.checker) (string_bytes l.text);
+}

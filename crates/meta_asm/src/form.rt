@@ -1,0 +1,41 @@
+ghost use Rattle.std.specs.Prelude.{◌≡◌, ◌≢◌, IfSome, IfNone};
+ghost use Rattle.meta_asm.specs.Form.{name_of, words_for};
+ghost use Rattle.meta_asm.specs.declared.form.Form as spec;
+
+use meta_types::Text;
+
+/// In which form a list is written.
+#[derive(Clone, Copy)]
+pub enum Form {
+    /// With types left out.
+    Short,
+    /// With all types.
+    Explicit,
+}
+
+impl Form {
+    /// The form that the words ask for, and `None` exactly where they ask for none.
+    pub(crate) fn parse(words: &[Text]) -> Option<Form>
+        ensures some { IfSome result (λ form. words.now ≡ words_for form) }
+        ensures none { IfNone result ((form : spec.Form) → words.now ≢ words_for form) }
+    {
+        match words {
+            [word] => Form::named(word.as_bytes()),
+            _ => None,
+        }
+    }
+
+    /// The form of this name.
+    fn named(name: &[u8]) -> Option<Form>
+        ensures some { IfSome result (λ form. name.now ≡ name_of form) }
+        ensures none { IfNone result ((form : spec.Form) → name.now ≢ name_of form) }
+    {
+        if name == b"short".as_slice() {
+            return Some(Form::Short);
+        }
+        if name == b"explicit".as_slice() {
+            return Some(Form::Explicit);
+        }
+        None
+    }
+}

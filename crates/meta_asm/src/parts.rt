@@ -1,0 +1,79 @@
+ghost use Rattle.std.specs.Prelude.{◌≡◌, ◌≢◌, ℕ, List, [], ◌∷◌, ◌++◌, All};
+ghost use Rattle.std.specs.Option.{option_map};
+ghost use Rattle.meta_verify.specs.Statement.{Application, CanApply};
+ghost use Rattle.meta_short.specs.Short.{Manner, results_part, values_written, short_application};
+ghost use Rattle.meta_short.specs.Parts.{IsPlain};
+ghost use Rattle.meta_asm.specs.Parts.{HasParts};
+
+use meta_words::cut;
+
+/// The parts of the short form of an application: the list before ` = `, the name, what stands behind the point, and the list of the
+/// values.
+#[derive(Clone, Copy)]
+pub(crate) struct Parts<'a> {
+    pub(crate) results: Option<&'a [u8]>,
+    pub(crate) name: &'a [u8],
+    pub(crate) control: Option<&'a [u8]>,
+    pub(crate) values: Option<&'a [u8]>,
+}
+
+/// The text without the one space at its end, if it has one.
+fn without_space_behind(text: &[u8]) -> &[u8]
+    ensures { (front : List ℕ) → text.now ≡ front ++ 32 ∷ [] → result.now ≡ front }
+{
+    match text {
+        [front @ .., b' '] => front,
+        _ => text,
+    }
+}
+
+/// The text without the one space at its front, if it has one.
+pub(crate) fn without_space_before(text: &[u8]) -> &[u8]
+    ensures space { (rest : List ℕ) → text.now ≡ 32 ∷ rest → result.now ≡ rest }
+    ensures no_space { (c : ℕ) (rest : List ℕ) → text.now ≡ c ∷ rest → c ≢ 32 → result.now ≡ text.now }
+{
+    match text {
+        [b' ', rest @ ..] => rest,
+        _ => text,
+    }
+}
+
+/// What stands before ` = `, if there is such a part, and what stands behind it.
+#[derive(Clone, Copy)]
+struct Sides<'a> {
+    results: Option<&'a [u8]>,
+    applied: &'a [u8],
+}
+
+/// The two sides of the short form of an application. Of another text they are some parts of it.
+fn sides_of(text: &[u8]) -> Sides<'_>
+    ensures results { (results : List (List ℕ)) (applied : List ℕ) → All (λ t. All (λ b. b ≢ 61) t) results → All (λ b. b ≢ 61) applied → text.now ≡ results_part results ++ applied → option_map (λ t. t.now) result.results ≡ values_written results }
+    ensures applied { (results : List (List ℕ)) (applied : List ℕ) → All (λ t. All (λ b. b ≢ 61) t) results → All (λ b. b ≢ 61) applied → text.now ≡ results_part results ++ applied → result.applied.now ≡ applied }
+{
+    let (front, rest) = cut(text, b'=');
+    match rest {
+        Some(rest) => Sides {
+            results: Some(without_space_behind(front)),
+            applied: without_space_before(rest),
+        },
+        None => Sides {
+            results: None,
+            applied: front,
+        },
+    }
+}
+
+/// The parts of the short form of an application. Of another text they are some parts of it.
+pub(crate) fn parts_of(text: &[u8]) -> Parts<'_>
+    ensures { (m : Manner) (a : Application) → IsPlain a.name → CanApply a → text.now ≡ short_application m a → HasParts m a result }
+{
+    let sides = sides_of(text);
+    let (head, values) = cut(sides.applied, b' ');
+    let (name, control) = cut(head, b'.');
+    Parts {
+        results: sides.results,
+        name,
+        control,
+        values,
+    }
+}

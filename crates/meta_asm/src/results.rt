@@ -1,0 +1,80 @@
+ghost use Rattle.std.specs.Prelude.{◌≡◌, ◌++◌, ℕ, Bool, true, List, ◌∷◌, map, All, Option, Some, IfOk, IfSome, IfNone, OnOk, [], false};
+ghost use Rattle.std.specs.Option.{option_map};
+ghost use Rattle.meta_types.specs.TypeParts.{number_of};
+ghost use Rattle.meta_verify.specs.Statement.{TypedValue, IsTyped, value_text, typed_text, list_text};
+ghost use Rattle.meta_short.specs.Short.{shortened, short_results, short_result_text, values_written};
+ghost use Rattle.meta_asm.specs.Parts.{TellTypes, comma_behind};
+
+use super::parts::without_space_before;
+use super::words::push_type;
+use meta_words::{Pieces, cut};
+use std::alloc::{AllocError, Global};
+
+/// Adds a result with its type: as it is written, or else the type with this number. It is false where no type has it.
+fn push_result(
+    alloc: Global,
+    word: &mut Vec<u8>,
+    text: &[u8],
+    number: u16,
+) -> Result<bool, AllocError>
+    ensures { IfOk result (λ has_type. (opened : Bool) (r : TypedValue) → IsTyped r → (opened ≡ false → number ≡ number_of r.type) → text.now ≡ short_result_text (shortened opened r)
+        → (has_type ≡ true) × (word.new.items ≡ word.old.items ++ typed_text r)) }
+{
+    word.extend_from_slice(text)?;
+    let (_, written) = cut(text, b':');
+    if written.is_some() {
+        return Ok(true);
+    }
+    word.push(b':')?;
+    push_type(alloc, word, number)
+}
+
+/// Adds a comma, but at the front.
+fn push_comma(word: &mut Vec<u8>) -> Result<(), AllocError>
+    ensures { OnOk result (word.new.items ≡ word.old.items ++ comma_behind word.old.items) }
+{
+    if word.is_empty() {
+        return Ok(());
+    }
+    word.push(b',')?;
+    Ok(())
+}
+
+/// The first of the numbers, and those behind it.
+fn next_number(numbers: &[u16]) -> Option<(u16, &[u16])>
+    ensures some { IfSome result (λ p. numbers.now ≡ p.0 ∷ p.1.now) }
+    ensures none { IfNone result (numbers.now ≡ []) }
+{
+    let (first, others) = numbers.split_first()?;
+    Some((*first, others))
+}
+
+/// The word for results, of which there is a number for each: `-` for none, and else each with its type, as it is written or as its number
+/// tells. `None` where there are more results, or no type has a number that has to tell one.
+pub(crate) fn results_word(
+    alloc: Global,
+    list: Option<&[u8]>,
+    numbers: &[u16],
+) -> Result<Option<Vec<u8>>, AllocError>
+    ensures { IfOk result (λ word. (opened : List Bool) (rs : List TypedValue) → All IsTyped rs → TellTypes opened rs numbers.now
+        → option_map (λ t. t.now) list.entry ≡ values_written (map short_result_text (short_results opened rs)) → option_map (λ w. w.items) word ≡ Some (list_text (map typed_text rs))) }
+{
+    let Some(listed) = list else {
+        let word = b"-".to_vec(alloc)?;
+        return Ok(Some(word));
+    };
+    let mut word = Vec::new(alloc);
+    let mut numbers_left = numbers;
+    for piece in Pieces::new(listed, b',') {
+        let Some((number, others)) = next_number(numbers_left) else {
+            return Ok(None);
+        };
+        numbers_left = others;
+        push_comma(&mut word)?;
+        let text = without_space_before(piece);
+        if !push_result(alloc, &mut word, text, number)? {
+            return Ok(None);
+        }
+    }
+    Ok(Some(word))
+}
