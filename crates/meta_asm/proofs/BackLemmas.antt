@@ -1,6 +1,5 @@
 -- What was written in the short form reads as the list that it was written of.
-use Rattle.std.proofs.Common.{◌≡◌, ◌≢◌, ◌⊎◌, inl, inr, ℕ, zero, suc, ◌+◌, ◌-◌, ◌<◌, ◌≤◌, ◌==◌, Bool, true, false, List, [], ◌∷◌, ◌++◌, map, take, length, get_or, slice_get, slice_index, All, Option, None, Some, codes, refl, sym, ap, ap₂, ◌∙◌, subst, append_assoc, append-nil, arith, rules, tests}
-use Rattle.std.specs.List.{flat_map, join_with_byte}
+use Rattle.std.proofs.Common.{◌≡◌, ◌≢◌, inl, inr, ℕ, zero, suc, ◌-◌, ◌<◌, ◌≤◌, ◌==◌, Bool, true, false, List, [], ◌∷◌, ◌++◌, map, take, length, get_or, slice_get, slice_index, All, Some, codes, refl, sym, ap, ap₂, ◌∙◌, subst, append_assoc, arith, rules, tests}
 use Rattle.std.specs.Str.Lines.{strip_carriage_return}
 use Rattle.std.proofs.lemmas.Bool.{cond-false}
 use Rattle.std.proofs.lemmas.List.Elements.{All-nil, All-cons, All-head, All-tail, All-append, All-weaker}
@@ -9,7 +8,6 @@ use Rattle.meta_meaning.specs.Tables.{TableContents, at_opcode}
 use Rattle.meta_opcode_tables.specs.WellFormed.{IsWellFormedOpcodes}
 use Rattle.meta_words.specs.Lines.{lines_of, lines_of_pieces}
 use Rattle.meta_words.specs.Words.{pieces_of}
-use Rattle.meta_words.proofs.NameLemmas.{IsDigit}
 use Rattle.meta_words.proofs.PieceLemmas.{slice_split_cons, first_piece}
 use Rattle.meta_answers.specs.Answer.{AllowedReply}
 use Rattle.meta_verify.specs.Statement.{TypedValue, Application, Statement, OfParameter, OfApplication, IsTyped, CanApply, IsStatement, value_text, defined_by}

@@ -1,16 +1,15 @@
 -- The line of an application, and its bytes.
-use Rattle.std.proofs.Common.{◌≡◌, ◌≢◌, ◌⊎◌, inl, inr, ℕ, ◌<◌, ◌≤◌, ◌==◌, Bool, true, false, List, [], ◌∷◌, ◌++◌, map, length, get_or, All, Option, None, Some, IfSome, codes, refl, sym, ap, ap₂, ◌∙◌, subst, arith}
+use Rattle.std.proofs.Common.{◌≡◌, ◌≢◌, ◌⊎◌, inl, inr, ℕ, ◌<◌, ◌≤◌, Bool, true, false, List, [], ◌∷◌, map, length, get_or, All, Option, None, Some, IfSome, codes, refl, sym, ap, ◌∙◌, subst, arith}
 use Rattle.std.specs.List.{join_with_byte}
-use Rattle.std.specs.Option.{option_map, unwrap_or}
+use Rattle.std.specs.Option.{unwrap_or}
 use Rattle.std.proofs.lemmas.Bool.{cases_order}
 use Rattle.std.proofs.lemmas.List.Elements.{All-nil, All-cons, All-head, All-tail, All-append, All-map, All-weaker}
-use Rattle.meta_types.specs.TypeParts.{TypeParts, IsType, number_of, name_of}
-use Rattle.meta_types.specs.TypeNumber.{type_with, IsTypeNumber}
-use Rattle.meta_types.specs.Name.{IsName, IsNameByte}
-use Rattle.meta_words.specs.Words.{IsWord, AreWords, pieces_of}
+use Rattle.meta_types.specs.TypeParts.{TypeParts, IsType, name_of}
+use Rattle.meta_types.specs.Name.{IsNameByte}
+use Rattle.meta_words.specs.Words.{AreWords, pieces_of}
 use Rattle.meta_words.specs.Control.{control_text, IsBehind}
 use Rattle.meta_words.proofs.PieceLemmas.{pieces_of-join}
-use Rattle.meta_verify.specs.Statement.{TypedValue, Application, Statement, OfParameter, OfApplication, IsValue, IsTyped, CanApply, IsStatement, value_text, typed_text, list_text, words_of}
+use Rattle.meta_verify.specs.Statement.{TypedValue, Application, OfParameter, OfApplication, IsValue, IsTyped, CanApply, IsStatement, value_text, typed_text, list_text, words_of}
 use Rattle.meta_verify.proofs.StatementLemmas.{states_application}
 use Rattle.meta_short.specs.Short.{control_written, parameter_text}
 use Rattle.meta_short.specs.Parts.{IsPlain}

@@ -1,6 +1,5 @@
 -- Lists of lines and of their short forms, line by line.
 use Rattle.std.proofs.Common.{◌≡◌, ◌≢◌, ◌⊎◌, inl, inr, ℕ, zero, suc, ◌+◌, ◌<◌, Bool, true, false, List, [], ◌∷◌, ◌++◌, take, drop, length, ◌==◌, slice_get, Option, None, Some, refl, sym, ap, ap₂, ◌∙◌, subst, append-nil, append_assoc, length-append, map, arith, rules, tests}
-use Rattle.std.specs.List.{flat_map}
 use Rattle.std.proofs.lemmas.List.Concat.{flat_map-append}
 use Rattle.meta_lists.proofs.Places.{take_next}
 use Rattle.meta_meaning.specs.Tables.{TableContents}

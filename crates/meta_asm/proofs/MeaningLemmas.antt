@@ -1,5 +1,5 @@
 -- What is written by tables is what the declarations mean.
-use Rattle.std.proofs.Common.{◌≡◌, ◌↔◌, ℕ, ◌+◌, Bool, true, false, List, [], ◌∷◌, take, Option, sym, subst}
+use Rattle.std.proofs.Common.{◌↔◌, ℕ, Bool, true, false, List, [], ◌∷◌, take, sym, subst}
 use Rattle.meta_words.specs.Lines.{lines_of}
 use Rattle.meta_inst.specs.InstructionSet.{InstructionSet}
 use Rattle.meta_meaning.specs.Tables.{TableContents}

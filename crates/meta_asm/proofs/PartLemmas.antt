@@ -1,11 +1,10 @@
 -- The parts of the short form of an application.
-use Rattle.std.proofs.Common.{◌≡◌, ◌≢◌, ℕ, ◌==◌, Bool, true, false, List, [], ◌∷◌, ◌++◌, map, All, Option, None, Some, codes, refl, sym, ap, ap₂, ◌∙◌, append_assoc, append-nil, arith}
+use Rattle.std.proofs.Common.{◌≡◌, ◌≢◌, ℕ, List, [], ◌∷◌, ◌++◌, map, All, Option, None, Some, refl, sym, ap, ◌∙◌, append_assoc, append-nil, arith}
 use Rattle.std.specs.Option.{option_map, option_map_or}
-use Rattle.std.proofs.lemmas.List.Elements.{All-nil, All-cons, All-append, All-map, All-weaker}
+use Rattle.std.proofs.lemmas.List.Elements.{All-append}
 use Rattle.meta_words.specs.Words.{pieces_of}
-use Rattle.meta_words.proofs.PieceLemmas.{slice_split_cons, whole_piece}
-use Rattle.meta_verify.specs.Statement.{Application, IsValue, CanApply, value_text}
-use Rattle.meta_short.specs.Short.{Manner, short_results, short_result_text, joined, behind, control_written, values_written, results_part, short_application}
+use Rattle.meta_verify.specs.Statement.{Application, CanApply, value_text}
+use Rattle.meta_short.specs.Short.{Manner, joined, behind, control_written, values_written, results_part}
 use Rattle.meta_short.specs.Parts.{IsPlain}
 use Rattle.meta_short.proofs.SplitLemmas.{Lacks, part_pieces, split_pieces, one_part}
 use Rattle.meta_short.proofs.ShortLemmas.{results_form, equals, space, front_lacks, control_lacks, values_lack}

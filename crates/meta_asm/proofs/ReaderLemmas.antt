@@ -1,5 +1,5 @@
 -- What is read of the short form of an application, by tables.
-use Rattle.std.proofs.Common.{◌≡◌, ◌≢◌, ◌⊎◌, inl, inr, ℕ, zero, suc, ◌+◌, ◌<◌, ◌≤◌, ◌/◌, ◌%◌, ◌==◌, ◌&&◌, Bool, true, false, List, [], ◌∷◌, ◌++◌, map, length, take, drop, get_or, slice_get, All, Option, None, Some, is_some, cond, nat_lt, IfSome, IfNone, codes, refl, sym, ap, ap₂, ◌∙◌, subst, arith, rules, tests}
+use Rattle.std.proofs.Common.{◌≡◌, ◌≢◌, ◌⊎◌, inl, inr, ℕ, zero, suc, ◌+◌, ◌<◌, ◌≤◌, ◌/◌, ◌%◌, ◌==◌, ◌&&◌, Bool, true, false, List, [], ◌∷◌, map, length, drop, get_or, slice_get, All, Option, None, Some, is_some, cond, nat_lt, IfSome, IfNone, codes, refl, sym, ap, ◌∙◌, subst, arith, rules, tests}
 use Rattle.std.specs.Option.{option_map}
 use Rattle.std.specs.List.{join_with_byte, list_any, position, position_or_len}
 use Rattle.std.proofs.lemmas.List.Quantifiers.{position-Some}
@@ -17,20 +17,19 @@ use Rattle.meta_types.specs.TypeParts.{TypeParts, IsType, number_of}
 use Rattle.meta_types.specs.Function.{StepsNumbers}
 use Rattle.meta_types.specs.TypeNumber.{type_with, IsTypeNumber}
 use Rattle.meta_types.proofs.TypeNumbers.{type_back}
-use Rattle.meta_inst.specs.Which.{Which, First, both}
-use Rattle.meta_meaning.specs.Inference.{IsRelation, GivesNumber, GivesAt, GivesResults}
+use Rattle.meta_inst.specs.Which.{First, both}
+use Rattle.meta_meaning.specs.Inference.{GivesNumber, GivesAt, GivesResults}
 use Rattle.meta_meaning.specs.Tables.{TableContents, OpcodeNumbers, NumberConstraint, ConcreteNumber, FreeOf, SameNumber, ByNumber, NumberPasses, PassesAt, Allows, at_opcode, result_count, value_count, no_type_set}
 use Rattle.meta_opcode_tables.specs.Constraint.{number_constraint_of}
 use Rattle.meta_opcode_tables.specs.declared.constraint.Constraint.{Constraint}
 use Rattle.meta_opcode_tables.specs.declared.constraint.Constraint.TheVariants.{Same}
 use Rattle.meta_opcode_tables.specs.Contents.{IsOpcode, IsOpcodeNamed}
 use Rattle.meta_opcode_tables.specs.WellFormed.{IsWellFormedOpcodes}
-use Rattle.meta_words.specs.Words.{pieces_of}
 use Rattle.meta_words.specs.Control.{control_text, IsBehind}
 use Rattle.meta_answers.specs.Answer.{AllowedReply}
-use Rattle.meta_verify.specs.Statement.{TypedValue, Application, Statement, OfParameter, OfApplication, CanApply, IsStatement, value_text, typed_text, list_text, words_of}
+use Rattle.meta_verify.specs.Statement.{TypedValue, Application, Statement, OfParameter, OfApplication, IsStatement, value_text, typed_text, list_text}
 use Rattle.meta_verify.specs.Environment.{Environment, HaveTypes}
-use Rattle.meta_verify.specs.Wrong.{question_of, IsRight, IsWrong}
+use Rattle.meta_verify.specs.Wrong.{IsRight, IsWrong}
 use Rattle.meta_verify.specs.declared.reason.Reason.{Reason}
 use Rattle.meta_verify.proofs.StatementLemmas.{pieces_are, name_has_bytes}
 use Rattle.meta_verify.proofs.OneAnswer.{not_wrong}

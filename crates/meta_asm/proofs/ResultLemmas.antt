@@ -1,6 +1,6 @@
 -- The results of a short form, with their types.
 use Rattle.std.specs.Prelude.{⊤}
-use Rattle.std.proofs.Common.{◌≡◌, ◌≢◌, ℕ, suc, ◌+◌, ◌==◌, Bool, true, false, List, [], ◌∷◌, ◌++◌, map, slice_get, get_or, length, All, Option, None, Some, is_some, codes, refl, sym, ap, ap₂, ◌∙◌, subst, ◌⊎◌, inl, inr, append_assoc, append-nil, arith}
+use Rattle.std.proofs.Common.{◌≡◌, ◌≢◌, ℕ, suc, Bool, true, false, List, [], ◌∷◌, ◌++◌, map, slice_get, length, All, Option, None, Some, is_some, codes, refl, sym, ap, ap₂, ◌∙◌, subst, ◌⊎◌, inl, inr, append_assoc, append-nil, arith}
 use Rattle.std.specs.Fmt.{decimal}
 use Rattle.std.specs.List.{join_with_byte, flat_map}
 use Rattle.std.specs.Option.{option_map, option_map_or}
@@ -10,12 +10,12 @@ use Rattle.meta_types.specs.TypeParts.{TypeParts, IsType, number_of, name_of}
 use Rattle.meta_types.specs.TypeNumber.{type_with, IsTypeNumber}
 use Rattle.meta_types.proofs.TypeNumbers.{type_back}
 use Rattle.meta_words.specs.Words.{pieces_of}
-use Rattle.meta_verify.specs.Statement.{TypedValue, IsTyped, IsValue, value_text, typed_text, list_text}
-use Rattle.meta_short.specs.Short.{shortened, short_results, short_result_text, joined, behind, values_written}
+use Rattle.meta_verify.specs.Statement.{TypedValue, IsTyped, value_text, typed_text, list_text}
+use Rattle.meta_short.specs.Short.{shortened, short_results, short_result_text, joined, values_written}
 use Rattle.meta_short.proofs.SplitLemmas.{Lacks, joined_pieces}
 use Rattle.meta_short.proofs.ShortLemmas.{colon, comma, value_lacks, short_lacks}
 use Rattle.meta_asm.specs.Parts.{TellTypes, comma_behind}
-use Rattle.meta_asm.proofs.PartLemmas.{first_is, rest_is}
+use Rattle.meta_asm.proofs.PartLemmas.{rest_is}
 
 -- the number of a type is one
 pub numbered : (t : TypeParts) → IsType t → IsTypeNumber (number_of t)

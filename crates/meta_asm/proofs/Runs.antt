@@ -6,7 +6,7 @@ use Rattle.meta_text.specs.Outside.{Rose, longest_input, GaveMore, GaveAtMost}
 use Rattle.meta_run.specs.Ending.{WritesNothing, written_as}
 use Rattle.meta_run.specs.declared.ending.Ending.{Ending}
 use Rattle.meta_run.specs.declared.ending.Ending.TheVariants.{Done, Refused, Usage, ReadFault, WriteFault, OutOfMemory, TooLong, Rejected}
-use Rattle.meta_run.specs.Run.{IsRefusedWhole, IsRefusedInPart, IsAnsweredWhole, IsAnsweredInPart, Did, NeverRises}
+use Rattle.meta_run.specs.Run.{IsRefusedWhole, IsRefusedInPart, IsAnsweredInPart, Did, NeverRises}
 use Rattle.meta_run.proofs.Runs as lemma
 use Rattle.meta_asm.specs.Form.{words_for, written_in}
 use Rattle.meta_asm.specs.declared.form.Form.{Form}

@@ -1,5 +1,5 @@
 -- The words of a line.
-use Rattle.std.proofs.Common.{◌≡◌, ◌≢◌, ℕ, ◌==◌, not, Bool, true, false, List, [], ◌∷◌, ◌++◌, map, All, Option, None, Some, codes, refl, sym, ap, ap₂, ◌∙◌, arith, rules, tests}
+use Rattle.std.proofs.Common.{◌≡◌, ◌≢◌, ℕ, ◌==◌, not, false, List, [], ◌∷◌, ◌++◌, map, All, None, Some, codes, refl, sym, ap, ap₂, ◌∙◌, rules, tests}
 use Rattle.std.specs.List.{join_with_byte, filter}
 use Rattle.std.proofs.lemmas.List.Elements.{All-head, All-tail, filter-append}
 use Rattle.meta_types.specs.TypeParts.{number_of, name_of}

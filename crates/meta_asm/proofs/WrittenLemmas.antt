@@ -1,21 +1,17 @@
 -- What is read of the words that are written beside the results.
-use Rattle.std.proofs.Common.{◌≡◌, ◌≢◌, ℕ, ◌<◌, Bool, List, [], ◌∷◌, map, length, Option, None, Some, IfSome, codes, refl, sym, ap, ◌∙◌, subst}
+use Rattle.std.proofs.Common.{◌≡◌, ℕ, ◌<◌, List, [], ◌∷◌, map, length, Option, None, Some, IfSome, codes, refl, sym, ap, ◌∙◌}
 use Rattle.std.specs.List.{join_with_byte}
 use Rattle.std.specs.Option.{option_map, unwrap_or}
-use Rattle.meta_types.specs.TypeParts.{TypeParts, number_of}
+use Rattle.meta_types.specs.TypeParts.{number_of}
 use Rattle.meta_types.specs.TypeNumber.{type_with, IsTypeNumber}
 use Rattle.meta_verify.specs.Statement as spec
 use Rattle.meta_verify.specs.Statement.{CanApply, value_text, list_text}
-use Rattle.meta_verify.specs.Numbers.{applied, stated, IsTypedNumber, HasNumbers, HasTypeNumbers}
+use Rattle.meta_verify.specs.Numbers.{applied, HasNumbers}
 use Rattle.meta_verify.specs.declared.statement.Application.{Application}
-use Rattle.meta_verify.specs.declared.statement.Statement.{Statement}
-use Rattle.meta_verify.specs.declared.statement.Statement.TheVariants.{Parameter, Applied}
 use Rattle.meta_verify.proofs.StatementLemmas.{one_statement}
-use Rattle.meta_short.specs.Short.{Manner, control_written, values_written}
+use Rattle.meta_short.specs.Short.{Manner, control_written}
 use Rattle.meta_short.specs.Parts.{IsPlain}
-use Rattle.meta_asm.specs.declared.parts.Parts.{Parts}
-use Rattle.meta_asm.specs.Parts.{HasParts}
-use Rattle.meta_asm.specs.Written.{HasWritten, shown_control}
+use Rattle.meta_asm.specs.Written.{HasWritten}
 use Rattle.meta_asm.specs.declared.written.Written.{Written}
 use Rattle.meta_asm.proofs.LineLemmas.{shown, shown_states}
 

@@ -1,7 +1,7 @@
 -- The parts of the short form of an application, as the program holds them.
 --     HasParts m a p         they are those of a, with the types left out that m leaves out
 --     TellTypes opened rs numbers      the numbers tell the types of the results whose types aren't written
-use Rattle.std.specs.Prelude.{◌≡◌, ℕ, Bool, false, List, [], ◌∷◌, map, length, slice_get, get_or, Option, Some}
+use Rattle.std.specs.Prelude.{◌≡◌, ℕ, Bool, false, List, [], ◌∷◌, map, length, slice_get, get_or, Some}
 use Rattle.std.specs.Option.{option_map}
 use Rattle.meta_types.specs.TypeParts.{number_of}
 use Rattle.meta_verify.specs.Statement.{TypedValue, Application, value_text}

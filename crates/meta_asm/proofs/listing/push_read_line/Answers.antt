@@ -1,4 +1,4 @@
-use Rattle.std.proofs.Common.{◌≡◌, ◌≢◌, ◌++◌, List, ℕ, [], ◌∷◌, inl, true, false, refl, sym, ap, ◌∙◌, subst, string_bytes, Option, IfSome}
+use Rattle.std.proofs.Common.{◌++◌, List, ℕ, inl, refl, ap, ◌∙◌, subst, string_bytes, Option, IfSome}
 use Rattle.meta_verify.specs.Defined.{definitions}
 use Rattle.meta_short.specs.Reading.{ReadsIn}
 use Rattle.meta_asm.proofs.ListingLemmas.{line_added, empty_is, filled_is}

@@ -1,4 +1,4 @@
-use Rattle.std.proofs.Common.{◌≡◌, ◌++◌, [], ◌∷◌, true, false, ap, ◌∙◌, string_bytes, rules}
+use Rattle.std.proofs.Common.{◌≡◌, true, false, ap, string_bytes, rules}
 use Rattle.std.proofs.lemmas.Result.{IfOk-weaker}
 use Rattle.meta_verify.specs.Defined.{definitions}
 use Rattle.meta_asm.proofs.ListingLemmas.{skip_added, short_added}

@@ -1,4 +1,4 @@
-use Rattle.std.proofs.Common.{◌≡◌, ◌+◌, ℕ, List, Bool, Option, Some, None, true, false, sym, ap, ◌∙◌, subst, string_bytes, arith}
+use Rattle.std.proofs.Common.{◌≡◌, Bool, Option, sym, ◌∙◌, subst, string_bytes, arith}
 use Rattle.std.proofs.lemmas.Result.{IfOk-weaker}
 use Rattle.meta_words.specs.Lines.{lines_of}
 use Rattle.meta_words.proofs.LineLemmas.{few_lines}

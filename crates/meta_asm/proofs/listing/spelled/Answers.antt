@@ -1,4 +1,4 @@
-use Rattle.std.proofs.Common.{◌≡◌, ◌+◌, ℕ, List, Bool, true, false, sym, ap, ◌∙◌, subst, string_bytes, arith, rules}
+use Rattle.std.proofs.Common.{◌≡◌, Bool, true, false, sym, ◌∙◌, subst, string_bytes, arith, rules}
 use Rattle.std.proofs.lemmas.Result.{IfOk-weaker}
 use Rattle.meta_words.specs.Lines.{lines_of}
 use Rattle.meta_words.proofs.LineLemmas.{few_lines}

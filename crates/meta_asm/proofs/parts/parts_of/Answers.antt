@@ -1,5 +1,4 @@
-use Rattle.std.proofs.Common.{◌≡◌, ◌++◌, List, ℕ, Bor, map, arith, ◌∙◌, Option}
-use Rattle.std.specs.Option.{option_map}
+use Rattle.std.proofs.Common.{◌≡◌, ◌++◌, List, ℕ, Bor, map, arith, ◌∙◌}
 use Rattle.meta_verify.specs.Statement.{value_text}
 use Rattle.meta_short.specs.Short.{behind, short_results, short_result_text, control_written, values_written}
 use Rattle.meta_short.proofs.ShortLemmas.{equals, short_lacks}

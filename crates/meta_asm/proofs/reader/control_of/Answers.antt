@@ -1,4 +1,4 @@
-use Rattle.std.proofs.Common.{◌≡◌, ◌<◌, List, ℕ, map, length, Option, Some, None, true, false, slice_get, refl, sym, ap, ◌∙◌, rules, arith}
+use Rattle.std.proofs.Common.{◌≡◌, List, ℕ, length, Some, None, true, false, slice_get, refl, sym, ap, ◌∙◌, rules, arith}
 use Rattle.std.specs.List.{position, list_any}
 use Rattle.std.proofs.lemmas.Bool.{false≢true}
 use Rattle.std.proofs.lemmas.Option.{slice_get_read}

@@ -1,4 +1,4 @@
-use Rattle.std.proofs.Common.{◌≡◌, ◌⊎◌, List, [], ℕ, Option, IfSome, IfNone, true, false, sym, ◌∙◌, subst}
+use Rattle.std.proofs.Common.{◌≡◌, ◌⊎◌, List, [], ℕ, Option, IfSome, IfNone, sym, ◌∙◌, subst}
 use Rattle.meta_answers.specs.Answer.{AllowedReply}
 use Rattle.meta_verify.specs.Wrong.{IsWrong}
 use Rattle.meta_verify.specs.declared.reason.Reason.{Reason}

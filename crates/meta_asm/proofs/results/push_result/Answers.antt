@@ -1,4 +1,4 @@
-use Rattle.std.proofs.Common.{◌≡◌, ◌++◌, List, ℕ, Bor, Bool, true, false, is_some, refl, ap, ◌∙◌, rules}
+use Rattle.std.proofs.Common.{◌≡◌, ◌++◌, List, ℕ, Bor, true, false, is_some, refl, ap, ◌∙◌, rules}
 use Rattle.std.proofs.lemmas.Result.{IfOk-weaker}
 use Rattle.meta_asm.proofs.ResultLemmas.{is_written, isnt_written, put_together}
 use Rattle.meta_asm.proofs.results.push_result.Goals as goal

@@ -1,7 +1,7 @@
-use Rattle.std.proofs.Common.{◌≡◌, List, [], ◌∷◌, ℕ, Bor, Option, None, Some, true, false, refl, sym, ap, ◌∙◌, subst, rules, codes}
+use Rattle.std.proofs.Common.{◌≡◌, List, [], ℕ, Bor, None, Some, true, false, sym, ap, ◌∙◌, subst, rules, codes}
 use Rattle.std.specs.Option.{option_map}
 use Rattle.meta_words.specs.Words.{pieces_of}
-use Rattle.meta_asm.proofs.ResultLemmas.{AreLeft, all_left, one_result_more, none_left, no_results_written, number_left}
+use Rattle.meta_asm.proofs.ResultLemmas.{AreLeft, all_left, one_result_more, none_left, no_results_written}
 use Rattle.meta_asm.proofs.results.results_word.Goals as goal
 
 pub returns-in_default : goal.returns-in_default

@@ -1,5 +1,4 @@
-use Rattle.std.proofs.Common.{◌≡◌, ◌++◌, List, ℕ, refl, sym, ap, ◌∙◌}
-use Rattle.meta_types.specs.TypeParts.{name_of}
+use Rattle.std.proofs.Common.{◌++◌, List, ℕ, refl, ap, ◌∙◌}
 use Rattle.meta_types.specs.TypeNumber.{type_with}
 use Rattle.meta_asm.proofs.WordLemmas.{value_name}
 use Rattle.meta_asm.proofs.words.push_type.Goals as goal

@@ -1,7 +1,7 @@
-use Rattle.std.proofs.Common.{◌≡◌, List, [], ◌∷◌, ℕ, Bor, Option, Some, None, IfSome, IfNone, codes, refl, ap, ◌∙◌, subst, rules}
+use Rattle.std.proofs.Common.{◌≡◌, List, [], ◌∷◌, ℕ, Bor, Option, Some, IfSome, IfNone, codes, refl, ap, ◌∙◌, subst, rules}
 use Rattle.std.specs.List.{join_with_byte}
 use Rattle.meta_verify.specs.Statement as spec
-use Rattle.meta_verify.specs.Numbers.{typed, stated, HasTypeNumbers}
+use Rattle.meta_verify.specs.Numbers.{stated, HasTypeNumbers}
 use Rattle.meta_verify.specs.declared.statement.Statement.{Statement}
 use Rattle.meta_verify.specs.declared.statement.Statement.TheVariants.{Parameter, Applied}
 use Rattle.meta_short.specs.Short.{control_written}
