@@ -8,8 +8,8 @@ Usage: meta_asm_cli short < FILE       each line with types left out, or the num
 
 A line `param V TYPE` defines a value, in both forms, as `param v0 i64`.
 A line `line NAME CONTROL RESULTS VALUES` applies an instruction to values, as `line iadd i64 v1:i64 v0,v0`. Its short form is
-`v1 = iadd v0, v0`. A controlling type that the values don't tell stands behind a point, as in `v1 = uextend.i128 v0`, and a result
-that has its type by no rule has it behind a colon. Each line has one short form.
+`v1 = iadd v0, v0`. The controlling type stands behind a point, as in `v1 = uextend.i128 v0`, unless it is that of the value which
+the instruction designates for it. A result that has its type by no rule has it behind a colon. Each line has one short form.
 
 Options:
   -h, --help     prints this
