@@ -1,7 +1,8 @@
 //! Reads declarations and what is asked of them, case by case, and writes the answers: the first fault, what
 //! the tables hold, and what a run of the program writes and leaves.
 //!
-//! A line that begins with `#` goes through unchanged. `new` begins a case. `asked` has the words that a line begins with.
+//! A line that begins with `#` goes through unchanged. `new` begins a case. It, and each line that asks, stands behind `> ` before its
+//! answer. `asked` has the words that a line begins with.
 #![tactic(auto)]
 
 mod asked;

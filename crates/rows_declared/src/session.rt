@@ -285,11 +285,11 @@ impl<'l> Session<'l> {
         match self.edited.edit(line) {
             Ok(true) => Ok(()),
             Ok(false) => self.answer_words(line, answers),
-            Err(_) => answers.push_str("no case\n"),
+            Err(_) => writeln!(answers, "> {line}\nno case"),
         }
     }
 
-    /// Adds the answer to a line of words, if it asks. An input stands behind ` < `.
+    /// Adds a line of words and the answer to it, if it asks, and the line alone where it begins a case. An input stands behind ` < `.
     fn answer_words(&mut self, line: &'l str, answers: &mut String) -> Result<(), AllocError> {
         let (words, input) = line.split_once(" < ").unwrap_or((line, ""));
         let mut case = Case::of(self.alloc, words)?;
@@ -302,7 +302,11 @@ impl<'l> Session<'l> {
         };
         case.end_words();
         if asks || case.trouble().is_some() {
+            writeln!(answers, "> {line}")?;
             return case.end(answers);
+        }
+        if line == "new" {
+            return answers.push_str("> new\n");
         }
         Ok(())
     }

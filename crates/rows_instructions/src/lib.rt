@@ -1,6 +1,6 @@
 //! Reads type variables, kinds of operands, formats and instructions line by line, and writes what each shows: its text, its
 //! parts, or the first fault of an instruction. A line that begins with `#` is written as it is; each other line has its
-//! answer. The first lines ask about sets and variables; those from the first `ints ..` on about instructions.
+//! answer. Of `against FILE LINE` it is whether the answer to the line is the text of the file. The first lines ask about sets and variables; those from the first `ints ..` on about instructions.
 #![tactic(auto)]
 
 mod content;
@@ -18,10 +18,10 @@ mod variables;
 mod words;
 
 use session::Session;
-use std::alloc::{AllocError, Global};
+use std::alloc::AllocError;
 
 /// Adds the answers to the lines.
-pub fn add_answers(alloc: Global, input: &str, answers: &mut String) -> Result<(), AllocError> {
-    let mut session = Session::new(alloc);
-    session.answer_lines(input, answers)
+pub fn add_answers(rt: &HostRuntime, input: &str, answers: &mut String) -> Result<(), AllocError> {
+    let mut session = Session::new(rt.alloc());
+    session.answer_lines(rt, input, answers)
 }

@@ -1,6 +1,7 @@
 use meta_inst::{AllInstructions, InstructionContent};
 use meta_operands::{FormatId, FormatStructure, FormatTable, OperandKind};
 use meta_typevar::{TypeVar, TypeVars};
+use rows_files::{add_held_answer, against};
 use rows_words::{Case, Trouble};
 use std::alloc::{AllocError, Global};
 use std::collections::HashSet;
@@ -58,13 +59,30 @@ impl<'l> Session<'l> {
     /// Adds the answers to the lines.
     pub(crate) fn answer_lines(
         &mut self,
+        rt: &HostRuntime,
         input: &'l str,
         answers: &mut String,
     ) -> Result<(), AllocError> {
         for line in input.lines() {
-            self.answer_line(line, answers)?;
+            match against(line) {
+                Some((file, line)) => self.hold(rt, file, line, answers)?,
+                None => self.answer_line(line, answers)?,
+            }
         }
         Ok(())
+    }
+
+    /// Holds the answer to a line against the text of a file.
+    fn hold(
+        &mut self,
+        rt: &HostRuntime,
+        file: &str,
+        line: &'l str,
+        answers: &mut String,
+    ) -> Result<(), AllocError> {
+        let mut answer = String::new(self.alloc);
+        self.answer_line(line, &mut answer)?;
+        add_held_answer(rt, file, answer.as_str(), answers)
     }
 
     /// Adds the answer to a line, or the line where it is a comment. About variables a line that asks nothing is told from one

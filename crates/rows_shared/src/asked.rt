@@ -14,12 +14,14 @@ pub(crate) enum Asked {
     Readings(Each),
     /// `unfailing WORDS < INPUT`: how a run ends over a source and a sink that never fail.
     Unfailing,
+    /// `against FILE WORDS < INPUT`: whether that text of the tables, or what a run of these words writes, is the text of the file.
+    Against,
     /// `WORDS < INPUT`: what a run writes.
     Run,
 }
 
 /// What a line asks by its first word. Any other asks for a run.
-pub(crate) const ASKED: [(&str, Asked); 7] = [
+pub(crate) const ASKED: [(&str, Asked); 8] = [
     ("dump", Asked::Dump),
     ("version", Asked::Version),
     ("edit", Asked::Edit),
@@ -27,4 +29,5 @@ pub(crate) const ASKED: [(&str, Asked); 7] = [
     ("fronts", Asked::Readings(Each::Front)),
     ("changes", Asked::Readings(Each::Change)),
     ("unfailing", Asked::Unfailing),
+    ("against", Asked::Against),
 ];

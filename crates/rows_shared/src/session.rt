@@ -1,12 +1,14 @@
 use super::asked::{ASKED, Asked};
 use super::dump::write_all;
-use super::running::{run_unfailing, run_words, texts_of_words};
+use super::running::{run_kept, run_unfailing, run_words, texts_of_words};
 use meta_gen::{Declarations, Tables};
 use meta_text::NeverFails;
 use rows_edits::{Each, Edited, text_in, write_readings};
-use rows_words::{Case, Trouble, found};
+use rows_files::{add_held, against};
+use rows_words::{Case, Trouble, found, number};
 use std::alloc::Global;
 use std::io::{self, Write};
+use std::str;
 
 /// The shared declarations and their tables, and the text that lines edit.
 #[derive(Drop)]
@@ -61,6 +63,55 @@ impl<'d> Session<'d> {
         println!(rt; "status {code}")
     }
 
+    /// Writes whether a text is that of a file.
+    fn hold_text(&self, rt: &HostRuntime, file: &str, text: &str) -> io::Result<()> {
+        let mut answer = String::new(self.alloc);
+        add_held(rt, file, text, &mut answer)?;
+        io::writer(rt).write_all(answer.as_bytes())
+    }
+
+    /// Writes whether the text of the tables in the version with this number is that of a file.
+    fn hold_version(&self, rt: &HostRuntime, file: &str, version: &str) -> io::Result<()> {
+        match number(version).and_then(|it| text_in(self.alloc, self.tables, it)) {
+            Ok(Some(text)) => self.hold_text(rt, file, text.as_str()),
+            Ok(None) => println!(rt; "no fit"),
+            Err(_) => println!(rt; "no case"),
+        }
+    }
+
+    /// Runs words over the edited text and the input behind it, and writes whether what the run writes is the text of a file, and its
+    /// status.
+    fn hold_run(
+        &mut self,
+        rt: &HostRuntime,
+        file: &str,
+        words: &str,
+        input: &str,
+    ) -> io::Result<()> {
+        let Ok(input) = self.edited.input(input) else {
+            return println!(rt; "no case");
+        };
+        let words: Vec<&str> = words.split(' ').collect(self.alloc)?;
+        let words = texts_of_words(self.alloc, &words)?;
+        let (status, sink) = run_kept(self.alloc, &words, self.declarations, input)?;
+        match str::from_utf8(sink.bytes()) {
+            Ok(text) => self.hold_text(rt, file, text)?,
+            Err(_) => println!(rt; "no text")?,
+        }
+        println!(rt; "status {}", status.code())
+    }
+
+    /// Writes whether what a line asks for is the text of a file.
+    fn hold(&mut self, rt: &HostRuntime, words: &str, input: &str) -> io::Result<()> {
+        let Some((file, words)) = against(words) else {
+            return println!(rt; "no case");
+        };
+        match words.strip_prefix("version ") {
+            Some(version) => self.hold_version(rt, file, version),
+            None => self.hold_run(rt, file, words, input),
+        }
+    }
+
     /// Writes the status of a run of the words that are left, over a source and a sink that never fail.
     fn run_unfailing(&mut self, input: &str, case: &mut Case<'_>) -> Result<(), Trouble> {
         let mut source = NeverFails::new(self.edited.input(input)?);
@@ -85,36 +136,53 @@ impl<'d> Session<'d> {
         }
     }
 
-    /// Answers the words of a line that edits nothing, with the input behind them.
-    fn ask(&mut self, rt: &HostRuntime, words: &str, input: &str) -> io::Result<()> {
+    /// Begins a text, or writes a line that asks and the answer to it. An input stands behind ` < `.
+    fn answer(&mut self, rt: &HostRuntime, line: &str) -> io::Result<()> {
+        let (words, input) = line.split_once(" < ").unwrap_or((line, ""));
         let mut case = Case::of(self.alloc, words)?;
         match found(&ASKED, case.word()).unwrap_or(Asked::Run) {
+            Asked::Edit => self.begin(rt, &mut case),
+            asked => {
+                println!(rt; "> {line}")?;
+                self.ask(rt, asked, words, input, &mut case)
+            }
+        }
+    }
+
+    /// Writes the answer to the words of a line that asks, the first of which is taken, with the input behind them.
+    fn ask(
+        &mut self,
+        rt: &HostRuntime,
+        asked: Asked,
+        words: &str,
+        input: &str,
+        case: &mut Case<'_>,
+    ) -> io::Result<()> {
+        match asked {
             Asked::Dump => return self.dump(rt),
-            Asked::Version => return self.write_version(rt, &mut case),
-            Asked::Edit => return self.begin(rt, &mut case),
+            Asked::Version => return self.write_version(rt, case),
+            Asked::Edit => return self.begin(rt, case),
+            Asked::Against => return self.hold(rt, words, input),
             Asked::Run => return self.run(rt, words, input),
-            Asked::Readings(each) => self.write_readings(each, &mut case),
+            Asked::Readings(each) => self.write_readings(each, case),
             Asked::Unfailing => {
-                if let Err(trouble) = self.run_unfailing(input, &mut case) {
+                if let Err(trouble) = self.run_unfailing(input, case) {
                     case.refuse(trouble);
                 }
             }
         }
-        write_answer(rt, &case)
+        write_answer(rt, case)
     }
 
-    /// Edits by a line, or writes its answer.
+    /// Edits by a line, or writes it and its answer.
     pub(crate) fn answer_line(&mut self, rt: &HostRuntime, line: &str) -> io::Result<()> {
         if line.starts_with('#') {
             return println!(rt; "{line}");
         }
         match self.edited.edit(line) {
             Ok(true) => Ok(()),
-            Ok(false) => {
-                let (words, input) = line.split_once(" < ").unwrap_or((line, ""));
-                self.ask(rt, words, input)
-            }
-            Err(_) => println!(rt; "no case"),
+            Ok(false) => self.answer(rt, line),
+            Err(_) => println!(rt; "> {line}\nno case"),
         }
     }
 }
