@@ -6,6 +6,7 @@ use super::type_parameters::parameter_name;
 use meta_constructors_text::push_argument;
 use meta_inst::{InstructionContent, PolymorphicInfo};
 use meta_operands::{InstructionFormat, Operand};
+use meta_rust_lines::push_text;
 use meta_typevar::{TypeVar, TypeVars};
 use std::alloc::{AllocError, Global};
 
@@ -34,7 +35,7 @@ fn push_operand(
         return push_block(out, operand.name.as_str());
     }
     if operand.kind.is_raw_block() {
-        return out.push_str(", block: ir::Block");
+        return push_text(out, ", block: ir::Block");
     }
     if is_converted(operand) {
         let parameter = parameter_name(alloc, before)?;

@@ -7,6 +7,7 @@ use super::operands::{is_converted, is_mem_flags, name_at};
 use super::results::push_results;
 use meta_inst::{InstructionContent, PolymorphicInfo};
 use meta_operands::{InstructionFormat, Operand};
+use meta_rust_lines::push_text;
 use meta_typevar::TypeVars;
 use std::alloc::{AllocError, Global};
 
@@ -155,7 +156,8 @@ fn push_control(
 fn push_list_begin(out: &mut String) -> Result<(), AllocError>
     ensures { OnOk result (string_bytes out.new ≡ string_bytes out.old ++ list_begin) }
 {
-    out.push_str(
+    push_text(
+        out,
         "        let mut vlist = ir::ValueList::default();
         {
             let pool = &mut self.data_flow_graph_mut().value_lists;
@@ -211,7 +213,7 @@ fn push_each_added(out: &mut String, operands: &[Operand]) -> Result<(), AllocEr
 fn push_list_end(out: &mut String) -> Result<(), AllocError>
     ensures { OnOk result (string_bytes out.new ≡ string_bytes out.old ++ list_end) }
 {
-    out.push_str("        }\n")
+    push_text(out, "        }\n")
 }
 
 /// Adds the list of the values, where the format has one.

@@ -4,6 +4,7 @@ ghost use Rattle.meta_builder_text.specs.MethodBody.{control_word, passed, passe
 use super::operands::{name_at, variable_name};
 use meta_inst::{InstructionContent, PolymorphicInfo};
 use meta_operands::{InstructionFormat, Operand};
+use meta_rust_lines::push_text;
 use meta_typevar::TypeVars;
 use std::alloc::{AllocError, Global};
 
@@ -41,7 +42,7 @@ fn push_passed_values(
     ensures { OnOk result (string_bytes out.new ≡ string_bytes out.old ++ passed_values instruction.now format.now) }
 {
     if format.has_value_list {
-        return out.push_str(", vlist");
+        return push_text(out, ", vlist");
     }
     push_passed(out, instruction.operands_in(), instruction.value_opnums())
 }

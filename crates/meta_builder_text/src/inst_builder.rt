@@ -13,6 +13,7 @@ use super::results::result_type;
 use super::type_parameters::type_parameters;
 use meta_inst::InstructionContent;
 use meta_operands::InstructionFormat;
+use meta_rust_lines::push_text;
 use meta_typevar::TypeVars;
 use std::alloc::{AllocError, Global};
 
@@ -40,7 +41,7 @@ fn push_head(
 fn push_method_end(out: &mut String) -> Result<(), AllocError>
     ensures { OnOk result (string_bytes out.new ≡ string_bytes out.old ++ method_end) }
 {
-    out.push_str("    }\n")
+    push_text(out, "    }\n")
 }
 
 /// Adds the head of the method that builds the instruction, which is of this format.

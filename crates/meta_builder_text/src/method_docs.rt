@@ -9,6 +9,7 @@ use super::operands::{operand_doc, variable_doc, variable_name};
 use meta_constructors_text::{first_line, push_doc_heading, push_doc_item, push_doc_line};
 use meta_inst::InstructionContent;
 use meta_operands::Operand;
+use meta_rust_lines::push_text;
 use meta_typevar::{TypeVar, TypeVars};
 use std::alloc::{AllocError, Global};
 
@@ -53,7 +54,7 @@ fn push_block_docs(out: &mut String, name: &str) -> Result<(), AllocError>
 fn push_raw_block_doc(out: &mut String) -> Result<(), AllocError>
     ensures { OnOk result (string_bytes out.new ≡ string_bytes out.old ++ raw_block_doc) }
 {
-    out.push_str("    /// - block: raw basic block\n")
+    push_text(out, "    /// - block: raw basic block\n")
 }
 
 /// Adds the line on an output, or on an input that is no block.

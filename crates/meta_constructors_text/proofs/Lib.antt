@@ -1,5 +1,4 @@
 -- texts, piece by piece
 mod Pieces
--- the operands of an instruction
-mod Inputs
-mod Pushed
+-- the variables of operands
+pub mod OperandVariables

@@ -9,7 +9,8 @@ use Rattle.meta_operands.specs.Operand.{variable_of, doc_of}
 use Rattle.meta_operands.specs.declared.operand.Operand.{Operand}
 use Rattle.meta_inst.specs.Built.{Built}
 use Rattle.meta_inst.specs.Content.{names_text, snake_name_of}
-use Rattle.meta_text.specs.Lines.{at, empty_line, text_of}
+use Rattle.meta_text.specs.Lines.{at, text_of}
+use Rattle.meta_rust_lines.specs.Ends.{gap_text}
 use Rattle.meta_constructors_text.specs.Docs.{first_line, doc_heading_text, doc_item_text}
 use Rattle.meta_constructors_text.specs.Arguments.{argument_text}
 use Rattle.meta_constructors_text.specs.declared.imm_builders.Method.{Method}
@@ -129,10 +130,6 @@ method_text m method =
     ++ (mark_text m.name method
     ++ (signature_text m.name (suffix_of method) m.arguments
     ++ (number_text m.control m.immediate ++ call_text m.name m.immediate (truth_of (extends_sign method m.signed)) m.inputs)))))
-
--- the empty line between two methods
-unfoldable pub gap_text : List ℕ
-gap_text = text_of (empty_line ∷ [])
 
 -- the three methods of an instruction
 unfoldable pub methods_text : ImmMethods → List ℕ

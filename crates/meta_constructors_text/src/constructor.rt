@@ -3,6 +3,7 @@ ghost use Rattle.meta_constructors_text.specs.Constructor.{member_text, array_me
 
 use super::arguments::{constructor_arguments, numbered_names};
 use meta_operands::{FormatField, InstructionFormat};
+use meta_rust_lines::push_text;
 use std::alloc::{AllocError, Global};
 
 /// Adds the line of a member of the data.
@@ -60,7 +61,7 @@ fn push_value_member(
 fn push_destination(out: &mut String) -> Result<(), AllocError>
     ensures { OnOk result (string_bytes out.new ≡ string_bytes out.old ++ destination_text) }
 {
-    out.push_str("            destination: block0\n")
+    push_text(out, "            destination: block0\n")
 }
 
 /// Adds the member of the blocks with arguments, where there is one.
@@ -150,7 +151,7 @@ fn push_head(
 fn push_data_end(out: &mut String) -> Result<(), AllocError>
     ensures { OnOk result (string_bytes out.new ≡ string_bytes out.old ++ data_end_text) }
 {
-    out.push_str("        }\n        ;\n")
+    push_text(out, "        }\n        ;\n")
 }
 
 /// Adds the masking, where it is needed.
@@ -159,7 +160,7 @@ fn push_masking(out: &mut String, masked: bool) -> Result<(), AllocError>
     ensures { OnOk result (string_bytes out.new ≡ string_bytes out.old ++ masking_text masked) }
 {
     if masked {
-        return out.push_str("        data.mask_immediates(ctrl_typevar);\n");
+        return push_text(out, "        data.mask_immediates(ctrl_typevar);\n");
     }
     Ok(())
 }
@@ -169,7 +170,8 @@ fn push_masking(out: &mut String, masked: bool) -> Result<(), AllocError>
 fn push_build(out: &mut String) -> Result<(), AllocError>
     ensures { OnOk result (string_bytes out.new ≡ string_bytes out.old ++ build_text) }
 {
-    out.push_str(
+    push_text(
+        out,
         "        debug_assert_eq!(opcode.format(), InstructionFormat::from(&data), \"Wrong InstructionFormat for Opcode: {opcode}\");
         self.build(data, ctrl_typevar)
     }

@@ -1,11 +1,13 @@
 ghost use Rattle.std.specs.Prelude.{◌≡◌, ◌++◌, IfOk, OnOk, string_bytes};
 ghost use Rattle.meta_operands.specs.Operand.{variables_of};
 ghost use Rattle.meta_inst.specs.Operands.{AreOf};
-ghost use Rattle.meta_constructors_text.specs.ImmBuilders.{suffix_of, extends_sign, extension_of, truth_of, summary_text, deprecation_text, mark_text, signature_text, number_text, call_text, method_text, gap_text, methods_text, was_signed, methods_of, imm_builders_text};
+ghost use Rattle.meta_rust_lines.specs.Ends.{gap_text};
+ghost use Rattle.meta_constructors_text.specs.ImmBuilders.{suffix_of, extends_sign, extension_of, truth_of, summary_text, deprecation_text, mark_text, signature_text, number_text, call_text, method_text, methods_text, was_signed, methods_of, imm_builders_text};
 
 use super::docs::push_doc_heading;
 use super::imm_inputs::{input_arguments, input_docs, input_name, input_names};
 use meta_inst::InstructionContent;
+use meta_rust_lines::push_gap;
 use meta_typevar::TypeVars;
 use std::alloc::{AllocError, Global};
 use std::marker::Model;
@@ -201,14 +203,6 @@ fn push_method(out: &mut String, methods: &ImmMethods<'_>, method: Method) -> Re
         truth(extends_sign),
         methods.inputs.as_str(),
     )
-}
-
-/// Adds the empty line between two methods.
-#[tactic(auto, unfolding(crate::specs::ImmBuilders::gap_text))]
-fn push_gap(out: &mut String) -> Result<(), AllocError>
-    ensures { OnOk result (string_bytes out.new ≡ string_bytes out.old ++ gap_text) }
-{
-    out.push_str("\n")
 }
 
 /// Adds the three methods.

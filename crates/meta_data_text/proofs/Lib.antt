@@ -1,3 +1,2 @@
 mod LastPart
 mod Letters
-mod Pushed

@@ -3,6 +3,7 @@
 use Rattle.std.specs.Prelude.{ℕ, List, [], ◌∷◌, ◌++◌, codes}
 use Rattle.meta_operands.specs.declared.format.InstructionFormat.{InstructionFormat}
 use Rattle.meta_text.specs.Lines.{at, text_of}
+use Rattle.meta_rust_lines.specs.Ends.{item_end}
 use Rattle.meta_data_text.specs.ReadMethods.{opcode_method, typevar_operand_method, arguments_method, arguments_mut_method}
 use Rattle.meta_data_text.specs.EqMethod.{eq_method}
 use Rattle.meta_data_text.specs.HashMethod.{hash_method}
@@ -20,9 +21,6 @@ whole_methods formats = eq_method formats ++ (hash_method formats ++ (deep_clone
 unfoldable pub impl_head : List ℕ
 impl_head = text_of (at 0 (codes "impl InstructionData {" ∷ []) ∷ [])
 
-unfoldable pub impl_end : List ℕ
-impl_end = text_of (at 0 (codes "}" ∷ []) ∷ [])
-
 -- the implementation for these formats, in their order
 unfoldable pub data_impl_text : List InstructionFormat → List ℕ
-data_impl_text formats = impl_head ++ (reading_methods formats ++ (whole_methods formats ++ impl_end))
+data_impl_text formats = impl_head ++ (reading_methods formats ++ (whole_methods formats ++ item_end))

@@ -1,10 +1,11 @@
 ghost use Rattle.std.specs.Prelude.{◌≡◌, ◌++◌, OnOk, map, string_bytes};
+ghost use Rattle.meta_rust_lines.specs.Ends.{item_end};
 ghost use Rattle.meta_data_text.specs.ReadMethods.{opcode_method, typevar_operand_method, arguments_method, arguments_mut_method};
 ghost use Rattle.meta_data_text.specs.EqMethod.{eq_method};
 ghost use Rattle.meta_data_text.specs.HashMethod.{hash_method};
 ghost use Rattle.meta_data_text.specs.DeepCloneMethod.{deep_clone_method};
 ghost use Rattle.meta_data_text.specs.MapMethod.{map_method};
-ghost use Rattle.meta_data_text.specs.DataImpl.{reading_methods, whole_methods, impl_head, impl_end, data_impl_text};
+ghost use Rattle.meta_data_text.specs.DataImpl.{reading_methods, whole_methods, impl_head, data_impl_text};
 
 use super::arms::push_arms;
 use super::deep_clone_method::push_clone_head;
@@ -17,6 +18,7 @@ use super::read_methods::{
     push_arguments_head, push_arguments_mut_head, push_opcode_head, push_typevar_operand_head,
 };
 use meta_operands::InstructionFormat;
+use meta_rust_lines::{push_item_end, push_text};
 use std::alloc::{AllocError, Global};
 
 /// Adds the method `opcode`.
@@ -167,15 +169,7 @@ fn push_whole_methods(
 fn push_impl_head(out: &mut String) -> Result<(), AllocError>
     ensures { OnOk result (string_bytes out.new ≡ string_bytes out.old ++ impl_head) }
 {
-    out.push_str("impl InstructionData {\n")
-}
-
-/// Adds the last line of the implementation.
-#[tactic(auto, unfolding(crate::specs::DataImpl::impl_end))]
-fn push_impl_end(out: &mut String) -> Result<(), AllocError>
-    ensures { OnOk result (string_bytes out.new ≡ string_bytes out.old ++ impl_end) }
-{
-    out.push_str("}\n")
+    push_text(out, "impl InstructionData {\n")
 }
 
 /// Adds the implementation of `InstructionData` for these formats, which are those in use by their names
@@ -194,5 +188,5 @@ pub fn push_data_impl(
     push_impl_head(out)?;
     push_reading_methods(alloc, out, formats)?;
     push_whole_methods(alloc, out, formats)?;
-    push_impl_end(out)
+    push_item_end(out)
 }

@@ -8,6 +8,7 @@ use super::held::{Blocks, Values, blocks_of, has_raw_block, raw_block_member, va
 use super::members::{push_further, push_further_fields};
 use super::rebuilt::{push_kept, push_rebuilt_end, push_rebuilt_head};
 use meta_operands::{FormatField, InstructionFormat};
+use meta_rust_lines::push_text;
 use std::alloc::{AllocError, Global};
 
 /// The mark of a list of values, which is taken by reference.
@@ -43,7 +44,7 @@ fn push_cloned_values(out: &mut String, values: Values) -> Result<(), AllocError
         Values::Absent => Ok(()),
         Values::One => push_kept(out, "arg"),
         Values::Several(_) => push_kept(out, "args"),
-        Values::Listed => out.push_str("                    args: args.deep_clone(pool),\n"),
+        Values::Listed => push_text(out, "                    args: args.deep_clone(pool),\n"),
     }
 }
 
@@ -55,9 +56,10 @@ fn push_cloned_blocks(out: &mut String, blocks: Blocks) -> Result<(), AllocError
     match blocks {
         Blocks::Absent => Ok(()),
         Blocks::One => {
-            out.push_str("                    destination: destination.deep_clone(pool),\n")
+            push_text(out, "                    destination: destination.deep_clone(pool),\n")
         }
-        Blocks::Two => out.push_str(
+        Blocks::Two => push_text(
+            out,
             "                    blocks: [blocks[0].deep_clone(pool), blocks[1].deep_clone(pool)],\n",
         ),
     }
@@ -107,7 +109,8 @@ pub(crate) fn push_clone_arm(
 pub(crate) fn push_clone_head(out: &mut String) -> Result<(), AllocError>
     ensures { OnOk result (string_bytes out.new ≡ string_bytes out.old ++ clone_head) }
 {
-    out.push_str(
+    push_text(
+        out,
         "    /// Deep-clone an `InstructionData`, including any referenced lists.
     pub fn deep_clone(&self, pool: &mut ir::ValueListPool) -> Self {
         match *self {

@@ -7,6 +7,7 @@ ghost use Rattle.meta_data_text.specs.EqMethod.{marked_member, marked_fields, eq
 use super::held::{Blocks, Values, blocks_of, has_raw_block, raw_block_member, values_of};
 use super::method_lines::push_arm_end;
 use meta_operands::{FormatField, InstructionFormat};
+use meta_rust_lines::push_text;
 use std::alloc::{AllocError, Global};
 
 /// Adds a further member by its name with the mark, and nothing of none.
@@ -87,9 +88,10 @@ fn push_equal_values(out: &mut String, values: Values) -> Result<(), AllocError>
         Values::Absent => Ok(()),
         Values::One => push_equal(out, "arg"),
         Values::Several(_) => {
-            out.push_str("                && args1.iter().zip(args2.iter()).all(|(a, b)| a == b)\n")
+            push_text(out, "                && args1.iter().zip(args2.iter()).all(|(a, b)| a == b)\n")
         }
-        Values::Listed => out.push_str(
+        Values::Listed => push_text(
+            out,
             "                && args1.as_slice(pool).iter().zip(args2.as_slice(pool).iter()).all(|(a, b)| a == b)\n",
         ),
     }
@@ -103,7 +105,8 @@ fn push_equal_blocks(out: &mut String, blocks: Blocks) -> Result<(), AllocError>
     match blocks {
         Blocks::Absent => Ok(()),
         Blocks::One => push_equal(out, "destination"),
-        Blocks::Two => out.push_str(
+        Blocks::Two => push_text(
+            out,
             "                && blocks1.iter().zip(blocks2.iter()).all(|(a, b)| a.block(pool) == b.block(pool))\n",
         ),
     }
@@ -155,7 +158,8 @@ pub(crate) fn push_eq_arm(
 pub(crate) fn push_eq_head(out: &mut String) -> Result<(), AllocError>
     ensures { OnOk result (string_bytes out.new ≡ string_bytes out.old ++ eq_head) }
 {
-    out.push_str(
+    push_text(
+        out,
         "    /// Compare two `InstructionData` for equality.
     pub fn eq(&self, other: &Self, pool: &ir::ValueListPool) -> bool {
         if ::core::mem::discriminant(self) != ::core::mem::discriminant(other) {
@@ -171,5 +175,5 @@ pub(crate) fn push_eq_head(out: &mut String) -> Result<(), AllocError>
 pub(crate) fn push_eq_last_arm(out: &mut String) -> Result<(), AllocError>
     ensures { OnOk result (string_bytes out.new ≡ string_bytes out.old ++ eq_last_arm) }
 {
-    out.push_str("            _ => unreachable!()\n")
+    push_text(out, "            _ => unreachable!()\n")
 }

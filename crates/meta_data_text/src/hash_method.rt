@@ -7,6 +7,7 @@ use super::held::{Blocks, Values, blocks_of, has_raw_block, raw_block_member, va
 use super::members::{push_further, push_further_fields};
 use super::method_lines::push_arm_end;
 use meta_operands::{FormatField, InstructionFormat};
+use meta_rust_lines::push_text;
 use std::alloc::{AllocError, Global};
 
 /// The pattern of a format: values and blocks are taken by reference.
@@ -149,7 +150,8 @@ pub(crate) fn push_hash_arm(
 pub(crate) fn push_hash_head(out: &mut String) -> Result<(), AllocError>
     ensures { OnOk result (string_bytes out.new ≡ string_bytes out.old ++ hash_head) }
 {
-    out.push_str(
+    push_text(
+        out,
         "    /// Hash an `InstructionData`.
     pub fn hash<H: ::core::hash::Hasher>(&self, state: &mut H, pool: &ir::ValueListPool) {
         match *self {

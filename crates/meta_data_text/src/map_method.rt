@@ -9,6 +9,7 @@ use super::held::{Blocks, Values, blocks_of, has_raw_block, raw_block_member, va
 use super::members::{push_further, push_further_fields};
 use super::rebuilt::{push_kept, push_rebuilt_end, push_rebuilt_head};
 use meta_operands::{FormatField, InstructionFormat, OperandKindFields};
+use meta_rust_lines::push_text;
 use std::alloc::{AllocError, Global};
 
 /// The pattern of a format.
@@ -30,7 +31,7 @@ fn push_mapped_value(out: &mut String, place: u32) -> Result<(), AllocError>
     ensures { OnOk result (string_bytes out.new ≡ string_bytes out.old ++ mapped_value place) }
 {
     if place == 0 {
-        return out.push_str("mapper.map_value(args[0])");
+        return push_text(out, "mapper.map_value(args[0])");
     }
     write!(out, ", mapper.map_value(args[{place}])")
 }
@@ -89,7 +90,8 @@ fn push_mapped_blocks(out: &mut String, blocks: Blocks) -> Result<(), AllocError
     match blocks {
         Blocks::Absent => Ok(()),
         Blocks::One => push_mapped(out, "destination", "block_call"),
-        Blocks::Two => out.push_str(
+        Blocks::Two => push_text(
+            out,
             "                    blocks: [mapper.map_block_call(blocks[0]), mapper.map_block_call(blocks[1])],\n",
         ),
     }
@@ -180,7 +182,8 @@ pub(crate) fn push_map_arm(
 pub(crate) fn push_map_head(out: &mut String) -> Result<(), AllocError>
     ensures { OnOk result (string_bytes out.new ≡ string_bytes out.old ++ map_head) }
 {
-    out.push_str(
+    push_text(
+        out,
         "    /// Map some functions, described by the given `InstructionMapper`, over each of the
     pub fn map(&self, mut mapper: impl crate::ir::instructions::InstructionMapper) -> Self {
         match *self {

@@ -1,6 +1,7 @@
 ghost use Rattle.std.specs.Prelude.{◌≡◌, ◌++◌, OnOk, string_bytes};
 ghost use Rattle.meta_data_text.specs.MethodLines.{method_end, spaced_end, arm_end};
 
+use meta_rust_lines::push_text;
 use std::alloc::AllocError;
 
 /// Adds the end of a method.
@@ -8,7 +9,8 @@ use std::alloc::AllocError;
 pub(crate) fn push_method_end(out: &mut String) -> Result<(), AllocError>
     ensures { OnOk result (string_bytes out.new ≡ string_bytes out.old ++ method_end) }
 {
-    out.push_str(
+    push_text(
+        out,
         "        }
     }
 ",
@@ -20,7 +22,8 @@ pub(crate) fn push_method_end(out: &mut String) -> Result<(), AllocError>
 pub(crate) fn push_spaced_end(out: &mut String) -> Result<(), AllocError>
     ensures { OnOk result (string_bytes out.new ≡ string_bytes out.old ++ spaced_end) }
 {
-    out.push_str(
+    push_text(
+        out,
         "        }
     }
 
@@ -33,5 +36,5 @@ pub(crate) fn push_spaced_end(out: &mut String) -> Result<(), AllocError>
 pub(crate) fn push_arm_end(out: &mut String) -> Result<(), AllocError>
     ensures { OnOk result (string_bytes out.new ≡ string_bytes out.old ++ arm_end) }
 {
-    out.push_str("            }\n")
+    push_text(out, "            }\n")
 }

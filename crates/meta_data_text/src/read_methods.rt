@@ -4,6 +4,7 @@ ghost use Rattle.meta_data_text.specs.ReadMethods.{arguments_mut_head, arguments
 
 use super::held::{Values, values_of};
 use meta_operands::InstructionFormat;
+use meta_rust_lines::push_text;
 use std::alloc::AllocError;
 
 /// Adds the first lines of the method `opcode`.
@@ -11,7 +12,8 @@ use std::alloc::AllocError;
 pub(crate) fn push_opcode_head(out: &mut String) -> Result<(), AllocError>
     ensures { OnOk result (string_bytes out.new ≡ string_bytes out.old ++ opcode_head) }
 {
-    out.push_str(
+    push_text(
+        out,
         "    /// Get the opcode of this instruction.
     pub fn opcode(&self) -> Opcode {
         match *self {
@@ -35,7 +37,8 @@ pub(crate) fn push_opcode_arm(out: &mut String, name: &str) -> Result<(), AllocE
 pub(crate) fn push_typevar_operand_head(out: &mut String) -> Result<(), AllocError>
     ensures { OnOk result (string_bytes out.new ≡ string_bytes out.old ++ typevar_operand_head) }
 {
-    out.push_str(
+    push_text(
+        out,
         "    /// Get the controlling type variable operand.
     pub fn typevar_operand(&self, pool: &ir::ValueListPool) -> Option<Value> {
         match *self {
@@ -78,7 +81,8 @@ pub(crate) fn push_typevar_arm(
 pub(crate) fn push_arguments_head(out: &mut String) -> Result<(), AllocError>
     ensures { OnOk result (string_bytes out.new ≡ string_bytes out.old ++ arguments_head) }
 {
-    out.push_str(
+    push_text(
+        out,
         "    /// Get the value arguments to this instruction.
     pub fn arguments<'a>(&'a self, pool: &'a ir::ValueListPool) -> &'a [Value] {
         match *self {
@@ -91,7 +95,8 @@ pub(crate) fn push_arguments_head(out: &mut String) -> Result<(), AllocError>
 pub(crate) fn push_arguments_mut_head(out: &mut String) -> Result<(), AllocError>
     ensures { OnOk result (string_bytes out.new ≡ string_bytes out.old ++ arguments_mut_head) }
 {
-    out.push_str(
+    push_text(
+        out,
         "    /// Get mutable references to the value arguments to this
     pub fn arguments_mut<'a>(&'a mut self, pool: &'a mut ir::ValueListPool) -> &'a mut [Value] {
         match *self {

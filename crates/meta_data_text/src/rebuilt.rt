@@ -1,6 +1,7 @@
 ghost use Rattle.std.specs.Prelude.{◌≡◌, ◌++◌, OnOk, string_bytes};
 ghost use Rattle.meta_data_text.specs.Rebuilt.{rebuilt_head, kept, rebuilt_end};
 
+use meta_rust_lines::push_text;
 use std::alloc::AllocError;
 
 /// Adds the first lines of the arm of the format of this name and pattern.
@@ -34,7 +35,8 @@ pub(crate) fn push_kept(out: &mut String, member: &str) -> Result<(), AllocError
 pub(crate) fn push_rebuilt_end(out: &mut String) -> Result<(), AllocError>
     ensures { OnOk result (string_bytes out.new ≡ string_bytes out.old ++ rebuilt_end) }
 {
-    out.push_str(
+    push_text(
+        out,
         "                }
             }
 ",

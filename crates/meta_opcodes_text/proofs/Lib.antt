@@ -1,3 +1,2 @@
 -- formats of the table
 mod InTable
-mod Pushed

@@ -5,6 +5,7 @@ use Rattle.std.specs.Prelude.{ℕ, ◌==◌, Bool, List, [], ◌∷◌, ◌++◌
 use Rattle.std.specs.List.{flat_map}
 use Rattle.std.specs.Fmt.{decimal}
 use Rattle.meta_text.specs.Lines.{at, empty_line, text_of}
+use Rattle.meta_rust_lines.specs.Ends.{spaced_item_end}
 use Rattle.meta_operands.specs.declared.field.FormatField.{FormatField}
 use Rattle.meta_operands.specs.declared.format.InstructionFormat.{InstructionFormat}
 use Rattle.meta_declared.specs.BuiltDeclarations.{BuiltDeclarations}
@@ -65,13 +66,9 @@ variant_text f =
 
 -- ---- all variants
 
--- the last line, and an empty one
-unfoldable pub data_end : List ℕ
-data_end = text_of (at 0 (codes "}" ∷ []) ∷ (empty_line ∷ []))
-
 -- the text of the data of instructions of these formats
 unfoldable pub data_part : List InstructionFormat → List ℕ
-data_part formats = data_head ++ (flat_map variant_text formats ++ data_end)
+data_part formats = data_head ++ (flat_map variant_text formats ++ spaced_item_end)
 
 -- The text of the data of instructions, by the names of the formats in use. It ends with an empty line: that which parts the enum
 -- from its implementation.

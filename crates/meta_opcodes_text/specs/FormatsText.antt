@@ -5,6 +5,7 @@
 use Rattle.std.specs.Prelude.{ℕ, List, [], ◌∷◌, ◌++◌, codes}
 use Rattle.std.specs.List.{flat_map}
 use Rattle.meta_text.specs.Lines.{at, empty_line, text_of}
+use Rattle.meta_rust_lines.specs.Ends.{spaced_item_end}
 use Rattle.meta_operands.specs.FormatText.{format_text}
 use Rattle.meta_operands.specs.declared.format.InstructionFormat.{InstructionFormat}
 use Rattle.meta_declared.specs.BuiltDeclarations.{BuiltDeclarations}
@@ -27,13 +28,9 @@ entry_lines shown name = text_of (at 1 (codes "/// " ∷ (shown ∷ [])) ∷ (at
 unfoldable pub entry_text : InstructionFormat → List ℕ
 entry_text f = entry_lines (format_text f) f.name
 
--- its last line, and an empty one
-unfoldable pub enum_end : List ℕ
-enum_end = text_of (at 0 (codes "}" ∷ []) ∷ (empty_line ∷ []))
-
 -- the enum of these formats
 unfoldable pub enum_text : List InstructionFormat → List ℕ
-enum_text formats = enum_head ++ (flat_map entry_text formats ++ enum_end)
+enum_text formats = enum_head ++ (flat_map entry_text formats ++ spaced_item_end)
 
 -- ---- how the format is told from the data
 

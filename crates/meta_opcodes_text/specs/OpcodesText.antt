@@ -3,6 +3,7 @@
 use Rattle.std.specs.Prelude.{◌≡◌, ◌<◌, ℕ, nat_lt, List, [], ◌∷◌, ◌++◌, length, slice_get, Some, if◌then◌else◌, codes}
 use Rattle.std.specs.List.{flat_map}
 use Rattle.meta_text.specs.Lines.{at, empty_line, text_of}
+use Rattle.meta_rust_lines.specs.Ends.{spaced_item_end}
 use Rattle.meta_operands.specs.declared.format.InstructionFormat.{InstructionFormat}
 use Rattle.meta_inst.specs.Built.{Built}
 use Rattle.meta_declared.specs.BuiltDeclarations.{BuiltDeclarations}
@@ -32,12 +33,8 @@ unfoldable pub each_opcode : List InstructionFormat → List Built → List ℕ
 each_opcode formats [] = []
 each_opcode formats (c ∷ cs) = first_opcode_text formats c ++ flat_map (opcode_text formats) cs
 
--- the last line, and an empty one
-unfoldable pub opcodes_end : List ℕ
-opcodes_end = text_of (at 0 (codes "}" ∷ []) ∷ (empty_line ∷ []))
-
 unfoldable pub enum_text : List InstructionFormat → List Built → List ℕ
-enum_text formats cs = opcodes_head (number_type (length cs)) ++ (each_opcode formats cs ++ opcodes_end)
+enum_text formats cs = opcodes_head (number_type (length cs)) ++ (each_opcode formats cs ++ spaced_item_end)
 
 -- ---- its methods
 

@@ -3,6 +3,7 @@ ghost use Rattle.std.specs.List.{flat_map};
 ghost use Rattle.meta_opcodes_text.specs.Accessors.{has_mark, mark_name, mark_doc, accessor_head, true_arm, mark_arm, accessor_end, accessor_text, accessors_text};
 
 use meta_inst::InstructionContent;
+use meta_rust_lines::push_text;
 use std::alloc::AllocError;
 
 /// A mark of instructions that a method of `Opcode` tells.
@@ -145,7 +146,7 @@ fn push_arms(
 fn push_end(out: &mut String) -> Result<(), AllocError>
     ensures { OnOk result (string_bytes out.new ≡ string_bytes out.old ++ accessor_end) }
 {
-    out.push_str("            _ => false,\n        }\n    }\n\n")
+    push_text(out, "            _ => false,\n        }\n    }\n\n")
 }
 
 /// Adds the method that tells which of the instructions have the mark.

@@ -1,10 +1,12 @@
 ghost use Rattle.std.specs.Prelude.{◌≡◌, ◌++◌, OnOk, map, string_bytes};
 ghost use Rattle.std.specs.List.{flat_map};
-ghost use Rattle.meta_opcodes_text.specs.DataText.{data_head, variant_head, values_text, blocks_text, raw_blocks_text, member_line, field_line, variant_end, variant_text, data_end, data_part, data_text};
+ghost use Rattle.meta_rust_lines.specs.Ends.{spaced_item_end};
+ghost use Rattle.meta_opcodes_text.specs.DataText.{data_head, variant_head, values_text, blocks_text, raw_blocks_text, member_line, field_line, variant_end, variant_text, data_part, data_text};
 
 use super::in_use::formats_in_use;
 use meta_declared::Built;
 use meta_operands::{FormatField, InstructionFormat};
+use meta_rust_lines::{push_spaced_item_end, push_text};
 use std::alloc::{AllocError, Global};
 
 /// Adds the first lines.
@@ -12,7 +14,8 @@ use std::alloc::{AllocError, Global};
 fn push_data_head(out: &mut String) -> Result<(), AllocError>
     ensures { OnOk result (string_bytes out.new ≡ string_bytes out.old ++ data_head) }
 {
-    out.push_str(
+    push_text(
+        out,
         "#[derive(Copy, Clone, Debug, PartialEq, Eq, Hash)]
 #[allow(missing_docs, reason = \"generated code\")]
 pub enum InstructionData {
@@ -34,11 +37,11 @@ fn push_values(out: &mut String, has_list: bool, count: u32) -> Result<(), Alloc
     ensures { OnOk result (string_bytes out.new ≡ string_bytes out.old ++ values_text has_list count) }
 {
     if has_list {
-        return out.push_str("        args: ValueList,\n");
+        return push_text(out, "        args: ValueList,\n");
     }
     match count {
         0 => Ok(()),
-        1 => out.push_str("        arg: Value,\n"),
+        1 => push_text(out, "        arg: Value,\n"),
         _ => write!(out, "        args: [Value; {count}],\n"),
     }
 }
@@ -50,7 +53,7 @@ fn push_blocks(out: &mut String, count: u32) -> Result<(), AllocError>
 {
     match count {
         0 => Ok(()),
-        1 => out.push_str("        destination: ir::BlockCall,\n"),
+        1 => push_text(out, "        destination: ir::BlockCall,\n"),
         _ => write!(out, "        blocks: [ir::BlockCall; {count}],\n"),
     }
 }
@@ -62,7 +65,7 @@ fn push_raw_blocks(out: &mut String, count: u32) -> Result<(), AllocError>
 {
     match count {
         0 => Ok(()),
-        _ => out.push_str("        block: ir::Block,\n"),
+        _ => push_text(out, "        block: ir::Block,\n"),
     }
 }
 
@@ -89,7 +92,7 @@ fn push_fields(out: &mut String, fields: &[FormatField]) -> Result<(), AllocErro
 fn push_variant_end(out: &mut String) -> Result<(), AllocError>
     ensures { OnOk result (string_bytes out.new ≡ string_bytes out.old ++ variant_end) }
 {
-    out.push_str("    }\n    ,\n")
+    push_text(out, "    }\n    ,\n")
 }
 
 /// Adds the variant of a format.
@@ -115,14 +118,6 @@ fn push_variants(out: &mut String, formats: &[&InstructionFormat]) -> Result<(),
     Ok(())
 }
 
-/// Adds the last line, and an empty one.
-#[tactic(auto, unfolding(crate::specs::DataText::data_end))]
-fn push_data_end(out: &mut String) -> Result<(), AllocError>
-    ensures { OnOk result (string_bytes out.new ≡ string_bytes out.old ++ data_end) }
-{
-    out.push_str("}\n\n")
-}
-
 /// Adds the text of the data of instructions of these formats.
 #[tactic(auto, unfolding(crate::specs::DataText::data_part))]
 fn push_part(out: &mut String, formats: &[&InstructionFormat]) -> Result<(), AllocError>
@@ -130,7 +125,7 @@ fn push_part(out: &mut String, formats: &[&InstructionFormat]) -> Result<(), All
 {
     push_data_head(out)?;
     push_variants(out, formats)?;
-    push_data_end(out)
+    push_spaced_item_end(out)
 }
 
 /// Adds the text of the data of instructions, by the names of the formats in use, with an empty line at its end

@@ -1,11 +1,13 @@
 ghost use Rattle.std.specs.Prelude.{◌≡◌, ◌++◌, OnOk, map, string_bytes};
 ghost use Rattle.std.specs.List.{flat_map};
 ghost use Rattle.meta_operands.specs.FormatText.{format_text};
-ghost use Rattle.meta_opcodes_text.specs.FormatsText.{enum_head, entry_lines, entry_text, enum_end, enum_text, told_head, arm_line, arm_text, told_end, told_text, formats_part, formats_text};
+ghost use Rattle.meta_rust_lines.specs.Ends.{spaced_item_end};
+ghost use Rattle.meta_opcodes_text.specs.FormatsText.{enum_head, entry_lines, entry_text, enum_text, told_head, arm_line, arm_text, told_end, told_text, formats_part, formats_text};
 
 use super::in_use::formats_in_use;
 use meta_declared::Built;
 use meta_operands::InstructionFormat;
+use meta_rust_lines::{push_spaced_item_end, push_text};
 use std::alloc::{AllocError, Global};
 
 /// Adds the first lines of the enum.
@@ -13,7 +15,8 @@ use std::alloc::{AllocError, Global};
 fn push_enum_head(out: &mut String) -> Result<(), AllocError>
     ensures { OnOk result (string_bytes out.new ≡ string_bytes out.old ++ enum_head) }
 {
-    out.push_str(
+    push_text(
+        out,
         "/// An instruction format
 #[derive(Copy, Clone, PartialEq, Eq, Debug)]
 pub enum InstructionFormat {
@@ -51,14 +54,6 @@ fn push_entries(out: &mut String, formats: &[&InstructionFormat]) -> Result<(), 
     Ok(())
 }
 
-/// Adds the end of the enum.
-#[tactic(auto, unfolding(crate::specs::FormatsText::enum_end))]
-fn push_enum_end(out: &mut String) -> Result<(), AllocError>
-    ensures { OnOk result (string_bytes out.new ≡ string_bytes out.old ++ enum_end) }
-{
-    out.push_str("}\n\n")
-}
-
 /// Adds the enum of the formats.
 #[tactic(auto, unfolding(crate::specs::FormatsText::enum_text))]
 fn push_enum(out: &mut String, formats: &[&InstructionFormat]) -> Result<(), AllocError>
@@ -66,7 +61,7 @@ fn push_enum(out: &mut String, formats: &[&InstructionFormat]) -> Result<(), All
 {
     push_enum_head(out)?;
     push_entries(out, formats)?;
-    push_enum_end(out)
+    push_spaced_item_end(out)
 }
 
 /// Adds the first lines of what tells the format.
@@ -74,7 +69,8 @@ fn push_enum(out: &mut String, formats: &[&InstructionFormat]) -> Result<(), All
 fn push_told_head(out: &mut String) -> Result<(), AllocError>
     ensures { OnOk result (string_bytes out.new ≡ string_bytes out.old ++ told_head) }
 {
-    out.push_str(
+    push_text(
+        out,
         "impl<'a> From<&'a InstructionData> for InstructionFormat {
     fn from(inst: &'a InstructionData) -> Self {
         match *inst {
@@ -108,7 +104,7 @@ fn push_arms(out: &mut String, formats: &[&InstructionFormat]) -> Result<(), All
 fn push_told_end(out: &mut String) -> Result<(), AllocError>
     ensures { OnOk result (string_bytes out.new ≡ string_bytes out.old ++ told_end) }
 {
-    out.push_str("        }\n    }\n}\n\n")
+    push_text(out, "        }\n    }\n}\n\n")
 }
 
 /// Adds what tells the format from the data of an instruction.

@@ -6,6 +6,7 @@ ghost use Rattle.meta_opcodes_text.specs.OpcodesText.{methods_head, list_head, l
 use super::accessors::push_accessors;
 use super::opcode_items::{push_listed, push_named};
 use meta_inst::InstructionContent;
+use meta_rust_lines::push_text;
 use std::alloc::AllocError;
 
 /// Adds the first lines of the method that lists all opcodes.
@@ -13,7 +14,8 @@ use std::alloc::AllocError;
 fn push_list_head(out: &mut String) -> Result<(), AllocError>
     ensures { OnOk result (string_bytes out.new ≡ string_bytes out.old ++ list_head) }
 {
-    out.push_str(
+    push_text(
+        out,
         "    /// All cranelift opcodes.
     pub fn all() -> &'static [Opcode] {
         return &[
@@ -36,7 +38,7 @@ fn push_each_listed(out: &mut String, instructions: &[InstructionContent]) -> Re
 fn push_list_end(out: &mut String) -> Result<(), AllocError>
     ensures { OnOk result (string_bytes out.new ≡ string_bytes out.old ++ list_end) }
 {
-    out.push_str("        ];\n    }\n\n}\n\n")
+    push_text(out, "        ];\n    }\n\n}\n\n")
 }
 
 /// Adds the method that lists all opcodes, and the end of the methods.
@@ -54,7 +56,7 @@ fn push_list(out: &mut String, instructions: &[InstructionContent]) -> Result<()
 fn push_methods_head(out: &mut String) -> Result<(), AllocError>
     ensures { OnOk result (string_bytes out.new ≡ string_bytes out.old ++ methods_head) }
 {
-    out.push_str("impl Opcode {\n")
+    push_text(out, "impl Opcode {\n")
 }
 
 /// Adds the methods of the opcodes.
@@ -75,7 +77,7 @@ pub(crate) fn push_methods(
 fn push_names_head(out: &mut String) -> Result<(), AllocError>
     ensures { OnOk result (string_bytes out.new ≡ string_bytes out.old ++ names_head) }
 {
-    out.push_str("fn opcode_name(opc: Opcode) -> &'static str {\n    match opc {\n")
+    push_text(out, "fn opcode_name(opc: Opcode) -> &'static str {\n    match opc {\n")
 }
 
 /// Adds the arms of the instructions to the function that tells the names.
@@ -94,7 +96,7 @@ fn push_each_named(out: &mut String, instructions: &[InstructionContent]) -> Res
 fn push_names_end(out: &mut String) -> Result<(), AllocError>
     ensures { OnOk result (string_bytes out.new ≡ string_bytes out.old ++ names_end) }
 {
-    out.push_str("    }\n}\n\n")
+    push_text(out, "    }\n}\n\n")
 }
 
 /// Adds the function that tells the names of the instructions.

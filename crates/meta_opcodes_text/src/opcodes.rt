@@ -1,13 +1,15 @@
 ghost use Rattle.std.specs.Prelude.{◌≡◌, ◌++◌, OnOk, string_bytes};
 ghost use Rattle.std.specs.List.{flat_map};
+ghost use Rattle.meta_rust_lines.specs.Ends.{spaced_item_end};
 ghost use Rattle.meta_opcodes_text.specs.OpcodeItems.{opcode_text};
-ghost use Rattle.meta_opcodes_text.specs.OpcodesText.{HaveFormats, number_type, opcodes_head, each_opcode, opcodes_end, enum_text, opcodes_part, opcodes_text};
+ghost use Rattle.meta_opcodes_text.specs.OpcodesText.{HaveFormats, number_type, opcodes_head, each_opcode, enum_text, opcodes_part, opcodes_text};
 
 use super::lists::{push_methods, push_names};
 use super::opcode_items::{push_first_opcode, push_opcode};
 use meta_declared::Built;
 use meta_inst::InstructionContent;
 use meta_operands::FormatTable;
+use meta_rust_lines::push_spaced_item_end;
 use std::alloc::AllocError;
 
 /// The most opcodes whose numbers, which begin with 1, a `u8` holds.
@@ -67,14 +69,6 @@ fn push_each(
     push_later(out, formats, later)
 }
 
-/// Adds the last line of the enum, and an empty one.
-#[tactic(auto, unfolding(crate::specs::OpcodesText::opcodes_end))]
-fn push_end(out: &mut String) -> Result<(), AllocError>
-    ensures { OnOk result (string_bytes out.new ≡ string_bytes out.old ++ opcodes_end) }
-{
-    out.push_str("}\n\n")
-}
-
 /// Adds the enum of the instructions.
 #[tactic(auto, unfolding(crate::specs::OpcodesText::enum_text))]
 fn push_enum(
@@ -87,7 +81,7 @@ fn push_enum(
 {
     push_head(out, number_type(instructions.len()))?;
     push_each(out, formats, instructions)?;
-    push_end(out)
+    push_spaced_item_end(out)
 }
 
 /// Adds the text of these instructions.

@@ -5,6 +5,7 @@ ghost use Rattle.meta_text.specs.Outside.{Rose, with_more, TookPart};
 use meta_data_text::push_data_impl;
 use meta_declared::Built;
 use meta_opcodes_text::{formats_in_use, push_data, push_formats, push_opcodes};
+use meta_rust_lines::push_gap;
 use meta_text::{Sink, WriteError, write_whole};
 use std::alloc::{AllocError, Global};
 
@@ -22,7 +23,7 @@ pub fn instructions_text(alloc: Global, built: &Built<'_>) -> Result<String, All
     push_formats(alloc, &mut text, built)?;
     push_data(alloc, &mut text, built)?;
     push_data_impl(alloc, &mut text, formats.as_slice())?;
-    text.push_str("\n")?;
+    push_gap(&mut text)?;
     push_opcodes(&mut text, built)?;
     Ok(text)
 }

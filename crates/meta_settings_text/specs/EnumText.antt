@@ -6,6 +6,7 @@ use Rattle.std.specs.Prelude.{ℕ, List, [], ◌∷◌, ◌++◌, codes}
 use Rattle.std.specs.List.{flat_map}
 use Rattle.meta_types.specs.CamelCase.{camel_case_of}
 use Rattle.meta_text.specs.Lines.{at, text_of}
+use Rattle.meta_rust_lines.specs.Ends.{item_end}
 use Rattle.meta_settings.specs.declared.setting.SpecificSetting.{SpecificSetting}
 use Rattle.meta_settings.specs.declared.setting.SpecificSetting.TheVariants.{Bool, Enum, Num}
 use Rattle.meta_settings.specs.Layout.{PlacedSetting, Layout}
@@ -23,10 +24,6 @@ enum_head group name ty = text_of (
 -- the head of the block of its own functions
 unfoldable pub impl_head : List ℕ → List ℕ
 impl_head ty = text_of (at 0 (codes "impl " ∷ (ty ∷ (codes " {" ∷ []))) ∷ [])
-
--- the end of a block
-unfoldable pub block_end : List ℕ
-block_end = text_of (at 0 (codes "}" ∷ []) ∷ [])
 
 -- around the list of all values
 unfoldable pub all_head : List ℕ → List ℕ
@@ -80,10 +77,10 @@ unfoldable pub enum_parts : List ℕ → List ℕ → List ℕ → List (List �
 enum_parts group name ty values =
     enum_head group name ty
     ++ (flat_map variant_text values
-    ++ (block_end
+    ++ (item_end
     ++ (impl_head ty
     ++ (enum_all_text ty values
-    ++ (block_end
+    ++ (item_end
     ++ to_and_from_str_text ty values)))))
 
 abbrev pub enum_text : List ℕ → List ℕ → List (List ℕ) → List ℕ

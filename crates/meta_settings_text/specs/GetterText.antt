@@ -7,6 +7,7 @@ use Rattle.std.specs.Fmt.{decimal}
 use Rattle.std.specs.Str.{trim}
 use Rattle.meta_types.specs.CamelCase.{camel_case_of}
 use Rattle.meta_text.specs.Lines.{at, text_of}
+use Rattle.meta_rust_lines.specs.Ends.{item_end}
 use Rattle.meta_settings.specs.declared.setting.SpecificSetting.{SpecificSetting}
 use Rattle.meta_settings.specs.declared.setting.SpecificSetting.TheVariants.{Bool, Enum, Num}
 use Rattle.meta_settings.specs.Layout.{PlacedSetting, Layout}
@@ -65,9 +66,6 @@ getters_head = text_of (
     ∷ (at 0 (codes "#[allow(dead_code, reason = \"generated code\")]" ∷ [])
     ∷ (at 0 (codes "impl Flags {" ∷ []) ∷ [])))
 
-unfoldable pub getters_end : List ℕ
-getters_end = text_of (at 0 (codes "}" ∷ []) ∷ [])
-
 -- the getter of booleans by their numbers, eight to a byte from this byte on
 unfoldable pub predicate_lines : ℕ → List ℕ
 predicate_lines start = text_of (
@@ -86,4 +84,4 @@ predicate_text g = predicate_of g.bool_start_byte_offset g.settings
 
 -- the getter by numbers, and those of the settings, in order
 unfoldable pub getters_text : Layout → List ℕ
-getters_text g = getters_head ++ (predicate_text g ++ (flat_map getter_text g.settings ++ getters_end))
+getters_text g = getters_head ++ (predicate_text g ++ (flat_map getter_text g.settings ++ item_end))

@@ -2,7 +2,8 @@ use Rattle.std.proofs.Common.{◌≡◌, ℕ, List, ◌++◌, ◌-◌, suc, ap, 
 use Rattle.std.specs.Fmt.{decimal}
 use Rattle.std.specs.List.{flat_map, range_with_len}
 use Rattle.meta_constructors_text.specs.Arguments.{numbered_names}
-use Rattle.meta_constructors_text.proofs.Pieces.{two, next_number, no_number, names_from_first}
+use Rattle.meta_rust_lines.proofs.Pieces.{two}
+use Rattle.meta_constructors_text.proofs.Pieces.{next_number, no_number, names_from_first}
 use Rattle.meta_constructors_text.proofs.arguments.numbered_names.Goals as goal
 
 pub loop-number-preserved : goal.loop-number-preserved

@@ -2,7 +2,7 @@ use Rattle.std.proofs.Common.{◌++◌, ap, ◌∙◌, codes, string_bytes}
 use Rattle.std.proofs.lemmas.Result.{on_ok_weaker}
 use Rattle.meta_constructors_text.specs.Docs.{doc_heading_text}
 use Rattle.meta_constructors_text.specs.ImmBuilders.{suffix_of, extends_sign, extension_of, truth_of, summary_text, mark_text, signature_text, number_text, call_text, method_text}
-use Rattle.meta_constructors_text.proofs.Pieces.{seven}
+use Rattle.meta_rust_lines.proofs.Pieces.{seven}
 use Rattle.meta_constructors_text.proofs.imm_builders.push_method.Goals as goal
 
 pub returns : goal.returns

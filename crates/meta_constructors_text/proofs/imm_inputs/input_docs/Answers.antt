@@ -2,7 +2,7 @@ use Rattle.std.proofs.Common.{ℕ, ◌==◌, ◌++◌, List, ◌∙◌, string_b
 use Rattle.meta_operands.specs.declared.operand.Operand.{Operand}
 use Rattle.meta_constructors_text.specs.Docs.{doc_item_text}
 use Rattle.meta_constructors_text.specs.ImmBuilders.{input_doc, input_docs}
-use Rattle.meta_constructors_text.proofs.Inputs.{of_registry}
+use Rattle.meta_constructors_text.proofs.OperandVariables.{of_registry}
 use Rattle.meta_constructors_text.proofs.Pieces.{next_placed, no_placed}
 use Rattle.meta_constructors_text.proofs.imm_inputs.input_docs.Goals as goal
 

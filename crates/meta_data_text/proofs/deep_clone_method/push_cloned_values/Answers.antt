@@ -1,7 +1,6 @@
-use Rattle.std.proofs.Common.{refl, string_bytes, sym}
+use Rattle.std.proofs.Common.{string_bytes, sym}
 use Rattle.std.proofs.lemmas.List.{append-nil}
 use Rattle.meta_data_text.specs.DeepCloneMethod.{cloned_values}
-use Rattle.meta_data_text.proofs.Pushed.{pushed_as}
 use Rattle.meta_data_text.proofs.deep_clone_method.push_cloned_values.Goals as goal
 
 pub returns-in-Absent : goal.returns-in-Absent
@@ -18,4 +17,4 @@ returns-in-Several c = rw c.in-Several.is c.push_kept-in-Several.ensures
 
 pub returns-in-Listed : goal.returns-in-Listed
 unfolding cloned_values
-returns-in-Listed c = rw c.in-Listed.is (pushed_as c.push_str.result (string_bytes c.args.out.now) (string_bytes c.push_str.new.self) _ _ refl c.push_str.ensures.bytes)
+returns-in-Listed c = rw c.in-Listed.is c.push_text.ensures

@@ -1,7 +1,6 @@
-use Rattle.std.proofs.Common.{refl, string_bytes, sym}
+use Rattle.std.proofs.Common.{string_bytes, sym}
 use Rattle.std.proofs.lemmas.List.{append-nil}
 use Rattle.meta_data_text.specs.EqMethod.{equal_values}
-use Rattle.meta_data_text.proofs.Pushed.{pushed_as}
 use Rattle.meta_data_text.proofs.eq_method.push_equal_values.Goals as goal
 
 pub returns-in-Absent : goal.returns-in-Absent
@@ -14,8 +13,8 @@ returns-in-One c = rw c.in-One.is c.push_equal.ensures
 
 pub returns-in-Several : goal.returns-in-Several
 unfolding equal_values
-returns-in-Several c = rw c.in-Several.is (pushed_as c.push_str.result (string_bytes c.args.out.now) (string_bytes c.push_str.new.self) _ _ refl c.push_str.ensures.bytes)
+returns-in-Several c = rw c.in-Several.is c.push_text.ensures
 
 pub returns-in-Listed : goal.returns-in-Listed
 unfolding equal_values
-returns-in-Listed c = rw c.in-Listed.is (pushed_as c.push_str-in-Listed.result (string_bytes c.args.out.now) (string_bytes c.push_str-in-Listed.new.self) _ _ refl c.push_str-in-Listed.ensures.bytes)
+returns-in-Listed c = rw c.in-Listed.is c.push_text-in-Listed.ensures

@@ -1,7 +1,6 @@
-use Rattle.std.proofs.Common.{refl, string_bytes, sym}
+use Rattle.std.proofs.Common.{string_bytes, sym}
 use Rattle.std.proofs.lemmas.List.{append-nil}
 use Rattle.meta_data_text.specs.MapMethod.{mapped_blocks}
-use Rattle.meta_data_text.proofs.Pushed.{pushed_as}
 use Rattle.meta_data_text.proofs.map_method.push_mapped_blocks.Goals as goal
 
 pub returns-in-Absent : goal.returns-in-Absent
@@ -14,4 +13,4 @@ returns-in-One c = rw c.in-One.is c.push_mapped.ensures
 
 pub returns-in-Two : goal.returns-in-Two
 unfolding mapped_blocks
-returns-in-Two c = rw c.in-Two.is (pushed_as c.push_str.result (string_bytes c.args.out.now) (string_bytes c.push_str.new.self) _ _ refl c.push_str.ensures.bytes)
+returns-in-Two c = rw c.in-Two.is c.push_text.ensures

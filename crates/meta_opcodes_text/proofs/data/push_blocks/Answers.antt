@@ -2,7 +2,6 @@ use Rattle.std.proofs.Common.{◌≡◌, ◌==◌, ◌++◌, string_bytes, ap, s
 use Rattle.std.proofs.lemmas.List.{append-nil}
 use Rattle.std.proofs.lemmas.Bool.Decides.{nat_tests}
 use Rattle.meta_opcodes_text.specs.DataText.{blocks_text}
-use Rattle.meta_opcodes_text.proofs.Pushed.{pushed_as}
 use Rattle.meta_opcodes_text.proofs.data.push_blocks.Goals as goal
 
 pub returns-in-0 : goal.returns-in-0
@@ -12,8 +11,7 @@ returns-in-0 c = sym (append-nil (string_bytes c.args.out.now))
 
 pub returns-in-1 : goal.returns-in-1
 unfolding blocks_text
-returns-in-1 c = pushed_as c.push_str.result (string_bytes c.args.out.now) (string_bytes c.push_str.new.self) _
-    (blocks_text c.args.count) (sym (ap blocks_text c.in-1.is)) c.push_str.ensures.bytes
+returns-in-1 c = rw c.in-1.is c.push_text.ensures
 
 pub returns-in_default : goal.returns-in_default
 unfolding blocks_text

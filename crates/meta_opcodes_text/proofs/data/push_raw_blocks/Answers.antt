@@ -1,8 +1,7 @@
-use Rattle.std.proofs.Common.{◌≡◌, ◌==◌, ◌++◌, string_bytes, ap, sym, ◌∙◌, false, arith, refl}
+use Rattle.std.proofs.Common.{◌≡◌, ◌==◌, ◌++◌, string_bytes, ap, sym, ◌∙◌, false, arith}
 use Rattle.std.proofs.lemmas.List.{append-nil}
 use Rattle.std.proofs.lemmas.Bool.Decides.{nat_tests}
 use Rattle.meta_opcodes_text.specs.DataText.{raw_blocks_text}
-use Rattle.meta_opcodes_text.proofs.Pushed.{pushed_as}
 use Rattle.meta_opcodes_text.proofs.data.push_raw_blocks.Goals as goal
 
 pub returns-in-0 : goal.returns-in-0
@@ -14,4 +13,4 @@ pub returns-in_default : goal.returns-in_default
 unfolding raw_blocks_text
 returns-in_default c =
     let not_0 : (c.args.count == 0) ≡ false = grind (arith, nat_tests) in
-    rw not_0 (pushed_as c.push_str.result (string_bytes c.args.out.now) (string_bytes c.push_str.new.self) _ _ refl c.push_str.ensures.bytes)
+    rw not_0 c.push_text.ensures

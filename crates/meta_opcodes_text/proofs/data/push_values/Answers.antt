@@ -2,7 +2,6 @@ use Rattle.std.proofs.Common.{◌≡◌, ◌==◌, ◌++◌, string_bytes, ap, s
 use Rattle.std.proofs.lemmas.List.{append-nil}
 use Rattle.std.proofs.lemmas.Bool.Decides.{nat_tests}
 use Rattle.meta_opcodes_text.specs.DataText.{values_text}
-use Rattle.meta_opcodes_text.proofs.Pushed.{pushed_as}
 use Rattle.meta_opcodes_text.proofs.data.push_values.Goals as goal
 
 pub returns-in-0 : goal.returns-in-0
@@ -13,9 +12,7 @@ returns-in-0 c = sym (append-nil (string_bytes c.args.out.now))
 
 pub returns-in-1 : goal.returns-in-1
 unfolding values_text
-returns-in-1 c = pushed_as c.push_str-in-1.result (string_bytes c.args.out.now) (string_bytes c.push_str-in-1.new.self) _
-    (values_text c.args.has_list c.args.count) (sym (ap (λ b. values_text b c.args.count) c.if-has_list.false
-    ∙ ap (values_text false) c.in-1.is)) c.push_str-in-1.ensures.bytes
+returns-in-1 c = rw (c.if-has_list.false, c.in-1.is) c.push_text-in-1.ensures
 
 pub returns-in_default : goal.returns-in_default
 unfolding values_text
@@ -26,6 +23,4 @@ returns-in_default c =
 
 pub returns-then-has_list : goal.returns-then-has_list
 unfolding values_text
-returns-then-has_list c = pushed_as c.push_str.result (string_bytes c.args.out.now) (string_bytes c.push_str.new.self) _
-    (values_text c.args.has_list c.args.count) (sym (ap (λ b. values_text b c.args.count) c.if-has_list.true))
-    c.push_str.ensures.bytes
+returns-then-has_list c = rw c.if-has_list.true c.push_text.ensures
