@@ -15,13 +15,13 @@ use Rattle.meta_constructors_text.specs.ImmBuilders.{imm_builders_text}
 use Rattle.meta_builder_text.specs.InstBuilder.{inst_builder_text}
 
 -- the variables of the instruction's operands are of the registry
-pub record IsOfRegistry (vars : List TypeVarContent) (c : Built) : Type 0 where
+pub record HasVariablesOf (vars : List TypeVarContent) (c : Built) : Type 0 where
   pub inputs : AreOf vars (variables_of c.operands_in)
   pub outputs : AreOf vars (variables_of c.operands_out)
 
 -- the same of each instruction
-abbrev pub AreOfRegistry : List TypeVarContent → List Built → Type 0
-AreOfRegistry vars instructions = (k : ℕ) (c : Built) → slice_get instructions k ≡ Some c → IsOfRegistry vars c
+abbrev pub HaveVariablesOf : List TypeVarContent → List Built → Type 0
+HaveVariablesOf vars instructions = (k : ℕ) (c : Built) → slice_get instructions k ≡ Some c → HasVariablesOf vars c
 
 -- ---- instructions
 

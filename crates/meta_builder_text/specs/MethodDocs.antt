@@ -35,14 +35,14 @@ abbrev pub operand_line : List TypeVarContent → Operand → List ℕ
 operand_line vars o = doc_item_text o.name (operand_doc vars o)
 
 -- the lines on the arguments for an input
-unfoldable pub input_docs : List TypeVarContent → Operand → List ℕ
-input_docs vars o =
+unfoldable pub docs_of_input : List TypeVarContent → Operand → List ℕ
+docs_of_input vars o =
     if is_block_operand o then block_docs o.name
     else (if is_raw_block_operand o then raw_block_doc else operand_line vars o)
 
 -- the lines on all arguments but the builder
 unfoldable pub inputs_docs : List TypeVarContent → Built → List ℕ
-inputs_docs vars c = control_doc vars (asked_control c.polymorphic_info) ++ flat_map (input_docs vars) c.operands_in
+inputs_docs vars c = control_doc vars (asked_control c.polymorphic_info) ++ flat_map (docs_of_input vars) c.operands_in
 
 -- the lines on the outputs
 unfoldable pub outputs_docs : List TypeVarContent → Built → List ℕ

@@ -17,15 +17,6 @@ is_converted o = not (is_block_operand o) && (not (is_raw_block_operand o) && is
 abbrev pub is_mem_flags : Operand → Bool
 is_mem_flags o = same_text o.kind.rust_type (codes "ir::MemFlags")
 
--- the name of an operand, and nothing where there is none
-abbrev pub name_of : Option Operand → List ℕ
-name_of None = []
-name_of (Some o) = o.name
-
--- the name of the operand at this place, counted from 0, and nothing where there is none
-abbrev pub name_at : List Operand → ℕ → List ℕ
-name_at operands place = name_of (slice_get operands place)
-
 -- ---- variables
 
 -- the name of what stands at a place of the registry

@@ -2,7 +2,7 @@ ghost use Rattle.std.specs.Prelude.{◌≡◌, ◌++◌, IfOk, OnOk, slice_get, 
 ghost use Rattle.std.specs.List.{flat_map};
 ghost use Rattle.meta_inst.specs.InstructionSet.{Fits};
 ghost use Rattle.meta_rust_lines.specs.Ends.{gap_text, item_end};
-ghost use Rattle.meta_builder_text.specs.BuilderText.{IsOfRegistry, AreOfRegistry, method_text, imm_methods_text, methods_text, constructor_at, constructors_text, trait_head, builder_text};
+ghost use Rattle.meta_builder_text.specs.BuilderText.{HasVariablesOf, HaveVariablesOf, method_text, imm_methods_text, methods_text, constructor_at, constructors_text, trait_head, builder_text};
 
 use super::inst_builder::push_inst_builder;
 use meta_constructors_text::{push_constructor, push_imm_builders};
@@ -22,7 +22,7 @@ fn push_method(
     formats: &FormatTable,
     instruction: &InstructionContent,
 ) -> Result<(), AllocError>
-    requires { IsOfRegistry vars.now instruction.now }
+    requires { HasVariablesOf vars.now instruction.now }
     ensures { OnOk result (string_bytes out.new ≡ string_bytes out.old ++ method_text vars.now instruction.now (slice_get formats.now instruction.now.format)) }
 {
     let format = instruction.format();
@@ -41,7 +41,7 @@ fn push_imm_methods(
     vars: &TypeVars,
     instruction: &InstructionContent,
 ) -> Result<(), AllocError>
-    requires { IsOfRegistry vars.now instruction.now }
+    requires { HasVariablesOf vars.now instruction.now }
     ensures { OnOk result (string_bytes out.new ≡ string_bytes out.old ++ imm_methods_text vars.now instruction.now) }
 {
     if !instruction.inst_builder_imm_method() {
@@ -60,7 +60,7 @@ fn push_methods(
     formats: &FormatTable,
     instruction: &InstructionContent,
 ) -> Result<(), AllocError>
-    requires { IsOfRegistry vars.now instruction.now }
+    requires { HasVariablesOf vars.now instruction.now }
     ensures { OnOk result (string_bytes out.new ≡ string_bytes out.old ++ methods_text vars.now formats.now instruction.now) }
 {
     push_method(alloc, out, vars, formats, instruction)?;
@@ -75,7 +75,7 @@ fn push_each_instruction(
     formats: &FormatTable,
     instructions: &[InstructionContent],
 ) -> Result<(), AllocError>
-    requires { AreOfRegistry vars.now instructions.now }
+    requires { HaveVariablesOf vars.now instructions.now }
     ensures { OnOk result (string_bytes out.new ≡ string_bytes out.old ++ flat_map (methods_text vars.now formats.now) instructions.now) }
 {
     for instruction in instructions {

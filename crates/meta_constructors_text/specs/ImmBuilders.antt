@@ -1,5 +1,5 @@
 -- The methods of the builder that take the last value input of an instruction as an immediate.
---     method_text m method               the lines of one of the three methods
+--     imm_method_text m method               the lines of one of the three methods
 --     imm_builders_text vars c           the lines of all three of an instruction
 use Rattle.std.specs.Prelude.{ℕ, ◌-◌, ◌==◌, ◌||◌, Bool, true, false, List, [], ◌∷◌, ◌++◌, length, slice_get, Option, None, Some, is_some, codes, if◌then◌else◌}
 use Rattle.std.specs.List.{flat_map, enumerate_from}
@@ -11,6 +11,7 @@ use Rattle.meta_inst.specs.Built.{Built}
 use Rattle.meta_inst.specs.Content.{names_text, snake_name_of}
 use Rattle.meta_text.specs.Lines.{at, text_of}
 use Rattle.meta_rust_lines.specs.Ends.{gap_text}
+use Rattle.meta_constructors_text.specs.Names.{operand_name}
 use Rattle.meta_constructors_text.specs.Docs.{first_line, doc_heading_text, doc_item_text}
 use Rattle.meta_constructors_text.specs.Arguments.{argument_text}
 use Rattle.meta_constructors_text.specs.declared.imm_builders.Method.{Method}
@@ -115,25 +116,25 @@ number_text control immediate = text_of (
     ∷ (at 2 (codes "let imm_ty = self.data_flow_graph().value_type(" ∷ (control ∷ (codes ");" ∷ []))) ∷ []))
 
 -- its last lines: the number as a value of that type, by an extension of its sign or not, and the instruction with all inputs
-unfoldable pub call_text : List ℕ → List ℕ → List ℕ → List ℕ → List ℕ
-call_text name immediate signed inputs = text_of (
+unfoldable pub imm_call_text : List ℕ → List ℕ → List ℕ → List ℕ → List ℕ
+imm_call_text name immediate signed inputs = text_of (
     at 2 (codes "let " ∷ (immediate ∷ (codes " = self.build_imm_const(imm_ty, " ∷ (immediate ∷ (codes ", " ∷ (signed ∷ (codes ");" ∷ [])))))))
     ∷ (at 2 (codes "self." ∷ (name ∷ (codes "(" ∷ (inputs ∷ (codes ")" ∷ [])))))
     ∷ (at 1 (codes "}" ∷ []) ∷ [])))
 
 -- the lines of a method
-unfoldable pub method_text : ImmMethods → Method → List ℕ
-method_text m method =
+unfoldable pub imm_method_text : ImmMethods → Method → List ℕ
+imm_method_text m method =
     summary_text m.name (extension_of (extends_sign method m.signed))
     ++ (doc_heading_text (codes "Inputs")
     ++ (m.docs
     ++ (mark_text m.name method
     ++ (signature_text m.name (suffix_of method) m.arguments
-    ++ (number_text m.control m.immediate ++ call_text m.name m.immediate (truth_of (extends_sign method m.signed)) m.inputs)))))
+    ++ (number_text m.control m.immediate ++ imm_call_text m.name m.immediate (truth_of (extends_sign method m.signed)) m.inputs)))))
 
 -- the three methods of an instruction
-unfoldable pub methods_text : ImmMethods → List ℕ
-methods_text m = method_text m SignExtends ++ (gap_text ++ (method_text m ZeroExtends ++ (gap_text ++ method_text m Deprecated)))
+unfoldable pub three_methods_text : ImmMethods → List ℕ
+three_methods_text m = imm_method_text m SignExtends ++ (gap_text ++ (imm_method_text m ZeroExtends ++ (gap_text ++ imm_method_text m Deprecated)))
 
 -- ---- the methods of an instruction
 
@@ -143,18 +144,13 @@ was_signed name =
     same_text name (codes "iadd")
     || (same_text name (codes "imul") || (same_text name (codes "sdiv") || (same_text name (codes "srem") || same_text name (codes "icmp"))))
 
--- the name of an operand, and nothing where there is none
-abbrev pub name_in : Option Operand → List ℕ
-name_in None = []
-name_in (Some o) = o.name
-
 -- what the methods of an instruction have in common, whose first and last value inputs stand at these places
 abbrev pub methods_of : List TypeVarContent → Built → ℕ → ℕ → ImmMethods
 methods_of vars c first last = record {
   name = snake_name_of c.name;
   signed = was_signed c.name;
-  control = name_in (slice_get c.operands_in first);
-  immediate = name_in (slice_get c.operands_in last);
+  control = operand_name c.operands_in first;
+  immediate = operand_name c.operands_in last;
   docs = input_docs vars c.operands_in last;
   arguments = input_arguments c.operands_in last;
   inputs = input_names c.operands_in;
@@ -164,7 +160,7 @@ methods_of vars c first last = record {
 abbrev pub methods_between : List TypeVarContent → Built → Option ℕ → Option ℕ → List ℕ
 methods_between vars c None last = []
 methods_between vars c (Some first) None = []
-methods_between vars c (Some first) (Some last) = methods_text (methods_of vars c first last)
+methods_between vars c (Some first) (Some last) = three_methods_text (methods_of vars c first last)
 
 -- The three methods of an instruction that take its last value input as an immediate: one extends its sign, one extends it by zeros,
 -- and one, which is deprecated, does what an older form of the instruction did. They are for instructions with one value result, at

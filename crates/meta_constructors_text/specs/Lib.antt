@@ -1,3 +1,4 @@
+pub mod Names
 pub mod Docs
 pub mod Arguments
 pub mod Constructor

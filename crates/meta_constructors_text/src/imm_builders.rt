@@ -2,10 +2,11 @@ ghost use Rattle.std.specs.Prelude.{◌≡◌, ◌++◌, IfOk, OnOk, string_byte
 ghost use Rattle.meta_operands.specs.Operand.{variables_of};
 ghost use Rattle.meta_inst.specs.Operands.{AreOf};
 ghost use Rattle.meta_rust_lines.specs.Ends.{gap_text};
-ghost use Rattle.meta_constructors_text.specs.ImmBuilders.{suffix_of, extends_sign, extension_of, truth_of, summary_text, deprecation_text, mark_text, signature_text, number_text, call_text, method_text, methods_text, was_signed, methods_of, imm_builders_text};
+ghost use Rattle.meta_constructors_text.specs.ImmBuilders.{suffix_of, extends_sign, extension_of, truth_of, summary_text, deprecation_text, mark_text, signature_text, number_text, imm_call_text, imm_method_text, three_methods_text, was_signed, methods_of, imm_builders_text};
 
 use super::docs::push_doc_heading;
-use super::imm_inputs::{input_arguments, input_docs, input_name, input_names};
+use super::imm_inputs::{input_arguments, input_docs, input_names};
+use super::names::operand_name;
 use meta_inst::InstructionContent;
 use meta_rust_lines::push_gap;
 use meta_typevar::TypeVars;
@@ -160,7 +161,7 @@ fn push_number(out: &mut String, control: &str, immediate: &str) -> Result<(), A
 }
 
 /// Adds the last lines of a method's body.
-#[tactic(auto, unfolding(crate::specs::ImmBuilders::call_text))]
+#[tactic(auto, unfolding(crate::specs::ImmBuilders::imm_call_text))]
 fn push_call(
     out: &mut String,
     name: &str,
@@ -168,7 +169,7 @@ fn push_call(
     signed: &str,
     inputs: &str,
 ) -> Result<(), AllocError>
-    ensures { OnOk result (string_bytes out.new ≡ string_bytes out.old ++ call_text name.now immediate.now signed.now inputs.now) }
+    ensures { OnOk result (string_bytes out.new ≡ string_bytes out.old ++ imm_call_text name.now immediate.now signed.now inputs.now) }
 {
     write!(
         out,
@@ -180,9 +181,9 @@ fn push_call(
 }
 
 /// Adds a method (`gen_one_imm_inst_builder` of `gen_inst.rs`).
-#[tactic(auto, unfolding(crate::specs::ImmBuilders::method_text))]
+#[tactic(auto, unfolding(crate::specs::ImmBuilders::imm_method_text))]
 fn push_method(out: &mut String, methods: &ImmMethods<'_>, method: Method) -> Result<(), AllocError>
-    ensures { OnOk result (string_bytes out.new ≡ string_bytes out.old ++ method_text methods.now method) }
+    ensures { OnOk result (string_bytes out.new ≡ string_bytes out.old ++ imm_method_text methods.now method) }
 {
     let extends_sign = method.extends_sign(methods.signed);
     push_summary(out, methods.name, extension(extends_sign))?;
@@ -206,9 +207,9 @@ fn push_method(out: &mut String, methods: &ImmMethods<'_>, method: Method) -> Re
 }
 
 /// Adds the three methods.
-#[tactic(auto, unfolding(crate::specs::ImmBuilders::methods_text))]
+#[tactic(auto, unfolding(crate::specs::ImmBuilders::three_methods_text))]
 fn push_methods(out: &mut String, methods: &ImmMethods<'_>) -> Result<(), AllocError>
-    ensures { OnOk result (string_bytes out.new ≡ string_bytes out.old ++ methods_text methods.now) }
+    ensures { OnOk result (string_bytes out.new ≡ string_bytes out.old ++ three_methods_text methods.now) }
 {
     push_method(out, methods, Method::SignExtends)?;
     push_gap(out)?;
@@ -239,8 +240,8 @@ fn methods_of<'i>(
     Ok(ImmMethods {
         name: instruction.snake_name(),
         signed: was_signed(instruction.name().as_str()),
-        control: input_name(inputs, first),
-        immediate: input_name(inputs, last),
+        control: operand_name(inputs, first),
+        immediate: operand_name(inputs, last),
         docs: input_docs(alloc, vars, inputs, last)?,
         arguments: input_arguments(alloc, inputs, last)?,
         inputs: input_names(alloc, inputs)?,

@@ -1,7 +1,7 @@
-ghost use Rattle.std.specs.Prelude.{◌≡◌, ◌++◌, ◌<◌, ◌==◌, ℕ, Some, IfOk, OnOk, length, slice_get, string_bytes};
+ghost use Rattle.std.specs.Prelude.{◌≡◌, ◌++◌, ◌<◌, ◌==◌, ℕ, Some, IfOk, OnOk, length, string_bytes};
 ghost use Rattle.meta_operands.specs.Operand.{variable_of, variables_of};
 ghost use Rattle.meta_inst.specs.Operands.{AreOf};
-ghost use Rattle.meta_constructors_text.specs.ImmBuilders.{input_doc, input_type, input_docs, input_arguments, input_names, name_in};
+ghost use Rattle.meta_constructors_text.specs.ImmBuilders.{input_doc, input_type, input_docs, input_arguments, input_names};
 
 use super::arguments::push_argument;
 use super::docs::{first_line, push_doc_item};
@@ -86,14 +86,4 @@ pub(crate) fn input_names(alloc: Global, inputs: &[Operand]) -> Result<String, A
         text.push_str(input.name.as_str())?;
     }
     Ok(text)
-}
-
-/// The name of the input at this place, and nothing where there is none.
-pub(crate) fn input_name(inputs: &[Operand], place: usize) -> &str
-    ensures { result.now ≡ name_in (slice_get inputs.now place) }
-{
-    match inputs.get(place) {
-        Some(input) => input.name.as_str(),
-        None => "",
-    }
 }

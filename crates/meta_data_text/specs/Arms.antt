@@ -12,12 +12,12 @@ use Rattle.meta_data_text.specs.DeepCloneMethod.{clone_arm}
 use Rattle.meta_data_text.specs.MapMethod.{map_arm}
 
 -- the arm of a format in a method
-abbrev pub arm_text : Method → InstructionFormat → List ℕ
-arm_text Opcode = λ f. opcode_arm f.name
-arm_text TypevarOperand = λ f. typevar_arm f.name f.typevar_operand (values_of f)
-arm_text Arguments = arguments_arm Shared
-arm_text ArgumentsMut = arguments_arm Mutable
-arm_text Eq = eq_arm
-arm_text Hash = hash_arm
-arm_text DeepClone = clone_arm
-arm_text Map = map_arm
+abbrev pub method_arm : Method → InstructionFormat → List ℕ
+method_arm Opcode = λ f. opcode_arm f.name
+method_arm TypevarOperand = λ f. typevar_arm f.name f.typevar_operand (values_of f)
+method_arm Arguments = arguments_arm Shared
+method_arm ArgumentsMut = arguments_arm Mutable
+method_arm Eq = eq_arm
+method_arm Hash = hash_arm
+method_arm DeepClone = clone_arm
+method_arm Map = map_arm

@@ -1,6 +1,6 @@
 ghost use Rattle.std.specs.Prelude.{◌≡◌, ◌++◌, OnOk, map, string_bytes};
 ghost use Rattle.std.specs.List.{flat_map};
-ghost use Rattle.meta_data_text.specs.Arms.{arm_text};
+ghost use Rattle.meta_data_text.specs.Arms.{method_arm};
 
 use super::deep_clone_method::push_clone_arm;
 use super::eq_method::push_eq_arm;
@@ -19,7 +19,7 @@ fn push_arm(
     method: Method,
     format: &InstructionFormat,
 ) -> Result<(), AllocError>
-    ensures { OnOk result (string_bytes out.new ≡ string_bytes out.old ++ arm_text method format.now) }
+    ensures { OnOk result (string_bytes out.new ≡ string_bytes out.old ++ method_arm method format.now) }
 {
     let name = format.name.as_str();
     match method {
@@ -43,7 +43,7 @@ pub(crate) fn push_arms(
     method: Method,
     formats: &[&InstructionFormat],
 ) -> Result<(), AllocError>
-    ensures { OnOk result (string_bytes out.new ≡ string_bytes out.old ++ flat_map (arm_text method) (map (λ f. f.now) formats.now)) }
+    ensures { OnOk result (string_bytes out.new ≡ string_bytes out.old ++ flat_map (method_arm method) (map (λ f. f.now) formats.now)) }
 {
     for format in formats {
         push_arm(alloc, out, method, format)?;

@@ -1,6 +1,6 @@
 -- The text of the formats in use: the enum `InstructionFormat`, and how it is told from the data of an instruction.
 --     entry_text f           a format in the enum
---     arm_text f             the arm that tells it
+--     told_arm f             the arm that tells it
 --     formats_text b         the text
 use Rattle.std.specs.Prelude.{ℕ, List, [], ◌∷◌, ◌++◌, codes}
 use Rattle.std.specs.List.{flat_map}
@@ -14,8 +14,8 @@ use Rattle.meta_opcodes_text.specs.InUse.{formats_in}
 -- ---- the enum
 
 -- its first lines
-unfoldable pub enum_head : List ℕ
-enum_head = text_of (
+unfoldable pub formats_enum_head : List ℕ
+formats_enum_head = text_of (
     at 0 (codes "/// An instruction format" ∷ [])
     ∷ (at 0 (codes "#[derive(Copy, Clone, PartialEq, Eq, Debug)]" ∷ [])
     ∷ (at 0 (codes "pub enum InstructionFormat {" ∷ []) ∷ [])))
@@ -29,8 +29,8 @@ unfoldable pub entry_text : InstructionFormat → List ℕ
 entry_text f = entry_lines (format_text f) f.name
 
 -- the enum of these formats
-unfoldable pub enum_text : List InstructionFormat → List ℕ
-enum_text formats = enum_head ++ (flat_map entry_text formats ++ spaced_item_end)
+unfoldable pub formats_enum_text : List InstructionFormat → List ℕ
+formats_enum_text formats = formats_enum_head ++ (flat_map entry_text formats ++ spaced_item_end)
 
 -- ---- how the format is told from the data
 
@@ -46,8 +46,8 @@ unfoldable pub arm_line : List ℕ → List ℕ
 arm_line name = text_of (at 3 (codes "InstructionData::" ∷ (name ∷ (codes " { .. } => Self::" ∷ (name ∷ (codes "," ∷ []))))) ∷ [])
 
 -- the arm of a format
-abbrev pub arm_text : InstructionFormat → List ℕ
-arm_text f = arm_line f.name
+abbrev pub told_arm : InstructionFormat → List ℕ
+told_arm f = arm_line f.name
 
 -- the last lines, and an empty one
 unfoldable pub told_end : List ℕ
@@ -59,13 +59,13 @@ told_end = text_of (
 
 -- how each of these formats is told
 unfoldable pub told_text : List InstructionFormat → List ℕ
-told_text formats = told_head ++ (flat_map arm_text formats ++ told_end)
+told_text formats = told_head ++ (flat_map told_arm formats ++ told_end)
 
 -- ---- both
 
 -- the text of these formats
 unfoldable pub formats_part : List InstructionFormat → List ℕ
-formats_part formats = enum_text formats ++ told_text formats
+formats_part formats = formats_enum_text formats ++ told_text formats
 
 -- the text of the formats in use, by their names. It ends with an empty line.
 abbrev pub formats_text : BuiltDeclarations → List ℕ

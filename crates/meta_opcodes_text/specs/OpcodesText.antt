@@ -33,8 +33,8 @@ unfoldable pub each_opcode : List InstructionFormat → List Built → List ℕ
 each_opcode formats [] = []
 each_opcode formats (c ∷ cs) = first_opcode_text formats c ++ flat_map (opcode_text formats) cs
 
-unfoldable pub enum_text : List InstructionFormat → List Built → List ℕ
-enum_text formats cs = opcodes_head (number_type (length cs)) ++ (each_opcode formats cs ++ spaced_item_end)
+unfoldable pub opcodes_enum_text : List InstructionFormat → List Built → List ℕ
+opcodes_enum_text formats cs = opcodes_head (number_type (length cs)) ++ (each_opcode formats cs ++ spaced_item_end)
 
 -- ---- its methods
 
@@ -77,14 +77,14 @@ names_head = text_of (
 unfoldable pub names_end : List ℕ
 names_end = text_of (at 1 (codes "}" ∷ []) ∷ (at 0 (codes "}" ∷ []) ∷ (empty_line ∷ [])))
 
-unfoldable pub names_text : List Built → List ℕ
-names_text cs = names_head ++ (flat_map (λ c. named_arm c.camel_name c.name) cs ++ names_end)
+unfoldable pub opcode_names_text : List Built → List ℕ
+opcode_names_text cs = names_head ++ (flat_map (λ c. named_arm c.camel_name c.name) cs ++ names_end)
 
 -- ---- all parts
 
 -- the text of these instructions, whose formats are of the table
 unfoldable pub opcodes_part : List InstructionFormat → List Built → List ℕ
-opcodes_part formats cs = enum_text formats cs ++ (methods_text cs ++ names_text cs)
+opcodes_part formats cs = opcodes_enum_text formats cs ++ (methods_text cs ++ opcode_names_text cs)
 
 -- the text of the instructions, in order. It ends with an empty line.
 abbrev pub opcodes_text : BuiltDeclarations → List ℕ

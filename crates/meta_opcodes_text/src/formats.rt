@@ -2,7 +2,7 @@ ghost use Rattle.std.specs.Prelude.{◌≡◌, ◌++◌, OnOk, map, string_bytes
 ghost use Rattle.std.specs.List.{flat_map};
 ghost use Rattle.meta_operands.specs.FormatText.{format_text};
 ghost use Rattle.meta_rust_lines.specs.Ends.{spaced_item_end};
-ghost use Rattle.meta_opcodes_text.specs.FormatsText.{enum_head, entry_lines, entry_text, enum_text, told_head, arm_line, arm_text, told_end, told_text, formats_part, formats_text};
+ghost use Rattle.meta_opcodes_text.specs.FormatsText.{formats_enum_head, entry_lines, entry_text, formats_enum_text, told_head, arm_line, told_arm, told_end, told_text, formats_part, formats_text};
 
 use super::in_use::formats_in_use;
 use meta_declared::Built;
@@ -11,9 +11,9 @@ use meta_rust_lines::{push_spaced_item_end, push_text};
 use std::alloc::{AllocError, Global};
 
 /// Adds the first lines of the enum.
-#[tactic(auto, unfolding(crate::specs::FormatsText::enum_head))]
+#[tactic(auto, unfolding(crate::specs::FormatsText::formats_enum_head))]
 fn push_enum_head(out: &mut String) -> Result<(), AllocError>
-    ensures { OnOk result (string_bytes out.new ≡ string_bytes out.old ++ enum_head) }
+    ensures { OnOk result (string_bytes out.new ≡ string_bytes out.old ++ formats_enum_head) }
 {
     push_text(
         out,
@@ -55,9 +55,9 @@ fn push_entries(out: &mut String, formats: &[&InstructionFormat]) -> Result<(), 
 }
 
 /// Adds the enum of the formats.
-#[tactic(auto, unfolding(crate::specs::FormatsText::enum_text))]
+#[tactic(auto, unfolding(crate::specs::FormatsText::formats_enum_text))]
 fn push_enum(out: &mut String, formats: &[&InstructionFormat]) -> Result<(), AllocError>
-    ensures { OnOk result (string_bytes out.new ≡ string_bytes out.old ++ enum_text (map (λ f. f.now) formats.now)) }
+    ensures { OnOk result (string_bytes out.new ≡ string_bytes out.old ++ formats_enum_text (map (λ f. f.now) formats.now)) }
 {
     push_enum_head(out)?;
     push_entries(out, formats)?;
@@ -91,7 +91,7 @@ fn push_arm(out: &mut String, name: &str) -> Result<(), AllocError>
 
 /// Adds the arms of the formats.
 fn push_arms(out: &mut String, formats: &[&InstructionFormat]) -> Result<(), AllocError>
-    ensures { OnOk result (string_bytes out.new ≡ string_bytes out.old ++ flat_map arm_text (map (λ f. f.now) formats.now)) }
+    ensures { OnOk result (string_bytes out.new ≡ string_bytes out.old ++ flat_map told_arm (map (λ f. f.now) formats.now)) }
 {
     for format in formats {
         push_arm(out, format.name.as_str())?;

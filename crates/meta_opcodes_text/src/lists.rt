@@ -1,7 +1,7 @@
 ghost use Rattle.std.specs.Prelude.{◌≡◌, ◌++◌, OnOk, string_bytes};
 ghost use Rattle.std.specs.List.{flat_map};
 ghost use Rattle.meta_opcodes_text.specs.OpcodeItems.{listed_line, named_arm};
-ghost use Rattle.meta_opcodes_text.specs.OpcodesText.{methods_head, list_head, list_end, list_text, methods_text, names_head, names_end, names_text};
+ghost use Rattle.meta_opcodes_text.specs.OpcodesText.{methods_head, list_head, list_end, list_text, methods_text, names_head, names_end, opcode_names_text};
 
 use super::accessors::push_accessors;
 use super::opcode_items::{push_listed, push_named};
@@ -100,12 +100,12 @@ fn push_names_end(out: &mut String) -> Result<(), AllocError>
 }
 
 /// Adds the function that tells the names of the instructions.
-#[tactic(auto, unfolding(crate::specs::OpcodesText::names_text))]
+#[tactic(auto, unfolding(crate::specs::OpcodesText::opcode_names_text))]
 pub(crate) fn push_names(
     out: &mut String,
     instructions: &[InstructionContent],
 ) -> Result<(), AllocError>
-    ensures { OnOk result (string_bytes out.new ≡ string_bytes out.old ++ names_text instructions.now) }
+    ensures { OnOk result (string_bytes out.new ≡ string_bytes out.old ++ opcode_names_text instructions.now) }
 {
     push_names_head(out)?;
     push_each_named(out, instructions)?;

@@ -2,7 +2,7 @@ ghost use Rattle.std.specs.Prelude.{◌≡◌, ◌++◌, OnOk, string_bytes};
 ghost use Rattle.std.specs.List.{flat_map};
 ghost use Rattle.meta_rust_lines.specs.Ends.{spaced_item_end};
 ghost use Rattle.meta_opcodes_text.specs.OpcodeItems.{opcode_text};
-ghost use Rattle.meta_opcodes_text.specs.OpcodesText.{HaveFormats, number_type, opcodes_head, each_opcode, enum_text, opcodes_part, opcodes_text};
+ghost use Rattle.meta_opcodes_text.specs.OpcodesText.{HaveFormats, number_type, opcodes_head, each_opcode, opcodes_enum_text, opcodes_part, opcodes_text};
 
 use super::lists::{push_methods, push_names};
 use super::opcode_items::{push_first_opcode, push_opcode};
@@ -70,14 +70,14 @@ fn push_each(
 }
 
 /// Adds the enum of the instructions.
-#[tactic(auto, unfolding(crate::specs::OpcodesText::enum_text))]
+#[tactic(auto, unfolding(crate::specs::OpcodesText::opcodes_enum_text))]
 fn push_enum(
     out: &mut String,
     formats: &FormatTable,
     instructions: &[InstructionContent],
 ) -> Result<(), AllocError>
     requires { HaveFormats formats.now instructions.now }
-    ensures { OnOk result (string_bytes out.new ≡ string_bytes out.old ++ enum_text formats.now instructions.now) }
+    ensures { OnOk result (string_bytes out.new ≡ string_bytes out.old ++ opcodes_enum_text formats.now instructions.now) }
 {
     push_head(out, number_type(instructions.len()))?;
     push_each(out, formats, instructions)?;

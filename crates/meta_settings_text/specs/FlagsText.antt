@@ -2,7 +2,7 @@
 --     struct_text name bytes         the struct
 --     constructor_text parent g      its constructor
 --     iterator_text size             the function `iter`
---     builder_text name              the function `builder`
+--     builder_function_text name              the function `builder`
 --     display_text name              how the flags are shown
 --     hash_key_text                  the function `hash_key`
 --     flags_text parent g            the first three, in order
@@ -77,8 +77,8 @@ unfoldable pub flags_text : ParentGroup → Layout → List ℕ
 flags_text parent g = struct_text g.name g.settings_size ++ (constructor_text parent g ++ iterator_text g.settings_size)
 
 -- the function `builder` of a group of this name
-unfoldable pub builder_text : List ℕ → List ℕ
-builder_text name = text_of (
+unfoldable pub builder_function_text : List ℕ → List ℕ
+builder_function_text name = text_of (
     at 0 (codes "/// Create a `settings::Builder` for the " ∷ (name ∷ (codes " settings group." ∷ [])))
     ∷ (at 0 (codes "pub fn builder() -> Builder {" ∷ [])
     ∷ (at 1 (codes "Builder::new(&TEMPLATE)" ∷ [])
@@ -113,4 +113,4 @@ hash_key_text = text_of (
 
 -- how the flags of a group of this name are built, shown and hashed
 unfoldable pub flags_used_text : List ℕ → List ℕ
-flags_used_text name = builder_text name ++ (display_text name ++ hash_key_text)
+flags_used_text name = builder_function_text name ++ (display_text name ++ hash_key_text)

@@ -1,7 +1,7 @@
 use Rattle.std.proofs.Common.{◌≡◌, ◌++◌, drop, string_bytes}
 use Rattle.std.specs.List.{flat_map}
 use Rattle.meta_rust_text.specs.TypesText.{vector_sizes}
-use Rattle.meta_rust_text.proofs.Pushed.{size_text}
+use Rattle.meta_rust_text.proofs.TypeTexts.{size_text}
 use Rattle.meta_rust_text.proofs.types.push_sizes.Given as goal
 
 -- the texts of the sizes that are left are still to be added
