@@ -59,7 +59,7 @@ constructors_text formats numbers = join_by (constructor_at formats) gap_text nu
 unfoldable pub trait_head : List ℕ
 trait_head = text_of (
     at 0 (codes "/// Convenience methods for building instructions." ∷ [])
-    ∷ (at 0 (codes "pub trait InstBuilder<'f>: InstBuilderBase<'f> {" ∷ []) ∷ []))
+    ∷ at 0 (codes "pub trait InstBuilder<'f>: InstBuilderBase<'f> {" ∷ []) ∷ [])
 
 -- A trait with the methods that build each instruction, in order, and behind one more empty line with the constructors of the
 -- formats in use, by their names.

@@ -14,7 +14,7 @@ use Rattle.meta_builder_text.specs.MethodBody.{result_type, body_text}
 unfoldable pub method_head_text : List ℕ → List ℕ → List ℕ → List ℕ → List ℕ
 method_head_text name parameters arguments result = text_of (
     at 1 (codes "#[allow(non_snake_case, reason = \"generated code\")]" ∷ [])
-    ∷ (at 1 (codes "fn " ∷ (name ∷ (parameters ∷ (codes "(" ∷ (arguments ∷ (codes ") -> " ∷ (result ∷ (codes " {" ∷ [])))))))) ∷ []))
+    ∷ at 1 (codes "fn " ∷ name ∷ parameters ∷ codes "(" ∷ arguments ∷ codes ") -> " ∷ result ∷ codes " {" ∷ []) ∷ [])
 
 -- the end of a method
 unfoldable pub inst_builder_end : List ℕ

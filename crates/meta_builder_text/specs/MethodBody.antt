@@ -18,7 +18,7 @@ use Rattle.meta_builder_text.specs.Operands.{is_converted, is_mem_flags, variabl
 
 -- the line that converts an argument of this name
 unfoldable pub conversion_text : List ℕ → List ℕ
-conversion_text name = text_of (at 2 (codes "let " ∷ (name ∷ (codes " = " ∷ (name ∷ (codes ".into();" ∷ []))))) ∷ [])
+conversion_text name = text_of (at 2 (codes "let " ∷ name ∷ codes " = " ∷ name ∷ codes ".into();" ∷ []) ∷ [])
 
 -- the same, where the argument for the operand is converted
 unfoldable pub conversion_of : Operand → List ℕ
@@ -26,7 +26,7 @@ conversion_of o = if is_converted o then conversion_text o.name else []
 
 -- the line that stores flags of a memory access
 unfoldable pub mem_flags_text : List ℕ → List ℕ
-mem_flags_text name = text_of (at 2 (codes "let " ∷ (name ∷ (codes " = self.data_flow_graph_mut().mem_flags.insert(" ∷ (name ∷ (codes ").unwrap();" ∷ []))))) ∷ [])
+mem_flags_text name = text_of (at 2 (codes "let " ∷ name ∷ codes " = self.data_flow_graph_mut().mem_flags.insert(" ∷ name ∷ codes ").unwrap();" ∷ []) ∷ [])
 
 -- the same, where the operand is such flags
 unfoldable pub mem_flags_of : Operand → List ℕ
@@ -36,7 +36,7 @@ mem_flags_of o = if is_mem_flags o && is_immediate_operand o then mem_flags_text
 unfoldable pub block_call_text : List ℕ → List ℕ
 block_call_text name = text_of (
     at 2 (
-    codes "let " ∷ (name ∷ (codes " = self.data_flow_graph_mut().block_call(" ∷ (name ∷ (codes "_label, " ∷ (name ∷ (codes "_args);" ∷ []))))))
+    codes "let " ∷ name ∷ codes " = self.data_flow_graph_mut().block_call(" ∷ name ∷ codes "_label, " ∷ name ∷ codes "_args);" ∷ []
     )
     ∷ []
     )
@@ -58,7 +58,7 @@ designated_place c format = option_and_then (slice_get c.value_opnums) format.ty
 
 -- the line that takes the control from the operand of this name
 unfoldable pub inferred_text : List ℕ → List ℕ
-inferred_text name = text_of (at 2 (codes "let ctrl_typevar = self.data_flow_graph().value_type(" ∷ (name ∷ (codes ");" ∷ []))) ∷ [])
+inferred_text name = text_of (at 2 (codes "let ctrl_typevar = self.data_flow_graph().value_type(" ∷ name ∷ codes ");" ∷ []) ∷ [])
 
 -- the same, where the control is the type of the designated operand
 unfoldable pub control_text : Option PolymorphicInfo → List ℕ → List ℕ
@@ -76,15 +76,15 @@ passed_control vars (Some info) = if info.use_typevar_operand then codes "ctrl_t
 unfoldable pub value_list_begin : List ℕ
 value_list_begin = text_of (
     at 2 (codes "let mut vlist = ir::ValueList::default();" ∷ [])
-    ∷ (at 2 (codes "{" ∷ []) ∷ (at 3 (codes "let pool = &mut self.data_flow_graph_mut().value_lists;" ∷ []) ∷ [])))
+    ∷ at 2 (codes "{" ∷ []) ∷ at 3 (codes "let pool = &mut self.data_flow_graph_mut().value_lists;" ∷ []) ∷ [])
 
 -- the line that adds a value
 unfoldable pub one_value_line : List ℕ → List ℕ
-one_value_line name = text_of (at 3 (codes "vlist.push(" ∷ (name ∷ (codes ", pool);" ∷ []))) ∷ [])
+one_value_line name = text_of (at 3 (codes "vlist.push(" ∷ name ∷ codes ", pool);" ∷ []) ∷ [])
 
 -- the line that adds a variable number of values
 unfoldable pub more_values_line : List ℕ → List ℕ
-more_values_line name = text_of (at 3 (codes "vlist.extend(" ∷ (name ∷ (codes ".iter().cloned(), pool);" ∷ []))) ∷ [])
+more_values_line name = text_of (at 3 (codes "vlist.extend(" ∷ name ∷ codes ".iter().cloned(), pool);" ∷ []) ∷ [])
 
 -- the line that adds the operand, where it is one value or a variable number
 unfoldable pub added_text : Operand → List ℕ
@@ -115,8 +115,8 @@ passed_operands c format = passed c.operands_in c.imm_opnums ++ passed_values c 
 -- the call of the constructor of this name, for the opcode of this name, and the line that traces it
 unfoldable pub call_text : List ℕ → List ℕ → List ℕ → List ℕ → List ℕ
 call_text constructor opcode control operands = text_of (
-    at 2 (codes "let (inst, dfg) = self." ∷ (constructor ∷ (codes "(Opcode::" ∷ (opcode ∷ (codes ", " ∷ (control ∷ (operands ∷ (codes ");" ∷ []))))))))
-    ∷ (at 2 (codes "crate::trace!(\"inserted {inst:?}: {}\", dfg.display_inst(inst));" ∷ []) ∷ []))
+    at 2 (codes "let (inst, dfg) = self." ∷ constructor ∷ codes "(Opcode::" ∷ opcode ∷ codes ", " ∷ control ∷ operands ∷ codes ");" ∷ [])
+    ∷ at 2 (codes "crate::trace!(\"inserted {inst:?}: {}\", dfg.display_inst(inst));" ∷ []) ∷ [])
 
 -- ---- the results
 
@@ -132,8 +132,8 @@ numbered_result number = codes "results[" ++ (decimal number ++ codes "]")
 -- the lines that give so many results, which these are
 unfoldable pub several_text : ℕ → List ℕ → List ℕ
 several_text count results = text_of (
-    at 2 (codes "let results = &dfg.inst_results(inst)[0.." ∷ (decimal count ∷ (codes "];" ∷ [])))
-    ∷ (at 2 (codes "(" ∷ (results ∷ (codes ")" ∷ []))) ∷ []))
+    at 2 (codes "let results = &dfg.inst_results(inst)[0.." ∷ decimal count ∷ codes "];" ∷ [])
+    ∷ at 2 (codes "(" ∷ results ∷ codes ")" ∷ []) ∷ [])
 
 -- the line that gives the instruction itself
 unfoldable pub instruction_line : List ℕ

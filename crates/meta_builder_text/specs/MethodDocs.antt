@@ -13,7 +13,7 @@ use Rattle.meta_builder_text.specs.Arguments.{asked_control}
 
 -- the line on the control
 unfoldable pub control_line : List ℕ → List ℕ → List ℕ
-control_line name doc = text_of (at 1 (codes "/// - " ∷ (name ∷ (codes " (controlling type variable): " ∷ (doc ∷ [])))) ∷ [])
+control_line name doc = text_of (at 1 (codes "/// - " ∷ name ∷ codes " (controlling type variable): " ∷ doc ∷ []) ∷ [])
 
 -- the line on the control, where it is an argument
 unfoldable pub control_doc : List TypeVarContent → Option ℕ → List ℕ
@@ -23,8 +23,8 @@ control_doc vars (Some tv) = control_line (variable_name vars tv) (variable_doc 
 -- the lines on a block of this name and on what is passed to it
 unfoldable pub block_docs : List ℕ → List ℕ
 block_docs name = text_of (
-    at 1 (codes "/// - " ∷ (name ∷ (codes "_label: Destination basic block" ∷ [])))
-    ∷ (at 1 (codes "/// - " ∷ (name ∷ (codes "_args: Block arguments" ∷ []))) ∷ []))
+    at 1 (codes "/// - " ∷ name ∷ codes "_label: Destination basic block" ∷ [])
+    ∷ at 1 (codes "/// - " ∷ name ∷ codes "_args: Block arguments" ∷ []) ∷ [])
 
 -- the line on a block without arguments
 unfoldable pub raw_block_doc : List ℕ

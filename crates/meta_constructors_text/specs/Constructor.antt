@@ -13,11 +13,11 @@ use Rattle.meta_constructors_text.specs.Arguments.{constructor_arguments, number
 
 -- the line of a member, which has the value of the argument of its name, or, as `arg: arg0`, one of its own
 unfoldable pub member_text : List ℕ → List ℕ
-member_text member = text_of (at 3 (member ∷ (codes "," ∷ [])) ∷ [])
+member_text member = text_of (at 3 (member ∷ codes "," ∷ []) ∷ [])
 
 -- the line of a member that is an array of these names: `args: [arg0, arg1],`
 unfoldable pub array_member_text : List ℕ → List ℕ → List ℕ
-array_member_text member names = text_of (at 3 (member ∷ (codes ": [" ∷ (names ∷ (codes "]," ∷ [])))) ∷ [])
+array_member_text member names = text_of (at 3 (member ∷ codes ": [" ∷ names ∷ codes "]," ∷ []) ∷ [])
 
 -- the member of each field
 unfoldable pub field_members : List FormatField → List ℕ
@@ -61,15 +61,15 @@ mut_mark masked = if masked then codes " mut" else []
 -- three, up to the member of the opcode
 unfoldable pub head_text : List ℕ → List ℕ → List ℕ → List ℕ → List ℕ
 head_text name displayed arguments mark = text_of (
-    at 1 (codes "/// " ∷ (displayed ∷ []))
-    ∷ (at 1 (codes "#[allow(non_snake_case, reason = \"generated code\")]" ∷ [])
-    ∷ (at 1 (codes "fn " ∷ (name ∷ (codes "(self, opcode: Opcode, ctrl_typevar: Type" ∷ (arguments ∷ (codes ") -> (Inst, &'f mut ir::DataFlowGraph) {" ∷ [])))))
-    ∷ (at 2 (codes "let" ∷ (mark ∷ (codes " data = ir::InstructionData::" ∷ (name ∷ (codes " {" ∷ [])))))
-    ∷ (at 3 (codes "opcode," ∷ []) ∷ [])))))
+    at 1 (codes "/// " ∷ displayed ∷ [])
+    ∷ at 1 (codes "#[allow(non_snake_case, reason = \"generated code\")]" ∷ [])
+    ∷ at 1 (codes "fn " ∷ name ∷ codes "(self, opcode: Opcode, ctrl_typevar: Type" ∷ arguments ∷ codes ") -> (Inst, &'f mut ir::DataFlowGraph) {" ∷ [])
+    ∷ at 2 (codes "let" ∷ mark ∷ codes " data = ir::InstructionData::" ∷ name ∷ codes " {" ∷ [])
+    ∷ at 3 (codes "opcode," ∷ []) ∷ [])
 
 -- the end of the data, whose semicolon stands on a line of its own
 unfoldable pub data_end_text : List ℕ
-data_end_text = text_of (at 2 (codes "}" ∷ []) ∷ (at 2 (codes ";" ∷ []) ∷ []))
+data_end_text = text_of (at 2 (codes "}" ∷ []) ∷ at 2 (codes ";" ∷ []) ∷ [])
 
 -- the masking, where it is needed
 unfoldable pub masking_text : Bool → List ℕ
@@ -79,8 +79,8 @@ masking_text masked = if masked then text_of (at 2 (codes "data.mask_immediates(
 unfoldable pub build_text : List ℕ
 build_text = text_of (
     at 2 (codes "debug_assert_eq!(opcode.format(), InstructionFormat::from(&data), \"Wrong InstructionFormat for Opcode: {opcode}\");" ∷ [])
-    ∷ (at 2 (codes "self.build(data, ctrl_typevar)" ∷ [])
-    ∷ (at 1 (codes "}" ∷ []) ∷ [])))
+    ∷ at 2 (codes "self.build(data, ctrl_typevar)" ∷ [])
+    ∷ at 1 (codes "}" ∷ []) ∷ [])
 
 -- The constructor of a format. It takes what the members hold behind `self`, the opcode and the control's type, makes the data of
 -- the instruction, masks its immediates where one is of 64 bits, and inserts the instruction.

@@ -19,15 +19,15 @@ first_line doc = unwrap_or (find has_text (map trim (lines doc))) []
 
 -- a doc comment of one line: the space behind the slashes stands also where the line is empty
 unfoldable pub doc_line_text : List ℕ → List ℕ
-doc_line_text doc = text_of (at 1 (codes "/// " ∷ (doc ∷ [])) ∷ [])
+doc_line_text doc = text_of (at 1 (codes "/// " ∷ doc ∷ []) ∷ [])
 
 -- a heading in a doc comment, as `Inputs:`, between two empty lines of the comment
 unfoldable pub doc_heading_text : List ℕ → List ℕ
 doc_heading_text heading = text_of (
     at 1 (codes "///" ∷ [])
-    ∷ (at 1 (codes "/// " ∷ (heading ∷ (codes ":" ∷ [])))
-    ∷ (at 1 (codes "///" ∷ []) ∷ [])))
+    ∷ at 1 (codes "/// " ∷ heading ∷ codes ":" ∷ [])
+    ∷ at 1 (codes "///" ∷ []) ∷ [])
 
 -- the line on an input or an output of this name: `/// - x: A scalar`. The space behind the colon stands also where the doc is empty
 unfoldable pub doc_item_text : List ℕ → List ℕ → List ℕ
-doc_item_text name doc = text_of (at 1 (codes "/// - " ∷ (name ∷ (codes ": " ∷ (doc ∷ [])))) ∷ [])
+doc_item_text name doc = text_of (at 1 (codes "/// - " ∷ name ∷ codes ": " ∷ doc ∷ []) ∷ [])

@@ -79,11 +79,11 @@ unfoldable pub summary_text : List ℕ → List ℕ → List ℕ
 summary_text name extension = text_of (
     at 1 (
     codes "/// Convenience method that is like [`"
-    ∷ (name
-    ∷ (codes "`][Self::"
-    ∷ (name
-    ∷ (codes "], but takes its trailing operand as an immediate integer constant which is materialized with an `iconst` and "
-    ∷ (extension ∷ (codes " to the controlling type." ∷ []))))))
+    ∷ name
+    ∷ codes "`][Self::"
+    ∷ name
+    ∷ codes "], but takes its trailing operand as an immediate integer constant which is materialized with an `iconst` and "
+    ∷ extension ∷ codes " to the controlling type." ∷ []
     )
     ∷ [])
 
@@ -92,8 +92,8 @@ unfoldable pub deprecation_text : List ℕ → List ℕ
 deprecation_text name = text_of (
     at 1 (
     codes "#[deprecated(note = \"use `"
-    ∷ (name
-    ∷ (codes "_imm_s` (sign-extends the immediate) or `" ∷ (name ∷ (codes "_imm_u` (zero-extends the immediate) instead\")]" ∷ []))))
+    ∷ name
+    ∷ codes "_imm_s` (sign-extends the immediate) or `" ∷ name ∷ codes "_imm_u` (zero-extends the immediate) instead\")]" ∷ []
     )
     ∷ [])
 
@@ -107,20 +107,20 @@ mark_text name Deprecated = deprecation_text name
 unfoldable pub signature_text : List ℕ → List ℕ → List ℕ → List ℕ
 signature_text name suffix arguments = text_of (
     at 1 (codes "#[allow(non_snake_case, reason = \"generated code\")]" ∷ [])
-    ∷ (at 1 (codes "fn " ∷ (name ∷ (suffix ∷ (codes "<T: Into<ir::immediates::Imm64>>(mut self" ∷ (arguments ∷ (codes ") -> Value {" ∷ [])))))) ∷ []))
+    ∷ at 1 (codes "fn " ∷ name ∷ suffix ∷ codes "<T: Into<ir::immediates::Imm64>>(mut self" ∷ arguments ∷ codes ") -> Value {" ∷ []) ∷ [])
 
 -- the first lines of a method's body: the immediate as a number, and the type of the first value input
 unfoldable pub number_text : List ℕ → List ℕ → List ℕ
 number_text control immediate = text_of (
-    at 2 (codes "let " ∷ (immediate ∷ (codes " = " ∷ (immediate ∷ (codes ".into();" ∷ [])))))
-    ∷ (at 2 (codes "let imm_ty = self.data_flow_graph().value_type(" ∷ (control ∷ (codes ");" ∷ []))) ∷ []))
+    at 2 (codes "let " ∷ immediate ∷ codes " = " ∷ immediate ∷ codes ".into();" ∷ [])
+    ∷ at 2 (codes "let imm_ty = self.data_flow_graph().value_type(" ∷ control ∷ codes ");" ∷ []) ∷ [])
 
 -- its last lines: the number as a value of that type, by an extension of its sign or not, and the instruction with all inputs
 unfoldable pub imm_call_text : List ℕ → List ℕ → List ℕ → List ℕ → List ℕ
 imm_call_text name immediate signed inputs = text_of (
-    at 2 (codes "let " ∷ (immediate ∷ (codes " = self.build_imm_const(imm_ty, " ∷ (immediate ∷ (codes ", " ∷ (signed ∷ (codes ");" ∷ [])))))))
-    ∷ (at 2 (codes "self." ∷ (name ∷ (codes "(" ∷ (inputs ∷ (codes ")" ∷ [])))))
-    ∷ (at 1 (codes "}" ∷ []) ∷ [])))
+    at 2 (codes "let " ∷ immediate ∷ codes " = self.build_imm_const(imm_ty, " ∷ immediate ∷ codes ", " ∷ signed ∷ codes ");" ∷ [])
+    ∷ at 2 (codes "self." ∷ name ∷ codes "(" ∷ inputs ∷ codes ")" ∷ [])
+    ∷ at 1 (codes "}" ∷ []) ∷ [])
 
 -- the lines of a method
 unfoldable pub imm_method_text : ImmMethods → Method → List ℕ

@@ -42,15 +42,15 @@ unfoldable pub eq_arm_head : List ℕ → List ℕ → List ℕ → List ℕ
 eq_arm_head name first second = text_of (
     at 3 (
     codes "(&Self::"
-    ∷ (name
-    ∷ (codes " { " ∷ (first ∷ (codes " }, &Self::" ∷ (name ∷ (codes " { " ∷ (second ∷ (codes " }) => {" ∷ []))))))))
+    ∷ name
+    ∷ codes " { " ∷ first ∷ codes " }, &Self::" ∷ name ∷ codes " { " ∷ second ∷ codes " }) => {" ∷ []
     )
-    ∷ (at 4 (codes "opcode1 == opcode2" ∷ []) ∷ [])
+    ∷ at 4 (codes "opcode1 == opcode2" ∷ []) ∷ []
     )
 
 -- a member is equal in both
 unfoldable pub equal_member : List ℕ → List ℕ
-equal_member member = text_of (at 4 (codes "&& " ∷ (member ∷ (codes "1 == " ∷ (member ∷ (codes "2" ∷ []))))) ∷ [])
+equal_member member = text_of (at 4 (codes "&& " ∷ member ∷ codes "1 == " ∷ member ∷ codes "2" ∷ []) ∷ [])
 
 -- the values are equal
 unfoldable pub equal_values : Values → List ℕ
@@ -82,9 +82,9 @@ eq_arm f =
 unfoldable pub eq_head : List ℕ
 eq_head = text_of (
     at 1 (codes "/// Compare two `InstructionData` for equality." ∷ [])
-    ∷ (at 1 (codes "pub fn eq(&self, other: &Self, pool: &ir::ValueListPool) -> bool {" ∷ [])
-    ∷ (at 2 (codes "if ::core::mem::discriminant(self) != ::core::mem::discriminant(other) {" ∷ [])
-    ∷ (at 3 (codes "return false;" ∷ []) ∷ (at 2 (codes "}" ∷ []) ∷ (at 2 (codes "match (self, other) {" ∷ []) ∷ [])))))
+    ∷ at 1 (codes "pub fn eq(&self, other: &Self, pool: &ir::ValueListPool) -> bool {" ∷ [])
+    ∷ at 2 (codes "if ::core::mem::discriminant(self) != ::core::mem::discriminant(other) {" ∷ [])
+    ∷ at 3 (codes "return false;" ∷ []) ∷ at 2 (codes "}" ∷ []) ∷ at 2 (codes "match (self, other) {" ∷ []) ∷ []
     )
 
 -- no further pair is left, since both are of one format

@@ -24,21 +24,21 @@ hash_pattern f =
 -- the first lines of an arm: its pattern, and that which format it is and the opcode are hashed
 unfoldable pub hash_arm_head : List ℕ → List ℕ → List ℕ
 hash_arm_head name pattern = text_of (
-    at 3 (codes "Self::" ∷ (name ∷ (codes "{" ∷ (pattern ∷ (codes "} => {" ∷ [])))))
-    ∷ (at 4 (codes "::core::hash::Hash::hash( &::core::mem::discriminant(self), state);" ∷ [])
-    ∷ (at 4 (codes "::core::hash::Hash::hash(&opcode, state);" ∷ []) ∷ []))
+    at 3 (codes "Self::" ∷ name ∷ codes "{" ∷ pattern ∷ codes "} => {" ∷ [])
+    ∷ at 4 (codes "::core::hash::Hash::hash( &::core::mem::discriminant(self), state);" ∷ [])
+    ∷ at 4 (codes "::core::hash::Hash::hash(&opcode, state);" ∷ []) ∷ []
     )
 
 -- something is hashed
 unfoldable pub hashed : List ℕ → List ℕ
-hashed value = text_of (at 4 (codes "::core::hash::Hash::hash(&" ∷ (value ∷ (codes ", state);" ∷ []))) ∷ [])
+hashed value = text_of (at 4 (codes "::core::hash::Hash::hash(&" ∷ value ∷ codes ", state);" ∷ []) ∷ [])
 
 -- how many values there are is hashed, and each of them
 unfoldable pub hashed_each_value : List ℕ → List ℕ → List ℕ
 hashed_each_value count args = text_of (
-    at 4 (codes "::core::hash::Hash::hash(&" ∷ (count ∷ (codes ", state);" ∷ [])))
-    ∷ (at 4 (codes "for &arg in " ∷ (args ∷ (codes " {" ∷ [])))
-    ∷ (at 5 (codes "::core::hash::Hash::hash(&arg, state);" ∷ []) ∷ (at 4 (codes "}" ∷ []) ∷ [])))
+    at 4 (codes "::core::hash::Hash::hash(&" ∷ count ∷ codes ", state);" ∷ [])
+    ∷ at 4 (codes "for &arg in " ∷ args ∷ codes " {" ∷ [])
+    ∷ at 5 (codes "::core::hash::Hash::hash(&arg, state);" ∷ []) ∷ at 4 (codes "}" ∷ []) ∷ []
     )
 
 -- the values
@@ -51,12 +51,12 @@ hashed_values values.Listed = hashed_each_value (codes "args.len(pool)") (codes 
 -- how many blocks there are is hashed, and each of them with its arguments
 unfoldable pub hashed_each_block : List ℕ → List ℕ → List ℕ
 hashed_each_block count blocks = text_of (
-    at 4 (codes "::core::hash::Hash::hash(&" ∷ (count ∷ (codes ", state);" ∷ [])))
-    ∷ (at 4 (codes "for &block in " ∷ (blocks ∷ (codes " {" ∷ [])))
-    ∷ (at 5 (codes "::core::hash::Hash::hash(&block.block(pool), state);" ∷ [])
-    ∷ (at 5 (codes "for arg in block.args(pool) {" ∷ [])
-    ∷ (at 6 (codes "::core::hash::Hash::hash(&arg, state);" ∷ [])
-    ∷ (at 5 (codes "}" ∷ []) ∷ (at 4 (codes "}" ∷ []) ∷ []))))))
+    at 4 (codes "::core::hash::Hash::hash(&" ∷ count ∷ codes ", state);" ∷ [])
+    ∷ at 4 (codes "for &block in " ∷ blocks ∷ codes " {" ∷ [])
+    ∷ at 5 (codes "::core::hash::Hash::hash(&block.block(pool), state);" ∷ [])
+    ∷ at 5 (codes "for arg in block.args(pool) {" ∷ [])
+    ∷ at 6 (codes "::core::hash::Hash::hash(&arg, state);" ∷ [])
+    ∷ at 5 (codes "}" ∷ []) ∷ at 4 (codes "}" ∷ []) ∷ []
     )
 
 -- the blocks
@@ -80,7 +80,7 @@ hash_arm f =
 unfoldable pub hash_head : List ℕ
 hash_head = text_of (
     at 1 (codes "/// Hash an `InstructionData`." ∷ [])
-    ∷ (at 1 (codes "pub fn hash<H: ::core::hash::Hasher>(&self, state: &mut H, pool: &ir::ValueListPool) {" ∷ []) ∷ (at 2 (codes "match *self {" ∷ []) ∷ []))
+    ∷ at 1 (codes "pub fn hash<H: ::core::hash::Hasher>(&self, state: &mut H, pool: &ir::ValueListPool) {" ∷ []) ∷ at 2 (codes "match *self {" ∷ []) ∷ []
     )
 
 -- the method `hash`

@@ -43,11 +43,11 @@ mapped_below (suc place) = mapped_below place ++ mapped_value place
 
 -- a member that the mapper's method of this word maps: `flags: mapper.map_mem_flags(flags),`
 unfoldable pub mapped : List ℕ → List ℕ → List ℕ
-mapped member word = text_of (at 5 (member ∷ (codes ": mapper.map_" ∷ (word ∷ (codes "(" ∷ (member ∷ (codes ")," ∷ [])))))) ∷ [])
+mapped member word = text_of (at 5 (member ∷ codes ": mapper.map_" ∷ word ∷ codes "(" ∷ member ∷ codes ")," ∷ []) ∷ [])
 
 -- the array of mapped values, which are shown so
 unfoldable pub mapped_array : List ℕ → List ℕ
-mapped_array elements = text_of (at 5 (codes "args: [" ∷ (elements ∷ (codes "]," ∷ []))) ∷ [])
+mapped_array elements = text_of (at 5 (codes "args: [" ∷ elements ∷ codes "]," ∷ []) ∷ [])
 
 -- the values
 unfoldable pub mapped_values : Values → List ℕ
@@ -106,7 +106,7 @@ map_arm f =
 unfoldable pub map_head : List ℕ
 map_head = text_of (
     at 1 (codes "/// Map some functions, described by the given `InstructionMapper`, over each of the" ∷ [])
-    ∷ (at 1 (codes "pub fn map(&self, mut mapper: impl crate::ir::instructions::InstructionMapper) -> Self {" ∷ []) ∷ (at 2 (codes "match *self {" ∷ []) ∷ []))
+    ∷ at 1 (codes "pub fn map(&self, mut mapper: impl crate::ir::instructions::InstructionMapper) -> Self {" ∷ []) ∷ at 2 (codes "match *self {" ∷ []) ∷ []
     )
 
 -- the method `map`, behind which no empty line stands

@@ -16,12 +16,12 @@ use Rattle.meta_data_text.specs.MethodLines.{spaced_end}
 -- ---- the opcode
 
 unfoldable pub opcode_arm : List ℕ → List ℕ
-opcode_arm name = text_of (at 3 (codes "Self::" ∷ (name ∷ (codes " { opcode, .. } => opcode," ∷ []))) ∷ [])
+opcode_arm name = text_of (at 3 (codes "Self::" ∷ name ∷ codes " { opcode, .. } => opcode," ∷ []) ∷ [])
 
 unfoldable pub opcode_head : List ℕ
 opcode_head = text_of (
     at 1 (codes "/// Get the opcode of this instruction." ∷ [])
-    ∷ (at 1 (codes "pub fn opcode(&self) -> Opcode {" ∷ []) ∷ (at 2 (codes "match *self {" ∷ []) ∷ []))
+    ∷ at 1 (codes "pub fn opcode(&self) -> Opcode {" ∷ []) ∷ at 2 (codes "match *self {" ∷ []) ∷ []
     )
 
 -- the method `opcode`
@@ -32,26 +32,26 @@ opcode_method formats = opcode_head ++ (flat_map (λ f. opcode_arm f.name) forma
 
 -- where an operand is designated it is the value at its place: in a list, alone, or in an array
 unfoldable pub typevar_arm : List ℕ → Option ℕ → Values → List ℕ
-typevar_arm name None held = text_of (at 3 (codes "Self::" ∷ (name ∷ (codes " { .. } => None," ∷ []))) ∷ [])
-typevar_arm name (Some place) values.Absent = text_of (at 3 (codes "Self::" ∷ (name ∷ (codes " { .. } => None," ∷ []))) ∷ [])
-typevar_arm name (Some place) values.One = text_of (at 3 (codes "Self::" ∷ (name ∷ (codes " { arg, .. } => Some(arg)," ∷ []))) ∷ [])
+typevar_arm name None held = text_of (at 3 (codes "Self::" ∷ name ∷ codes " { .. } => None," ∷ []) ∷ [])
+typevar_arm name (Some place) values.Absent = text_of (at 3 (codes "Self::" ∷ name ∷ codes " { .. } => None," ∷ []) ∷ [])
+typevar_arm name (Some place) values.One = text_of (at 3 (codes "Self::" ∷ name ∷ codes " { arg, .. } => Some(arg)," ∷ []) ∷ [])
 typevar_arm name (Some place) (values.Several count) = text_of (
     at 3 (
     codes "Self::"
-    ∷ (name
-    ∷ (codes " { args: ref args_arity"
-    ∷ (decimal count ∷ (codes ", .. } => Some(args_arity" ∷ (decimal count ∷ (codes "[" ∷ (decimal place ∷ (codes "])," ∷ []))))))))
+    ∷ name
+    ∷ codes " { args: ref args_arity"
+    ∷ decimal count ∷ codes ", .. } => Some(args_arity" ∷ decimal count ∷ codes "[" ∷ decimal place ∷ codes "])," ∷ []
     )
     ∷ []
     )
 typevar_arm name (Some place) values.Listed = text_of (
-    at 3 (codes "Self::" ∷ (name ∷ (codes " { ref args, .. } => args.get(" ∷ (decimal place ∷ (codes ", pool)," ∷ []))))) ∷ []
+    at 3 (codes "Self::" ∷ name ∷ codes " { ref args, .. } => args.get(" ∷ decimal place ∷ codes ", pool)," ∷ []) ∷ []
     )
 
 unfoldable pub typevar_operand_head : List ℕ
 typevar_operand_head = text_of (
     at 1 (codes "/// Get the controlling type variable operand." ∷ [])
-    ∷ (at 1 (codes "pub fn typevar_operand(&self, pool: &ir::ValueListPool) -> Option<Value> {" ∷ []) ∷ (at 2 (codes "match *self {" ∷ []) ∷ []))
+    ∷ at 1 (codes "pub fn typevar_operand(&self, pool: &ir::ValueListPool) -> Option<Value> {" ∷ []) ∷ at 2 (codes "match *self {" ∷ []) ∷ []
     )
 
 -- the method `typevar_operand`
@@ -76,21 +76,21 @@ list_as_slice Shared = codes "as_slice"
 list_as_slice Mutable = codes "as_mut_slice"
 
 unfoldable pub values_arm : List ℕ → Values → List ℕ → List ℕ → List ℕ → List ℕ
-values_arm name values.Absent mark one list = text_of (at 3 (codes "Self::" ∷ (name ∷ (codes " { .. } => &" ∷ (mark ∷ (codes "[]," ∷ []))))) ∷ [])
+values_arm name values.Absent mark one list = text_of (at 3 (codes "Self::" ∷ name ∷ codes " { .. } => &" ∷ mark ∷ codes "[]," ∷ []) ∷ [])
 values_arm name values.One mark one list = text_of (
-    at 3 (codes "Self::" ∷ (name ∷ (codes " { ref " ∷ (mark ∷ (codes "arg, .. } => " ∷ (one ∷ (codes "(arg)," ∷ []))))))) ∷ []
+    at 3 (codes "Self::" ∷ name ∷ codes " { ref " ∷ mark ∷ codes "arg, .. } => " ∷ one ∷ codes "(arg)," ∷ []) ∷ []
     )
 values_arm name (values.Several count) mark one list = text_of (
     at 3 (
     codes "Self::"
-    ∷ (name
-    ∷ (codes " { args: ref "
-    ∷ (mark ∷ (codes "args_arity" ∷ (decimal count ∷ (codes ", .. } => args_arity" ∷ (decimal count ∷ (codes "," ∷ []))))))))
+    ∷ name
+    ∷ codes " { args: ref "
+    ∷ mark ∷ codes "args_arity" ∷ decimal count ∷ codes ", .. } => args_arity" ∷ decimal count ∷ codes "," ∷ []
     )
     ∷ []
     )
 values_arm name values.Listed mark one list = text_of (
-    at 3 (codes "Self::" ∷ (name ∷ (codes " { ref " ∷ (mark ∷ (codes "args, .. } => args." ∷ (list ∷ (codes "(pool)," ∷ []))))))) ∷ []
+    at 3 (codes "Self::" ∷ name ∷ codes " { ref " ∷ mark ∷ codes "args, .. } => args." ∷ list ∷ codes "(pool)," ∷ []) ∷ []
     )
 
 -- the slice of the values
@@ -100,7 +100,7 @@ arguments_arm access f = values_arm f.name (values_of f) (reference_mark access)
 unfoldable pub arguments_head : List ℕ
 arguments_head = text_of (
     at 1 (codes "/// Get the value arguments to this instruction." ∷ [])
-    ∷ (at 1 (codes "pub fn arguments<'a>(&'a self, pool: &'a ir::ValueListPool) -> &'a [Value] {" ∷ []) ∷ (at 2 (codes "match *self {" ∷ []) ∷ []))
+    ∷ at 1 (codes "pub fn arguments<'a>(&'a self, pool: &'a ir::ValueListPool) -> &'a [Value] {" ∷ []) ∷ at 2 (codes "match *self {" ∷ []) ∷ []
     )
 
 -- the method `arguments`
@@ -110,7 +110,7 @@ arguments_method formats = arguments_head ++ (flat_map (arguments_arm Shared) fo
 unfoldable pub arguments_mut_head : List ℕ
 arguments_mut_head = text_of (
     at 1 (codes "/// Get mutable references to the value arguments to this" ∷ [])
-    ∷ (at 1 (codes "pub fn arguments_mut<'a>(&'a mut self, pool: &'a mut ir::ValueListPool) -> &'a mut [Value] {" ∷ []) ∷ (at 2 (codes "match *self {" ∷ []) ∷ []))
+    ∷ at 1 (codes "pub fn arguments_mut<'a>(&'a mut self, pool: &'a mut ir::ValueListPool) -> &'a mut [Value] {" ∷ []) ∷ at 2 (codes "match *self {" ∷ []) ∷ []
     )
 
 -- the method `arguments_mut`

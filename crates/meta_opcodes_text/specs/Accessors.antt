@@ -52,13 +52,13 @@ mark_doc SideEffectsIdempotent = codes "Despite having side effects, is this ins
 -- the first lines of the method of this documentation and name
 unfoldable pub accessor_head : List ℕ → List ℕ → List ℕ
 accessor_head doc name = text_of (
-    at 1 (codes "/// " ∷ (doc ∷ []))
-    ∷ (at 1 (codes "pub fn " ∷ (name ∷ (codes "(self) -> bool {" ∷ [])))
-    ∷ (at 2 (codes "match self {" ∷ []) ∷ [])))
+    at 1 (codes "/// " ∷ doc ∷ [])
+    ∷ at 1 (codes "pub fn " ∷ name ∷ codes "(self) -> bool {" ∷ [])
+    ∷ at 2 (codes "match self {" ∷ []) ∷ [])
 
 -- the arm of an instruction that has the mark
 unfoldable pub true_arm : List ℕ → List ℕ
-true_arm name = text_of (at 3 (codes "Self::" ∷ (name ∷ (codes " => true," ∷ []))) ∷ [])
+true_arm name = text_of (at 3 (codes "Self::" ∷ name ∷ codes " => true," ∷ []) ∷ [])
 
 -- an instruction has an arm where it has the mark
 unfoldable pub mark_arm : Mark → Built → List ℕ
@@ -68,9 +68,9 @@ mark_arm mark c = if has_mark mark c.marks then true_arm c.camel_name else []
 unfoldable pub accessor_end : List ℕ
 accessor_end = text_of (
     at 3 (codes "_ => false," ∷ [])
-    ∷ (at 2 (codes "}" ∷ [])
-    ∷ (at 1 (codes "}" ∷ [])
-    ∷ (empty_line ∷ []))))
+    ∷ at 2 (codes "}" ∷ [])
+    ∷ at 1 (codes "}" ∷ [])
+    ∷ empty_line ∷ [])
 
 -- the method that tells which of the instructions have the mark
 unfoldable pub accessor_text : Mark → List Built → List ℕ

@@ -15,14 +15,14 @@ use Rattle.meta_opcodes_text.specs.InUse.{formats_in}
 unfoldable pub data_head : List ℕ
 data_head = text_of (
     at 0 (codes "#[derive(Copy, Clone, Debug, PartialEq, Eq, Hash)]" ∷ [])
-    ∷ (at 0 (codes "#[allow(missing_docs, reason = \"generated code\")]" ∷ [])
-    ∷ (at 0 (codes "pub enum InstructionData {" ∷ []) ∷ [])))
+    ∷ at 0 (codes "#[allow(missing_docs, reason = \"generated code\")]" ∷ [])
+    ∷ at 0 (codes "pub enum InstructionData {" ∷ []) ∷ [])
 
 -- ---- a variant
 
 -- the first lines of the variant of the format of this name
 unfoldable pub variant_head : List ℕ → List ℕ
-variant_head name = text_of (at 1 (name ∷ (codes " {" ∷ [])) ∷ (at 2 (codes "opcode: Opcode," ∷ []) ∷ []))
+variant_head name = text_of (at 1 (name ∷ codes " {" ∷ []) ∷ at 2 (codes "opcode: Opcode," ∷ []) ∷ [])
 
 -- the member that holds so many values: a value list, if there is one; else an array, or one value alone
 unfoldable pub values_text : Bool → ℕ → List ℕ
@@ -30,14 +30,14 @@ values_text has_list count =
     if has_list then text_of (at 2 (codes "args: ValueList," ∷ []) ∷ [])
     else (if count == 0 then []
     else (if count == 1 then text_of (at 2 (codes "arg: Value," ∷ []) ∷ [])
-    else text_of (at 2 (codes "args: [Value; " ∷ (decimal count ∷ (codes "]," ∷ []))) ∷ [])))
+    else text_of (at 2 (codes "args: [Value; " ∷ decimal count ∷ codes "]," ∷ []) ∷ [])))
 
 -- the member that holds so many blocks: an array, or one block alone
 unfoldable pub blocks_text : ℕ → List ℕ
 blocks_text count =
     if count == 0 then []
     else (if count == 1 then text_of (at 2 (codes "destination: ir::BlockCall," ∷ []) ∷ [])
-    else text_of (at 2 (codes "blocks: [ir::BlockCall; " ∷ (decimal count ∷ (codes "]," ∷ []))) ∷ []))
+    else text_of (at 2 (codes "blocks: [ir::BlockCall; " ∷ decimal count ∷ codes "]," ∷ []) ∷ []))
 
 -- the member that holds a block without arguments, where there is one
 unfoldable pub raw_blocks_text : ℕ → List ℕ
@@ -45,7 +45,7 @@ raw_blocks_text count = if count == 0 then [] else text_of (at 2 (codes "block: 
 
 -- a member of this name and type
 unfoldable pub member_line : List ℕ → List ℕ → List ℕ
-member_line name rust_type = text_of (at 2 (name ∷ (codes ": " ∷ (rust_type ∷ (codes "," ∷ [])))) ∷ [])
+member_line name rust_type = text_of (at 2 (name ∷ codes ": " ∷ rust_type ∷ codes "," ∷ []) ∷ [])
 
 -- the member that is a field of the format
 abbrev pub field_line : FormatField → List ℕ
@@ -53,7 +53,7 @@ field_line field = member_line field.member field.kind.rust_type
 
 -- the last lines of a variant
 unfoldable pub variant_end : List ℕ
-variant_end = text_of (at 1 (codes "}" ∷ []) ∷ (at 1 (codes "," ∷ []) ∷ []))
+variant_end = text_of (at 1 (codes "}" ∷ []) ∷ at 1 (codes "," ∷ []) ∷ [])
 
 -- the variant of a format: its values, its blocks, and its fields
 unfoldable pub variant_text : InstructionFormat → List ℕ

@@ -17,12 +17,12 @@ use Rattle.meta_opcodes_text.specs.InUse.{formats_in}
 unfoldable pub formats_enum_head : List ℕ
 formats_enum_head = text_of (
     at 0 (codes "/// An instruction format" ∷ [])
-    ∷ (at 0 (codes "#[derive(Copy, Clone, PartialEq, Eq, Debug)]" ∷ [])
-    ∷ (at 0 (codes "pub enum InstructionFormat {" ∷ []) ∷ [])))
+    ∷ at 0 (codes "#[derive(Copy, Clone, PartialEq, Eq, Debug)]" ∷ [])
+    ∷ at 0 (codes "pub enum InstructionFormat {" ∷ []) ∷ [])
 
 -- a format that is shown so, by its name
 unfoldable pub entry_lines : List ℕ → List ℕ → List ℕ
-entry_lines shown name = text_of (at 1 (codes "/// " ∷ (shown ∷ [])) ∷ (at 1 (name ∷ (codes "," ∷ [])) ∷ []))
+entry_lines shown name = text_of (at 1 (codes "/// " ∷ shown ∷ []) ∷ at 1 (name ∷ codes "," ∷ []) ∷ [])
 
 -- a format, whose documentation shows all of it
 unfoldable pub entry_text : InstructionFormat → List ℕ
@@ -38,12 +38,12 @@ formats_enum_text formats = formats_enum_head ++ (flat_map entry_text formats ++
 unfoldable pub told_head : List ℕ
 told_head = text_of (
     at 0 (codes "impl<'a> From<&'a InstructionData> for InstructionFormat {" ∷ [])
-    ∷ (at 1 (codes "fn from(inst: &'a InstructionData) -> Self {" ∷ [])
-    ∷ (at 2 (codes "match *inst {" ∷ []) ∷ [])))
+    ∷ at 1 (codes "fn from(inst: &'a InstructionData) -> Self {" ∷ [])
+    ∷ at 2 (codes "match *inst {" ∷ []) ∷ [])
 
 -- the arm of the format of this name
 unfoldable pub arm_line : List ℕ → List ℕ
-arm_line name = text_of (at 3 (codes "InstructionData::" ∷ (name ∷ (codes " { .. } => Self::" ∷ (name ∷ (codes "," ∷ []))))) ∷ [])
+arm_line name = text_of (at 3 (codes "InstructionData::" ∷ name ∷ codes " { .. } => Self::" ∷ name ∷ codes "," ∷ []) ∷ [])
 
 -- the arm of a format
 abbrev pub told_arm : InstructionFormat → List ℕ
@@ -53,9 +53,9 @@ told_arm f = arm_line f.name
 unfoldable pub told_end : List ℕ
 told_end = text_of (
     at 2 (codes "}" ∷ [])
-    ∷ (at 1 (codes "}" ∷ [])
-    ∷ (at 0 (codes "}" ∷ [])
-    ∷ (empty_line ∷ []))))
+    ∷ at 1 (codes "}" ∷ [])
+    ∷ at 0 (codes "}" ∷ [])
+    ∷ empty_line ∷ [])
 
 -- how each of these formats is told
 unfoldable pub told_text : List InstructionFormat → List ℕ

@@ -15,7 +15,7 @@ use Rattle.meta_inst.specs.Content.{instruction_text}
 
 -- its documentation: it as it is shown, and the name of its format
 unfoldable pub shown_line : List ℕ → List ℕ → List ℕ
-shown_line shown format = text_of (at 1 (codes "/// `" ∷ (shown ∷ (codes "`. (" ∷ (format ∷ (codes ")" ∷ []))))) ∷ [])
+shown_line shown format = text_of (at 1 (codes "/// `" ∷ shown ∷ codes "`. (" ∷ format ∷ codes ")" ∷ []) ∷ [])
 
 -- the input that holds the value which its format designates
 abbrev pub designated_input : InstructionFormat → Built → Option Operand
@@ -27,7 +27,7 @@ inferring_input f c = option_and_then (λ (info : PolymorphicInfo). if info.use_
 
 -- the line that tells that the type is inferred from the input of this name
 unfoldable pub inferred_from : List ℕ → List ℕ
-inferred_from name = text_of (at 1 (codes "/// Type inferred from `" ∷ (name ∷ (codes "`." ∷ []))) ∷ [])
+inferred_from name = text_of (at 1 (codes "/// Type inferred from `" ∷ name ∷ codes "`." ∷ []) ∷ [])
 
 -- that line, where there is such an input
 unfoldable pub inferred_line : Option Operand → List ℕ
@@ -44,10 +44,10 @@ docs_text formats c = docs_with (slice_get formats c.format) c
 
 -- the opcode of this name; the first one's number is 1
 unfoldable pub opcode_line : List ℕ → List ℕ
-opcode_line name = text_of (at 1 (name ∷ (codes "," ∷ [])) ∷ [])
+opcode_line name = text_of (at 1 (name ∷ codes "," ∷ []) ∷ [])
 
 unfoldable pub first_opcode_line : List ℕ → List ℕ
-first_opcode_line name = text_of (at 1 (name ∷ (codes " = 1," ∷ [])) ∷ [])
+first_opcode_line name = text_of (at 1 (name ∷ codes " = 1," ∷ []) ∷ [])
 
 -- the instruction, where there is one before it
 unfoldable pub opcode_text : List InstructionFormat → Built → List ℕ
@@ -61,8 +61,8 @@ first_opcode_text formats c = docs_text formats c ++ first_opcode_line c.camel_n
 
 -- in the list of all opcodes
 unfoldable pub listed_line : List ℕ → List ℕ
-listed_line name = text_of (at 3 (codes "Opcode::" ∷ (name ∷ (codes "," ∷ []))) ∷ [])
+listed_line name = text_of (at 3 (codes "Opcode::" ∷ name ∷ codes "," ∷ []) ∷ [])
 
 -- in the arms that tell the names, by its name in camel case and the name that is told
 unfoldable pub named_arm : List ℕ → List ℕ → List ℕ
-named_arm name told = text_of (at 2 (codes "Opcode::" ∷ (name ∷ (codes " => \"" ∷ (told ∷ (codes "\"," ∷ []))))) ∷ [])
+named_arm name told = text_of (at 2 (codes "Opcode::" ∷ name ∷ codes " => \"" ∷ told ∷ codes "\"," ∷ []) ∷ [])

@@ -24,9 +24,9 @@ number_type count = if nat_lt 255 count then codes "u16" else codes "u8"
 unfoldable pub opcodes_head : List ℕ → List ℕ
 opcodes_head repr = text_of (
     at 0 (codes "/// An instruction opcode." ∷ [])
-    ∷ (at 0 (codes "#[repr(" ∷ (repr ∷ (codes ")]" ∷ [])))
-    ∷ (at 0 (codes "#[derive(Copy, Clone, PartialEq, Eq, Debug, Hash)]" ∷ [])
-    ∷ (at 0 (codes "pub enum Opcode {" ∷ []) ∷ []))))
+    ∷ at 0 (codes "#[repr(" ∷ repr ∷ codes ")]" ∷ [])
+    ∷ at 0 (codes "#[derive(Copy, Clone, PartialEq, Eq, Debug, Hash)]" ∷ [])
+    ∷ at 0 (codes "pub enum Opcode {" ∷ []) ∷ [])
 
 -- the instructions
 unfoldable pub each_opcode : List InstructionFormat → List Built → List ℕ
@@ -46,17 +46,17 @@ methods_head = text_of (at 0 (codes "impl Opcode {" ∷ []) ∷ [])
 unfoldable pub list_head : List ℕ
 list_head = text_of (
     at 1 (codes "/// All cranelift opcodes." ∷ [])
-    ∷ (at 1 (codes "pub fn all() -> &'static [Opcode] {" ∷ [])
-    ∷ (at 2 (codes "return &[" ∷ []) ∷ [])))
+    ∷ at 1 (codes "pub fn all() -> &'static [Opcode] {" ∷ [])
+    ∷ at 2 (codes "return &[" ∷ []) ∷ [])
 
 -- its last lines and those of the methods, each time with an empty one
 unfoldable pub list_end : List ℕ
 list_end = text_of (
     at 2 (codes "];" ∷ [])
-    ∷ (at 1 (codes "}" ∷ [])
-    ∷ (empty_line
-    ∷ (at 0 (codes "}" ∷ [])
-    ∷ (empty_line ∷ [])))))
+    ∷ at 1 (codes "}" ∷ [])
+    ∷ empty_line
+    ∷ at 0 (codes "}" ∷ [])
+    ∷ empty_line ∷ [])
 
 -- the method that lists all opcodes, and the end of the methods
 unfoldable pub list_text : List Built → List ℕ
@@ -71,11 +71,11 @@ methods_text cs = methods_head ++ (accessors_text cs ++ list_text cs)
 unfoldable pub names_head : List ℕ
 names_head = text_of (
     at 0 (codes "fn opcode_name(opc: Opcode) -> &'static str {" ∷ [])
-    ∷ (at 1 (codes "match opc {" ∷ []) ∷ []))
+    ∷ at 1 (codes "match opc {" ∷ []) ∷ [])
 
 -- the last lines, and an empty one
 unfoldable pub names_end : List ℕ
-names_end = text_of (at 1 (codes "}" ∷ []) ∷ (at 0 (codes "}" ∷ []) ∷ (empty_line ∷ [])))
+names_end = text_of (at 1 (codes "}" ∷ []) ∷ at 0 (codes "}" ∷ []) ∷ empty_line ∷ [])
 
 unfoldable pub opcode_names_text : List Built → List ℕ
 opcode_names_text cs = names_head ++ (flat_map (λ c. named_arm c.camel_name c.name) cs ++ names_end)

@@ -15,9 +15,9 @@ use Rattle.meta_text.specs.Lines.{Line, at, empty_line, text_of}
 -- the documentation of a constant, the constant by its name and its number in hexadecimal digits, and an empty line
 abbrev pub constant_lines : List ℕ → List ℕ → ℕ → List Line
 constant_lines doc name number =
-    at 0 (codes "/// " ∷ (doc ∷ []))
-    ∷ (at 0 (codes "pub const " ∷ (name ∷ (codes ": Type = Type(0x" ∷ (digits 16 false number ∷ (codes ");" ∷ [])))))
-    ∷ (empty_line ∷ []))
+    at 0 (codes "/// " ∷ doc ∷ [])
+    ∷ at 0 (codes "pub const " ∷ name ∷ codes ": Type = Type(0x" ∷ digits 16 false number ∷ codes ");" ∷ [])
+    ∷ empty_line ∷ []
 
 -- these lines as bytes
 unfoldable pub constant_text : List ℕ → List ℕ → ℕ → List ℕ

@@ -17,44 +17,44 @@ use Rattle.meta_settings_text.specs.ValueText.{variant_text, member_text, shown_
 -- the head of the enum of the setting `group.name`
 unfoldable pub enum_head : List ℕ → List ℕ → List ℕ → List ℕ
 enum_head group name ty = text_of (
-    at 0 (codes "/// Values for `" ∷ (group ∷ (codes "." ∷ (name ∷ (codes "`." ∷ [])))))
-    ∷ (at 0 (codes "#[derive(Debug, Copy, Clone, PartialEq, Eq, Hash)]" ∷ [])
-    ∷ (at 0 (codes "pub enum " ∷ (ty ∷ (codes " {" ∷ []))) ∷ [])))
+    at 0 (codes "/// Values for `" ∷ group ∷ codes "." ∷ name ∷ codes "`." ∷ [])
+    ∷ at 0 (codes "#[derive(Debug, Copy, Clone, PartialEq, Eq, Hash)]" ∷ [])
+    ∷ at 0 (codes "pub enum " ∷ ty ∷ codes " {" ∷ []) ∷ [])
 
 -- the head of the block of its own functions
 unfoldable pub impl_head : List ℕ → List ℕ
-impl_head ty = text_of (at 0 (codes "impl " ∷ (ty ∷ (codes " {" ∷ []))) ∷ [])
+impl_head ty = text_of (at 0 (codes "impl " ∷ ty ∷ codes " {" ∷ []) ∷ [])
 
 -- around the list of all values
 unfoldable pub all_head : List ℕ → List ℕ
 all_head ty = text_of (
-    at 1 (codes "/// Returns a slice with all possible [" ∷ (ty ∷ (codes "] values." ∷ [])))
-    ∷ (at 1 (codes "pub fn all() -> &'static [" ∷ (ty ∷ (codes "] {" ∷ [])))
-    ∷ (at 2 (codes "&[" ∷ []) ∷ [])))
+    at 1 (codes "/// Returns a slice with all possible [" ∷ ty ∷ codes "] values." ∷ [])
+    ∷ at 1 (codes "pub fn all() -> &'static [" ∷ ty ∷ codes "] {" ∷ [])
+    ∷ at 2 (codes "&[" ∷ []) ∷ [])
 
 unfoldable pub all_end : List ℕ
-all_end = text_of (at 2 (codes "]" ∷ []) ∷ (at 1 (codes "}" ∷ []) ∷ []))
+all_end = text_of (at 2 (codes "]" ∷ []) ∷ at 1 (codes "}" ∷ []) ∷ [])
 
 -- around the arms by which values are shown
 unfoldable pub shown_head : List ℕ → List ℕ
 shown_head ty = text_of (
-    at 0 (codes "impl fmt::Display for " ∷ (ty ∷ (codes " {" ∷ [])))
-    ∷ (at 1 (codes "fn fmt(&self, f: &mut fmt::Formatter) -> fmt::Result {" ∷ [])
-    ∷ (at 2 (codes "f.write_str(match *self {" ∷ []) ∷ [])))
+    at 0 (codes "impl fmt::Display for " ∷ ty ∷ codes " {" ∷ [])
+    ∷ at 1 (codes "fn fmt(&self, f: &mut fmt::Formatter) -> fmt::Result {" ∷ [])
+    ∷ at 2 (codes "f.write_str(match *self {" ∷ []) ∷ [])
 
 unfoldable pub shown_end : List ℕ
-shown_end = text_of (at 2 (codes "}" ∷ []) ∷ (at 2 (codes ")" ∷ []) ∷ (at 1 (codes "}" ∷ []) ∷ (at 0 (codes "}" ∷ []) ∷ []))))
+shown_end = text_of (at 2 (codes "}" ∷ []) ∷ at 2 (codes ")" ∷ []) ∷ at 1 (codes "}" ∷ []) ∷ at 0 (codes "}" ∷ []) ∷ [])
 
 -- around the arms by which values are read; no other text gives a value
 unfoldable pub read_head : List ℕ → List ℕ
 read_head ty = text_of (
-    at 0 (codes "impl core::str::FromStr for " ∷ (ty ∷ (codes " {" ∷ [])))
-    ∷ (at 1 (codes "type Err = ();" ∷ [])
-    ∷ (at 1 (codes "fn from_str(s: &str) -> Result<Self, Self::Err> {" ∷ [])
-    ∷ (at 2 (codes "match s {" ∷ []) ∷ []))))
+    at 0 (codes "impl core::str::FromStr for " ∷ ty ∷ codes " {" ∷ [])
+    ∷ at 1 (codes "type Err = ();" ∷ [])
+    ∷ at 1 (codes "fn from_str(s: &str) -> Result<Self, Self::Err> {" ∷ [])
+    ∷ at 2 (codes "match s {" ∷ []) ∷ [])
 
 unfoldable pub read_end : List ℕ
-read_end = text_of (at 3 (codes "_ => Err(())," ∷ []) ∷ (at 2 (codes "}" ∷ []) ∷ (at 1 (codes "}" ∷ []) ∷ (at 0 (codes "}" ∷ []) ∷ []))))
+read_end = text_of (at 3 (codes "_ => Err(())," ∷ []) ∷ at 2 (codes "}" ∷ []) ∷ at 1 (codes "}" ∷ []) ∷ at 0 (codes "}" ∷ []) ∷ [])
 
 -- ---- an enum
 
