@@ -58,7 +58,9 @@ type_parameters inputs = in_angles (lifetime_of inputs ++ each_behind bound_of [
 
 -- the two arguments for a block: the block, and what is passed to it
 unfoldable pub block_arguments : List ℕ → List ℕ
-block_arguments name = codes ", " ++ (name ++ (codes "_label: ir::Block, " ++ (name ++ codes "_args: impl IntoIterator<Item = &'a BlockArg>")))
+block_arguments name =
+    codes ", "
+    ++ (name ++ (codes "_label: ir::Block, " ++ (name ++ codes "_args: impl IntoIterator<Item = &'a BlockArg>")))
 
 -- the arguments for an operand that has these before it
 unfoldable pub operand_arguments : List Operand → Operand → List ℕ

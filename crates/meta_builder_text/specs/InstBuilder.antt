@@ -24,5 +24,6 @@ inst_builder_end = text_of (at 1 (codes "}" ∷ []) ∷ [])
 unfoldable pub inst_builder_text : List TypeVarContent → Built → InstructionFormat → List ℕ
 inst_builder_text vars c format =
     method_docs vars c
-    ++ (method_head_text (snake_name_of c.name) (type_parameters c.operands_in) (arguments_text vars c format) (result_type (length c.value_results))
+    ++ (method_head_text (snake_name_of c.name) (type_parameters c.operands_in) (arguments_text vars c format)
+    (result_type (length c.value_results))
     ++ (body_text vars c format ++ inst_builder_end))

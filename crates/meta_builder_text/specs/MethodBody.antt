@@ -26,7 +26,8 @@ conversion_of o = if is_converted o then conversion_text o.name else []
 
 -- the line that stores flags of a memory access
 unfoldable pub mem_flags_text : List ℕ → List ℕ
-mem_flags_text name = text_of (at 2 (codes "let " ∷ name ∷ codes " = self.data_flow_graph_mut().mem_flags.insert(" ∷ name ∷ codes ").unwrap();" ∷ []) ∷ [])
+mem_flags_text name =
+    text_of (at 2 (codes "let " ∷ name ∷ codes " = self.data_flow_graph_mut().mem_flags.insert(" ∷ name ∷ codes ").unwrap();" ∷ []) ∷ [])
 
 -- the same, where the operand is such flags
 unfoldable pub mem_flags_of : Operand → List ℕ
@@ -76,7 +77,8 @@ passed_control vars (Some info) = if info.use_typevar_operand then codes "ctrl_t
 unfoldable pub value_list_begin : List ℕ
 value_list_begin = text_of (
     at 2 (codes "let mut vlist = ir::ValueList::default();" ∷ [])
-    ∷ at 2 (codes "{" ∷ []) ∷ at 3 (codes "let pool = &mut self.data_flow_graph_mut().value_lists;" ∷ []) ∷ [])
+    ∷ at 2 (codes "{" ∷ [])
+    ∷ at 3 (codes "let pool = &mut self.data_flow_graph_mut().value_lists;" ∷ []) ∷ [])
 
 -- the line that adds a value
 unfoldable pub one_value_line : List ℕ → List ℕ

@@ -23,7 +23,8 @@ fn push_method(
     instruction: &InstructionContent,
 ) -> Result<(), AllocError>
     requires { HasVariablesOf vars.now instruction.now }
-    ensures { OnOk result (string_bytes out.new ≡ string_bytes out.old ++ method_text vars.now instruction.now (slice_get formats.now instruction.now.format)) }
+    ensures { OnOk result (string_bytes out.new ≡ string_bytes out.old
+        ++ method_text vars.now instruction.now (slice_get formats.now instruction.now.format)) }
 {
     let format = instruction.format();
     if !formats.is_of(format) {

@@ -91,7 +91,9 @@ pub(crate) fn push_call(
     instruction: &InstructionContent,
     format: &InstructionFormat,
 ) -> Result<(), AllocError>
-    ensures { OnOk result (string_bytes out.new ≡ string_bytes out.old ++ call_text format.now.name instruction.now.camel_name (passed_control vars.now instruction.now.polymorphic_info) (passed_operands instruction.now format.now)) }
+    ensures { OnOk result (string_bytes out.new ≡ string_bytes out.old
+        ++ call_text format.now.name instruction.now.camel_name
+        (passed_control vars.now instruction.now.polymorphic_info) (passed_operands instruction.now format.now)) }
 {
     let control = passed_control(vars, instruction.polymorphic_info());
     let operands = passed_operands(alloc, instruction, format)?;

@@ -26,7 +26,8 @@ fn push_head(
     arguments: &str,
     given: &str,
 ) -> Result<(), AllocError>
-    ensures { OnOk result (string_bytes out.new ≡ string_bytes out.old ++ method_head_text name.now parameters.now arguments.now given.now) }
+    ensures { OnOk result (string_bytes out.new ≡ string_bytes out.old
+        ++ method_head_text name.now parameters.now arguments.now given.now) }
 {
     write!(
         out,
@@ -52,7 +53,9 @@ fn push_method_head(
     instruction: &InstructionContent,
     format: &InstructionFormat,
 ) -> Result<(), AllocError>
-    ensures { OnOk result (string_bytes out.new ≡ string_bytes out.old ++ method_head_text (snake_name_of instruction.now.name) (type_parameters instruction.now.operands_in) (arguments_text vars.now instruction.now format.now) (result_type (length instruction.now.value_results))) }
+    ensures { OnOk result (string_bytes out.new ≡ string_bytes out.old
+        ++ method_head_text (snake_name_of instruction.now.name) (type_parameters instruction.now.operands_in)
+        (arguments_text vars.now instruction.now format.now) (result_type (length instruction.now.value_results))) }
 {
     let parameters = type_parameters(alloc, instruction.operands_in())?;
     let arguments = arguments(alloc, vars, instruction, format)?;

@@ -26,7 +26,10 @@ field_members fields = flat_map (λ (f : FormatField). member_text f.member) fie
 -- the member of the values: their list, where the format has one, else the only value or an array, and nothing where there are none
 unfoldable pub value_member : Bool → ℕ → List ℕ
 value_member has_value_list count =
-    if has_value_list then member_text (codes "args") else (if count == 0 then [] else (if count == 1 then member_text (codes "arg: arg0") else array_member_text (codes "args") (numbered_names (codes "arg") count)))
+    if has_value_list then member_text (codes "args")
+    else (if count == 0 then []
+    else (if count == 1 then member_text (codes "arg: arg0")
+    else array_member_text (codes "args") (numbered_names (codes "arg") count)))
 
 -- the member of a single block, the last of its kind, which has no comma behind it
 unfoldable pub destination_text : List ℕ
@@ -34,7 +37,10 @@ destination_text = text_of (at 3 (codes "destination: block0" ∷ []) ∷ [])
 
 -- the member of the blocks with arguments: the only one or an array, and nothing where there are none
 unfoldable pub block_member : ℕ → List ℕ
-block_member count = if count == 0 then [] else (if count == 1 then destination_text else array_member_text (codes "blocks") (numbered_names (codes "block") count))
+block_member count =
+    if count == 0 then []
+    else (if count == 1 then destination_text
+    else array_member_text (codes "blocks") (numbered_names (codes "block") count))
 
 -- The member of the block without arguments, and nothing where there is none. A format in use has at most one: one that has more is
 -- refused as `BadFormat`, and of several nothing would be written.
@@ -45,7 +51,9 @@ raw_block_member count = if count == 1 then member_text (codes "block: block0") 
 unfoldable pub members_text : InstructionFormat → List ℕ
 members_text f =
     field_members f.imm_fields
-    ++ (value_member f.has_value_list f.num_value_operands ++ (block_member f.num_block_operands ++ raw_block_member f.num_raw_block_operands))
+    ++ (value_member f.has_value_list f.num_value_operands
+    ++ (block_member f.num_block_operands
+    ++ raw_block_member f.num_raw_block_operands))
 
 -- ---- the method
 
@@ -63,7 +71,10 @@ unfoldable pub head_text : List ℕ → List ℕ → List ℕ → List ℕ → L
 head_text name displayed arguments mark = text_of (
     at 1 (codes "/// " ∷ displayed ∷ [])
     ∷ at 1 (codes "#[allow(non_snake_case, reason = \"generated code\")]" ∷ [])
-    ∷ at 1 (codes "fn " ∷ name ∷ codes "(self, opcode: Opcode, ctrl_typevar: Type" ∷ arguments ∷ codes ") -> (Inst, &'f mut ir::DataFlowGraph) {" ∷ [])
+    ∷ at 1 (
+    codes "fn "
+    ∷ name ∷ codes "(self, opcode: Opcode, ctrl_typevar: Type" ∷ arguments ∷ codes ") -> (Inst, &'f mut ir::DataFlowGraph) {" ∷ []
+    )
     ∷ at 2 (codes "let" ∷ mark ∷ codes " data = ir::InstructionData::" ∷ name ∷ codes " {" ∷ [])
     ∷ at 3 (codes "opcode," ∷ []) ∷ [])
 

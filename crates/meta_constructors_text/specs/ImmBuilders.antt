@@ -30,11 +30,15 @@ input_type o is_immediate = if is_immediate then codes "T" else (if is_some (var
 
 -- the lines on the inputs, of which the one at this place is the immediate
 unfoldable pub input_docs : List TypeVarContent → List Operand → ℕ → List ℕ
-input_docs vars inputs immediate = flat_map (λ (input : ℕ × Operand). doc_item_text input.1.name (input_doc vars input.1 (input.0 == immediate))) (enumerate_from 0 inputs)
+input_docs vars inputs immediate =
+    flat_map (λ (input : ℕ × Operand). doc_item_text input.1.name (input_doc vars input.1 (input.0 == immediate)))
+    (enumerate_from 0 inputs)
 
 -- the arguments for them, each behind a comma and a space
 unfoldable pub input_arguments : List Operand → ℕ → List ℕ
-input_arguments inputs immediate = flat_map (λ (input : ℕ × Operand). argument_text input.1.name (input_type input.1 (input.0 == immediate))) (enumerate_from 0 inputs)
+input_arguments inputs immediate =
+    flat_map (λ (input : ℕ × Operand). argument_text input.1.name (input_type input.1 (input.0 == immediate)))
+    (enumerate_from 0 inputs)
 
 -- the names of them, parted by a comma and a space
 unfoldable pub input_names : List Operand → List ℕ
@@ -134,7 +138,12 @@ imm_method_text m method =
 
 -- the three methods of an instruction
 unfoldable pub three_methods_text : ImmMethods → List ℕ
-three_methods_text m = imm_method_text m SignExtends ++ (gap_text ++ (imm_method_text m ZeroExtends ++ (gap_text ++ imm_method_text m Deprecated)))
+three_methods_text m =
+    imm_method_text m SignExtends
+    ++ (gap_text
+    ++ (imm_method_text m ZeroExtends
+    ++ (gap_text
+    ++ imm_method_text m Deprecated)))
 
 -- ---- the methods of an instruction
 
@@ -142,7 +151,10 @@ three_methods_text m = imm_method_text m SignExtends ++ (gap_text ++ (imm_method
 abbrev pub was_signed : List ℕ → Bool
 was_signed name =
     same_text name (codes "iadd")
-    || (same_text name (codes "imul") || (same_text name (codes "sdiv") || (same_text name (codes "srem") || same_text name (codes "icmp"))))
+    || (same_text name (codes "imul")
+    || (same_text name (codes "sdiv")
+    || (same_text name (codes "srem")
+    || same_text name (codes "icmp"))))
 
 -- what the methods of an instruction have in common, whose first and last value inputs stand at these places
 abbrev pub methods_of : List TypeVarContent → Built → ℕ → ℕ → ImmMethods

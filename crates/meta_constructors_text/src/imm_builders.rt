@@ -93,7 +93,15 @@ impl<'i> Model for ImmMethods<'i> {
 
     ghost Value = { ImmMethods };
 
-    ghost view = { λ m. record { name = m.name.now; signed = m.signed; control = m.control.now; immediate = m.immediate.now; docs = string_bytes m.docs; arguments = string_bytes m.arguments; inputs = string_bytes m.inputs } };
+    ghost view = { λ m. record {
+      name = m.name.now;
+      signed = m.signed;
+      control = m.control.now;
+      immediate = m.immediate.now;
+      docs = string_bytes m.docs;
+      arguments = string_bytes m.arguments;
+      inputs = string_bytes m.inputs;
+    } };
 }
 
 /// Adds the first line of a method's doc comment.

@@ -12,7 +12,11 @@ use Rattle.meta_data_text.specs.MapMethod.{map_method}
 
 -- the methods that read an instruction
 unfoldable pub reading_methods : List InstructionFormat → List ℕ
-reading_methods formats = opcode_method formats ++ (typevar_operand_method formats ++ (arguments_method formats ++ arguments_mut_method formats))
+reading_methods formats =
+    opcode_method formats
+    ++ (typevar_operand_method formats
+    ++ (arguments_method formats
+    ++ arguments_mut_method formats))
 
 -- the methods that take an instruction as a whole
 unfoldable pub whole_methods : List InstructionFormat → List ℕ

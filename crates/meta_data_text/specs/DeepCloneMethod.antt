@@ -58,7 +58,8 @@ clone_arm f =
 unfoldable pub clone_head : List ℕ
 clone_head = text_of (
     at 1 (codes "/// Deep-clone an `InstructionData`, including any referenced lists." ∷ [])
-    ∷ at 1 (codes "pub fn deep_clone(&self, pool: &mut ir::ValueListPool) -> Self {" ∷ []) ∷ at 2 (codes "match *self {" ∷ []) ∷ []
+    ∷ at 1 (codes "pub fn deep_clone(&self, pool: &mut ir::ValueListPool) -> Self {" ∷ [])
+    ∷ at 2 (codes "match *self {" ∷ []) ∷ []
     )
 
 -- the method `deep_clone`, behind which no empty line stands

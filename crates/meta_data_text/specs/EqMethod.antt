@@ -57,13 +57,15 @@ unfoldable pub equal_values : Values → List ℕ
 equal_values values.Absent = []
 equal_values values.One = equal_member (codes "arg")
 equal_values (values.Several count) = text_of (at 4 (codes "&& args1.iter().zip(args2.iter()).all(|(a, b)| a == b)" ∷ []) ∷ [])
-equal_values values.Listed = text_of (at 4 (codes "&& args1.as_slice(pool).iter().zip(args2.as_slice(pool).iter()).all(|(a, b)| a == b)" ∷ []) ∷ [])
+equal_values values.Listed =
+    text_of (at 4 (codes "&& args1.as_slice(pool).iter().zip(args2.as_slice(pool).iter()).all(|(a, b)| a == b)" ∷ []) ∷ [])
 
 -- the blocks are equal: one with its arguments, and two without
 unfoldable pub equal_blocks : Blocks → List ℕ
 equal_blocks blocks.Absent = []
 equal_blocks blocks.One = equal_member (codes "destination")
-equal_blocks blocks.Two = text_of (at 4 (codes "&& blocks1.iter().zip(blocks2.iter()).all(|(a, b)| a.block(pool) == b.block(pool))" ∷ []) ∷ [])
+equal_blocks blocks.Two =
+    text_of (at 4 (codes "&& blocks1.iter().zip(blocks2.iter()).all(|(a, b)| a.block(pool) == b.block(pool))" ∷ []) ∷ [])
 
 -- the blocks without arguments are equal
 unfoldable pub equal_raw_block : Bool → List ℕ
@@ -84,7 +86,9 @@ eq_head = text_of (
     at 1 (codes "/// Compare two `InstructionData` for equality." ∷ [])
     ∷ at 1 (codes "pub fn eq(&self, other: &Self, pool: &ir::ValueListPool) -> bool {" ∷ [])
     ∷ at 2 (codes "if ::core::mem::discriminant(self) != ::core::mem::discriminant(other) {" ∷ [])
-    ∷ at 3 (codes "return false;" ∷ []) ∷ at 2 (codes "}" ∷ []) ∷ at 2 (codes "match (self, other) {" ∷ []) ∷ []
+    ∷ at 3 (codes "return false;" ∷ [])
+    ∷ at 2 (codes "}" ∷ [])
+    ∷ at 2 (codes "match (self, other) {" ∷ []) ∷ []
     )
 
 -- no further pair is left, since both are of one format

@@ -38,7 +38,8 @@ unfoldable pub hashed_each_value : List ℕ → List ℕ → List ℕ
 hashed_each_value count args = text_of (
     at 4 (codes "::core::hash::Hash::hash(&" ∷ count ∷ codes ", state);" ∷ [])
     ∷ at 4 (codes "for &arg in " ∷ args ∷ codes " {" ∷ [])
-    ∷ at 5 (codes "::core::hash::Hash::hash(&arg, state);" ∷ []) ∷ at 4 (codes "}" ∷ []) ∷ []
+    ∷ at 5 (codes "::core::hash::Hash::hash(&arg, state);" ∷ [])
+    ∷ at 4 (codes "}" ∷ []) ∷ []
     )
 
 -- the values
@@ -56,7 +57,8 @@ hashed_each_block count blocks = text_of (
     ∷ at 5 (codes "::core::hash::Hash::hash(&block.block(pool), state);" ∷ [])
     ∷ at 5 (codes "for arg in block.args(pool) {" ∷ [])
     ∷ at 6 (codes "::core::hash::Hash::hash(&arg, state);" ∷ [])
-    ∷ at 5 (codes "}" ∷ []) ∷ at 4 (codes "}" ∷ []) ∷ []
+    ∷ at 5 (codes "}" ∷ [])
+    ∷ at 4 (codes "}" ∷ []) ∷ []
     )
 
 -- the blocks
@@ -80,7 +82,8 @@ hash_arm f =
 unfoldable pub hash_head : List ℕ
 hash_head = text_of (
     at 1 (codes "/// Hash an `InstructionData`." ∷ [])
-    ∷ at 1 (codes "pub fn hash<H: ::core::hash::Hasher>(&self, state: &mut H, pool: &ir::ValueListPool) {" ∷ []) ∷ at 2 (codes "match *self {" ∷ []) ∷ []
+    ∷ at 1 (codes "pub fn hash<H: ::core::hash::Hasher>(&self, state: &mut H, pool: &ir::ValueListPool) {" ∷ [])
+    ∷ at 2 (codes "match *self {" ∷ []) ∷ []
     )
 
 -- the method `hash`

@@ -34,7 +34,9 @@ map_pattern f =
 
 -- the mapped value at a place of the array, and a comma and a space before it where it is not the first
 unfoldable pub mapped_value : ℕ → List ℕ
-mapped_value place = if place == 0 then codes "mapper.map_value(args[0])" else (codes ", mapper.map_value(args[" ++ (decimal place ++ codes "])"))
+mapped_value place =
+    if place == 0 then codes "mapper.map_value(args[0])"
+    else (codes ", mapper.map_value(args[" ++ (decimal place ++ codes "])"))
 
 -- the mapped values at the places below a count
 abbrev pub mapped_below : ℕ → List ℕ
@@ -106,7 +108,8 @@ map_arm f =
 unfoldable pub map_head : List ℕ
 map_head = text_of (
     at 1 (codes "/// Map some functions, described by the given `InstructionMapper`, over each of the" ∷ [])
-    ∷ at 1 (codes "pub fn map(&self, mut mapper: impl crate::ir::instructions::InstructionMapper) -> Self {" ∷ []) ∷ at 2 (codes "match *self {" ∷ []) ∷ []
+    ∷ at 1 (codes "pub fn map(&self, mut mapper: impl crate::ir::instructions::InstructionMapper) -> Self {" ∷ [])
+    ∷ at 2 (codes "match *self {" ∷ []) ∷ []
     )
 
 -- the method `map`, behind which no empty line stands

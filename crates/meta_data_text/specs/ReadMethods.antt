@@ -21,7 +21,8 @@ opcode_arm name = text_of (at 3 (codes "Self::" ∷ name ∷ codes " { opcode, .
 unfoldable pub opcode_head : List ℕ
 opcode_head = text_of (
     at 1 (codes "/// Get the opcode of this instruction." ∷ [])
-    ∷ at 1 (codes "pub fn opcode(&self) -> Opcode {" ∷ []) ∷ at 2 (codes "match *self {" ∷ []) ∷ []
+    ∷ at 1 (codes "pub fn opcode(&self) -> Opcode {" ∷ [])
+    ∷ at 2 (codes "match *self {" ∷ []) ∷ []
     )
 
 -- the method `opcode`
@@ -51,12 +52,16 @@ typevar_arm name (Some place) values.Listed = text_of (
 unfoldable pub typevar_operand_head : List ℕ
 typevar_operand_head = text_of (
     at 1 (codes "/// Get the controlling type variable operand." ∷ [])
-    ∷ at 1 (codes "pub fn typevar_operand(&self, pool: &ir::ValueListPool) -> Option<Value> {" ∷ []) ∷ at 2 (codes "match *self {" ∷ []) ∷ []
+    ∷ at 1 (codes "pub fn typevar_operand(&self, pool: &ir::ValueListPool) -> Option<Value> {" ∷ [])
+    ∷ at 2 (codes "match *self {" ∷ []) ∷ []
     )
 
 -- the method `typevar_operand`
 unfoldable pub typevar_operand_method : List InstructionFormat → List ℕ
-typevar_operand_method formats = typevar_operand_head ++ (flat_map (λ f. typevar_arm f.name f.typevar_operand (values_of f)) formats ++ spaced_end)
+typevar_operand_method formats =
+    typevar_operand_head
+    ++ (flat_map (λ f. typevar_arm f.name f.typevar_operand (values_of f)) formats
+    ++ spaced_end)
 
 -- ---- the values
 
@@ -100,7 +105,8 @@ arguments_arm access f = values_arm f.name (values_of f) (reference_mark access)
 unfoldable pub arguments_head : List ℕ
 arguments_head = text_of (
     at 1 (codes "/// Get the value arguments to this instruction." ∷ [])
-    ∷ at 1 (codes "pub fn arguments<'a>(&'a self, pool: &'a ir::ValueListPool) -> &'a [Value] {" ∷ []) ∷ at 2 (codes "match *self {" ∷ []) ∷ []
+    ∷ at 1 (codes "pub fn arguments<'a>(&'a self, pool: &'a ir::ValueListPool) -> &'a [Value] {" ∷ [])
+    ∷ at 2 (codes "match *self {" ∷ []) ∷ []
     )
 
 -- the method `arguments`
@@ -110,7 +116,8 @@ arguments_method formats = arguments_head ++ (flat_map (arguments_arm Shared) fo
 unfoldable pub arguments_mut_head : List ℕ
 arguments_mut_head = text_of (
     at 1 (codes "/// Get mutable references to the value arguments to this" ∷ [])
-    ∷ at 1 (codes "pub fn arguments_mut<'a>(&'a mut self, pool: &'a mut ir::ValueListPool) -> &'a mut [Value] {" ∷ []) ∷ at 2 (codes "match *self {" ∷ []) ∷ []
+    ∷ at 1 (codes "pub fn arguments_mut<'a>(&'a mut self, pool: &'a mut ir::ValueListPool) -> &'a mut [Value] {" ∷ [])
+    ∷ at 2 (codes "match *self {" ∷ []) ∷ []
     )
 
 -- the method `arguments_mut`

@@ -6,7 +6,8 @@ use Rattle.meta_text.specs.Lines.{at, text_of}
 unfoldable pub rebuilt_head : List ℕ → List ℕ → List ℕ
 rebuilt_head name pattern = text_of (
     at 3 (codes "Self::" ∷ name ∷ codes "{" ∷ pattern ∷ codes "} => {" ∷ [])
-    ∷ at 4 (codes "Self::" ∷ name ∷ codes " {" ∷ []) ∷ at 5 (codes "opcode," ∷ []) ∷ []
+    ∷ at 4 (codes "Self::" ∷ name ∷ codes " {" ∷ [])
+    ∷ at 5 (codes "opcode," ∷ []) ∷ []
     )
 
 -- a member stays as it is

@@ -56,7 +56,10 @@ fn push_cloned_blocks(out: &mut String, blocks: Blocks) -> Result<(), AllocError
     match blocks {
         Blocks::Absent => Ok(()),
         Blocks::One => {
-            push_text(out, "                    destination: destination.deep_clone(pool),\n")
+            push_text(
+                out,
+                "                    destination: destination.deep_clone(pool),\n",
+            )
         }
         Blocks::Two => push_text(
             out,

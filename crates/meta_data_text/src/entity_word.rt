@@ -27,7 +27,9 @@ fn mark_before(later: bool, c: char) -> &'static str
 
 /// Adds a letter in small letters, behind a capital or not.
 fn push_letter(out: &mut String, later: bool, c: char) -> Result<(), AllocError>
-    ensures { OnOk result ((rest : List ℕ) → string_bytes out.new ++ snake_from (later || is_ascii_uppercase c) rest ≡ string_bytes out.old ++ snake_from later (encode_utf8 c ++ rest)) }
+    ensures { OnOk result ((rest : List ℕ)
+        → string_bytes out.new ++ snake_from (later || is_ascii_uppercase c) rest
+        ≡ string_bytes out.old ++ snake_from later (encode_utf8 c ++ rest)) }
 {
     let (mark, letter) = (mark_before(later, c), c.to_ascii_lowercase());
     write!(out, "{mark}{letter}")

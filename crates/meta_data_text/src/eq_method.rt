@@ -88,7 +88,10 @@ fn push_equal_values(out: &mut String, values: Values) -> Result<(), AllocError>
         Values::Absent => Ok(()),
         Values::One => push_equal(out, "arg"),
         Values::Several(_) => {
-            push_text(out, "                && args1.iter().zip(args2.iter()).all(|(a, b)| a == b)\n")
+            push_text(
+                out,
+                "                && args1.iter().zip(args2.iter()).all(|(a, b)| a == b)\n",
+            )
         }
         Values::Listed => push_text(
             out,
@@ -129,7 +132,8 @@ fn push_eq_arm_head(
     out: &mut String,
     format: &InstructionFormat,
 ) -> Result<(), AllocError>
-    ensures { OnOk result (string_bytes out.new ≡ string_bytes out.old ++ eq_arm_head format.now.name (eq_pattern format.now (codes "1")) (eq_pattern format.now (codes "2"))) }
+    ensures { OnOk result (string_bytes out.new ≡ string_bytes out.old
+        ++ eq_arm_head format.now.name (eq_pattern format.now (codes "1")) (eq_pattern format.now (codes "2"))) }
 {
     let first = eq_pattern(alloc, format, "1")?;
     let second = eq_pattern(alloc, format, "2")?;

@@ -23,7 +23,9 @@ designated_input f c = option_and_then (slice_get c.operands_in) (option_and_the
 
 -- the input from whose type the control is inferred: the designated one, where the control is its variable
 abbrev pub inferring_input : InstructionFormat → Built → Option Operand
-inferring_input f c = option_and_then (λ (info : PolymorphicInfo). if info.use_typevar_operand then designated_input f c else None) c.polymorphic_info
+inferring_input f c =
+    option_and_then (λ (info : PolymorphicInfo). if info.use_typevar_operand then designated_input f c else None)
+    c.polymorphic_info
 
 -- the line that tells that the type is inferred from the input of this name
 unfoldable pub inferred_from : List ℕ → List ℕ

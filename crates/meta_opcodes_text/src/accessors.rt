@@ -169,7 +169,8 @@ fn push_each(
     marks: &[Mark],
     instructions: &[InstructionContent],
 ) -> Result<(), AllocError>
-    ensures { OnOk result (string_bytes out.new ≡ string_bytes out.old ++ flat_map (λ mark. accessor_text mark instructions.now) marks.now) }
+    ensures { OnOk result (string_bytes out.new ≡ string_bytes out.old
+        ++ flat_map (λ mark. accessor_text mark instructions.now) marks.now) }
 {
     for mark in marks {
         push_accessor(out, *mark, instructions)?;

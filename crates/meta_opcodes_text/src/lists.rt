@@ -77,7 +77,10 @@ pub(crate) fn push_methods(
 fn push_names_head(out: &mut String) -> Result<(), AllocError>
     ensures { OnOk result (string_bytes out.new ≡ string_bytes out.old ++ names_head) }
 {
-    push_text(out, "fn opcode_name(opc: Opcode) -> &'static str {\n    match opc {\n")
+    push_text(
+        out,
+        "fn opcode_name(opc: Opcode) -> &'static str {\n    match opc {\n",
+    )
 }
 
 /// Adds the arms of the instructions to the function that tells the names.

@@ -108,7 +108,9 @@ fn push_dynamic_vectors(alloc: Global, out: &mut String, bits: u64) -> Result<()
 
 /// Adds the vectors of each size.
 fn push_sizes(alloc: Global, out: &mut String) -> Result<(), AllocError>
-    ensures { OnOk result (string_bytes out.new ≡ string_bytes out.old ++ flat_map (λ bits. flat_map type_constant (vectors_of bits) ++ flat_map type_constant (dynamic_vectors_of bits)) vector_sizes) }
+    ensures { OnOk result (string_bytes out.new ≡ string_bytes out.old
+        ++ flat_map (λ bits. flat_map type_constant (vectors_of bits) ++ flat_map type_constant (dynamic_vectors_of bits))
+        vector_sizes) }
 {
     for &bits in VECTOR_SIZES.iter() {
         push_vectors(alloc, out, bits)?;

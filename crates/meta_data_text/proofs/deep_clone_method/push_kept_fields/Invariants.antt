@@ -4,4 +4,6 @@ use Rattle.meta_data_text.proofs.deep_clone_method.push_kept_fields.Given as goa
 
 -- what is written, and then what is left to write
 abbrev pub invariant-loop-field : goal.invariant-loop-field
-invariant-loop-field l = string_bytes l.out ++ flat_map (λ f. kept f.member) (drop l.field-index l.fields) ≡ string_bytes l.initial.out ++ flat_map (λ f. kept f.member) l.fields
+invariant-loop-field l =
+    string_bytes l.out ++ flat_map (λ f. kept f.member) (drop l.field-index l.fields)
+    ≡ string_bytes l.initial.out ++ flat_map (λ f. kept f.member) l.fields

@@ -6,4 +6,6 @@ use Rattle.meta_rust_text.proofs.types.push_sizes.Given as goal
 
 -- the texts of the sizes that are left are still to be added
 abbrev pub invariant-loop-bits : goal.invariant-loop-bits
-invariant-loop-bits l = string_bytes l.out ++ flat_map size_text (drop l.bits-index vector_sizes) ≡ string_bytes l.initial.out ++ flat_map size_text vector_sizes
+invariant-loop-bits l =
+    string_bytes l.out ++ flat_map size_text (drop l.bits-index vector_sizes)
+    ≡ string_bytes l.initial.out ++ flat_map size_text vector_sizes
