@@ -10,7 +10,7 @@ use Rattle.meta_operands.specs.declared.format.InstructionFormat.{InstructionFor
 use Rattle.meta_inst.specs.Built.{Built}
 use Rattle.meta_inst.specs.FormatMatch.{is_block_operand, is_raw_block_operand}
 use Rattle.meta_inst.specs.declared.polymorphic.PolymorphicInfo.{PolymorphicInfo}
-use Rattle.meta_constructors_text.specs.Arguments.{argument_text}
+use Rattle.meta_builder_constructors_text.specs.Arguments.{argument_text}
 use Rattle.meta_builder_text.specs.Operands.{is_converted, is_mem_flags, variable_name}
 
 -- what f gives of each operand and those before it, where these stand before the first

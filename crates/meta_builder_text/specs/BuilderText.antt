@@ -10,8 +10,8 @@ use Rattle.meta_operands.specs.declared.format.InstructionFormat.{InstructionFor
 use Rattle.meta_inst.specs.Built.{Built}
 use Rattle.meta_inst.specs.Operands.{AreOf}
 use Rattle.meta_declared.specs.BuiltDeclarations.{BuiltDeclarations}
-use Rattle.meta_constructors_text.specs.Constructor.{constructor_text}
-use Rattle.meta_constructors_text.specs.ImmBuilders.{imm_builders_text}
+use Rattle.meta_builder_constructors_text.specs.Constructor.{constructor_text}
+use Rattle.meta_builder_constructors_text.specs.ImmBuilders.{imm_builders_text}
 use Rattle.meta_builder_text.specs.InstBuilder.{inst_builder_text}
 
 -- the variables of the instruction's operands are of the registry

@@ -11,7 +11,7 @@ use Rattle.meta_operands.specs.declared.format.InstructionFormat.{InstructionFor
 use Rattle.meta_inst.specs.Built.{Built}
 use Rattle.meta_inst.specs.FormatMatch.{is_value_operand, is_block_operand}
 use Rattle.meta_inst.specs.declared.polymorphic.PolymorphicInfo.{PolymorphicInfo}
-use Rattle.meta_constructors_text.specs.Names.{operand_name}
+use Rattle.meta_builder_constructors_text.specs.Names.{operand_name}
 use Rattle.meta_builder_text.specs.Operands.{is_converted, is_mem_flags, variable_name}
 
 -- ---- what is made of the arguments

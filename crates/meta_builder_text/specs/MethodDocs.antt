@@ -7,7 +7,7 @@ use Rattle.meta_typevar.specs.declared.content.TypeVarContent.{TypeVarContent}
 use Rattle.meta_operands.specs.declared.operand.Operand.{Operand}
 use Rattle.meta_inst.specs.Built.{Built}
 use Rattle.meta_inst.specs.FormatMatch.{is_block_operand, is_raw_block_operand}
-use Rattle.meta_constructors_text.specs.Docs.{first_line, doc_line_text, doc_heading_text, doc_item_text}
+use Rattle.meta_builder_constructors_text.specs.Docs.{first_line, doc_line_text, doc_heading_text, doc_item_text}
 use Rattle.meta_builder_text.specs.Operands.{variable_name, variable_doc, operand_doc}
 use Rattle.meta_builder_text.specs.Arguments.{asked_control}
 

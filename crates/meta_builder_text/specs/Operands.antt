@@ -5,7 +5,7 @@ use Rattle.meta_operands.specs.Texts.{same_text}
 use Rattle.meta_operands.specs.Operand.{is_immediate_operand, doc_at, doc_of}
 use Rattle.meta_operands.specs.declared.operand.Operand.{Operand}
 use Rattle.meta_inst.specs.FormatMatch.{is_block_operand, is_raw_block_operand}
-use Rattle.meta_constructors_text.specs.Docs.{first_line}
+use Rattle.meta_builder_constructors_text.specs.Docs.{first_line}
 
 -- ---- operands
 

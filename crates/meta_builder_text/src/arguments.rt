@@ -3,7 +3,7 @@ ghost use Rattle.meta_builder_text.specs.Arguments.{each_behind, block_arguments
 
 use super::operands::{has_block, has_mem_flags, is_converted, variable_name};
 use super::type_parameters::parameter_name;
-use meta_constructors_text::push_argument;
+use meta_builder_constructors_text::push_argument;
 use meta_inst::{InstructionContent, PolymorphicInfo};
 use meta_operands::{InstructionFormat, Operand};
 use meta_rust_lines::push_text;

@@ -5,7 +5,7 @@ ghost use Rattle.meta_builder_text.specs.MethodBody.{conversion_text, conversion
 use super::constructor_call::push_call;
 use super::operands::{is_converted, is_mem_flags};
 use super::results::push_results;
-use meta_constructors_text::operand_name;
+use meta_builder_constructors_text::operand_name;
 use meta_inst::{InstructionContent, PolymorphicInfo};
 use meta_operands::{InstructionFormat, Operand};
 use meta_rust_lines::push_text;

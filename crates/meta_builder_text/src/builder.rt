@@ -5,7 +5,7 @@ ghost use Rattle.meta_rust_lines.specs.Ends.{gap_text, item_end};
 ghost use Rattle.meta_builder_text.specs.BuilderText.{HasVariablesOf, HaveVariablesOf, method_text, imm_methods_text, methods_text, constructor_at, constructors_text, trait_head, builder_text};
 
 use super::inst_builder::push_inst_builder;
-use meta_constructors_text::{push_constructor, push_imm_builders};
+use meta_builder_constructors_text::{push_constructor, push_imm_builders};
 use meta_declared::{Built, Declarations};
 use meta_inst::InstructionContent;
 use meta_operands::{FormatId, FormatTable};

@@ -2,7 +2,7 @@ ghost use Rattle.std.specs.Prelude.{◌≡◌, ◌++◌, IfOk, OnOk, string_byte
 ghost use Rattle.meta_builder_text.specs.MethodBody.{passed_control, passed, passed_values, passed_operands, call_text};
 
 use super::operands::variable_name;
-use meta_constructors_text::operand_name;
+use meta_builder_constructors_text::operand_name;
 use meta_inst::{InstructionContent, PolymorphicInfo};
 use meta_operands::{InstructionFormat, Operand};
 use meta_rust_lines::push_text;

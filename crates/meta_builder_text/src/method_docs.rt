@@ -6,7 +6,7 @@ ghost use Rattle.meta_builder_text.specs.MethodDocs.{control_line, control_doc, 
 
 use super::arguments::asked_control;
 use super::operands::{operand_doc, variable_doc, variable_name};
-use meta_constructors_text::{first_line, push_doc_heading, push_doc_item, push_doc_line};
+use meta_builder_constructors_text::{first_line, push_doc_heading, push_doc_item, push_doc_line};
 use meta_inst::InstructionContent;
 use meta_operands::Operand;
 use meta_rust_lines::push_text;

@@ -4,7 +4,7 @@ ghost use Rattle.meta_inst.specs.FormatMatch.{is_block_operand};
 ghost use Rattle.meta_operands.specs.Operand.{variable_of};
 ghost use Rattle.meta_builder_text.specs.Operands.{is_converted, is_mem_flags, variable_name, variable_doc, operand_doc};
 
-use meta_constructors_text::first_line;
+use meta_builder_constructors_text::first_line;
 use meta_operands::Operand;
 use meta_typevar::{TypeVar, TypeVars};
 
