@@ -1,10 +1,11 @@
 -- What is added to a text after what was added before.
-use Rattle.std.proofs.Common.{◌≡◌, ◌+◌, ℕ, List, ◌++◌, codes, refl, ap, ◌∙◌, append_assoc, add-one}
+use Rattle.std.proofs.Common.{◌≡◌, ◌+◌, ℕ, List, ◌++◌, codes, refl, ap, ◌∙◌, add-one}
+use Rattle.meta_rust_lines.proofs.Pieces.{two}
 use Rattle.meta_builder_text.specs.MethodBody.{parted_to}
 
 pub after : (old now new part other rest : List ℕ) → now ≡ old ++ part → part ≡ other → new ≡ now ++ rest
     → new ≡ old ++ (other ++ rest)
-after old now new part other rest e same f = f ∙ (ap (λ t. t ++ rest) (e ∙ ap (λ t. old ++ t) same) ∙ append_assoc old other rest)
+after old now new part other rest e same f = two old other rest (e ∙ ap (λ t. old ++ t) same) f
 
 -- one part more, behind a comma
 pub one_part : (f : ℕ → List ℕ) (n : ℕ) (old mid new : List ℕ) → old ≡ parted_to f n → mid ≡ old ++ codes ", "

@@ -10,13 +10,13 @@ use Rattle.meta_operands.specs.declared.format.InstructionFormat.{InstructionFor
 use Rattle.meta_inst.specs.Built.{Built}
 use Rattle.meta_inst.specs.FormatMatch.{is_block_operand, is_raw_block_operand}
 use Rattle.meta_inst.specs.declared.polymorphic.PolymorphicInfo.{PolymorphicInfo}
-use Rattle.meta_constructors_text.specs.Arguments.{argument_text}
+use Rattle.meta_builder_constructors_text.specs.Arguments.{argument_text}
 use Rattle.meta_builder_text.specs.Operands.{is_converted, is_mem_flags, variable_name}
 
 -- what f gives of each operand and those before it, where these stand before the first
-abbrev pub each_behind : {A : Type 0} → (List Operand → Operand → List A) → List Operand → List Operand → List A
-each_behind f before [] = []
-each_behind f before (o ∷ others) = f before o ++ each_behind f (before ++ o ∷ []) others
+abbrev pub each_with_before : {A : Type 0} → (List Operand → Operand → List A) → List Operand → List Operand → List A
+each_with_before f before [] = []
+each_with_before f before (o ∷ others) = f before o ++ each_with_before f (before ++ o ∷ []) others
 
 -- ---- type parameters
 
@@ -52,13 +52,15 @@ in_angles (first ∷ others) = codes "<" ++ (join_by (λ text. text) (codes ", "
 
 -- the type parameters, the lifetime first
 unfoldable pub type_parameters : List Operand → List ℕ
-type_parameters inputs = in_angles (lifetime_of inputs ++ each_behind bound_of [] inputs)
+type_parameters inputs = in_angles (lifetime_of inputs ++ each_with_before bound_of [] inputs)
 
 -- ---- arguments
 
 -- the two arguments for a block: the block, and what is passed to it
 unfoldable pub block_arguments : List ℕ → List ℕ
-block_arguments name = codes ", " ++ (name ++ (codes "_label: ir::Block, " ++ (name ++ codes "_args: impl IntoIterator<Item = &'a BlockArg>")))
+block_arguments name =
+    codes ", "
+    ++ (name ++ (codes "_label: ir::Block, " ++ (name ++ codes "_args: impl IntoIterator<Item = &'a BlockArg>")))
 
 -- the arguments for an operand that has these before it
 unfoldable pub operand_arguments : List Operand → Operand → List ℕ
@@ -91,4 +93,4 @@ self_argument inputs format = if changes_builder inputs format then codes "mut s
 unfoldable pub arguments_text : List TypeVarContent → Built → InstructionFormat → List ℕ
 arguments_text vars c format =
     self_argument c.operands_in format
-    ++ (control_argument vars (asked_control c.polymorphic_info) ++ each_behind operand_arguments [] c.operands_in)
+    ++ (control_argument vars (asked_control c.polymorphic_info) ++ each_with_before operand_arguments [] c.operands_in)

@@ -2,29 +2,26 @@
 --     builder_text b      the text of what is built of declarations
 use Rattle.std.specs.Prelude.{◌≡◌, ℕ, List, [], ◌∷◌, ◌++◌, slice_get, Option, None, Some, if◌then◌else◌, codes}
 use Rattle.std.specs.List.{flat_map, join_by}
-use Rattle.meta_text.specs.Lines.{at, empty_line, text_of}
+use Rattle.meta_text.specs.Lines.{at, text_of}
+use Rattle.meta_rust_lines.specs.Ends.{gap_text, item_end}
 use Rattle.meta_typevar.specs.declared.content.TypeVarContent.{TypeVarContent}
 use Rattle.meta_operands.specs.Operand.{variables_of}
 use Rattle.meta_operands.specs.declared.format.InstructionFormat.{InstructionFormat}
 use Rattle.meta_inst.specs.Built.{Built}
 use Rattle.meta_inst.specs.Operands.{AreOf}
 use Rattle.meta_declared.specs.BuiltDeclarations.{BuiltDeclarations}
-use Rattle.meta_constructors_text.specs.Constructor.{constructor_text}
-use Rattle.meta_constructors_text.specs.ImmBuilders.{imm_builders_text}
+use Rattle.meta_builder_constructors_text.specs.Constructor.{constructor_text}
+use Rattle.meta_builder_constructors_text.specs.ImmBuilders.{imm_builders_text}
 use Rattle.meta_builder_text.specs.InstBuilder.{inst_builder_text}
 
 -- the variables of the instruction's operands are of the registry
-pub record IsOfRegistry (vars : List TypeVarContent) (c : Built) : Type 0 where
+pub record HasVariablesOf (vars : List TypeVarContent) (c : Built) : Type 0 where
   pub inputs : AreOf vars (variables_of c.operands_in)
   pub outputs : AreOf vars (variables_of c.operands_out)
 
 -- the same of each instruction
-abbrev pub AreOfRegistry : List TypeVarContent → List Built → Type 0
-AreOfRegistry vars instructions = (k : ℕ) (c : Built) → slice_get instructions k ≡ Some c → IsOfRegistry vars c
-
--- an empty line
-unfoldable pub gap_text : List ℕ
-gap_text = text_of (empty_line ∷ [])
+abbrev pub HaveVariablesOf : List TypeVarContent → List Built → Type 0
+HaveVariablesOf vars instructions = (k : ℕ) (c : Built) → slice_get instructions k ≡ Some c → HasVariablesOf vars c
 
 -- ---- instructions
 
@@ -62,11 +59,7 @@ constructors_text formats numbers = join_by (constructor_at formats) gap_text nu
 unfoldable pub trait_head : List ℕ
 trait_head = text_of (
     at 0 (codes "/// Convenience methods for building instructions." ∷ [])
-    ∷ (at 0 (codes "pub trait InstBuilder<'f>: InstBuilderBase<'f> {" ∷ []) ∷ []))
-
--- its end
-unfoldable pub trait_end : List ℕ
-trait_end = text_of (at 0 (codes "}" ∷ []) ∷ [])
+    ∷ at 0 (codes "pub trait InstBuilder<'f>: InstBuilderBase<'f> {" ∷ []) ∷ [])
 
 -- A trait with the methods that build each instruction, in order, and behind one more empty line with the constructors of the
 -- formats in use, by their names.
@@ -74,4 +67,4 @@ unfoldable pub builder_text : BuiltDeclarations → List ℕ
 builder_text b =
     trait_head
     ++ (flat_map (methods_text b.declared.set.vars b.declared.set.formats) b.instructions
-    ++ (gap_text ++ (constructors_text b.declared.set.formats b.formats ++ trait_end)))
+    ++ (gap_text ++ (constructors_text b.declared.set.formats b.formats ++ item_end)))

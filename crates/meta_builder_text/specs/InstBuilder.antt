@@ -11,18 +11,19 @@ use Rattle.meta_builder_text.specs.MethodDocs.{method_docs}
 use Rattle.meta_builder_text.specs.MethodBody.{result_type, body_text}
 
 -- the head of a method of this name, with its type parameters, its arguments and the type of what it gives
-unfoldable pub head_text : List ℕ → List ℕ → List ℕ → List ℕ → List ℕ
-head_text name parameters arguments result = text_of (
+unfoldable pub method_head_text : List ℕ → List ℕ → List ℕ → List ℕ → List ℕ
+method_head_text name parameters arguments result = text_of (
     at 1 (codes "#[allow(non_snake_case, reason = \"generated code\")]" ∷ [])
-    ∷ (at 1 (codes "fn " ∷ (name ∷ (parameters ∷ (codes "(" ∷ (arguments ∷ (codes ") -> " ∷ (result ∷ (codes " {" ∷ [])))))))) ∷ []))
+    ∷ at 1 (codes "fn " ∷ name ∷ parameters ∷ codes "(" ∷ arguments ∷ codes ") -> " ∷ result ∷ codes " {" ∷ []) ∷ [])
 
 -- the end of a method
-unfoldable pub method_end : List ℕ
-method_end = text_of (at 1 (codes "}" ∷ []) ∷ [])
+unfoldable pub inst_builder_end : List ℕ
+inst_builder_end = text_of (at 1 (codes "}" ∷ []) ∷ [])
 
 -- the method that builds an instruction of this format: its documentation, its head and its body
 unfoldable pub inst_builder_text : List TypeVarContent → Built → InstructionFormat → List ℕ
 inst_builder_text vars c format =
     method_docs vars c
-    ++ (head_text (snake_name_of c.name) (type_parameters c.operands_in) (arguments_text vars c format) (result_type (length c.value_results))
-    ++ (body_text vars c format ++ method_end))
+    ++ (method_head_text (snake_name_of c.name) (type_parameters c.operands_in) (arguments_text vars c format)
+    (result_type (length c.value_results))
+    ++ (body_text vars c format ++ inst_builder_end))

@@ -11,13 +11,14 @@ use Rattle.meta_operands.specs.declared.format.InstructionFormat.{InstructionFor
 use Rattle.meta_inst.specs.Built.{Built}
 use Rattle.meta_inst.specs.FormatMatch.{is_value_operand, is_block_operand}
 use Rattle.meta_inst.specs.declared.polymorphic.PolymorphicInfo.{PolymorphicInfo}
-use Rattle.meta_builder_text.specs.Operands.{is_converted, is_mem_flags, name_at, variable_name}
+use Rattle.meta_builder_constructors_text.specs.Names.{operand_name}
+use Rattle.meta_builder_text.specs.Operands.{is_converted, is_mem_flags, variable_name}
 
 -- ---- what is made of the arguments
 
 -- the line that converts an argument of this name
 unfoldable pub conversion_text : List ℕ → List ℕ
-conversion_text name = text_of (at 2 (codes "let " ∷ (name ∷ (codes " = " ∷ (name ∷ (codes ".into();" ∷ []))))) ∷ [])
+conversion_text name = text_of (at 2 (codes "let " ∷ name ∷ codes " = " ∷ name ∷ codes ".into();" ∷ []) ∷ [])
 
 -- the same, where the argument for the operand is converted
 unfoldable pub conversion_of : Operand → List ℕ
@@ -25,7 +26,8 @@ conversion_of o = if is_converted o then conversion_text o.name else []
 
 -- the line that stores flags of a memory access
 unfoldable pub mem_flags_text : List ℕ → List ℕ
-mem_flags_text name = text_of (at 2 (codes "let " ∷ (name ∷ (codes " = self.data_flow_graph_mut().mem_flags.insert(" ∷ (name ∷ (codes ").unwrap();" ∷ []))))) ∷ [])
+mem_flags_text name =
+    text_of (at 2 (codes "let " ∷ name ∷ codes " = self.data_flow_graph_mut().mem_flags.insert(" ∷ name ∷ codes ").unwrap();" ∷ []) ∷ [])
 
 -- the same, where the operand is such flags
 unfoldable pub mem_flags_of : Operand → List ℕ
@@ -35,7 +37,7 @@ mem_flags_of o = if is_mem_flags o && is_immediate_operand o then mem_flags_text
 unfoldable pub block_call_text : List ℕ → List ℕ
 block_call_text name = text_of (
     at 2 (
-    codes "let " ∷ (name ∷ (codes " = self.data_flow_graph_mut().block_call(" ∷ (name ∷ (codes "_label, " ∷ (name ∷ (codes "_args);" ∷ []))))))
+    codes "let " ∷ name ∷ codes " = self.data_flow_graph_mut().block_call(" ∷ name ∷ codes "_label, " ∷ name ∷ codes "_args);" ∷ []
     )
     ∷ []
     )
@@ -49,7 +51,7 @@ block_call_of o = if is_block_operand o then block_call_text o.name else []
 -- the name of the operand that the format designates, and nothing where it designates none
 abbrev pub designated_name : Built → Option ℕ → List ℕ
 designated_name c None = []
-designated_name c (Some place) = name_at c.operands_in place
+designated_name c (Some place) = operand_name c.operands_in place
 
 -- the place among the inputs of the value that the format designates
 abbrev pub designated_place : Built → InstructionFormat → Option ℕ
@@ -57,7 +59,7 @@ designated_place c format = option_and_then (slice_get c.value_opnums) format.ty
 
 -- the line that takes the control from the operand of this name
 unfoldable pub inferred_text : List ℕ → List ℕ
-inferred_text name = text_of (at 2 (codes "let ctrl_typevar = self.data_flow_graph().value_type(" ∷ (name ∷ (codes ");" ∷ []))) ∷ [])
+inferred_text name = text_of (at 2 (codes "let ctrl_typevar = self.data_flow_graph().value_type(" ∷ name ∷ codes ");" ∷ []) ∷ [])
 
 -- the same, where the control is the type of the designated operand
 unfoldable pub control_text : Option PolymorphicInfo → List ℕ → List ℕ
@@ -65,43 +67,44 @@ control_text None name = []
 control_text (Some info) name = if info.use_typevar_operand then inferred_text name else []
 
 -- what stands for the control in the call of the format's constructor
-abbrev pub control_word : List TypeVarContent → Option PolymorphicInfo → List ℕ
-control_word vars None = codes "types::INVALID"
-control_word vars (Some info) = if info.use_typevar_operand then codes "ctrl_typevar" else variable_name vars info.ctrl_typevar
+abbrev pub passed_control : List TypeVarContent → Option PolymorphicInfo → List ℕ
+passed_control vars None = codes "types::INVALID"
+passed_control vars (Some info) = if info.use_typevar_operand then codes "ctrl_typevar" else variable_name vars info.ctrl_typevar
 
 -- ---- the list of values
 
 -- the lines before the values are added
-unfoldable pub list_begin : List ℕ
-list_begin = text_of (
+unfoldable pub value_list_begin : List ℕ
+value_list_begin = text_of (
     at 2 (codes "let mut vlist = ir::ValueList::default();" ∷ [])
-    ∷ (at 2 (codes "{" ∷ []) ∷ (at 3 (codes "let pool = &mut self.data_flow_graph_mut().value_lists;" ∷ []) ∷ [])))
+    ∷ at 2 (codes "{" ∷ [])
+    ∷ at 3 (codes "let pool = &mut self.data_flow_graph_mut().value_lists;" ∷ []) ∷ [])
 
 -- the line that adds a value
-unfoldable pub push_text : List ℕ → List ℕ
-push_text name = text_of (at 3 (codes "vlist.push(" ∷ (name ∷ (codes ", pool);" ∷ []))) ∷ [])
+unfoldable pub one_value_line : List ℕ → List ℕ
+one_value_line name = text_of (at 3 (codes "vlist.push(" ∷ name ∷ codes ", pool);" ∷ []) ∷ [])
 
 -- the line that adds a variable number of values
-unfoldable pub extend_text : List ℕ → List ℕ
-extend_text name = text_of (at 3 (codes "vlist.extend(" ∷ (name ∷ (codes ".iter().cloned(), pool);" ∷ []))) ∷ [])
+unfoldable pub more_values_line : List ℕ → List ℕ
+more_values_line name = text_of (at 3 (codes "vlist.extend(" ∷ name ∷ codes ".iter().cloned(), pool);" ∷ []) ∷ [])
 
 -- the line that adds the operand, where it is one value or a variable number
 unfoldable pub added_text : Operand → List ℕ
-added_text o = if is_value_operand o then push_text o.name else (if is_varargs_operand o then extend_text o.name else [])
+added_text o = if is_value_operand o then one_value_line o.name else (if is_varargs_operand o then more_values_line o.name else [])
 
 -- the line behind them
-unfoldable pub list_end : List ℕ
-list_end = text_of (at 2 (codes "}" ∷ []) ∷ [])
+unfoldable pub value_list_end : List ℕ
+value_list_end = text_of (at 2 (codes "}" ∷ []) ∷ [])
 
 -- the list of the values, where the format has one
-unfoldable pub list_text : List Operand → InstructionFormat → List ℕ
-list_text inputs format = if format.has_value_list then (list_begin ++ (flat_map added_text inputs ++ list_end)) else []
+unfoldable pub value_list_text : List Operand → InstructionFormat → List ℕ
+value_list_text inputs format = if format.has_value_list then (value_list_begin ++ (flat_map added_text inputs ++ value_list_end)) else []
 
 -- ---- the call of the format's constructor
 
 -- the operands at these places as arguments, behind others
 abbrev pub passed : List Operand → List ℕ → List ℕ
-passed inputs places = flat_map (λ place. codes ", " ++ name_at inputs place) places
+passed inputs places = flat_map (λ place. codes ", " ++ operand_name inputs place) places
 
 -- the values as arguments: the list where the format has one, and else each
 unfoldable pub passed_values : Built → InstructionFormat → List ℕ
@@ -114,8 +117,8 @@ passed_operands c format = passed c.operands_in c.imm_opnums ++ passed_values c 
 -- the call of the constructor of this name, for the opcode of this name, and the line that traces it
 unfoldable pub call_text : List ℕ → List ℕ → List ℕ → List ℕ → List ℕ
 call_text constructor opcode control operands = text_of (
-    at 2 (codes "let (inst, dfg) = self." ∷ (constructor ∷ (codes "(Opcode::" ∷ (opcode ∷ (codes ", " ∷ (control ∷ (operands ∷ (codes ");" ∷ []))))))))
-    ∷ (at 2 (codes "crate::trace!(\"inserted {inst:?}: {}\", dfg.display_inst(inst));" ∷ []) ∷ []))
+    at 2 (codes "let (inst, dfg) = self." ∷ constructor ∷ codes "(Opcode::" ∷ opcode ∷ codes ", " ∷ control ∷ operands ∷ codes ");" ∷ [])
+    ∷ at 2 (codes "crate::trace!(\"inserted {inst:?}: {}\", dfg.display_inst(inst));" ∷ []) ∷ [])
 
 -- ---- the results
 
@@ -131,8 +134,8 @@ numbered_result number = codes "results[" ++ (decimal number ++ codes "]")
 -- the lines that give so many results, which these are
 unfoldable pub several_text : ℕ → List ℕ → List ℕ
 several_text count results = text_of (
-    at 2 (codes "let results = &dfg.inst_results(inst)[0.." ∷ (decimal count ∷ (codes "];" ∷ [])))
-    ∷ (at 2 (codes "(" ∷ (results ∷ (codes ")" ∷ []))) ∷ []))
+    at 2 (codes "let results = &dfg.inst_results(inst)[0.." ∷ decimal count ∷ codes "];" ∷ [])
+    ∷ at 2 (codes "(" ∷ results ∷ codes ")" ∷ []) ∷ [])
 
 -- the line that gives the instruction itself
 unfoldable pub instruction_line : List ℕ
@@ -143,8 +146,8 @@ unfoldable pub one_result_line : List ℕ
 one_result_line = text_of (at 2 (codes "dfg.first_result(inst)" ∷ []) ∷ [])
 
 -- the lines that give so many results, and the instruction itself where there are none
-unfoldable pub results_text : ℕ → List ℕ
-results_text count =
+unfoldable pub results_lines : ℕ → List ℕ
+results_lines count =
     if count == 0 then instruction_line
     else (if count == 1 then one_result_line
     else several_text count (parted_to numbered_result (count - 1)))
@@ -165,6 +168,6 @@ body_text vars c format =
     ++ (flat_map mem_flags_of c.operands_in
     ++ (flat_map block_call_of c.operands_in
     ++ (control_text c.polymorphic_info (designated_name c (designated_place c format))
-    ++ (list_text c.operands_in format
-    ++ (call_text format.name c.camel_name (control_word vars c.polymorphic_info) (passed_operands c format)
-    ++ results_text (length c.value_results))))))
+    ++ (value_list_text c.operands_in format
+    ++ (call_text format.name c.camel_name (passed_control vars c.polymorphic_info) (passed_operands c format)
+    ++ results_lines (length c.value_results))))))

@@ -7,13 +7,13 @@ use Rattle.meta_typevar.specs.declared.content.TypeVarContent.{TypeVarContent}
 use Rattle.meta_operands.specs.declared.operand.Operand.{Operand}
 use Rattle.meta_inst.specs.Built.{Built}
 use Rattle.meta_inst.specs.FormatMatch.{is_block_operand, is_raw_block_operand}
-use Rattle.meta_constructors_text.specs.Docs.{first_line, doc_line_text, doc_heading_text, doc_item_text}
+use Rattle.meta_builder_constructors_text.specs.Docs.{first_line, doc_line_text, doc_heading_text, doc_item_text}
 use Rattle.meta_builder_text.specs.Operands.{variable_name, variable_doc, operand_doc}
 use Rattle.meta_builder_text.specs.Arguments.{asked_control}
 
 -- the line on the control
 unfoldable pub control_line : List ℕ → List ℕ → List ℕ
-control_line name doc = text_of (at 1 (codes "/// - " ∷ (name ∷ (codes " (controlling type variable): " ∷ (doc ∷ [])))) ∷ [])
+control_line name doc = text_of (at 1 (codes "/// - " ∷ name ∷ codes " (controlling type variable): " ∷ doc ∷ []) ∷ [])
 
 -- the line on the control, where it is an argument
 unfoldable pub control_doc : List TypeVarContent → Option ℕ → List ℕ
@@ -23,8 +23,8 @@ control_doc vars (Some tv) = control_line (variable_name vars tv) (variable_doc 
 -- the lines on a block of this name and on what is passed to it
 unfoldable pub block_docs : List ℕ → List ℕ
 block_docs name = text_of (
-    at 1 (codes "/// - " ∷ (name ∷ (codes "_label: Destination basic block" ∷ [])))
-    ∷ (at 1 (codes "/// - " ∷ (name ∷ (codes "_args: Block arguments" ∷ []))) ∷ []))
+    at 1 (codes "/// - " ∷ name ∷ codes "_label: Destination basic block" ∷ [])
+    ∷ at 1 (codes "/// - " ∷ name ∷ codes "_args: Block arguments" ∷ []) ∷ [])
 
 -- the line on a block without arguments
 unfoldable pub raw_block_doc : List ℕ
@@ -35,14 +35,14 @@ abbrev pub operand_line : List TypeVarContent → Operand → List ℕ
 operand_line vars o = doc_item_text o.name (operand_doc vars o)
 
 -- the lines on the arguments for an input
-unfoldable pub input_docs : List TypeVarContent → Operand → List ℕ
-input_docs vars o =
+unfoldable pub docs_of_input : List TypeVarContent → Operand → List ℕ
+docs_of_input vars o =
     if is_block_operand o then block_docs o.name
     else (if is_raw_block_operand o then raw_block_doc else operand_line vars o)
 
 -- the lines on all arguments but the builder
 unfoldable pub inputs_docs : List TypeVarContent → Built → List ℕ
-inputs_docs vars c = control_doc vars (asked_control c.polymorphic_info) ++ flat_map (input_docs vars) c.operands_in
+inputs_docs vars c = control_doc vars (asked_control c.polymorphic_info) ++ flat_map (docs_of_input vars) c.operands_in
 
 -- the lines on the outputs
 unfoldable pub outputs_docs : List TypeVarContent → Built → List ℕ

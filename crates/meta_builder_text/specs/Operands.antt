@@ -5,7 +5,7 @@ use Rattle.meta_operands.specs.Texts.{same_text}
 use Rattle.meta_operands.specs.Operand.{is_immediate_operand, doc_at, doc_of}
 use Rattle.meta_operands.specs.declared.operand.Operand.{Operand}
 use Rattle.meta_inst.specs.FormatMatch.{is_block_operand, is_raw_block_operand}
-use Rattle.meta_constructors_text.specs.Docs.{first_line}
+use Rattle.meta_builder_constructors_text.specs.Docs.{first_line}
 
 -- ---- operands
 
@@ -16,15 +16,6 @@ is_converted o = not (is_block_operand o) && (not (is_raw_block_operand o) && is
 -- whether the operand is flags of a memory access, which are stored outside of the instruction
 abbrev pub is_mem_flags : Operand → Bool
 is_mem_flags o = same_text o.kind.rust_type (codes "ir::MemFlags")
-
--- the name of an operand, and nothing where there is none
-abbrev pub name_of : Option Operand → List ℕ
-name_of None = []
-name_of (Some o) = o.name
-
--- the name of the operand at this place, counted from 0, and nothing where there is none
-abbrev pub name_at : List Operand → ℕ → List ℕ
-name_at operands place = name_of (slice_get operands place)
 
 -- ---- variables
 

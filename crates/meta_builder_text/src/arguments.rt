@@ -1,11 +1,12 @@
 ghost use Rattle.std.specs.Prelude.{◌≡◌, ◌++◌, [], IfOk, OnOk, string_bytes};
-ghost use Rattle.meta_builder_text.specs.Arguments.{each_behind, block_arguments, operand_arguments, asked_control, control_argument, changes_builder, self_argument, arguments_text};
+ghost use Rattle.meta_builder_text.specs.Arguments.{each_with_before, block_arguments, operand_arguments, asked_control, control_argument, changes_builder, self_argument, arguments_text};
 
 use super::operands::{has_block, has_mem_flags, is_converted, variable_name};
 use super::type_parameters::parameter_name;
-use meta_constructors_text::push_argument;
+use meta_builder_constructors_text::push_argument;
 use meta_inst::{InstructionContent, PolymorphicInfo};
 use meta_operands::{InstructionFormat, Operand};
+use meta_rust_lines::push_text;
 use meta_typevar::{TypeVar, TypeVars};
 use std::alloc::{AllocError, Global};
 
@@ -34,7 +35,7 @@ fn push_operand(
         return push_block(out, operand.name.as_str());
     }
     if operand.kind.is_raw_block() {
-        return out.push_str(", block: ir::Block");
+        return push_text(out, ", block: ir::Block");
     }
     if is_converted(operand) {
         let parameter = parameter_name(alloc, before)?;
@@ -45,7 +46,7 @@ fn push_operand(
 
 /// Adds the arguments for the operands, in order.
 fn push_operands(alloc: Global, out: &mut String, operands: &[Operand]) -> Result<(), AllocError>
-    ensures { OnOk result (string_bytes out.new ≡ string_bytes out.old ++ each_behind operand_arguments [] operands.now) }
+    ensures { OnOk result (string_bytes out.new ≡ string_bytes out.old ++ each_with_before operand_arguments [] operands.now) }
 {
     for place in 0..operands.len() {
         let (before, _) = operands.split_at(place);

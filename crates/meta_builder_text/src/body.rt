@@ -1,12 +1,14 @@
 ghost use Rattle.std.specs.Prelude.{◌≡◌, ◌++◌, OnOk, string_bytes};
 ghost use Rattle.std.specs.List.{flat_map};
-ghost use Rattle.meta_builder_text.specs.MethodBody.{conversion_text, conversion_of, mem_flags_text, mem_flags_of, block_call_text, block_call_of, designated_name, designated_place, inferred_text, control_text, list_begin, push_text, extend_text, added_text, list_end, list_text, body_text};
+ghost use Rattle.meta_builder_text.specs.MethodBody.{conversion_text, conversion_of, mem_flags_text, mem_flags_of, block_call_text, block_call_of, designated_name, designated_place, inferred_text, control_text, value_list_begin, one_value_line, more_values_line, added_text, value_list_end, value_list_text, body_text};
 
 use super::constructor_call::push_call;
-use super::operands::{is_converted, is_mem_flags, name_at};
+use super::operands::{is_converted, is_mem_flags};
 use super::results::push_results;
+use meta_builder_constructors_text::operand_name;
 use meta_inst::{InstructionContent, PolymorphicInfo};
 use meta_operands::{InstructionFormat, Operand};
+use meta_rust_lines::push_text;
 use meta_typevar::TypeVars;
 use std::alloc::{AllocError, Global};
 
@@ -116,7 +118,7 @@ fn designated_name<'a>(instruction: &'a InstructionContent, format: &Instruction
     ensures { result.now ≡ designated_name instruction.now (designated_place instruction.now format.now) }
 {
     match designated_place(instruction, format) {
-        Some(place) => name_at(instruction.operands_in(), place),
+        Some(place) => operand_name(instruction.operands_in(), place),
         None => "",
     }
 }
@@ -151,11 +153,12 @@ fn push_control(
 }
 
 /// Adds the lines before the values are added.
-#[tactic(auto, unfolding(crate::specs::MethodBody::list_begin))]
+#[tactic(auto, unfolding(crate::specs::MethodBody::value_list_begin))]
 fn push_list_begin(out: &mut String) -> Result<(), AllocError>
-    ensures { OnOk result (string_bytes out.new ≡ string_bytes out.old ++ list_begin) }
+    ensures { OnOk result (string_bytes out.new ≡ string_bytes out.old ++ value_list_begin) }
 {
-    out.push_str(
+    push_text(
+        out,
         "        let mut vlist = ir::ValueList::default();
         {
             let pool = &mut self.data_flow_graph_mut().value_lists;
@@ -164,17 +167,17 @@ fn push_list_begin(out: &mut String) -> Result<(), AllocError>
 }
 
 /// Adds the line that adds a value.
-#[tactic(auto, unfolding(crate::specs::MethodBody::push_text))]
-fn push_push_text(out: &mut String, name: &str) -> Result<(), AllocError>
-    ensures { OnOk result (string_bytes out.new ≡ string_bytes out.old ++ push_text name.now) }
+#[tactic(auto, unfolding(crate::specs::MethodBody::one_value_line))]
+fn push_one_value(out: &mut String, name: &str) -> Result<(), AllocError>
+    ensures { OnOk result (string_bytes out.new ≡ string_bytes out.old ++ one_value_line name.now) }
 {
     write!(out, "            vlist.push({name}, pool);\n")
 }
 
 /// Adds the line that adds a variable number of values.
-#[tactic(auto, unfolding(crate::specs::MethodBody::extend_text))]
-fn push_extend_text(out: &mut String, name: &str) -> Result<(), AllocError>
-    ensures { OnOk result (string_bytes out.new ≡ string_bytes out.old ++ extend_text name.now) }
+#[tactic(auto, unfolding(crate::specs::MethodBody::more_values_line))]
+fn push_more_values(out: &mut String, name: &str) -> Result<(), AllocError>
+    ensures { OnOk result (string_bytes out.new ≡ string_bytes out.old ++ more_values_line name.now) }
 {
     write!(
         out,
@@ -188,10 +191,10 @@ fn push_added(out: &mut String, operand: &Operand) -> Result<(), AllocError>
     ensures { OnOk result (string_bytes out.new ≡ string_bytes out.old ++ added_text operand.now) }
 {
     if operand.is_value() {
-        return push_push_text(out, operand.name.as_str());
+        return push_one_value(out, operand.name.as_str());
     }
     if operand.is_varargs() {
-        return push_extend_text(out, operand.name.as_str());
+        return push_more_values(out, operand.name.as_str());
     }
     Ok(())
 }
@@ -207,21 +210,21 @@ fn push_each_added(out: &mut String, operands: &[Operand]) -> Result<(), AllocEr
 }
 
 /// Adds the line behind them.
-#[tactic(auto, unfolding(crate::specs::MethodBody::list_end))]
+#[tactic(auto, unfolding(crate::specs::MethodBody::value_list_end))]
 fn push_list_end(out: &mut String) -> Result<(), AllocError>
-    ensures { OnOk result (string_bytes out.new ≡ string_bytes out.old ++ list_end) }
+    ensures { OnOk result (string_bytes out.new ≡ string_bytes out.old ++ value_list_end) }
 {
-    out.push_str("        }\n")
+    push_text(out, "        }\n")
 }
 
 /// Adds the list of the values, where the format has one.
-#[tactic(auto, unfolding(crate::specs::MethodBody::list_text))]
+#[tactic(auto, unfolding(crate::specs::MethodBody::value_list_text))]
 fn push_list(
     out: &mut String,
     inputs: &[Operand],
     format: &InstructionFormat,
 ) -> Result<(), AllocError>
-    ensures { OnOk result (string_bytes out.new ≡ string_bytes out.old ++ list_text inputs.now format.now) }
+    ensures { OnOk result (string_bytes out.new ≡ string_bytes out.old ++ value_list_text inputs.now format.now) }
 {
     if !format.has_value_list {
         return Ok(());

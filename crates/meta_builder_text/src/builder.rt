@@ -1,23 +1,17 @@
 ghost use Rattle.std.specs.Prelude.{◌≡◌, ◌++◌, IfOk, OnOk, slice_get, string_bytes};
 ghost use Rattle.std.specs.List.{flat_map};
 ghost use Rattle.meta_inst.specs.InstructionSet.{Fits};
-ghost use Rattle.meta_builder_text.specs.BuilderText.{IsOfRegistry, AreOfRegistry, gap_text, method_text, imm_methods_text, methods_text, constructor_at, constructors_text, trait_head, trait_end, builder_text};
+ghost use Rattle.meta_rust_lines.specs.Ends.{gap_text, item_end};
+ghost use Rattle.meta_builder_text.specs.BuilderText.{HasVariablesOf, HaveVariablesOf, method_text, imm_methods_text, methods_text, constructor_at, constructors_text, trait_head, builder_text};
 
 use super::inst_builder::push_inst_builder;
-use meta_constructors_text::{push_constructor, push_imm_builders};
+use meta_builder_constructors_text::{push_constructor, push_imm_builders};
 use meta_declared::{Built, Declarations};
 use meta_inst::InstructionContent;
 use meta_operands::{FormatId, FormatTable};
+use meta_rust_lines::{push_gap, push_item_end, push_text};
 use meta_typevar::TypeVars;
 use std::alloc::{AllocError, Global};
-
-/// Adds an empty line.
-#[tactic(auto, unfolding(crate::specs::BuilderText::gap_text))]
-fn push_gap(out: &mut String) -> Result<(), AllocError>
-    ensures { OnOk result (string_bytes out.new ≡ string_bytes out.old ++ gap_text) }
-{
-    out.push_str("\n")
-}
 
 /// Adds the method that builds the instruction, and an empty line.
 #[tactic(auto, unfolding(crate::specs::BuilderText::method_text))]
@@ -28,8 +22,9 @@ fn push_method(
     formats: &FormatTable,
     instruction: &InstructionContent,
 ) -> Result<(), AllocError>
-    requires { IsOfRegistry vars.now instruction.now }
-    ensures { OnOk result (string_bytes out.new ≡ string_bytes out.old ++ method_text vars.now instruction.now (slice_get formats.now instruction.now.format)) }
+    requires { HasVariablesOf vars.now instruction.now }
+    ensures { OnOk result (string_bytes out.new ≡ string_bytes out.old
+        ++ method_text vars.now instruction.now (slice_get formats.now instruction.now.format)) }
 {
     let format = instruction.format();
     if !formats.is_of(format) {
@@ -47,7 +42,7 @@ fn push_imm_methods(
     vars: &TypeVars,
     instruction: &InstructionContent,
 ) -> Result<(), AllocError>
-    requires { IsOfRegistry vars.now instruction.now }
+    requires { HasVariablesOf vars.now instruction.now }
     ensures { OnOk result (string_bytes out.new ≡ string_bytes out.old ++ imm_methods_text vars.now instruction.now) }
 {
     if !instruction.inst_builder_imm_method() {
@@ -66,7 +61,7 @@ fn push_methods(
     formats: &FormatTable,
     instruction: &InstructionContent,
 ) -> Result<(), AllocError>
-    requires { IsOfRegistry vars.now instruction.now }
+    requires { HasVariablesOf vars.now instruction.now }
     ensures { OnOk result (string_bytes out.new ≡ string_bytes out.old ++ methods_text vars.now formats.now instruction.now) }
 {
     push_method(alloc, out, vars, formats, instruction)?;
@@ -81,7 +76,7 @@ fn push_each_instruction(
     formats: &FormatTable,
     instructions: &[InstructionContent],
 ) -> Result<(), AllocError>
-    requires { AreOfRegistry vars.now instructions.now }
+    requires { HaveVariablesOf vars.now instructions.now }
     ensures { OnOk result (string_bytes out.new ≡ string_bytes out.old ++ flat_map (methods_text vars.now formats.now) instructions.now) }
 {
     for instruction in instructions {
@@ -132,19 +127,12 @@ fn push_constructors(
 fn push_trait_head(out: &mut String) -> Result<(), AllocError>
     ensures { OnOk result (string_bytes out.new ≡ string_bytes out.old ++ trait_head) }
 {
-    out.push_str(
+    push_text(
+        out,
         "/// Convenience methods for building instructions.
 pub trait InstBuilder<'f>: InstBuilderBase<'f> {
 ",
     )
-}
-
-/// Adds the end of the trait.
-#[tactic(auto, unfolding(crate::specs::BuilderText::trait_end))]
-fn push_trait_end(out: &mut String) -> Result<(), AllocError>
-    ensures { OnOk result (string_bytes out.new ≡ string_bytes out.old ++ trait_end) }
-{
-    out.push_str("}\n")
 }
 
 /// The type variables, which are those of the instructions.
@@ -171,6 +159,6 @@ pub fn builder_text(alloc: Global, built: &Built<'_>) -> Result<String, AllocErr
     push_each_instruction(alloc, &mut out, vars, formats, built.instructions())?;
     push_gap(&mut out)?;
     push_constructors(alloc, &mut out, formats, built.formats())?;
-    push_trait_end(&mut out)?;
+    push_item_end(&mut out)?;
     Ok(out)
 }

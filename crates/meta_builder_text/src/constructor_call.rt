@@ -1,15 +1,17 @@
 ghost use Rattle.std.specs.Prelude.{◌≡◌, ◌++◌, IfOk, OnOk, string_bytes};
-ghost use Rattle.meta_builder_text.specs.MethodBody.{control_word, passed, passed_values, passed_operands, call_text};
+ghost use Rattle.meta_builder_text.specs.MethodBody.{passed_control, passed, passed_values, passed_operands, call_text};
 
-use super::operands::{name_at, variable_name};
+use super::operands::variable_name;
+use meta_builder_constructors_text::operand_name;
 use meta_inst::{InstructionContent, PolymorphicInfo};
 use meta_operands::{InstructionFormat, Operand};
+use meta_rust_lines::push_text;
 use meta_typevar::TypeVars;
 use std::alloc::{AllocError, Global};
 
 /// What stands for the control in the call of the format's constructor.
-fn control_word(vars: &TypeVars, info: Option<PolymorphicInfo>) -> &str
-    ensures { result.now ≡ control_word vars.now info }
+fn passed_control(vars: &TypeVars, info: Option<PolymorphicInfo>) -> &str
+    ensures { result.now ≡ passed_control vars.now info }
 {
     let Some(info) = info else {
         return "types::INVALID";
@@ -25,7 +27,7 @@ fn push_passed(out: &mut String, inputs: &[Operand], places: &[usize]) -> Result
     ensures { OnOk result (string_bytes out.new ≡ string_bytes out.old ++ passed inputs.now places.now) }
 {
     for place in places {
-        let name = name_at(inputs, *place);
+        let name = operand_name(inputs, *place);
         write!(out, ", {name}")?;
     }
     Ok(())
@@ -41,7 +43,7 @@ fn push_passed_values(
     ensures { OnOk result (string_bytes out.new ≡ string_bytes out.old ++ passed_values instruction.now format.now) }
 {
     if format.has_value_list {
-        return out.push_str(", vlist");
+        return push_text(out, ", vlist");
     }
     push_passed(out, instruction.operands_in(), instruction.value_opnums())
 }
@@ -89,9 +91,11 @@ pub(crate) fn push_call(
     instruction: &InstructionContent,
     format: &InstructionFormat,
 ) -> Result<(), AllocError>
-    ensures { OnOk result (string_bytes out.new ≡ string_bytes out.old ++ call_text format.now.name instruction.now.camel_name (control_word vars.now instruction.now.polymorphic_info) (passed_operands instruction.now format.now)) }
+    ensures { OnOk result (string_bytes out.new ≡ string_bytes out.old
+        ++ call_text format.now.name instruction.now.camel_name
+        (passed_control vars.now instruction.now.polymorphic_info) (passed_operands instruction.now format.now)) }
 {
-    let control = control_word(vars, instruction.polymorphic_info());
+    let control = passed_control(vars, instruction.polymorphic_info());
     let operands = passed_operands(alloc, instruction, format)?;
     let (constructor, opcode) = (format.name.as_str(), instruction.camel_name().as_str());
     push_call_text(out, constructor, opcode, control, operands.as_str())

@@ -4,7 +4,7 @@ ghost use Rattle.meta_inst.specs.Content.{snake_name_of};
 ghost use Rattle.meta_inst.specs.Operands.{AreOf};
 ghost use Rattle.meta_builder_text.specs.Arguments.{type_parameters, arguments_text};
 ghost use Rattle.meta_builder_text.specs.MethodBody.{result_type};
-ghost use Rattle.meta_builder_text.specs.InstBuilder.{head_text, method_end, inst_builder_text};
+ghost use Rattle.meta_builder_text.specs.InstBuilder.{method_head_text, inst_builder_end, inst_builder_text};
 
 use super::arguments::arguments;
 use super::body::push_body;
@@ -13,11 +13,12 @@ use super::results::result_type;
 use super::type_parameters::type_parameters;
 use meta_inst::InstructionContent;
 use meta_operands::InstructionFormat;
+use meta_rust_lines::push_text;
 use meta_typevar::TypeVars;
 use std::alloc::{AllocError, Global};
 
 /// Adds the head of a method of this name, with its type parameters, its arguments and the type of what it gives.
-#[tactic(auto, unfolding(crate::specs::InstBuilder::head_text))]
+#[tactic(auto, unfolding(crate::specs::InstBuilder::method_head_text))]
 fn push_head(
     out: &mut String,
     name: &str,
@@ -25,7 +26,8 @@ fn push_head(
     arguments: &str,
     given: &str,
 ) -> Result<(), AllocError>
-    ensures { OnOk result (string_bytes out.new ≡ string_bytes out.old ++ head_text name.now parameters.now arguments.now given.now) }
+    ensures { OnOk result (string_bytes out.new ≡ string_bytes out.old
+        ++ method_head_text name.now parameters.now arguments.now given.now) }
 {
     write!(
         out,
@@ -36,11 +38,11 @@ fn push_head(
 }
 
 /// Adds the end of a method.
-#[tactic(auto, unfolding(crate::specs::InstBuilder::method_end))]
+#[tactic(auto, unfolding(crate::specs::InstBuilder::inst_builder_end))]
 fn push_method_end(out: &mut String) -> Result<(), AllocError>
-    ensures { OnOk result (string_bytes out.new ≡ string_bytes out.old ++ method_end) }
+    ensures { OnOk result (string_bytes out.new ≡ string_bytes out.old ++ inst_builder_end) }
 {
-    out.push_str("    }\n")
+    push_text(out, "    }\n")
 }
 
 /// Adds the head of the method that builds the instruction, which is of this format.
@@ -51,7 +53,9 @@ fn push_method_head(
     instruction: &InstructionContent,
     format: &InstructionFormat,
 ) -> Result<(), AllocError>
-    ensures { OnOk result (string_bytes out.new ≡ string_bytes out.old ++ head_text (snake_name_of instruction.now.name) (type_parameters instruction.now.operands_in) (arguments_text vars.now instruction.now format.now) (result_type (length instruction.now.value_results))) }
+    ensures { OnOk result (string_bytes out.new ≡ string_bytes out.old
+        ++ method_head_text (snake_name_of instruction.now.name) (type_parameters instruction.now.operands_in)
+        (arguments_text vars.now instruction.now format.now) (result_type (length instruction.now.value_results))) }
 {
     let parameters = type_parameters(alloc, instruction.operands_in())?;
     let arguments = arguments(alloc, vars, instruction, format)?;

@@ -2,13 +2,14 @@ ghost use Rattle.std.specs.Prelude.{◌≡◌, ◌++◌, ◌<◌, ℕ, Some, IfO
 ghost use Rattle.std.specs.List.{flat_map};
 ghost use Rattle.meta_operands.specs.Operand.{variable_of, variables_of};
 ghost use Rattle.meta_inst.specs.Operands.{AreOf};
-ghost use Rattle.meta_builder_text.specs.MethodDocs.{control_line, control_doc, block_docs, raw_block_doc, operand_line, input_docs, inputs_docs, outputs_docs, titled, method_docs};
+ghost use Rattle.meta_builder_text.specs.MethodDocs.{control_line, control_doc, block_docs, raw_block_doc, operand_line, docs_of_input, inputs_docs, outputs_docs, titled, method_docs};
 
 use super::arguments::asked_control;
 use super::operands::{operand_doc, variable_doc, variable_name};
-use meta_constructors_text::{first_line, push_doc_heading, push_doc_item, push_doc_line};
+use meta_builder_constructors_text::{first_line, push_doc_heading, push_doc_item, push_doc_line};
 use meta_inst::InstructionContent;
 use meta_operands::Operand;
+use meta_rust_lines::push_text;
 use meta_typevar::{TypeVar, TypeVars};
 use std::alloc::{AllocError, Global};
 
@@ -53,7 +54,7 @@ fn push_block_docs(out: &mut String, name: &str) -> Result<(), AllocError>
 fn push_raw_block_doc(out: &mut String) -> Result<(), AllocError>
     ensures { OnOk result (string_bytes out.new ≡ string_bytes out.old ++ raw_block_doc) }
 {
-    out.push_str("    /// - block: raw basic block\n")
+    push_text(out, "    /// - block: raw basic block\n")
 }
 
 /// Adds the line on an output, or on an input that is no block.
@@ -65,10 +66,10 @@ fn push_operand_line(out: &mut String, vars: &TypeVars, operand: &Operand) -> Re
 }
 
 /// Adds the lines on the arguments for an input.
-#[tactic(auto, unfolding(crate::specs::MethodDocs::input_docs))]
+#[tactic(auto, unfolding(crate::specs::MethodDocs::docs_of_input))]
 fn push_input_docs(out: &mut String, vars: &TypeVars, operand: &Operand) -> Result<(), AllocError>
     requires { (tv : ℕ) → variable_of operand.now ≡ Some tv → tv < length vars.now }
-    ensures { OnOk result (string_bytes out.new ≡ string_bytes out.old ++ input_docs vars.now operand.now) }
+    ensures { OnOk result (string_bytes out.new ≡ string_bytes out.old ++ docs_of_input vars.now operand.now) }
 {
     if operand.kind.is_block() {
         return push_block_docs(out, operand.name.as_str());
@@ -86,7 +87,7 @@ fn push_each_input(
     operands: &[Operand],
 ) -> Result<(), AllocError>
     requires { AreOf vars.now (variables_of operands.now) }
-    ensures { OnOk result (string_bytes out.new ≡ string_bytes out.old ++ flat_map (input_docs vars.now) operands.now) }
+    ensures { OnOk result (string_bytes out.new ≡ string_bytes out.old ++ flat_map (docs_of_input vars.now) operands.now) }
 {
     for operand in operands {
         push_input_docs(out, vars, operand)?;

@@ -2,9 +2,9 @@ ghost use Rattle.std.specs.Prelude.{◌≡◌, ◌<◌, ℕ, Some, length};
 ghost use Rattle.std.specs.List.{list_any};
 ghost use Rattle.meta_inst.specs.FormatMatch.{is_block_operand};
 ghost use Rattle.meta_operands.specs.Operand.{variable_of};
-ghost use Rattle.meta_builder_text.specs.Operands.{is_converted, is_mem_flags, name_at, variable_name, variable_doc, operand_doc};
+ghost use Rattle.meta_builder_text.specs.Operands.{is_converted, is_mem_flags, variable_name, variable_doc, operand_doc};
 
-use meta_constructors_text::first_line;
+use meta_builder_constructors_text::first_line;
 use meta_operands::Operand;
 use meta_typevar::{TypeVar, TypeVars};
 
@@ -44,16 +44,6 @@ pub(crate) fn has_mem_flags(operands: &[Operand]) -> bool
         }
     }
     false
-}
-
-/// The name of the operand at this place, counted from 0, and nothing where there is none.
-pub(crate) fn name_at(operands: &[Operand], place: usize) -> &str
-    ensures { result.now ≡ name_at operands.now place }
-{
-    match operands.get(place) {
-        Some(operand) => operand.name.as_str(),
-        None => "",
-    }
 }
 
 /// The name of the variable, and nothing where it isn't of the registry.

@@ -1,6 +1,7 @@
 ghost use Rattle.std.specs.Prelude.{◌≡◌, ◌-◌, ◌++◌, IfOk, OnOk, codes, string_bytes};
-ghost use Rattle.meta_builder_text.specs.MethodBody.{parted_to, numbered_result, several_text, instruction_line, one_result_line, results_text, result_type};
+ghost use Rattle.meta_builder_text.specs.MethodBody.{parted_to, numbered_result, several_text, instruction_line, one_result_line, results_lines, result_type};
 
+use meta_rust_lines::push_text;
 use std::alloc::{AllocError, Global};
 
 /// Adds the result with this number.
@@ -42,7 +43,7 @@ fn push_several(out: &mut String, count: usize, results: &str) -> Result<(), All
 fn push_instruction(out: &mut String) -> Result<(), AllocError>
     ensures { OnOk result (string_bytes out.new ≡ string_bytes out.old ++ instruction_line) }
 {
-    out.push_str("        inst\n")
+    push_text(out, "        inst\n")
 }
 
 /// Adds the line that gives one result.
@@ -50,13 +51,13 @@ fn push_instruction(out: &mut String) -> Result<(), AllocError>
 fn push_one_result(out: &mut String) -> Result<(), AllocError>
     ensures { OnOk result (string_bytes out.new ≡ string_bytes out.old ++ one_result_line) }
 {
-    out.push_str("        dfg.first_result(inst)\n")
+    push_text(out, "        dfg.first_result(inst)\n")
 }
 
 /// Adds the lines that give so many results.
-#[tactic(auto, unfolding(crate::specs::MethodBody::results_text))]
+#[tactic(auto, unfolding(crate::specs::MethodBody::results_lines))]
 pub(crate) fn push_results(alloc: Global, out: &mut String, count: usize) -> Result<(), AllocError>
-    ensures { OnOk result (string_bytes out.new ≡ string_bytes out.old ++ results_text count) }
+    ensures { OnOk result (string_bytes out.new ≡ string_bytes out.old ++ results_lines count) }
 {
     if count == 0 {
         return push_instruction(out);

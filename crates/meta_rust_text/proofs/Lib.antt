@@ -1,2 +1,2 @@
-mod Pushed
+mod TypeTexts
 mod Sizes

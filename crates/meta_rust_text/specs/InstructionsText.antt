@@ -1,13 +1,14 @@
 -- The text of instructions.
 --     instructions_text b      the formats, the data of an instruction with its methods, and the opcodes
-use Rattle.std.specs.Prelude.{ℕ, List, ◌++◌, codes}
+use Rattle.std.specs.Prelude.{ℕ, List, ◌++◌}
 use Rattle.meta_declared.specs.BuiltDeclarations.{BuiltDeclarations}
-use Rattle.meta_opcodes_text.specs.InUse.{formats_in}
-use Rattle.meta_opcodes_text.specs.FormatsText.{formats_text}
-use Rattle.meta_opcodes_text.specs.DataText.{data_text}
-use Rattle.meta_opcodes_text.specs.OpcodesText.{opcodes_text}
-use Rattle.meta_data_text.specs.DataImpl.{data_impl_text}
+use Rattle.meta_rust_lines.specs.Ends.{gap_text}
+use Rattle.meta_instructions_enums_text.specs.InUse.{formats_in}
+use Rattle.meta_instructions_enums_text.specs.FormatsText.{formats_text}
+use Rattle.meta_instructions_enums_text.specs.DataText.{data_text}
+use Rattle.meta_instructions_enums_text.specs.OpcodesText.{opcodes_text}
+use Rattle.meta_instructions_methods_text.specs.DataImpl.{data_impl_text}
 
 -- the texts of its parts in order; an empty line stands behind the implementation of the data, as one stands behind the data
 unfoldable pub instructions_text : BuiltDeclarations → List ℕ
-instructions_text b = formats_text b ++ (data_text b ++ (data_impl_text (formats_in b) ++ (codes "\n" ++ opcodes_text b)))
+instructions_text b = formats_text b ++ (data_text b ++ (data_impl_text (formats_in b) ++ (gap_text ++ opcodes_text b)))

@@ -1,5 +1,5 @@
 -- The types text: a constant for each type that is most in use.
---     type_text t            the text of a type
+--     type_constant t            the text of a type
 --     common_types           the types, in the order of the text
 --     types_text             the text
 use Rattle.std.specs.Prelude.{ℕ, ◌/◌, nat_lt, false, List, [], ◌∷◌, ◌++◌, map, codes, if◌then◌else◌}
@@ -15,21 +15,21 @@ use Rattle.meta_text.specs.Lines.{Line, at, empty_line, text_of}
 -- the documentation of a constant, the constant by its name and its number in hexadecimal digits, and an empty line
 abbrev pub constant_lines : List ℕ → List ℕ → ℕ → List Line
 constant_lines doc name number =
-    at 0 (codes "/// " ∷ (doc ∷ []))
-    ∷ (at 0 (codes "pub const " ∷ (name ∷ (codes ": Type = Type(0x" ∷ (digits 16 false number ∷ (codes ");" ∷ [])))))
-    ∷ (empty_line ∷ []))
+    at 0 (codes "/// " ∷ doc ∷ [])
+    ∷ at 0 (codes "pub const " ∷ name ∷ codes ": Type = Type(0x" ∷ digits 16 false number ∷ codes ");" ∷ [])
+    ∷ empty_line ∷ []
 
 -- these lines as bytes
 unfoldable pub constant_text : List ℕ → List ℕ → ℕ → List ℕ
 constant_text doc name number = text_of (constant_lines doc name number)
 
 -- the constant of a type, by its name in capitals
-unfoldable pub type_text : TypeParts → List ℕ
-type_text t = constant_text (doc_of t) (map to_ascii_uppercase (name_of t)) (number_of t)
+unfoldable pub type_constant : TypeParts → List ℕ
+type_constant t = constant_text (doc_of t) (map to_ascii_uppercase (name_of t)) (number_of t)
 
 -- the text of what is made of a lane type and of how many of its lanes so many bits hold, where it is smaller
 abbrev pub sized_text : (TypeParts → ℕ → TypeParts) → ℕ → TypeParts → List ℕ
-sized_text made bits lane = if nat_lt lane.width bits then type_text (made lane (bits / lane.width)) else []
+sized_text made bits lane = if nat_lt lane.width bits then type_constant (made lane (bits / lane.width)) else []
 
 -- the sizes that have vectors, in bits
 abbrev pub vector_sizes : List ℕ
@@ -53,4 +53,4 @@ common_types = scalars ++ flat_map (λ bits. vectors_of bits ++ dynamic_vectors_
 
 -- the text of these types, one after the other
 unfoldable pub types_text : List ℕ
-types_text = flat_map type_text common_types
+types_text = flat_map type_constant common_types

@@ -1,10 +1,10 @@
-ghost use Rattle.std.specs.Prelude.{◌≡◌, ◌≤◌, OnOk, IsErrOf};
 ghost use Rattle.meta_builder_text.specs.BuilderText.{builder_text};
-ghost use Rattle.meta_text.specs.Outside.{Rose, with_more, TookPart};
+ghost use Rattle.meta_rust_text.specs.Written.{WritesMade};
 
+use super::written::write_made;
 use meta_builder_text::builder_text;
 use meta_declared::Built;
-use meta_text::{Sink, WriteError, write_whole};
+use meta_text::{Sink, WriteError};
 use std::alloc::Global;
 
 /// Writes the text of the builder of instructions to the sink (`gen_builder` of `gen_inst.rs`, as `builder_text` makes it).
@@ -16,14 +16,7 @@ pub fn write_builder<K: Sink>(
     built: &Built<'_>,
     sink: &mut K,
 ) -> Result<(), WriteError>
-    ensures ok { OnOk result (K.taken sink.new ≡ with_more (K.taken sink.old) (builder_text built.now)) }
-    ensures in_part { IsErrOf result WriteError.WriteFault → TookPart (builder_text built.now) (K.taken sink.old) (K.taken sink.new) }
-    ensures memory { IsErrOf result WriteError.OutOfMemory → sink.new ≡ sink.old }
-    ensures fault { IsErrOf result WriteError.WriteFault → Rose (K.faults sink.old) (K.faults sink.new) }
-    ensures counted { K.faults sink.old ≤ K.faults sink.new }
+    ensures { WritesMade K.taken K.faults (builder_text built.now) result sink.old sink.new }
 {
-    match builder_text(alloc, built) {
-        Ok(text) => write_whole(sink, text.as_bytes()),
-        Err(_) => Err(WriteError::OutOfMemory),
-    }
+    write_made(builder_text(alloc, built), sink)
 }

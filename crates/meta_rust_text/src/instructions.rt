@@ -1,11 +1,13 @@
-ghost use Rattle.std.specs.Prelude.{◌≡◌, ◌≤◌, ◌++◌, OnOk, IfOk, IsErrOf, string_bytes};
+ghost use Rattle.std.specs.Prelude.{◌≡◌, IfOk, string_bytes};
 ghost use Rattle.meta_rust_text.specs.InstructionsText.{instructions_text};
-ghost use Rattle.meta_text.specs.Outside.{Rose, with_more, TookPart};
+ghost use Rattle.meta_rust_text.specs.Written.{WritesMade};
 
-use meta_data_text::push_data_impl;
+use super::written::write_made;
 use meta_declared::Built;
-use meta_opcodes_text::{formats_in_use, push_data, push_formats, push_opcodes};
-use meta_text::{Sink, WriteError, write_whole};
+use meta_instructions_enums_text::{formats_in_use, push_data, push_formats, push_opcodes};
+use meta_instructions_methods_text::push_data_impl;
+use meta_rust_lines::push_gap;
+use meta_text::{Sink, WriteError};
 use std::alloc::{AllocError, Global};
 
 /// The text of instructions as Rust source (`gen_formats`, `gen_instruction_data`, `gen_instruction_data_impl` and `gen_opcodes`
@@ -22,7 +24,7 @@ pub fn instructions_text(alloc: Global, built: &Built<'_>) -> Result<String, All
     push_formats(alloc, &mut text, built)?;
     push_data(alloc, &mut text, built)?;
     push_data_impl(alloc, &mut text, formats.as_slice())?;
-    text.push_str("\n")?;
+    push_gap(&mut text)?;
     push_opcodes(&mut text, built)?;
     Ok(text)
 }
@@ -36,14 +38,7 @@ pub fn write_instructions<K: Sink>(
     built: &Built<'_>,
     sink: &mut K,
 ) -> Result<(), WriteError>
-    ensures ok { OnOk result (K.taken sink.new ≡ with_more (K.taken sink.old) (instructions_text built.now)) }
-    ensures in_part { IsErrOf result WriteError.WriteFault → TookPart (instructions_text built.now) (K.taken sink.old) (K.taken sink.new) }
-    ensures memory { IsErrOf result WriteError.OutOfMemory → sink.new ≡ sink.old }
-    ensures fault { IsErrOf result WriteError.WriteFault → Rose (K.faults sink.old) (K.faults sink.new) }
-    ensures counted { K.faults sink.old ≤ K.faults sink.new }
+    ensures { WritesMade K.taken K.faults (instructions_text built.now) result sink.old sink.new }
 {
-    match instructions_text(alloc, built) {
-        Ok(text) => write_whole(sink, text.as_bytes()),
-        Err(_) => Err(WriteError::OutOfMemory),
-    }
+    write_made(instructions_text(alloc, built), sink)
 }

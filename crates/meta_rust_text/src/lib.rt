@@ -9,6 +9,7 @@ mod builder;
 mod instructions;
 mod settings;
 mod types;
+mod written;
 
 pub use builder::write_builder;
 pub use instructions::{instructions_text, write_instructions};

@@ -1,13 +1,14 @@
-ghost use Rattle.std.specs.Prelude.{◌≡◌, ◌≤◌, ◌++◌, IfOk, OnOk, IsErrOf, Contains, string_bytes};
+ghost use Rattle.std.specs.Prelude.{◌≡◌, ◌++◌, IfOk, OnOk, Contains, string_bytes};
 ghost use Rattle.std.specs.List.{flat_map};
 ghost use Rattle.meta_types.specs.Lane.{lane_parts};
 ghost use Rattle.meta_types.specs.ValueTypes.{type_parts_of};
 ghost use Rattle.meta_types.specs.AllTypes.{scalars};
 ghost use Rattle.meta_types.specs.Vector.{lanes_of, least_lanes_of};
-ghost use Rattle.meta_text.specs.Outside.{Rose, with_more, TookPart};
-ghost use Rattle.meta_rust_text.specs.TypesText.{constant_text, type_text, sized_text, vector_sizes, vectors_of, dynamic_vectors_of, types_text};
+ghost use Rattle.meta_rust_text.specs.Written.{WritesMade};
+ghost use Rattle.meta_rust_text.specs.TypesText.{constant_text, type_constant, sized_text, vector_sizes, vectors_of, dynamic_vectors_of, types_text};
 
-use meta_text::{Sink, WriteError, write_whole};
+use super::written::write_made;
+use meta_text::{Sink, WriteError};
 use meta_types::{DynamicVectorType, LaneType, ValueType, VectorType};
 use std::alloc::{AllocError, Global};
 
@@ -29,9 +30,9 @@ pub const {name}: Type = Type(0x{number:x});
 }
 
 /// Adds the constant of a type.
-#[tactic(auto, unfolding(crate::specs::TypesText::type_text))]
+#[tactic(auto, unfolding(crate::specs::TypesText::type_constant))]
 fn push_type(alloc: Global, out: &mut String, ty: ValueType) -> Result<(), AllocError>
-    ensures { OnOk result (string_bytes out.new ≡ string_bytes out.old ++ type_text (type_parts_of ty)) }
+    ensures { OnOk result (string_bytes out.new ≡ string_bytes out.old ++ type_constant (type_parts_of ty)) }
 {
     let name = ty.to_string(alloc)?;
     let capitals = name.to_ascii_uppercase(alloc)?;
@@ -42,7 +43,7 @@ fn push_type(alloc: Global, out: &mut String, ty: ValueType) -> Result<(), Alloc
 
 /// Adds the lane types.
 fn push_lanes(alloc: Global, out: &mut String) -> Result<(), AllocError>
-    ensures { OnOk result (string_bytes out.new ≡ string_bytes out.old ++ flat_map type_text scalars) }
+    ensures { OnOk result (string_bytes out.new ≡ string_bytes out.old ++ flat_map type_constant scalars) }
 {
     for lane in ValueType::all_lane_types() {
         push_type(alloc, out, ValueType::Lane(lane))?;
@@ -86,7 +87,7 @@ fn push_dynamic_vector(
 /// Adds the fixed vectors of so many bits.
 fn push_vectors(alloc: Global, out: &mut String, bits: u64) -> Result<(), AllocError>
     requires { Contains vector_sizes bits }
-    ensures { OnOk result (string_bytes out.new ≡ string_bytes out.old ++ flat_map type_text (vectors_of bits)) }
+    ensures { OnOk result (string_bytes out.new ≡ string_bytes out.old ++ flat_map type_constant (vectors_of bits)) }
 {
     for lane in ValueType::all_lane_types() {
         push_vector(alloc, out, lane, bits)?;
@@ -97,7 +98,7 @@ fn push_vectors(alloc: Global, out: &mut String, bits: u64) -> Result<(), AllocE
 /// Adds the dynamic vectors of so many bits.
 fn push_dynamic_vectors(alloc: Global, out: &mut String, bits: u64) -> Result<(), AllocError>
     requires { Contains vector_sizes bits }
-    ensures { OnOk result (string_bytes out.new ≡ string_bytes out.old ++ flat_map type_text (dynamic_vectors_of bits)) }
+    ensures { OnOk result (string_bytes out.new ≡ string_bytes out.old ++ flat_map type_constant (dynamic_vectors_of bits)) }
 {
     for lane in ValueType::all_lane_types() {
         push_dynamic_vector(alloc, out, lane, bits)?;
@@ -107,7 +108,9 @@ fn push_dynamic_vectors(alloc: Global, out: &mut String, bits: u64) -> Result<()
 
 /// Adds the vectors of each size.
 fn push_sizes(alloc: Global, out: &mut String) -> Result<(), AllocError>
-    ensures { OnOk result (string_bytes out.new ≡ string_bytes out.old ++ flat_map (λ bits. flat_map type_text (vectors_of bits) ++ flat_map type_text (dynamic_vectors_of bits)) vector_sizes) }
+    ensures { OnOk result (string_bytes out.new ≡ string_bytes out.old
+        ++ flat_map (λ bits. flat_map type_constant (vectors_of bits) ++ flat_map type_constant (dynamic_vectors_of bits))
+        vector_sizes) }
 {
     for &bits in VECTOR_SIZES.iter() {
         push_vectors(alloc, out, bits)?;
@@ -133,14 +136,7 @@ pub fn types_text(alloc: Global) -> Result<String, AllocError>
 /// `WriteFault` comes only where a write failed, and the sink then took a front of the text. Where
 /// no memory is found nothing is written.
 pub fn write_types<K: Sink>(alloc: Global, sink: &mut K) -> Result<(), WriteError>
-    ensures ok { OnOk result (K.taken sink.new ≡ with_more (K.taken sink.old) types_text) }
-    ensures in_part { IsErrOf result WriteError.WriteFault → TookPart types_text (K.taken sink.old) (K.taken sink.new) }
-    ensures memory { IsErrOf result WriteError.OutOfMemory → sink.new ≡ sink.old }
-    ensures fault { IsErrOf result WriteError.WriteFault → Rose (K.faults sink.old) (K.faults sink.new) }
-    ensures counted { K.faults sink.old ≤ K.faults sink.new }
+    ensures { WritesMade K.taken K.faults types_text result sink.old sink.new }
 {
-    match types_text(alloc) {
-        Ok(text) => write_whole(sink, text.as_bytes()),
-        Err(_) => Err(WriteError::OutOfMemory),
-    }
+    write_made(types_text(alloc), sink)
 }

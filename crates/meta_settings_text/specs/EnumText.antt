@@ -6,6 +6,7 @@ use Rattle.std.specs.Prelude.{ℕ, List, [], ◌∷◌, ◌++◌, codes}
 use Rattle.std.specs.List.{flat_map}
 use Rattle.meta_types.specs.CamelCase.{camel_case_of}
 use Rattle.meta_text.specs.Lines.{at, text_of}
+use Rattle.meta_rust_lines.specs.Ends.{item_end}
 use Rattle.meta_settings.specs.declared.setting.SpecificSetting.{SpecificSetting}
 use Rattle.meta_settings.specs.declared.setting.SpecificSetting.TheVariants.{Bool, Enum, Num}
 use Rattle.meta_settings.specs.Layout.{PlacedSetting, Layout}
@@ -16,48 +17,44 @@ use Rattle.meta_settings_text.specs.ValueText.{variant_text, member_text, shown_
 -- the head of the enum of the setting `group.name`
 unfoldable pub enum_head : List ℕ → List ℕ → List ℕ → List ℕ
 enum_head group name ty = text_of (
-    at 0 (codes "/// Values for `" ∷ (group ∷ (codes "." ∷ (name ∷ (codes "`." ∷ [])))))
-    ∷ (at 0 (codes "#[derive(Debug, Copy, Clone, PartialEq, Eq, Hash)]" ∷ [])
-    ∷ (at 0 (codes "pub enum " ∷ (ty ∷ (codes " {" ∷ []))) ∷ [])))
+    at 0 (codes "/// Values for `" ∷ group ∷ codes "." ∷ name ∷ codes "`." ∷ [])
+    ∷ at 0 (codes "#[derive(Debug, Copy, Clone, PartialEq, Eq, Hash)]" ∷ [])
+    ∷ at 0 (codes "pub enum " ∷ ty ∷ codes " {" ∷ []) ∷ [])
 
 -- the head of the block of its own functions
 unfoldable pub impl_head : List ℕ → List ℕ
-impl_head ty = text_of (at 0 (codes "impl " ∷ (ty ∷ (codes " {" ∷ []))) ∷ [])
-
--- the end of a block
-unfoldable pub block_end : List ℕ
-block_end = text_of (at 0 (codes "}" ∷ []) ∷ [])
+impl_head ty = text_of (at 0 (codes "impl " ∷ ty ∷ codes " {" ∷ []) ∷ [])
 
 -- around the list of all values
 unfoldable pub all_head : List ℕ → List ℕ
 all_head ty = text_of (
-    at 1 (codes "/// Returns a slice with all possible [" ∷ (ty ∷ (codes "] values." ∷ [])))
-    ∷ (at 1 (codes "pub fn all() -> &'static [" ∷ (ty ∷ (codes "] {" ∷ [])))
-    ∷ (at 2 (codes "&[" ∷ []) ∷ [])))
+    at 1 (codes "/// Returns a slice with all possible [" ∷ ty ∷ codes "] values." ∷ [])
+    ∷ at 1 (codes "pub fn all() -> &'static [" ∷ ty ∷ codes "] {" ∷ [])
+    ∷ at 2 (codes "&[" ∷ []) ∷ [])
 
 unfoldable pub all_end : List ℕ
-all_end = text_of (at 2 (codes "]" ∷ []) ∷ (at 1 (codes "}" ∷ []) ∷ []))
+all_end = text_of (at 2 (codes "]" ∷ []) ∷ at 1 (codes "}" ∷ []) ∷ [])
 
 -- around the arms by which values are shown
 unfoldable pub shown_head : List ℕ → List ℕ
 shown_head ty = text_of (
-    at 0 (codes "impl fmt::Display for " ∷ (ty ∷ (codes " {" ∷ [])))
-    ∷ (at 1 (codes "fn fmt(&self, f: &mut fmt::Formatter) -> fmt::Result {" ∷ [])
-    ∷ (at 2 (codes "f.write_str(match *self {" ∷ []) ∷ [])))
+    at 0 (codes "impl fmt::Display for " ∷ ty ∷ codes " {" ∷ [])
+    ∷ at 1 (codes "fn fmt(&self, f: &mut fmt::Formatter) -> fmt::Result {" ∷ [])
+    ∷ at 2 (codes "f.write_str(match *self {" ∷ []) ∷ [])
 
 unfoldable pub shown_end : List ℕ
-shown_end = text_of (at 2 (codes "}" ∷ []) ∷ (at 2 (codes ")" ∷ []) ∷ (at 1 (codes "}" ∷ []) ∷ (at 0 (codes "}" ∷ []) ∷ []))))
+shown_end = text_of (at 2 (codes "}" ∷ []) ∷ at 2 (codes ")" ∷ []) ∷ at 1 (codes "}" ∷ []) ∷ at 0 (codes "}" ∷ []) ∷ [])
 
 -- around the arms by which values are read; no other text gives a value
 unfoldable pub read_head : List ℕ → List ℕ
 read_head ty = text_of (
-    at 0 (codes "impl core::str::FromStr for " ∷ (ty ∷ (codes " {" ∷ [])))
-    ∷ (at 1 (codes "type Err = ();" ∷ [])
-    ∷ (at 1 (codes "fn from_str(s: &str) -> Result<Self, Self::Err> {" ∷ [])
-    ∷ (at 2 (codes "match s {" ∷ []) ∷ []))))
+    at 0 (codes "impl core::str::FromStr for " ∷ ty ∷ codes " {" ∷ [])
+    ∷ at 1 (codes "type Err = ();" ∷ [])
+    ∷ at 1 (codes "fn from_str(s: &str) -> Result<Self, Self::Err> {" ∷ [])
+    ∷ at 2 (codes "match s {" ∷ []) ∷ [])
 
 unfoldable pub read_end : List ℕ
-read_end = text_of (at 3 (codes "_ => Err(())," ∷ []) ∷ (at 2 (codes "}" ∷ []) ∷ (at 1 (codes "}" ∷ []) ∷ (at 0 (codes "}" ∷ []) ∷ []))))
+read_end = text_of (at 3 (codes "_ => Err(())," ∷ []) ∷ at 2 (codes "}" ∷ []) ∷ at 1 (codes "}" ∷ []) ∷ at 0 (codes "}" ∷ []) ∷ [])
 
 -- ---- an enum
 
@@ -80,10 +77,10 @@ unfoldable pub enum_parts : List ℕ → List ℕ → List ℕ → List (List �
 enum_parts group name ty values =
     enum_head group name ty
     ++ (flat_map variant_text values
-    ++ (block_end
+    ++ (item_end
     ++ (impl_head ty
     ++ (enum_all_text ty values
-    ++ (block_end
+    ++ (item_end
     ++ to_and_from_str_text ty values)))))
 
 abbrev pub enum_text : List ℕ → List ℕ → List (List ℕ) → List ℕ

@@ -7,6 +7,7 @@ use Rattle.std.specs.Fmt.{decimal}
 use Rattle.std.specs.Str.{trim}
 use Rattle.meta_types.specs.CamelCase.{camel_case_of}
 use Rattle.meta_text.specs.Lines.{at, text_of}
+use Rattle.meta_rust_lines.specs.Ends.{item_end}
 use Rattle.meta_settings.specs.declared.setting.SpecificSetting.{SpecificSetting}
 use Rattle.meta_settings.specs.declared.setting.SpecificSetting.TheVariants.{Bool, Enum, Num}
 use Rattle.meta_settings.specs.Layout.{PlacedSetting, Layout}
@@ -17,28 +18,28 @@ use Rattle.meta_settings_text.specs.ValueText.{arms_text}
 -- that of the boolean of this number: it asks for the boolean by its number
 unfoldable pub bool_getter : List ℕ → List ℕ → ℕ → List ℕ
 bool_getter doc name number = text_of (
-    at 1 (codes "/// " ∷ (doc ∷ []))
-    ∷ (at 1 (codes "pub fn " ∷ (name ∷ (codes "(&self) -> bool {" ∷ [])))
-    ∷ (at 2 (codes "self.numbered_predicate(" ∷ (decimal number ∷ (codes ")" ∷ [])))
-    ∷ (at 1 (codes "}" ∷ []) ∷ []))))
+    at 1 (codes "/// " ∷ doc ∷ [])
+    ∷ at 1 (codes "pub fn " ∷ name ∷ codes "(&self) -> bool {" ∷ [])
+    ∷ at 2 (codes "self.numbered_predicate(" ∷ decimal number ∷ codes ")" ∷ [])
+    ∷ at 1 (codes "}" ∷ []) ∷ [])
 
 -- that of the number in this byte
 unfoldable pub number_getter : List ℕ → List ℕ → ℕ → List ℕ
 number_getter doc name byte = text_of (
-    at 1 (codes "/// " ∷ (doc ∷ []))
-    ∷ (at 1 (codes "pub fn " ∷ (name ∷ (codes "(&self) -> u8 {" ∷ [])))
-    ∷ (at 2 (codes "self.bytes[" ∷ (decimal byte ∷ (codes "]" ∷ [])))
-    ∷ (at 1 (codes "}" ∷ []) ∷ []))))
+    at 1 (codes "/// " ∷ doc ∷ [])
+    ∷ at 1 (codes "pub fn " ∷ name ∷ codes "(&self) -> u8 {" ∷ [])
+    ∷ at 2 (codes "self.bytes[" ∷ decimal byte ∷ codes "]" ∷ [])
+    ∷ at 1 (codes "}" ∷ []) ∷ [])
 
 -- the lines around the arms of that of the enum `ty` in this byte: a byte that gives no value is told by a panic
 unfoldable pub enum_getter_head : List ℕ → List ℕ → List ℕ → ℕ → List ℕ
 enum_getter_head doc name ty byte = text_of (
-    at 1 (codes "/// " ∷ (doc ∷ []))
-    ∷ (at 1 (codes "pub fn " ∷ (name ∷ (codes "(&self) -> " ∷ (ty ∷ (codes " {" ∷ [])))))
-    ∷ (at 2 (codes "match self.bytes[" ∷ (decimal byte ∷ (codes "] {" ∷ []))) ∷ [])))
+    at 1 (codes "/// " ∷ doc ∷ [])
+    ∷ at 1 (codes "pub fn " ∷ name ∷ codes "(&self) -> " ∷ ty ∷ codes " {" ∷ [])
+    ∷ at 2 (codes "match self.bytes[" ∷ decimal byte ∷ codes "] {" ∷ []) ∷ [])
 
 unfoldable pub enum_getter_end : List ℕ
-enum_getter_end = text_of (at 3 (codes "_ => panic!(\"Invalid enum value\")," ∷ []) ∷ (at 2 (codes "}" ∷ []) ∷ (at 1 (codes "}" ∷ []) ∷ [])))
+enum_getter_end = text_of (at 3 (codes "_ => panic!(\"Invalid enum value\")," ∷ []) ∷ at 2 (codes "}" ∷ []) ∷ at 1 (codes "}" ∷ []) ∷ [])
 
 -- that of the enum: the bytes from 0 on give its values, in order
 unfoldable pub enum_getter_parts : List ℕ → List ℕ → List ℕ → ℕ → List (List ℕ) → List ℕ
@@ -62,19 +63,16 @@ getter_text s = getter_of (trim s.description) s.name s.byte_offset s.specific
 unfoldable pub getters_head : List ℕ
 getters_head = text_of (
     at 0 (codes "/// User-defined settings." ∷ [])
-    ∷ (at 0 (codes "#[allow(dead_code, reason = \"generated code\")]" ∷ [])
-    ∷ (at 0 (codes "impl Flags {" ∷ []) ∷ [])))
-
-unfoldable pub getters_end : List ℕ
-getters_end = text_of (at 0 (codes "}" ∷ []) ∷ [])
+    ∷ at 0 (codes "#[allow(dead_code, reason = \"generated code\")]" ∷ [])
+    ∷ at 0 (codes "impl Flags {" ∷ []) ∷ [])
 
 -- the getter of booleans by their numbers, eight to a byte from this byte on
 unfoldable pub predicate_lines : ℕ → List ℕ
 predicate_lines start = text_of (
     at 1 (codes "/// Dynamic numbered predicate getter." ∷ [])
-    ∷ (at 1 (codes "fn numbered_predicate(&self, p: usize) -> bool {" ∷ [])
-    ∷ (at 2 (codes "self.bytes[" ∷ (decimal start ∷ (codes " + p / 8] & (1 << (p % 8)) != 0" ∷ [])))
-    ∷ (at 1 (codes "}" ∷ []) ∷ []))))
+    ∷ at 1 (codes "fn numbered_predicate(&self, p: usize) -> bool {" ∷ [])
+    ∷ at 2 (codes "self.bytes[" ∷ decimal start ∷ codes " + p / 8] & (1 << (p % 8)) != 0" ∷ [])
+    ∷ at 1 (codes "}" ∷ []) ∷ [])
 
 -- the same where there are settings, and nothing where there are none
 abbrev pub predicate_of : ℕ → List PlacedSetting → List ℕ
@@ -86,4 +84,4 @@ predicate_text g = predicate_of g.bool_start_byte_offset g.settings
 
 -- the getter by numbers, and those of the settings, in order
 unfoldable pub getters_text : Layout → List ℕ
-getters_text g = getters_head ++ (predicate_text g ++ (flat_map getter_text g.settings ++ getters_end))
+getters_text g = getters_head ++ (predicate_text g ++ (flat_map getter_text g.settings ++ item_end))

@@ -1,5 +1,5 @@
 -- The text of groups of settings, as they are built.
---     group_text parent g     that of a group with this parent
+--     group_flags_text parent g     that of a group with this parent
 --     settings_text groups    that of groups, of which the first has no parent
 use Rattle.std.specs.Prelude.{ℕ, List, [], ◌∷◌, ◌++◌}
 use Rattle.std.specs.List.{flat_map}
@@ -12,10 +12,10 @@ use Rattle.meta_settings_text.specs.GetterText.{getters_text}
 
 -- the text of a group: the flags with their constructor and iterator; the enums; the getters; and how flags are built, shown and
 -- hashed
-unfoldable pub group_text : ParentGroup → Layout → List ℕ
-group_text parent g = flags_text parent g ++ (enum_types_text g ++ (getters_text g ++ flags_used_text g.name))
+unfoldable pub group_flags_text : ParentGroup → Layout → List ℕ
+group_flags_text parent g = flags_text parent g ++ (enum_types_text g ++ (getters_text g ++ flags_used_text g.name))
 
 -- the texts of the groups, in order: the first has no parent, and the others have the one that all targets share
 abbrev pub settings_text : List Layout → List ℕ
 settings_text [] = []
-settings_text (g ∷ gs) = group_text None g ++ flat_map (group_text Shared) gs
+settings_text (g ∷ gs) = group_flags_text None g ++ flat_map (group_flags_text Shared) gs

@@ -10,35 +10,35 @@ use Rattle.meta_text.specs.Lines.{at, text_of}
 
 -- the variant: its documentation names the value
 unfoldable pub variant_lines : List ℕ → List ℕ → List ℕ
-variant_lines name camel = text_of (at 1 (codes "/// `" ∷ (name ∷ (codes "`." ∷ []))) ∷ (at 1 (camel ∷ (codes "," ∷ [])) ∷ []))
+variant_lines name camel = text_of (at 1 (codes "/// `" ∷ name ∷ codes "`." ∷ []) ∷ at 1 (camel ∷ codes "," ∷ []) ∷ [])
 
 abbrev pub variant_text : List ℕ → List ℕ
 variant_text value = variant_lines value (camel_case_of value)
 
 -- the member of the list of all values: `Self::SpeedAndSize,`
 unfoldable pub member_line : List ℕ → List ℕ
-member_line camel = text_of (at 3 (codes "Self::" ∷ (camel ∷ (codes "," ∷ []))) ∷ [])
+member_line camel = text_of (at 3 (codes "Self::" ∷ camel ∷ codes "," ∷ []) ∷ [])
 
 abbrev pub member_text : List ℕ → List ℕ
 member_text value = member_line (camel_case_of value)
 
 -- the arm by which the value is shown: `Self::SpeedAndSize => "speed_and_size",`
 unfoldable pub shown_line : List ℕ → List ℕ → List ℕ
-shown_line name camel = text_of (at 3 (codes "Self::" ∷ (camel ∷ (codes " => \"" ∷ (name ∷ (codes "\"," ∷ []))))) ∷ [])
+shown_line name camel = text_of (at 3 (codes "Self::" ∷ camel ∷ codes " => \"" ∷ name ∷ codes "\"," ∷ []) ∷ [])
 
 abbrev pub shown_text : List ℕ → List ℕ
 shown_text value = shown_line value (camel_case_of value)
 
 -- the arm by which the value is read: `"speed_and_size" => Ok(Self::SpeedAndSize),`
 unfoldable pub read_line : List ℕ → List ℕ → List ℕ
-read_line name camel = text_of (at 3 (codes "\"" ∷ (name ∷ (codes "\" => Ok(Self::" ∷ (camel ∷ (codes ")," ∷ []))))) ∷ [])
+read_line name camel = text_of (at 3 (codes "\"" ∷ name ∷ codes "\" => Ok(Self::" ∷ camel ∷ codes ")," ∷ []) ∷ [])
 
 abbrev pub read_text : List ℕ → List ℕ
 read_text value = read_line value (camel_case_of value)
 
 -- the arm by which a byte gives a value of an enum: `2 => OptLevel::SpeedAndSize,`
 unfoldable pub arm_line : List ℕ → ℕ → List ℕ → List ℕ
-arm_line ty byte camel = text_of (at 3 (decimal byte ∷ (codes " => " ∷ (ty ∷ (codes "::" ∷ (camel ∷ (codes "," ∷ [])))))) ∷ [])
+arm_line ty byte camel = text_of (at 3 (decimal byte ∷ codes " => " ∷ ty ∷ codes "::" ∷ camel ∷ codes "," ∷ []) ∷ [])
 
 -- the arms by which the bytes from this one on give these values, in order
 abbrev pub arms_text : List ℕ → ℕ → List (List ℕ) → List ℕ

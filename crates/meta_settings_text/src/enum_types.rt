@@ -1,10 +1,12 @@
 ghost use Rattle.std.specs.Prelude.{◌≡◌, ◌++◌, OnOk, string_bytes};
 ghost use Rattle.std.specs.List.{flat_map};
-ghost use Rattle.meta_settings_text.specs.EnumText.{enum_head, impl_head, block_end, all_head, all_end, shown_head, shown_end, read_head, read_end, enum_all_text, to_and_from_str_text, enum_parts, enum_text, enum_type_text};
+ghost use Rattle.meta_rust_lines.specs.Ends.{item_end};
+ghost use Rattle.meta_settings_text.specs.EnumText.{enum_head, impl_head, all_head, all_end, shown_head, shown_end, read_head, read_end, enum_all_text, to_and_from_str_text, enum_parts, enum_text, enum_type_text};
 
 use super::enum_values::{
     EnumValue, push_each_read, push_each_shown, push_members, push_variants, values_of,
 };
+use meta_rust_lines::{push_item_end, push_text};
 use meta_settings::{Setting, SpecificSetting};
 use meta_types::{Text, camel_case};
 use std::alloc::{AllocError, Global};
@@ -31,14 +33,6 @@ fn push_impl_head(out: &mut String, ty: &str) -> Result<(), AllocError>
     write!(out, "impl {ty} {{\n")
 }
 
-/// Adds the end of a block.
-#[tactic(auto, unfolding(crate::specs::EnumText::block_end))]
-fn push_block_end(out: &mut String) -> Result<(), AllocError>
-    ensures { OnOk result (string_bytes out.new ≡ string_bytes out.old ++ block_end) }
-{
-    out.push_str("}\n")
-}
-
 /// Adds the lines of the function `all` before its values.
 #[tactic(auto, unfolding(crate::specs::EnumText::all_head))]
 fn push_all_head(out: &mut String, ty: &str) -> Result<(), AllocError>
@@ -58,7 +52,7 @@ fn push_all_head(out: &mut String, ty: &str) -> Result<(), AllocError>
 fn push_all_end(out: &mut String) -> Result<(), AllocError>
     ensures { OnOk result (string_bytes out.new ≡ string_bytes out.old ++ all_end) }
 {
-    out.push_str("        ]\n    }\n")
+    push_text(out, "        ]\n    }\n")
 }
 
 /// Adds the function `all` of an enum (`gen_enum_all`).
@@ -90,7 +84,8 @@ fn push_shown_head(out: &mut String, ty: &str) -> Result<(), AllocError>
 fn push_shown_end(out: &mut String) -> Result<(), AllocError>
     ensures { OnOk result (string_bytes out.new ≡ string_bytes out.old ++ shown_end) }
 {
-    out.push_str(
+    push_text(
+        out,
         "        }
         )
     }
@@ -119,7 +114,8 @@ fn push_read_head(out: &mut String, ty: &str) -> Result<(), AllocError>
 fn push_read_end(out: &mut String) -> Result<(), AllocError>
     ensures { OnOk result (string_bytes out.new ≡ string_bytes out.old ++ read_end) }
 {
-    out.push_str(
+    push_text(
+        out,
         "            _ => Err(()),
         }
     }
@@ -154,10 +150,10 @@ fn push_enum_parts(
 {
     push_enum_head(out, group, name, ty)?;
     push_variants(out, values)?;
-    push_block_end(out)?;
+    push_item_end(out)?;
     push_impl_head(out, ty)?;
     push_enum_all(out, ty, values)?;
-    push_block_end(out)?;
+    push_item_end(out)?;
     push_to_and_from_str(out, ty, values)
 }
 

@@ -1,7 +1,8 @@
 ghost use Rattle.std.specs.Prelude.{◌≡◌, ◌++◌, OnOk, string_bytes};
-ghost use Rattle.meta_settings_text.specs.FlagsText.{struct_text, constructor_head, constructor_copy, constructor_text, iterator_text, flags_text, builder_text, display_text, hash_key_text, flags_used_text};
+ghost use Rattle.meta_settings_text.specs.FlagsText.{struct_text, constructor_head, constructor_copy, constructor_text, iterator_text, flags_text, builder_function_text, display_text, hash_key_text, flags_used_text};
 
 use super::parent_group::ParentGroup;
+use meta_rust_lines::push_text;
 use meta_settings::SettingGroup;
 use std::alloc::AllocError;
 
@@ -116,9 +117,9 @@ pub(crate) fn push_flags(
 }
 
 /// Adds the function `builder` of the group of this name (`gen_template`).
-#[tactic(auto, unfolding(crate::specs::FlagsText::builder_text))]
+#[tactic(auto, unfolding(crate::specs::FlagsText::builder_function_text))]
 fn push_builder(out: &mut String, group: &str) -> Result<(), AllocError>
-    ensures { OnOk result (string_bytes out.new ≡ string_bytes out.old ++ builder_text group.now) }
+    ensures { OnOk result (string_bytes out.new ≡ string_bytes out.old ++ builder_function_text group.now) }
 {
     write!(
         out,
@@ -159,7 +160,8 @@ fn push_display(out: &mut String, group: &str) -> Result<(), AllocError>
 fn push_hash_key(out: &mut String) -> Result<(), AllocError>
     ensures { OnOk result (string_bytes out.new ≡ string_bytes out.old ++ hash_key_text) }
 {
-    out.push_str(
+    push_text(
+        out,
         "impl Flags {
     /// Get the flag values as raw bytes for hashing.
     pub fn hash_key(&self) -> &[u8] {

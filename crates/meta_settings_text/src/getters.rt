@@ -1,8 +1,10 @@
 ghost use Rattle.std.specs.Prelude.{◌≡◌, ◌++◌, OnOk, string_bytes};
 ghost use Rattle.std.specs.List.{flat_map};
-ghost use Rattle.meta_settings_text.specs.GetterText.{getters_head, predicate_lines, predicate_text, getters_end, bool_getter, number_getter, enum_getter_head, enum_getter_end, enum_getter_parts, enum_getter, getter_text, getters_text};
+ghost use Rattle.meta_rust_lines.specs.Ends.{item_end};
+ghost use Rattle.meta_settings_text.specs.GetterText.{getters_head, predicate_lines, predicate_text, bool_getter, number_getter, enum_getter_head, enum_getter_end, enum_getter_parts, enum_getter, getter_text, getters_text};
 
 use super::enum_values::{EnumValue, push_arms, values_of};
+use meta_rust_lines::{push_item_end, push_text};
 use meta_settings::{Setting, SettingGroup, SpecificSetting};
 use meta_types::{Text, camel_case};
 use std::alloc::{AllocError, Global};
@@ -62,7 +64,8 @@ fn push_enum_getter_head(
 fn push_enum_getter_end(out: &mut String) -> Result<(), AllocError>
     ensures { OnOk result (string_bytes out.new ≡ string_bytes out.old ++ enum_getter_end) }
 {
-    out.push_str(
+    push_text(
+        out,
         "            _ => panic!(\"Invalid enum value\"),
         }
     }
@@ -143,20 +146,13 @@ fn push_each_getter(alloc: Global, out: &mut String, settings: &[Setting]) -> Re
 fn push_getters_head(out: &mut String) -> Result<(), AllocError>
     ensures { OnOk result (string_bytes out.new ≡ string_bytes out.old ++ getters_head) }
 {
-    out.push_str(
+    push_text(
+        out,
         "/// User-defined settings.
 #[allow(dead_code, reason = \"generated code\")]
 impl Flags {
 ",
     )
-}
-
-/// Adds the end of the block of getters.
-#[tactic(auto, unfolding(crate::specs::GetterText::getters_end))]
-fn push_getters_end(out: &mut String) -> Result<(), AllocError>
-    ensures { OnOk result (string_bytes out.new ≡ string_bytes out.old ++ getters_end) }
-{
-    out.push_str("}\n")
 }
 
 /// Adds the getter of booleans by their numbers, where this is the byte of the first.
@@ -197,5 +193,5 @@ pub(crate) fn push_getters(
     push_getters_head(out)?;
     push_predicate(out, group)?;
     push_each_getter(alloc, out, group.settings())?;
-    push_getters_end(out)
+    push_item_end(out)
 }

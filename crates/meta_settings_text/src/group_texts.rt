@@ -1,5 +1,5 @@
 ghost use Rattle.std.specs.Prelude.{◌≡◌, ◌++◌, OnOk, IfOk, string_bytes};
-ghost use Rattle.meta_settings_text.specs.SettingsText.{group_text, settings_text};
+ghost use Rattle.meta_settings_text.specs.SettingsText.{group_flags_text, settings_text};
 
 use super::enum_types::push_enum_types;
 use super::flags::{push_flags, push_flags_used};
@@ -9,14 +9,14 @@ use meta_settings::SettingGroup;
 use std::alloc::{AllocError, Global};
 
 /// Adds the text of a group with this parent (`gen_group`).
-#[tactic(auto, unfolding(crate::specs::SettingsText::group_text))]
+#[tactic(auto, unfolding(crate::specs::SettingsText::group_flags_text))]
 fn push_group(
     alloc: Global,
     out: &mut String,
     parent: ParentGroup,
     group: &SettingGroup,
 ) -> Result<(), AllocError>
-    ensures { OnOk result (string_bytes out.new ≡ string_bytes out.old ++ group_text parent group.now) }
+    ensures { OnOk result (string_bytes out.new ≡ string_bytes out.old ++ group_flags_text parent group.now) }
 {
     let name = group.name().as_str();
     push_flags(out, parent, group)?;

@@ -5,4 +5,6 @@ use Rattle.meta_builder_text.proofs.body.push_conversions.Given as goal
 
 -- what is written, and then what is left to write
 abbrev pub invariant-loop-operand : goal.invariant-loop-operand
-invariant-loop-operand l = string_bytes l.out ++ flat_map conversion_of (drop l.operand-index l.operands) ≡ string_bytes l.initial.out ++ flat_map conversion_of l.operands
+invariant-loop-operand l =
+    string_bytes l.out ++ flat_map conversion_of (drop l.operand-index l.operands)
+    ≡ string_bytes l.initial.out ++ flat_map conversion_of l.operands

@@ -5,4 +5,6 @@ use Rattle.meta_builder_text.proofs.builder.push_each_instruction.Given as goal
 
 -- what is written, and then what is left to write
 abbrev pub invariant-loop-instruction : goal.invariant-loop-instruction
-invariant-loop-instruction l = string_bytes l.out ++ flat_map (methods_text l.vars l.formats) (drop l.instruction-index l.instructions) ≡ string_bytes l.initial.out ++ flat_map (methods_text l.vars l.formats) l.instructions
+invariant-loop-instruction l =
+    string_bytes l.out ++ flat_map (methods_text l.vars l.formats) (drop l.instruction-index l.instructions)
+    ≡ string_bytes l.initial.out ++ flat_map (methods_text l.vars l.formats) l.instructions

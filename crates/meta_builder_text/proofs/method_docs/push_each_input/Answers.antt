@@ -1,4 +1,4 @@
-use Rattle.meta_builder_text.proofs.OperandVariables.{of_registry}
+use Rattle.meta_builder_constructors_text.proofs.OperandVariables.{of_registry}
 use Rattle.meta_builder_text.proofs.method_docs.push_each_input.Goals as goal
 
 pub push_input_docs-requires : goal.push_input_docs-requires

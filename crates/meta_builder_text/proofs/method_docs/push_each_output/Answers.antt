@@ -1,4 +1,4 @@
-use Rattle.meta_builder_text.proofs.OperandVariables.{of_registry}
+use Rattle.meta_builder_constructors_text.proofs.OperandVariables.{of_registry}
 use Rattle.meta_builder_text.proofs.method_docs.push_each_output.Goals as goal
 
 pub push_operand_line-requires : goal.push_operand_line-requires

@@ -3,7 +3,7 @@ use Rattle.meta_types.specs.AllTypes.{scalars}
 use Rattle.meta_types.specs.LaneTypes.{lane_types_left}
 use Rattle.meta_types.specs.Vector.{least_lanes_of}
 use Rattle.meta_rust_text.specs.TypesText.{sized_text}
-use Rattle.meta_rust_text.proofs.Pushed.{at_first, one_more, at_last, sized}
+use Rattle.meta_rust_text.proofs.TypeTexts.{at_first, one_more, at_last, sized}
 use Rattle.meta_rust_text.proofs.types.push_dynamic_vectors.Goals as goal
 
 pub loop-lane-init : goal.loop-lane-init

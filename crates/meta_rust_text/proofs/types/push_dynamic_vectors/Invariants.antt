@@ -9,4 +9,6 @@ use Rattle.meta_rust_text.proofs.types.push_dynamic_vectors.Given as goal
 
 -- the texts of the lane types that are left are still to be added
 abbrev pub invariant-loop-lane : goal.invariant-loop-lane
-invariant-loop-lane l = string_bytes l.out ++ flat_map (sized_text least_lanes_of l.bits) (map lane_parts (lane_types_left l.lane-iterator)) ≡ string_bytes l.initial.out ++ flat_map (sized_text least_lanes_of l.bits) scalars
+invariant-loop-lane l =
+    string_bytes l.out ++ flat_map (sized_text least_lanes_of l.bits) (map lane_parts (lane_types_left l.lane-iterator))
+    ≡ string_bytes l.initial.out ++ flat_map (sized_text least_lanes_of l.bits) scalars

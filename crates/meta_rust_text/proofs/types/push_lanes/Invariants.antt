@@ -3,9 +3,11 @@ use Rattle.std.specs.List.{flat_map}
 use Rattle.meta_types.specs.Lane.{lane_parts}
 use Rattle.meta_types.specs.LaneTypes.{lane_types_left}
 use Rattle.meta_types.specs.AllTypes.{scalars}
-use Rattle.meta_rust_text.specs.TypesText.{type_text}
+use Rattle.meta_rust_text.specs.TypesText.{type_constant}
 use Rattle.meta_rust_text.proofs.types.push_lanes.Given as goal
 
 -- the texts of the lane types that are left are still to be added
 abbrev pub invariant-loop-lane : goal.invariant-loop-lane
-invariant-loop-lane l = string_bytes l.out ++ flat_map type_text (map lane_parts (lane_types_left l.lane-iterator)) ≡ string_bytes l.initial.out ++ flat_map type_text scalars
+invariant-loop-lane l =
+    string_bytes l.out ++ flat_map type_constant (map lane_parts (lane_types_left l.lane-iterator))
+    ≡ string_bytes l.initial.out ++ flat_map type_constant scalars

@@ -1,4 +1,4 @@
-use Rattle.meta_rust_text.proofs.Pushed.{one_size, no_size}
+use Rattle.meta_rust_text.proofs.TypeTexts.{one_size, no_size}
 use Rattle.meta_rust_text.proofs.Sizes.{each_size}
 use Rattle.meta_rust_text.proofs.types.push_sizes.Goals as goal
 

@@ -1,4 +1,4 @@
-use Rattle.meta_rust_text.proofs.Pushed.{whole_text}
+use Rattle.meta_rust_text.proofs.TypeTexts.{whole_text}
 use Rattle.meta_rust_text.proofs.types.types_text.Goals as goal
 
 pub returns : goal.returns

@@ -5,4 +5,6 @@ use Rattle.meta_settings_text.proofs.enum_values.push_each_shown.Given as goal
 
 -- what is written, and then what is left to write
 abbrev pub invariant-loop-value : goal.invariant-loop-value
-invariant-loop-value l = string_bytes l.out ++ flat_map shown_text (drop l.value-index l.values) ≡ string_bytes l.initial.out ++ flat_map shown_text l.values
+invariant-loop-value l =
+    string_bytes l.out ++ flat_map shown_text (drop l.value-index l.values)
+    ≡ string_bytes l.initial.out ++ flat_map shown_text l.values

@@ -5,4 +5,6 @@ use Rattle.meta_settings_text.proofs.getters.push_each_getter.Given as goal
 
 -- what is written, and then what is left to write
 abbrev pub invariant-loop-setting : goal.invariant-loop-setting
-invariant-loop-setting l = string_bytes l.out ++ flat_map getter_text (drop l.setting-index l.settings) ≡ string_bytes l.initial.out ++ flat_map getter_text l.settings
+invariant-loop-setting l =
+    string_bytes l.out ++ flat_map getter_text (drop l.setting-index l.settings)
+    ≡ string_bytes l.initial.out ++ flat_map getter_text l.settings

@@ -1,0 +1,4 @@
+-- texts, piece by piece
+mod Pieces
+-- the variables of operands
+pub mod OperandVariables

@@ -1,0 +1,183 @@
+-- The methods of the builder that take the last value input of an instruction as an immediate.
+--     imm_method_text m method               the lines of one of the three methods
+--     imm_builders_text vars c           the lines of all three of an instruction
+use Rattle.std.specs.Prelude.{ℕ, ◌-◌, ◌==◌, ◌||◌, Bool, true, false, List, [], ◌∷◌, ◌++◌, length, slice_get, Option, None, Some, is_some, codes, if◌then◌else◌}
+use Rattle.std.specs.List.{flat_map, enumerate_from}
+use Rattle.meta_typevar.specs.declared.content.TypeVarContent.{TypeVarContent}
+use Rattle.meta_operands.specs.Texts.{same_text}
+use Rattle.meta_operands.specs.Operand.{variable_of, doc_of}
+use Rattle.meta_operands.specs.declared.operand.Operand.{Operand}
+use Rattle.meta_inst.specs.Built.{Built}
+use Rattle.meta_inst.specs.Content.{names_text, snake_name_of}
+use Rattle.meta_text.specs.Lines.{at, text_of}
+use Rattle.meta_rust_lines.specs.Ends.{gap_text}
+use Rattle.meta_builder_constructors_text.specs.Names.{operand_name}
+use Rattle.meta_builder_constructors_text.specs.Docs.{first_line, doc_heading_text, doc_item_text}
+use Rattle.meta_builder_constructors_text.specs.Arguments.{argument_text}
+use Rattle.meta_builder_constructors_text.specs.declared.imm_builders.Method.{Method}
+use Rattle.meta_builder_constructors_text.specs.declared.imm_builders.Method.TheVariants.{SignExtends, ZeroExtends, Deprecated}
+
+-- ---- the inputs of the methods
+
+-- what is said of an input: of the immediate, that it is one, and of any other its documentation
+abbrev pub input_doc : List TypeVarContent → Operand → Bool → List ℕ
+input_doc vars o is_immediate = if is_immediate then codes "an immediate integer constant" else first_line (doc_of vars o)
+
+-- the type of the argument for an input: of the immediate that which the method is generic in, of a value `Value`, and of any other
+-- its Rust type
+abbrev pub input_type : Operand → Bool → List ℕ
+input_type o is_immediate = if is_immediate then codes "T" else (if is_some (variable_of o) then codes "Value" else o.kind.rust_type)
+
+-- the lines on the inputs, of which the one at this place is the immediate
+unfoldable pub input_docs : List TypeVarContent → List Operand → ℕ → List ℕ
+input_docs vars inputs immediate =
+    flat_map (λ (input : ℕ × Operand). doc_item_text input.1.name (input_doc vars input.1 (input.0 == immediate)))
+    (enumerate_from 0 inputs)
+
+-- the arguments for them, each behind a comma and a space
+unfoldable pub input_arguments : List Operand → ℕ → List ℕ
+input_arguments inputs immediate =
+    flat_map (λ (input : ℕ × Operand). argument_text input.1.name (input_type input.1 (input.0 == immediate)))
+    (enumerate_from 0 inputs)
+
+-- the names of them, parted by a comma and a space
+unfoldable pub input_names : List Operand → List ℕ
+input_names inputs = names_text inputs
+
+-- ---- one method
+
+-- what the three methods of an instruction have in common: its name in code; whether the deprecated method extends the sign; the name
+-- of the first value input, which gives the type; that of the last one, which is taken as an immediate; the lines on the inputs; the
+-- arguments for them; and their names
+pub record ImmMethods : Type 0 where
+  pub name : List ℕ
+  pub signed : Bool
+  pub control : List ℕ
+  pub immediate : List ℕ
+  pub docs : List ℕ
+  pub arguments : List ℕ
+  pub inputs : List ℕ
+
+-- what stands behind the name of the instruction in that of the method
+abbrev pub suffix_of : Method → List ℕ
+suffix_of SignExtends = codes "_imm_s"
+suffix_of ZeroExtends = codes "_imm_u"
+suffix_of Deprecated = codes "_imm"
+
+-- whether the method extends the immediate to the type by its sign, and not by zeros, where the deprecated one does so or not
+abbrev pub extends_sign : Method → Bool → Bool
+extends_sign SignExtends signed = true
+extends_sign ZeroExtends signed = false
+extends_sign Deprecated signed = signed
+
+-- how it extends, in words
+abbrev pub extension_of : Bool → List ℕ
+extension_of extends = if extends then codes "sign-extended" else codes "zero-extended"
+
+-- and as a word of the language
+abbrev pub truth_of : Bool → List ℕ
+truth_of extends = if extends then codes "true" else codes "false"
+
+-- the first line of a method's doc comment
+unfoldable pub summary_text : List ℕ → List ℕ → List ℕ
+summary_text name extension = text_of (
+    at 1 (
+    codes "/// Convenience method that is like [`"
+    ∷ name
+    ∷ codes "`][Self::"
+    ∷ name
+    ∷ codes "], but takes its trailing operand as an immediate integer constant which is materialized with an `iconst` and "
+    ∷ extension ∷ codes " to the controlling type." ∷ []
+    )
+    ∷ [])
+
+-- the mark of the deprecated method, which the other two replace
+unfoldable pub deprecation_text : List ℕ → List ℕ
+deprecation_text name = text_of (
+    at 1 (
+    codes "#[deprecated(note = \"use `"
+    ∷ name
+    ∷ codes "_imm_s` (sign-extends the immediate) or `" ∷ name ∷ codes "_imm_u` (zero-extends the immediate) instead\")]" ∷ []
+    )
+    ∷ [])
+
+-- the marks of a method
+unfoldable pub mark_text : List ℕ → Method → List ℕ
+mark_text name SignExtends = []
+mark_text name ZeroExtends = []
+mark_text name Deprecated = deprecation_text name
+
+-- its attribute and its head, where its name ends in this suffix, and it has these arguments behind `self`
+unfoldable pub signature_text : List ℕ → List ℕ → List ℕ → List ℕ
+signature_text name suffix arguments = text_of (
+    at 1 (codes "#[allow(non_snake_case, reason = \"generated code\")]" ∷ [])
+    ∷ at 1 (codes "fn " ∷ name ∷ suffix ∷ codes "<T: Into<ir::immediates::Imm64>>(mut self" ∷ arguments ∷ codes ") -> Value {" ∷ []) ∷ [])
+
+-- the first lines of a method's body: the immediate as a number, and the type of the first value input
+unfoldable pub number_text : List ℕ → List ℕ → List ℕ
+number_text control immediate = text_of (
+    at 2 (codes "let " ∷ immediate ∷ codes " = " ∷ immediate ∷ codes ".into();" ∷ [])
+    ∷ at 2 (codes "let imm_ty = self.data_flow_graph().value_type(" ∷ control ∷ codes ");" ∷ []) ∷ [])
+
+-- its last lines: the number as a value of that type, by an extension of its sign or not, and the instruction with all inputs
+unfoldable pub imm_call_text : List ℕ → List ℕ → List ℕ → List ℕ → List ℕ
+imm_call_text name immediate signed inputs = text_of (
+    at 2 (codes "let " ∷ immediate ∷ codes " = self.build_imm_const(imm_ty, " ∷ immediate ∷ codes ", " ∷ signed ∷ codes ");" ∷ [])
+    ∷ at 2 (codes "self." ∷ name ∷ codes "(" ∷ inputs ∷ codes ")" ∷ [])
+    ∷ at 1 (codes "}" ∷ []) ∷ [])
+
+-- the lines of a method
+unfoldable pub imm_method_text : ImmMethods → Method → List ℕ
+imm_method_text m method =
+    summary_text m.name (extension_of (extends_sign method m.signed))
+    ++ (doc_heading_text (codes "Inputs")
+    ++ (m.docs
+    ++ (mark_text m.name method
+    ++ (signature_text m.name (suffix_of method) m.arguments
+    ++ (number_text m.control m.immediate ++ imm_call_text m.name m.immediate (truth_of (extends_sign method m.signed)) m.inputs)))))
+
+-- the three methods of an instruction
+unfoldable pub three_methods_text : ImmMethods → List ℕ
+three_methods_text m =
+    imm_method_text m SignExtends
+    ++ (gap_text
+    ++ (imm_method_text m ZeroExtends
+    ++ (gap_text
+    ++ imm_method_text m Deprecated)))
+
+-- ---- the methods of an instruction
+
+-- whether an instruction of this name once had a form with an immediate that extended its sign, as the deprecated method still does
+abbrev pub was_signed : List ℕ → Bool
+was_signed name =
+    same_text name (codes "iadd")
+    || (same_text name (codes "imul")
+    || (same_text name (codes "sdiv")
+    || (same_text name (codes "srem")
+    || same_text name (codes "icmp"))))
+
+-- what the methods of an instruction have in common, whose first and last value inputs stand at these places
+abbrev pub methods_of : List TypeVarContent → Built → ℕ → ℕ → ImmMethods
+methods_of vars c first last = record {
+  name = snake_name_of c.name;
+  signed = was_signed c.name;
+  control = operand_name c.operands_in first;
+  immediate = operand_name c.operands_in last;
+  docs = input_docs vars c.operands_in last;
+  arguments = input_arguments c.operands_in last;
+  inputs = input_names c.operands_in;
+}
+
+-- its methods, where there are a first and a last value input
+abbrev pub methods_between : List TypeVarContent → Built → Option ℕ → Option ℕ → List ℕ
+methods_between vars c None last = []
+methods_between vars c (Some first) None = []
+methods_between vars c (Some first) (Some last) = three_methods_text (methods_of vars c first last)
+
+-- The three methods of an instruction that take its last value input as an immediate: one extends its sign, one extends it by zeros,
+-- and one, which is deprecated, does what an older form of the instruction did. They are for instructions with one value result, at
+-- least two value inputs and no value list. Declarations that ask for them of another instruction are refused as `BadImmMethod`, so
+-- no built instruction asks for them that isn't of this shape. Whether they are asked for is not looked at. Of an instruction without
+-- value inputs nothing is written.
+unfoldable pub imm_builders_text : List TypeVarContent → Built → List ℕ
+imm_builders_text vars c = methods_between vars c (slice_get c.value_opnums 0) (slice_get c.value_opnums (length c.value_opnums - 1))

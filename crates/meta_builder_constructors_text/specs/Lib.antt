@@ -1,0 +1,5 @@
+pub mod Names
+pub mod Docs
+pub mod Arguments
+pub mod Constructor
+pub mod ImmBuilders

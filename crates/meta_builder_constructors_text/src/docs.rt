@@ -1,0 +1,46 @@
+ghost use Rattle.std.specs.Prelude.{◌≡◌, ◌++◌, OnOk, string_bytes};
+ghost use Rattle.meta_builder_constructors_text.specs.Docs.{first_line, doc_line_text, doc_heading_text, doc_item_text};
+
+use std::alloc::AllocError;
+
+/// The first line of a documentation that isn't blank, without the white space at its ends, and nothing where each line is blank.
+/// A doc is printed so (in the crate `doc_comment` of `cranelift_srcgen` prints each line).
+#[tactic(auto, unfolding(crate::specs::Docs::first_line))]
+pub fn first_line(doc: &str) -> &str
+    ensures { result.now ≡ first_line doc.now }
+{
+    doc.lines()
+        .map(|line| line.trim())
+        .find(|line| !line.is_empty())
+        .unwrap_or("")
+}
+
+/// Adds a doc comment of one line, which stands before a method.
+#[tactic(auto, unfolding(crate::specs::Docs::doc_line_text))]
+pub fn push_doc_line(out: &mut String, doc: &str) -> Result<(), AllocError>
+    ensures { OnOk result (string_bytes out.new ≡ string_bytes out.old ++ doc_line_text doc.now) }
+{
+    write!(out, "    /// {doc}\n")
+}
+
+/// Adds the heading of the inputs or of the outputs in the doc comment of a method, between two empty lines of the comment.
+#[tactic(auto, unfolding(crate::specs::Docs::doc_heading_text))]
+pub fn push_doc_heading(out: &mut String, heading: &str) -> Result<(), AllocError>
+    ensures { OnOk result (string_bytes out.new ≡ string_bytes out.old ++ doc_heading_text heading.now) }
+{
+    write!(
+        out,
+        "    ///
+    /// {heading}:
+    ///
+"
+    )
+}
+
+/// Adds the line on an input or an output of this name to the doc comment of a method.
+#[tactic(auto, unfolding(crate::specs::Docs::doc_item_text))]
+pub fn push_doc_item(out: &mut String, name: &str, doc: &str) -> Result<(), AllocError>
+    ensures { OnOk result (string_bytes out.new ≡ string_bytes out.old ++ doc_item_text name.now doc.now) }
+{
+    write!(out, "    /// - {name}: {doc}\n")
+}

@@ -1,0 +1,14 @@
+ghost use Rattle.std.specs.Prelude.{◌≡◌};
+ghost use Rattle.meta_builder_constructors_text.specs.Names.{operand_name};
+
+use meta_operands::Operand;
+
+/// The name of the operand at this place, counted from 0, and nothing where there is none.
+pub fn operand_name(operands: &[Operand], place: usize) -> &str
+    ensures { result.now ≡ operand_name operands.now place }
+{
+    match operands.get(place) {
+        Some(operand) => operand.name.as_str(),
+        None => "",
+    }
+}

@@ -1,5 +1,0 @@
--- texts, piece by piece
-mod Pieces
--- the operands of an instruction
-mod Inputs
-mod Pushed

@@ -1,4 +1,0 @@
-pub mod Docs
-pub mod Arguments
-pub mod Constructor
-pub mod ImmBuilders

@@ -1,9 +1,0 @@
-use Rattle.std.proofs.Common.{◌≡◌, ◌++◌, map, drop, string_bytes, flat_map}
-use Rattle.meta_data_text.specs.Arms.{arm_text}
-use Rattle.meta_data_text.proofs.arms.push_arms.Given as goal
-
--- what is written, and then what is left to write
-abbrev pub invariant-loop-format : goal.invariant-loop-format
-invariant-loop-format l =
-    string_bytes l.out ++ flat_map (arm_text l.method) (map (λ f. f.now) (drop l.format-index l.formats))
-    ≡ string_bytes l.initial.out ++ flat_map (arm_text l.method) (map (λ f. f.now) l.formats)

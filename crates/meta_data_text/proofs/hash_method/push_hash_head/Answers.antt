@@ -1,9 +1,0 @@
-use Rattle.std.proofs.Common.{string_bytes, refl}
-use Rattle.meta_data_text.specs.HashMethod.{hash_head}
-use Rattle.meta_data_text.proofs.Pushed.{pushed_as}
-use Rattle.meta_data_text.proofs.hash_method.push_hash_head.Goals as goal
-
-pub returns : goal.returns
-unfolding hash_head
-returns c = pushed_as c.push_str.result (string_bytes c.args.out.now) (string_bytes c.push_str.new.self) _ hash_head refl
-    c.push_str.ensures.bytes

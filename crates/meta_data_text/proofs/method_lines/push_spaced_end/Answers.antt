@@ -1,9 +1,0 @@
-use Rattle.std.proofs.Common.{string_bytes, refl}
-use Rattle.meta_data_text.specs.MethodLines.{spaced_end}
-use Rattle.meta_data_text.proofs.Pushed.{pushed_as}
-use Rattle.meta_data_text.proofs.method_lines.push_spaced_end.Goals as goal
-
-pub returns : goal.returns
-unfolding spaced_end
-returns c = pushed_as c.push_str.result (string_bytes c.args.out.now) (string_bytes c.push_str.new.self) _ spaced_end refl
-    c.push_str.ensures.bytes

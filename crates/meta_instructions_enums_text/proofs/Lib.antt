@@ -1,0 +1,2 @@
+-- formats of the table
+mod InTable

@@ -1,0 +1,10 @@
+use Rattle.std.proofs.Common.{◌≡◌, ◌++◌, drop, string_bytes}
+use Rattle.std.specs.List.{flat_map}
+use Rattle.meta_instructions_enums_text.specs.OpcodeItems.{named_arm}
+use Rattle.meta_instructions_enums_text.proofs.lists.push_each_named.Given as goal
+
+-- what is written, and then what is left to write
+abbrev pub invariant-loop-instruction : goal.invariant-loop-instruction
+invariant-loop-instruction l =
+    string_bytes l.out ++ flat_map (λ c. named_arm c.camel_name c.name) (drop l.instruction-index l.instructions)
+    ≡ string_bytes l.initial.out ++ flat_map (λ c. named_arm c.camel_name c.name) l.instructions

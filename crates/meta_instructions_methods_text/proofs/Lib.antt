@@ -1,0 +1,2 @@
+mod LastPart
+mod Letters

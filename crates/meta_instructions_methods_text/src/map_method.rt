@@ -1,0 +1,192 @@
+ghost use Rattle.std.specs.Prelude.{◌≡◌, ◌++◌, OnOk, IfOk, string_bytes};
+ghost use Rattle.std.specs.List.{flat_map};
+ghost use Rattle.meta_instructions_methods_text.specs.Held.{values_of, blocks_of, has_raw_block};
+ghost use Rattle.meta_instructions_methods_text.specs.EntityWord.{entity_word};
+ghost use Rattle.meta_instructions_methods_text.specs.MapMethod.{map_head, mapped_or_kept, immediate_mapper, map_pattern, mapped_value, mapped_below, mapped, mapped_array, mapped_values, mapped_blocks, mapped_raw_block, mapped_field, map_arm};
+
+use super::entity_word::entity_word;
+use super::held::{Blocks, Values, blocks_of, has_raw_block, raw_block_member, values_of};
+use super::members::{push_further, push_further_fields};
+use super::rebuilt::{push_kept, push_rebuilt_end, push_rebuilt_head};
+use meta_operands::{FormatField, InstructionFormat, OperandKindFields};
+use meta_rust_lines::push_text;
+use std::alloc::{AllocError, Global};
+
+/// The pattern of a format.
+#[tactic(auto, unfolding(crate::specs::MapMethod::map_pattern))]
+fn map_pattern(alloc: Global, format: &InstructionFormat) -> Result<String, AllocError>
+    ensures { IfOk result (λ pattern. string_bytes pattern ≡ map_pattern format.now) }
+{
+    let mut pattern = String::from_str(alloc, "opcode")?;
+    push_further(&mut pattern, "", values_of(format).member())?;
+    push_further(&mut pattern, "", blocks_of(format).member())?;
+    push_further(&mut pattern, "", raw_block_member(format))?;
+    push_further_fields(&mut pattern, format.imm_fields.as_slice())?;
+    Ok(pattern)
+}
+
+/// Adds the mapped value at a place of the array, behind a comma where others stand before it.
+#[tactic(auto, unfolding(crate::specs::MapMethod::mapped_value))]
+fn push_mapped_value(out: &mut String, place: u32) -> Result<(), AllocError>
+    ensures { OnOk result (string_bytes out.new ≡ string_bytes out.old ++ mapped_value place) }
+{
+    if place == 0 {
+        return push_text(out, "mapper.map_value(args[0])");
+    }
+    write!(out, ", mapper.map_value(args[{place}])")
+}
+
+/// The mapped values of an array of so many, parted by a comma and a space.
+fn mapped_elements(alloc: Global, count: u32) -> Result<String, AllocError>
+    ensures { IfOk result (λ text. string_bytes text ≡ mapped_below count) }
+{
+    let mut text = String::new(alloc);
+    for place in 0..count {
+        push_mapped_value(&mut text, place)?;
+    }
+    Ok(text)
+}
+
+/// Adds a member that the mapper's method of this word maps.
+#[tactic(auto, unfolding(crate::specs::MapMethod::mapped))]
+fn push_mapped(out: &mut String, member: &str, word: &str) -> Result<(), AllocError>
+    ensures { OnOk result (string_bytes out.new ≡ string_bytes out.old ++ mapped member.now word.now) }
+{
+    write!(
+        out,
+        "                    {member}: mapper.map_{word}({member}),\n"
+    )
+}
+
+/// Adds the array of these mapped values.
+#[tactic(auto, unfolding(crate::specs::MapMethod::mapped_array))]
+fn push_mapped_array(out: &mut String, elements: &str) -> Result<(), AllocError>
+    ensures { OnOk result (string_bytes out.new ≡ string_bytes out.old ++ mapped_array elements.now) }
+{
+    write!(out, "                    args: [{elements}],\n")
+}
+
+/// Adds the values.
+#[tactic(auto, unfolding(crate::specs::MapMethod::mapped_values))]
+fn push_mapped_values(alloc: Global, out: &mut String, values: Values) -> Result<(), AllocError>
+    ensures { OnOk result (string_bytes out.new ≡ string_bytes out.old ++ mapped_values values) }
+{
+    match values {
+        Values::Absent => Ok(()),
+        Values::One => push_mapped(out, "arg", "value"),
+        Values::Several(count) => {
+            let elements = mapped_elements(alloc, count)?;
+            push_mapped_array(out, elements.as_str())
+        }
+        Values::Listed => push_mapped(out, "args", "value_list"),
+    }
+}
+
+/// Adds the blocks.
+#[tactic(auto, unfolding(crate::specs::MapMethod::mapped_blocks))]
+fn push_mapped_blocks(out: &mut String, blocks: Blocks) -> Result<(), AllocError>
+    ensures { OnOk result (string_bytes out.new ≡ string_bytes out.old ++ mapped_blocks blocks) }
+{
+    match blocks {
+        Blocks::Absent => Ok(()),
+        Blocks::One => push_mapped(out, "destination", "block_call"),
+        Blocks::Two => push_text(
+            out,
+            "                    blocks: [mapper.map_block_call(blocks[0]), mapper.map_block_call(blocks[1])],\n",
+        ),
+    }
+}
+
+/// Adds the block without arguments, where there is one.
+#[tactic(auto, unfolding(crate::specs::MapMethod::mapped_raw_block))]
+fn push_mapped_raw_block(out: &mut String, raw_block: bool) -> Result<(), AllocError>
+    ensures { OnOk result (string_bytes out.new ≡ string_bytes out.old ++ mapped_raw_block raw_block) }
+{
+    if raw_block {
+        return push_mapped(out, "block", "block");
+    }
+    Ok(())
+}
+
+/// Adds an entity of this Rust type.
+fn push_mapped_entity(
+    alloc: Global,
+    out: &mut String,
+    member: &str,
+    rust_type: &str,
+) -> Result<(), AllocError>
+    ensures { OnOk result (string_bytes out.new ≡ string_bytes out.old ++ mapped member.now (entity_word rust_type.now)) }
+{
+    let word = entity_word(alloc, rust_type)?;
+    push_mapped(out, member, word.as_str())
+}
+
+/// Adds a value of this Rust type that the instruction itself holds.
+fn push_immediate(out: &mut String, member: &str, rust_type: &str) -> Result<(), AllocError>
+    ensures { OnOk result (string_bytes out.new ≡ string_bytes out.old ++ mapped_or_kept member.now (immediate_mapper rust_type.now)) }
+{
+    if rust_type == "ir::MemFlags" {
+        return push_mapped(out, member, "mem_flags");
+    }
+    push_kept(out, member)
+}
+
+/// Adds a field: entities, lists of values and the flags of memory operations are mapped, and all else stays.
+#[tactic(auto, unfolding(crate::specs::MapMethod::mapped_field))]
+fn push_mapped_field(alloc: Global, out: &mut String, field: &FormatField) -> Result<(), AllocError>
+    ensures { OnOk result (string_bytes out.new ≡ string_bytes out.old ++ mapped_field field.now) }
+{
+    let (member, rust_type) = (field.member.as_str(), field.kind.rust_type.as_str());
+    match &field.kind.fields {
+        OperandKindFields::EntityRef => push_mapped_entity(alloc, out, member, rust_type),
+        OperandKindFields::VariableArgs => push_mapped(out, member, "value_list"),
+        OperandKindFields::ImmValue => push_immediate(out, member, rust_type),
+        OperandKindFields::ImmEnum(_) | OperandKindFields::TypeVar(_) => push_kept(out, member),
+    }
+}
+
+/// Adds fields.
+fn push_mapped_fields(
+    alloc: Global,
+    out: &mut String,
+    fields: &[FormatField],
+) -> Result<(), AllocError>
+    ensures { OnOk result (string_bytes out.new ≡ string_bytes out.old ++ flat_map mapped_field fields.now) }
+{
+    for field in fields {
+        push_mapped_field(alloc, out, field)?;
+    }
+    Ok(())
+}
+
+/// Adds the arm of a format.
+#[tactic(auto, unfolding(crate::specs::MapMethod::map_arm))]
+pub(crate) fn push_map_arm(
+    alloc: Global,
+    out: &mut String,
+    format: &InstructionFormat,
+) -> Result<(), AllocError>
+    ensures { OnOk result (string_bytes out.new ≡ string_bytes out.old ++ map_arm format.now) }
+{
+    let pattern = map_pattern(alloc, format)?;
+    push_rebuilt_head(out, format.name.as_str(), pattern.as_str())?;
+    push_mapped_values(alloc, out, values_of(format))?;
+    push_mapped_blocks(out, blocks_of(format))?;
+    push_mapped_raw_block(out, has_raw_block(format))?;
+    push_mapped_fields(alloc, out, format.imm_fields.as_slice())?;
+    push_rebuilt_end(out)
+}
+
+/// Adds the first lines of the method `map`.
+#[tactic(auto, unfolding(crate::specs::MapMethod::map_head))]
+pub(crate) fn push_map_head(out: &mut String) -> Result<(), AllocError>
+    ensures { OnOk result (string_bytes out.new ≡ string_bytes out.old ++ map_head) }
+{
+    push_text(
+        out,
+        "    /// Map some functions, described by the given `InstructionMapper`, over each of the
+    pub fn map(&self, mut mapper: impl crate::ir::instructions::InstructionMapper) -> Self {
+        match *self {
+",
+    )
+}

@@ -1,5 +1,0 @@
-use Rattle.std.proofs.Common.{rules}
-use Rattle.meta_opcodes_text.proofs.formats.push_formats.Goals as goal
-
-pub returns : goal.returns
-returns c = search rules

@@ -1,9 +1,0 @@
-use Rattle.std.proofs.Common.{string_bytes, refl}
-use Rattle.meta_opcodes_text.specs.OpcodesText.{list_head}
-use Rattle.meta_opcodes_text.proofs.Pushed.{pushed_as}
-use Rattle.meta_opcodes_text.proofs.lists.push_list_head.Goals as goal
-
-pub returns : goal.returns
-unfolding list_head
-returns c = pushed_as c.push_str.result (string_bytes c.args.out.now) (string_bytes c.push_str.new.self) _ list_head refl
-    c.push_str.ensures.bytes
