@@ -62,6 +62,10 @@ no_text {line = line} (OfApplication a) m states e =
     let rest = behind 46 (control_written m.leaves_out a.control a.second) ++ behind 32 (values_written (map value_text a.values)) in
     no_results_part (map short_result_text (short_results m.opened a.results)) (a.name ++ rest) (omega (arith, some, length-append a.name rest)) e
 
+-- a short form isn't empty
+pub has_text : (R : Replies) (M : Manners) (env : Environment) (line text : List ℕ) → IsShort R M env line text → text ≢ []
+has_text R M env line text short e = no_text short.statement short.manner short.right.0 (sym short.is ∙ e)
+
 module _ (tables : TableContents) where
   -- ---- one line
 
@@ -73,10 +77,6 @@ module _ (tables : TableContents) where
 
   pub has_bytes : (env : Environment) (line text : List ℕ) → IsShortIn tables env line text → line ≢ []
   has_bytes env line text short e = right_line tables env line text short (inl e)
-
-  -- a short form isn't empty
-  pub has_text : (env : Environment) (line text : List ℕ) → IsShortIn tables env line text → text ≢ []
-  has_text env line text short e = no_text short.statement short.manner short.right.0 (sym short.is ∙ e)
 
   -- a line that has no short form is empty, where it isn't wrong
   pub skipped : (env env' : Environment) (line : List ℕ) → (line ≡ []) ⊎ ((reason : Reason) × IsWrong (AllowedReply tables) env line reason) → Feeds (AllowedReply tables) env line None env' → (line ≡ []) × (env' ≡ env)

@@ -8,10 +8,13 @@ use Rattle.meta_run.specs.declared.ending.Ending.{Ending}
 use Rattle.meta_run.specs.declared.ending.Ending.TheVariants.{Done, Refused, Usage, ReadFault, WriteFault, OutOfMemory, TooLong, Rejected}
 use Rattle.meta_run.specs.Run.{IsRefusedWhole, IsRefusedInPart, IsAnsweredInPart, Did, NeverRises}
 use Rattle.meta_run.proofs.Runs as lemma
+use Rattle.meta_words.specs.Lines.{lines_of}
+use Rattle.meta_asm.specs.Listing.{text_of_lines, filled}
 use Rattle.meta_asm.specs.Form.{words_for, written_in}
 use Rattle.meta_asm.specs.declared.form.Form.{Form}
 use Rattle.meta_asm.specs.declared.form.Form.TheVariants.{Short, Explicit}
-use Rattle.meta_asm.specs.Assembler.{AskForm, IsRun, IsWrittenWhole, IsWrittenInPart, IsGiven, WritesShortForms, SaysWrong, WritesLines, SaysUnread, ShortensList, SpellsList, RefusesDeclarations, Completes}
+use Rattle.meta_asm.specs.Assembler.{AskForm, IsRun, IsWrittenWhole, IsWrittenInPart, IsGiven, WritesShortForms, SaysWrong, WritesLines, SaysUnread, ShortensList, SpellsList, WritesBack, RefusesDeclarations, Completes}
+use Rattle.meta_asm.proofs.BackLemmas.{back_by_declarations}
 
 -- the words ask for one form at most
 one_form : (words : List (List ℕ)) (a b : Form) → words ≡ words_for a → words ≡ words_for b → a ≡ b
@@ -113,6 +116,16 @@ module _ {S K : Type 0} (left : S → Option (List ℕ)) (reads : S → ℕ) (ta
         by : ((is_rejection : Bool) × (text : List ℕ) × written_in Explicit d input is_rejection text × (ending ≡ written_as is_rejection) × (taken k' ≡ Some (before ++ text))) → WritesLines left reads taken writes d s s' k k' input before ending ⊎ SaysUnread left reads taken writes d s s' k k' input before ending
         by (false, text, (lines, reads, is), e, took) = inl (e, lines, reads, subst (λ t. taken k' ≡ Some (before ++ t)) is took)
         by (true, text, (n, first, is), e, took) = inr (e, n, first, subst (λ t. taken k' ≡ Some (before ++ t)) is took)
+
+    pub writes_back : WritesBack left reads taken writes d s s' k k' words ending
+    writes_back asks valid list input before short given = by (said Explicit asks valid input before given)
+      where
+        back : (is_rejection : Bool) (text : List ℕ) → written_in Explicit d input is_rejection text → (is_rejection ≡ false) × (text ≡ text_of_lines (filled (lines_of list)))
+        back is_rejection text = (back_by_declarations d.set valid.set list input short is_rejection text).0
+
+        by : ((is_rejection : Bool) × (text : List ℕ) × written_in Explicit d input is_rejection text × (ending ≡ written_as is_rejection) × (taken k' ≡ Some (before ++ text))) → (ending ≡ Done) × (taken k' ≡ Some (before ++ text_of_lines (filled (lines_of list))))
+        by (false, text, spelled, e, took) = (e, subst (λ t. taken k' ≡ Some (before ++ t)) (back false text spelled).1 took)
+        by (true, text, spelled, e, took) = (let no : true ≡ false = (back true text spelled).0 in absurd (cc))
 
     pub refuses : ((e f : DefinitionError) → ShowsFirst d e → ShowsFirst d f → e ≡ f) → RefusesDeclarations left reads taken writes d s s' k k' words ending
     refuses one_fault (form, asks) e first memory before taken_is no_write =

@@ -1,6 +1,6 @@
 -- What a run does that writes a list of lines in another form.
---     ShortensList, SpellsList, RefusesDeclarations, Completes      what it does where nothing fails
-use Rattle.std.specs.Prelude.{◌≡◌, ◌≢◌, ℕ, ◌+◌, ◌≤◌, ◌⊎◌, Bool, true, List, ◌++◌, length, Option, Some}
+--     ShortensList, SpellsList, WritesBack, RefusesDeclarations, Completes      what it does where nothing fails
+use Rattle.std.specs.Prelude.{◌≡◌, ◌≢◌, ℕ, ◌+◌, ◌≤◌, ◌⊎◌, Bool, true, false, List, ◌++◌, length, Option, Some}
 use Rattle.meta_types.specs.declared.fault.DefinitionError.{DefinitionError}
 use Rattle.meta_text.specs.Outside.{Rose, longest_input, GaveMore}
 use Rattle.meta_declared.specs.AllDeclared.{Declared, ShowsFirst, AreValid}
@@ -14,7 +14,7 @@ use Rattle.meta_verify.specs.Verdict.{wrong_text, IsFirstWrong}
 use Rattle.meta_verify.specs.declared.reason.Reason.{Reason}
 use Rattle.meta_verify.specs.declared.reason.Reason.TheVariants.{Bad}
 use Rattle.meta_short.specs.Manners.{IsMannerDeclared}
-use Rattle.meta_asm.specs.Listing.{text_of_lines, filled, AreShortForms, IsFirstUnread}
+use Rattle.meta_asm.specs.Listing.{text_of_lines, filled, AreShortForms, IsFirstUnread, IsShortened}
 use Rattle.meta_asm.specs.Form.{words_for, written_in}
 use Rattle.meta_asm.specs.declared.form.Form.{Form}
 use Rattle.meta_asm.specs.declared.form.Form.TheVariants.{Short, Explicit}
@@ -71,6 +71,13 @@ module _ {S K : Type 0} (left : S → Option (List ℕ)) (reads : S → ℕ) (ta
   abbrev pub SpellsList : List (List ℕ) → Ending → Type 0
   SpellsList words ending =
       words ≡ words_for Explicit → AreValid d → (input before : List ℕ) → IsGiven input before ending → WritesLines input before ending ⊎ SaysUnread input before ending
+
+  -- Where the word is `explicit`, the declarations are valid, nothing failed, and the input is what `short` writes of a list that has no
+  -- wrong line: the run is done, and the sink took exactly the list itself, its lines but the empty ones, each with LF.
+  abbrev pub WritesBack : List (List ℕ) → Ending → Type 0
+  WritesBack words ending =
+      words ≡ words_for Explicit → AreValid d → (list input before : List ℕ) → IsShortened (AcceptedReply d.set) (IsMannerDeclared d.set) list false input → IsGiven input before ending
+      → (ending ≡ Done) × (taken k' ≡ Some (before ++ text_of_lines (filled (lines_of list))))
 
   -- Where the words ask for a form and the declarations show a fault, memory didn't run out and the sink's count didn't rise: the
   -- declarations are refused, and the sink took exactly the line that says so, by the first fault.

@@ -3,7 +3,7 @@ ghost use Rattle.meta_text.specs.Outside.{Rose, longest_input, GaveMore, GaveAtM
 ghost use Rattle.meta_declared.specs.AllDeclared.{AreValid};
 ghost use Rattle.meta_run.specs.Ending.{WritesNothing};
 ghost use Rattle.meta_run.specs.Run.{IsRefusedWhole, IsRefusedInPart, NeverRises};
-ghost use Rattle.meta_asm.specs.Assembler.{AskForm, IsRun, IsWrittenWhole, IsWrittenInPart, ShortensList, SpellsList, RefusesDeclarations, Completes};
+ghost use Rattle.meta_asm.specs.Assembler.{AskForm, IsRun, IsWrittenWhole, IsWrittenInPart, ShortensList, SpellsList, WritesBack, RefusesDeclarations, Completes};
 
 use super::form::Form;
 use super::listing::{shortened, spelled};
@@ -77,6 +77,9 @@ pub fn asm<S: Source, K: Sink>(
     ensures spells { SpellsList S.left S.faults K.taken K.faults declarations.now source.old source.new sink.old sink.new words.now result }
     ensures refuses { RefusesDeclarations S.left S.faults K.taken K.faults declarations.now source.old source.new sink.old sink.new words.now result }
     ensures complete { Completes S.left S.faults K.taken K.faults declarations.now source.old source.new sink.old sink.new words.now result }
+
+    // So `explicit` writes a list back of what `short` wrote of it: it is done, and the list is the same, but for empty lines and CRs.
+    ensures writes_back { WritesBack S.left S.faults K.taken K.faults declarations.now source.old source.new sink.old sink.new words.now result }
 
     // The words decide whether it is a usage error, and then nothing was read or written.
     ensures usage { (result ≡ Ending.Usage) ↔ (AskForm words.now → ⊥) }

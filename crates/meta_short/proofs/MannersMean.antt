@@ -122,7 +122,7 @@ both_ways true false h k = let no : false ≡ true = k.1 (h.0 refl) in absurd (c
 both_ways false true h k = let no : false ≡ true = h.1 (k.0 refl) in absurd (cc)
 
 -- an instruction has one manner
-one_manner_of : (sets : Sets) (i : Instruction) (control : Option Variable) (m n : Manner) → IsMannerOf sets i control m → IsMannerOf sets i control n → m ≡ n
+pub one_manner_of : (sets : Sets) (i : Instruction) (control : Option Variable) (m n : Manner) → IsMannerOf sets i control m → IsMannerOf sets i control n → m ≡ n
 one_manner_of sets i control m n h k =
     let left = both_ways m.leaves_out n.leaves_out h.leaves_out k.leaves_out in
     let marks = same_places m.opened n.opened (h.count ∙ sym k.count) (λ j l.

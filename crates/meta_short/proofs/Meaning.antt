@@ -19,7 +19,6 @@ use Rattle.meta_short.specs.Manners.{IsMannerIn, IsMannerDeclared}
 use Rattle.meta_short.specs.Reading.{HasManner, IsShortIn, IsShortDeclared, HasNamedTypes}
 use Rattle.meta_short.specs.Made.{AreMade}
 use Rattle.meta_short.proofs.MannersMean.{manner_means, manner_back, first_named}
-use Rattle.meta_short.proofs.OneLine.{one_line}
 
 types_named : (env : Environment) (values : List ℕ) (types : List TypeParts) → HasNamedTypes env → HaveTypes env values types → All IsType types
 types_named env [] [] named h = All-nil IsType
@@ -126,7 +125,3 @@ module _ (d : InstructionSet) (tables : TableContents) (made : AreMade d tables)
         is = h.is;
       },
     )
-
-    -- a text reads as one line at most as the declarations mean, too
-    pub one_line_declared : (text a b : List ℕ) → IsShortDeclared d env a text → IsShortDeclared d env b text → a ≡ b
-    one_line_declared text a b h k = one_line tables made.well_formed env text a b ((short_means a text).1 h) ((short_means b text).1 k)

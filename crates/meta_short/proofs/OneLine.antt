@@ -19,12 +19,12 @@ use Rattle.meta_words.proofs.ControlLemmas.{same_controls}
 use Rattle.meta_answers.specs.Answer.{AllowedReply}
 use Rattle.meta_verify.specs.Statement.{TypedValue, Application, Statement, OfParameter, OfApplication, IsValue, IsTyped, CanApply, CanBeStated, value_text, words_of}
 use Rattle.meta_verify.specs.Environment.{Environment}
-use Rattle.meta_verify.specs.Wrong.{IsAccepted, IsFaultless}
+use Rattle.meta_verify.specs.Wrong.{Replies, IsAccepted, IsFaultless}
 use Rattle.meta_verify.proofs.StatementLemmas.{one_value, one_statement}
 use Rattle.meta_short.specs.Short.{Manner, short_results, short_result_text, joined, behind, control_written, values_written, parameter_text, short_application, short_text}
 use Rattle.meta_short.specs.Parts.{IsPlain}
 use Rattle.meta_short.specs.Manners.{is_control, value_constraints, manner_of, IsMannerIn}
-use Rattle.meta_short.specs.Reading.{HasManner, IsShortIn}
+use Rattle.meta_short.specs.Reading.{Manners, HasManner, IsShort, IsShortIn}
 use Rattle.meta_short.proofs.SplitLemmas.{Lacks, one_split}
 use Rattle.meta_short.proofs.ShortLemmas.{results_text, applied_text, split_form, space, comma, equals, value_lacks, type_lacks, front_lacks, short_lacks, control_lacks, same_parts}
 use Rattle.meta_short.proofs.Determined.{same_results, one_number_at, any_there, control_is, no_second, one_control}
@@ -95,7 +95,7 @@ none_back : (t : Option TypeParts) → option_map number_of t ≡ None → t ≡
 none_back None e = refl
 none_back (Some t) e = absurd (cc)
 
-same_found : (ts us : List TypeParts) → map (λ t. Some t) ts ≡ map (λ t. Some t) us → ts ≡ us
+pub same_found : (ts us : List TypeParts) → map (λ t. Some t) ts ≡ map (λ t. Some t) us → ts ≡ us
 same_found [] [] e = refl
 same_found [] (u ∷ us) e = absurd (cc)
 same_found (t ∷ ts) [] e = absurd (cc)
@@ -113,7 +113,7 @@ number_at rs k r at = get_map number_of (map (λ (x : TypedValue). x.type) rs) k
 -- ---- controls
 
 -- controls that are written alike are the same, where they are written
-written_alike : (c d e g : Option TypeParts) → IfSome c IsType → IfSome d IsType → IsBehind c d → IfSome e IsType → IfSome g IsType → IsBehind e g → control_written false c d ≡ control_written false e g → (c ≡ e) × (d ≡ g)
+pub written_alike : (c d e g : Option TypeParts) → IfSome c IsType → IfSome d IsType → IsBehind c d → IfSome e IsType → IfSome g IsType → IsBehind e g → control_written false c d ≡ control_written false e g → (c ≡ e) × (d ≡ g)
 written_alike None d None g hc hd hb he hg gb e = (refl, hb refl ∙ sym (gb refl))
 written_alike None d (Some u) None hc hd hb he hg gb e = absurd (cc)
 written_alike None d (Some u) (Some w) hc hd hb he hg gb e = absurd (cc)
@@ -210,6 +210,22 @@ one_parameter r q h k e =
 
 -- ---- what is stated
 
+-- where names are plain, and an application is told by its short form, so is what a line states, and with it the line
+module _ (R : Replies) (M : Manners) (env : Environment) (plain : (a : Application) → IsAccepted R env (OfApplication a) → IsPlain a.name)
+    (one_application : (m n : Manner) (a b : Application) → CanApply a → CanApply b → IsAccepted R env (OfApplication a) → IsAccepted R env (OfApplication b) → M a.name m → M b.name n → short_application m a ≡ short_application n b → a ≡ b) where
+  one_stated : (m n : Manner) (s t : Statement) → CanBeStated s → CanBeStated t → IsFaultless R env s → IsFaultless R env t → HasManner M s m → HasManner M t n → short_text m s ≡ short_text n t → s ≡ t
+  one_stated m n (OfParameter r) (OfParameter q) cs ct fs ft hm hn e = ap (λ x. OfParameter x) (one_parameter r q cs ct e)
+  one_stated m n (OfParameter r) (OfApplication b) cs ct fs ft hm hn e = absurd (apart r n b cs (plain b ft.accepted) ct e)
+  one_stated m n (OfApplication a) (OfParameter q) cs ct fs ft hm hn e = absurd (apart q m a ct (plain a fs.accepted) cs (sym e))
+  one_stated m n (OfApplication a) (OfApplication b) cs ct fs ft hm hn e = ap (λ x. OfApplication x) (one_application m n a b cs ct fs.accepted ft.accepted hm hn e)
+
+  pub one_told : (text a b : List ℕ) → IsShort R M env a text → IsShort R M env b text → a ≡ b
+  one_told text a b h k =
+      let same = one_stated h.manner k.manner h.statement k.statement h.right.0.can k.right.0.can h.right.1 k.right.1 h.has_manner k.has_manner (sym h.is ∙ k.is) in
+      h.right.0.words.parted ∙ ap (λ s. join_with_byte 32 (words_of s)) same ∙ sym k.right.0.words.parted
+
+-- ---- by tables
+
 module _ (tables : TableContents) (well : IsWellFormedOpcodes tables) (env : Environment) where
   named_plain : (a : Application) → IsAccepted (AllowedReply tables) env (OfApplication a) → IsPlain a.name
   named_plain a (types, have, h) = (let (op, named, allows) = h in name_plain tables op a.name well named.holds)
@@ -244,18 +260,9 @@ module _ (tables : TableContents) (well : IsWellFormedOpcodes tables) (env : Env
       (ap (λ (x : Manner). get_or x.opened k false) (sym hm.is) ∙ closed))) in
       λ i. record { name = parts.names i; control = controls.0 i; second = controls.1 i; results = results i; values = parts.values i }
 
-  pub one_stated : (m n : Manner) (s t : Statement) → CanBeStated s → CanBeStated t → IsFaultless (AllowedReply tables) env s → IsFaultless (AllowedReply tables) env t
-      → HasManner (IsMannerIn tables) s m → HasManner (IsMannerIn tables) t n → short_text m s ≡ short_text n t → s ≡ t
-  one_stated m n (OfParameter r) (OfParameter q) cs ct fs ft hm hn e = ap (λ x. OfParameter x) (one_parameter r q cs ct e)
-  one_stated m n (OfParameter r) (OfApplication b) cs ct fs ft hm hn e = absurd (apart r n b cs (named_plain b ft.accepted) ct e)
-  one_stated m n (OfApplication a) (OfParameter q) cs ct fs ft hm hn e = absurd (apart q m a ct (named_plain a fs.accepted) cs (sym e))
-  one_stated m n (OfApplication a) (OfApplication b) cs ct fs ft hm hn e = ap (λ x. OfApplication x) (one_application m n a b cs ct fs.accepted ft.accepted hm hn e)
-
   -- for one environment a text reads as one line at most
   pub one_line : (text a b : List ℕ) → IsShortIn tables env a text → IsShortIn tables env b text → a ≡ b
-  one_line text a b h k =
-      let same = one_stated h.manner k.manner h.statement k.statement h.right.0.can k.right.0.can h.right.1 k.right.1 h.has_manner k.has_manner (sym h.is ∙ k.is) in
-      h.right.0.words.parted ∙ ap (λ s. join_with_byte 32 (words_of s)) same ∙ sym k.right.0.words.parted
+  one_line = one_told (AllowedReply tables) (IsMannerIn tables) env named_plain one_application
 
 -- ---- a line has one short form at most, by tables
 

@@ -1,5 +1,6 @@
 ghost use Rattle.std.specs.Prelude.{◌≡◌, ◌↔◌, ℕ, List};
 ghost use Rattle.meta_inst.specs.InstructionSet.{InstructionSet};
+ghost use Rattle.meta_inst.specs.Faults.{IsValid};
 ghost use Rattle.meta_meaning.specs.Tables.{TableContents};
 ghost use Rattle.meta_opcode_tables.specs.WellFormed.{IsWellFormedOpcodes};
 ghost use Rattle.meta_verify.specs.Environment.{Environment};
@@ -8,11 +9,11 @@ ghost use Rattle.meta_short.specs.Manners.{IsMannerIn, IsMannerDeclared};
 ghost use Rattle.meta_short.specs.Made.{AreMade};
 ghost use Rattle.meta_short.specs.Reading.{IsShortIn, ReadsIn, IsShortDeclared, ReadsDeclared, HasNamedTypes};
 
-/// For one environment a text reads as one line at most: by well-formed tables, and as declarations mean of which tables are made. So
-/// what `print_line` wrote of a line reads as that line, and as no other.
+/// For one environment a text reads as one line at most: by well-formed tables, and as valid declarations mean. So what `print_line`
+/// wrote of a line reads as that line, and as no other.
 pub fn one_line_reads()
     ensures tables { (tables : TableContents) → IsWellFormedOpcodes tables → (env : Environment) (text a b : List ℕ) → ReadsIn tables env text a → ReadsIn tables env text b → a ≡ b }
-    ensures declared { (d : InstructionSet) (tables : TableContents) → AreMade d tables → (env : Environment) → HasNamedTypes env → (text a b : List ℕ) → ReadsDeclared d env text a → ReadsDeclared d env text b → a ≡ b }
+    ensures declared { (d : InstructionSet) → IsValid d → (env : Environment) (text a b : List ℕ) → ReadsDeclared d env text a → ReadsDeclared d env text b → a ≡ b }
 {}
 
 /// By tables a line has one short form at most.

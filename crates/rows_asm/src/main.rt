@@ -1,7 +1,9 @@
 // Answers the rows about lists with types left out, a line each: `WORDS < TEXT` tells how a run of these words over the text ends, by its
-// status and what its sink took, `-` for nothing. A line that begins with `#` goes through unchanged, as an empty one does.
+// status and what its sink took, `-` for nothing. `session` has the other words that a line may begin with. A line that begins with `#`
+// goes through unchanged, as an empty one does.
 #![tactic(auto)]
 
+mod declared;
 mod session;
 
 use rows_words::Trouble;
@@ -22,7 +24,7 @@ fn begin(alloc: Global) -> io::Result<Session> {
 fn main(rt: HostRuntime) -> io::Result<()> {
     let lines = io::read_to_string(rt.alloc(), rt.reader())?;
     let mut answers = String::new(rt.alloc());
-    let session = begin(rt.alloc())?;
+    let mut session = begin(rt.alloc())?;
     for line in lines.as_str().lines() {
         session.answer_line(rt.alloc(), line, &mut answers)?;
     }

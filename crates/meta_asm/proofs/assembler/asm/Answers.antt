@@ -7,6 +7,9 @@ returns-clause-shortens g c = lemma.shortens g.S.Source.left g.S.Source.faults g
 pub returns-clause-spells : goal.returns-clause-spells
 returns-clause-spells g c = lemma.spells g.S.Source.left g.S.Source.faults g.K.Sink.taken g.K.Sink.faults _ _ _ _ _ _ _ c.assemble.ensures (c.one_first_fault.ensures.valid _)
 
+pub returns-clause-writes_back : goal.returns-clause-writes_back
+returns-clause-writes_back g c = lemma.writes_back g.S.Source.left g.S.Source.faults g.K.Sink.taken g.K.Sink.faults _ _ _ _ _ _ _ c.assemble.ensures (c.one_first_fault.ensures.valid _)
+
 pub returns-clause-refuses : goal.returns-clause-refuses
 returns-clause-refuses g c = lemma.refuses g.S.Source.left g.S.Source.faults g.K.Sink.taken g.K.Sink.faults _ _ _ _ _ _ _ c.assemble.ensures (c.one_first_fault.ensures.valid _) (c.one_first_fault.ensures.same _)
 

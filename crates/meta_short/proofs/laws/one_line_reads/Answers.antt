@@ -1,5 +1,5 @@
 use Rattle.meta_short.proofs.OneLine.{one_line}
-use Rattle.meta_short.proofs.Meaning.{one_line_declared}
+use Rattle.meta_short.proofs.DeclaredLine.{one_line_declared}
 use Rattle.meta_short.proofs.laws.one_line_reads.Goals as goal
 
 pub returns : goal.returns
