@@ -35,10 +35,10 @@ unfolding encode
 past_ascii c h =
     let more : ltb c 128 ≡ false = grind (arith, nat_tests) in
     rw more
-    (either (ltb c 2048) ((192 + c / 64) ∷ next c ∷ []) _ (omega arith, omega arith, tt)
+    (either (ltb c 2048) ((192 + c / 64) ∷ next c ∷ []) _ (omega arith, (omega arith, tt))
     (either (ltb c 65536) ((224 + c / 4096) ∷ next (c / 64) ∷ next c ∷ [])
     ((240 + c / 262144) ∷ next (c / 4096) ∷ next (c / 64) ∷ next c ∷ [])
-    (omega arith, omega arith, omega arith, tt) (omega arith, omega arith, omega arith, omega arith, tt)))
+    (omega arith, (omega arith, (omega arith, tt))) (omega arith, (omega arith, (omega arith, (omega arith, tt))))))
 
 -- so such a character stays as it is
 snake_from-high : (c : ℕ) (later : Bool) (rest : List ℕ) → 128 ≤ c → snake_from later (encode c ++ rest) ≡ encode c ++ snake_from later rest
