@@ -41,6 +41,12 @@ fn add_block(block: &str, lines: &mut String) -> Result<(), AllocError> {
     Ok(())
 }
 
+/// The lines for which a line `use NAME` stands, the last that have the name.
+fn block_of<'l>(blocks: &[(&'l str, &'l str)], line: &str) -> Option<&'l str> {
+    let name = line.strip_prefix("use ")?;
+    found(blocks, name).ok()
+}
+
 /// Adds the line, or the lines for which it stands, or keeps the lines that it gives a name.
 fn add_line<'l>(
     blocks: &mut Vec<(&'l str, &'l str)>,
@@ -51,10 +57,7 @@ fn add_line<'l>(
         blocks.push(named.split_once(' ').unwrap_or((named, "")))?;
         return Ok(());
     }
-    let block = line
-        .strip_prefix("use ")
-        .and_then(|name| found(blocks.as_slice(), name).ok());
-    match block {
+    match block_of(blocks.as_slice(), line) {
         Some(block) => add_block(block, lines),
         None => writeln!(lines, "{line}"),
     }

@@ -1,5 +1,6 @@
 use rows_declaring::Sort;
 use rows_edits::Each;
+use rows_tables::Of;
 
 /// What a line declares.
 #[derive(Clone, Copy)]
@@ -27,31 +28,6 @@ pub(crate) enum Declares {
     Entry(Sort),
     /// `bools COUNT`, `nums COUNT`, `presets COUNT`: entries `b0`, `n0`, `p0` and so on; `values COUNT`: an enum `e` of so many.
     Entries(Sort),
-}
-
-/// What a line asks of the tables. `text VERSION` asks for their text.
-#[derive(Clone, Copy)]
-pub(crate) enum Of {
-    Opcodes,
-    Opcode,
-    Sets,
-    Constraints,
-    Slots,
-    Text,
-    Size,
-    Find,
-    Found,
-    Accepts,
-    Infer,
-    Control,
-    Groups,
-    Holds,
-    Entries,
-    Entry,
-    Setting,
-    SettingSlots,
-    SettingsFound,
-    Apply,
 }
 
 /// What a line says or asks.

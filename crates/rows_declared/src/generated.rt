@@ -1,18 +1,9 @@
-use super::asked::Of;
-use super::group_answers::{
-    write_applied, write_entries, write_entry, write_found_count, write_group, write_setting,
-    write_setting_slots,
-};
-use super::opcode_answers::{
-    found_count, write_accepts, write_constraints, write_control, write_finds, write_inferred,
-    write_opcode, write_opcodes, write_sets, write_slots,
-};
 use super::outside::{Fails, Outside, Ran, run_over};
 use super::read_back::reads_back;
-use super::table_text::write_text;
 use meta_gen::{Declarations, Tables, generate};
 use meta_query::Status;
 use meta_types::{DefinitionError, Text};
+use rows_tables::{Of, write_of_tables};
 use rows_words::{Case, Trouble};
 use std::alloc::{AllocError, Global};
 use std::mem;
@@ -24,67 +15,9 @@ pub(crate) struct Generated {
     tables: Result<Tables, DefinitionError>,
 }
 
-/// Writes so many of something.
-fn write_count(count: usize, what: &str, case: &mut Case<'_>) {
-    case.shown(&count);
-    case.text(what);
-}
-
 /// Whether the words are `query` alone.
 fn is_query(words: &[Text]) -> bool {
     words.len() == 1 && words[0].as_str() == "query"
-}
-
-/// Writes what the words ask of the opcodes.
-fn write_of_opcodes(alloc: Global, tables: &Tables, asked: Of, case: &mut Case<'_>) {
-    match asked {
-        Of::Opcodes => write_opcodes(tables, case),
-        Of::Opcode => {
-            let opcode = case.number();
-            write_opcode(tables, opcode, case);
-        }
-        Of::Sets => write_sets(tables, case),
-        Of::Constraints => write_constraints(tables, case),
-        Of::Slots => write_slots(tables.opcode_slots(), case),
-        Of::Text => {
-            let version = case.number();
-            write_text(alloc, tables, version, case);
-        }
-        Of::Size => write_count(tables.opcode_slots().len(), " slots", case),
-        Of::Find => {
-            let names = case.word();
-            write_finds(tables, names, case);
-        }
-        Of::Found => write_count(found_count(tables), " found", case),
-        Of::Accepts => write_accepts(alloc, tables, case),
-        Of::Infer => write_inferred(tables, case),
-        Of::Control => write_control(tables, case),
-        _ => write_of_groups(alloc, tables, asked, case),
-    }
-}
-
-/// Writes what the words ask of the groups, most often of the one with the next number.
-fn write_of_groups(alloc: Global, tables: &Tables, asked: Of, case: &mut Case<'_>) {
-    if let Of::Groups = asked {
-        return write_count(tables.group_count(), " groups", case);
-    }
-    let group = case.number();
-    match asked {
-        Of::Holds => write_group(tables, group, case),
-        Of::Entries => write_entries(tables, group, case),
-        Of::Entry => {
-            let index = case.number();
-            write_entry(tables, group, index, case);
-        }
-        Of::Setting => {
-            let name = case.word();
-            write_setting(tables, group, name, case);
-        }
-        Of::SettingSlots => write_setting_slots(tables, group, case),
-        Of::SettingsFound => write_found_count(tables, group, case),
-        Of::Apply => write_applied(alloc, tables, group, case),
-        _ => case.no_case(),
-    }
 }
 
 impl Generated {
@@ -127,7 +60,7 @@ impl Generated {
     /// Writes what the words ask of the tables.
     pub(crate) fn write_of_tables(&self, alloc: Global, asked: Of, case: &mut Case<'_>) {
         match &self.tables {
-            Ok(tables) => write_of_opcodes(alloc, tables, asked, case),
+            Ok(tables) => write_of_tables(alloc, tables, asked, case),
             Err(_) => case.no_case(),
         }
     }

@@ -8,18 +8,13 @@
 mod asked;
 mod declared;
 mod generated;
-mod group_answers;
 mod groups;
 mod instructions;
-mod opcode_answers;
 mod outside;
-mod parts;
 mod questions;
 mod read_back;
 mod session;
-mod table_text;
 mod variables;
-mod words;
 
 use session::Session;
 use std::alloc::{AllocError, Global};

@@ -1,12 +1,12 @@
-use super::asked::{ASKED, Asked, Declares, Of};
+use super::asked::{ASKED, Asked, Declares};
 use super::declared::Declared;
 use super::generated::Generated;
 use super::outside::{Fails, Outside};
-use super::parts::write_made;
 use super::questions::{write_codes, write_count, write_lines, write_question};
 use meta_gen::Tables;
 use meta_types::Text;
 use rows_edits::{Each, Edited, decoded, write_readings};
+use rows_tables::{Of, write_made};
 use rows_words::{Case, Trouble, found};
 use std::alloc::{AllocError, Global};
 use std::mem;

@@ -72,7 +72,11 @@ impl<'d> Session<'d> {
 
     /// Writes whether the text of the tables in the version with this number is that of a file.
     fn hold_version(&self, rt: &HostRuntime, file: &str, version: &str) -> io::Result<()> {
-        match number(version).and_then(|it| text_in(self.alloc, self.tables, it)) {
+        let text = match number(version) {
+            Ok(number) => text_in(self.alloc, self.tables, number),
+            Err(trouble) => Err(trouble),
+        };
+        match text {
             Ok(Some(text)) => self.hold_text(rt, file, text.as_str()),
             Ok(None) => println!(rt; "no fit"),
             Err(_) => println!(rt; "no case"),

@@ -336,11 +336,7 @@ fn edited_parts(
 }
 
 /// Takes tables apart, changes the parts by the words that are left, and writes what the parts make, all together and each alone.
-pub(crate) fn write_made(
-    alloc: Global,
-    tables: &Tables,
-    case: &mut Case<'_>,
-) -> Result<(), Trouble> {
+pub fn write_made(alloc: Global, tables: &Tables, case: &mut Case<'_>) -> Result<(), Trouble> {
     let taken = case.taken();
     let made = made(alloc, tables, edited_parts(alloc, tables, case)?)?;
     case.go_back(taken);
