@@ -6,17 +6,18 @@ use Rattle.std.specs.BTreeMap.{get, is_at}
 use Rattle.std.specs.Cmp.{unsigned_tied}
 use Rattle.std.specs.Map.{lookup}
 use Rattle.std.proofs.lemmas.Bool.{false≢true}
+use Rattle.std.proofs.lemmas.Option.{same_Some}
 use Rattle.std.proofs.lemmas.List.Elements.{All-head, All-tail}
 use Rattle.meta_lists.specs.First.{IsFirst}
-use Rattle.meta_types.specs.TypeParts.{TypeParts, number_of}
+use Rattle.meta_types.specs.TypeParts.{TypeParts, IsType, number_of}
 use Rattle.meta_meaning.specs.Tables.{TableContents, at_opcode, Allows}
 use Rattle.meta_opcode_tables.specs.Contents.{IsOpcodeNamed}
 use Rattle.meta_types.specs.TypeNumber.{type_with, IsTypeNumber}
 use Rattle.meta_answers.specs.Answer.{AllowsAsked, AllowedReply}
 use Rattle.meta_verify.specs.Statement.{TypedValue, Statement, OfParameter, OfApplication}
-use Rattle.meta_verify.specs.Environment.{Environment, nothing_defined, with_values, first_undefined, first_redefined, HaveTypes}
+use Rattle.meta_verify.specs.Environment.{Environment, nothing_defined, with_values, first_undefined, first_redefined, HaveTypes, HasNamedTypes}
 use Rattle.meta_verify.specs.Numbers.{typed, applied, IsTypedNumber, HasNumbers}
-use Rattle.meta_verify.specs.Defined.{number_at, environment_of, Entries, entries_of, definitions}
+use Rattle.meta_verify.specs.Defined.{number_at, environment_of, AreTypeNumbers, Entries, entries_of, definitions}
 use Rattle.meta_verify.specs.Wrong.{Replies, question_of, IsMistake, IsFaultless, Answers, Feeds}
 use Rattle.meta_verify.specs.declared.known.KnownTypes.{KnownTypes}
 use Rattle.meta_verify.specs.declared.reason.Reason.{Reason}
@@ -75,6 +76,14 @@ at_value m v = by_test (nat_eq (get_or m.near.items v 0) 0) (ap (λ test. option
 
 pub seen : (m : KnownTypes) (l : Entries) → entries_of m ≡ l → environment_of m ≡ definitions l
 seen m l e = (λ i v. at_value m v i) ∙ ap definitions e
+
+-- the types that are held can be named
+type_there : (o : Option ℕ) (t : TypeParts) → IfSome o IsTypeNumber → option_map type_with o ≡ Some t → IsType t
+type_there None t known e = absurd (cc)
+type_there (Some n) t known e = subst IsType (same_Some (type_with n) t e) known.is_type
+
+pub named_seen : (m : KnownTypes) (l : Entries) → entries_of m ≡ l → AreTypeNumbers m → HasNamedTypes (definitions l)
+named_seen m l e known = subst HasNamedTypes (seen m l e) (λ v t is. type_there (number_at m v) t (known v) is)
 
 -- a map that defines the same, and one that defines more
 pub seen_same : (m n : KnownTypes) (l k : Entries) → entries_of m ≡ l → entries_of n ≡ k → ((v : ℕ) → environment_of n v ≡ environment_of m v) → definitions k ≡ definitions l

@@ -5,6 +5,7 @@ pub mod DefineLemmas
 pub mod CheckerLemmas
 pub mod OneAnswer
 pub mod OneReply
+pub mod Allowed
 pub mod Meaning
 pub mod VerdictLemmas
 pub mod Runs

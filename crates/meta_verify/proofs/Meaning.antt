@@ -1,4 +1,4 @@
--- What is wrong by the tables of declarations is wrong as they mean.
+-- What is wrong by the tables of declarations is wrong as they mean, and the other way round where they are valid.
 use Rattle.std.proofs.Common.{◌≡◌, ◌↔◌, inl, inr, ℕ, ◌==◌, cond, Bool, true, false, List, [], ◌∷◌, map, take, length, All, Option, Some, None, sym, subst}
 use Rattle.std.proofs.lemmas.List.Elements.{All-nil, All-cons, All-head, All-tail, All-map, All-weaker}
 use Rattle.meta_types.specs.TypeParts.{TypeParts, IsType}
@@ -7,22 +7,20 @@ use Rattle.meta_inst.specs.InstructionSet.{InstructionSet}
 use Rattle.meta_meaning.specs.Tables.{TableContents, Allows}
 use Rattle.meta_opcode_tables.specs.TablesOf.{AreTablesOf, AcceptsOpcode}
 use Rattle.meta_words.specs.Lines.{lines_of}
-use Rattle.meta_answers.specs.Question.{HasTypes}
+use Rattle.meta_answers.specs.Question.{Question, HasTypes}
 use Rattle.meta_answers.specs.Answer.{AllowedReply, AcceptedReply}
+use Rattle.meta_answers.specs.declared.reply.Reply.{Reply}
 use Rattle.meta_answers.specs.declared.reply.Reply.TheVariants as reply
-use Rattle.meta_answers.proofs.Meant.{accepted, opcode_is}
+use Rattle.meta_answers.proofs.Meant.{accepted}
 use Rattle.meta_verify.specs.Statement.{TypedValue, Application, Statement, OfParameter, OfApplication, IsTyped, CanApply, CanBeStated, defined_by}
-use Rattle.meta_verify.specs.Environment.{Environment, nothing_defined, with_value, with_values, HaveTypes}
-use Rattle.meta_verify.specs.Wrong.{question_of, LacksName, IsRepliedTo, IsAccepted, IsMistake, IsFaultless, IsWrong, Answers, Feeds}
+use Rattle.meta_verify.specs.Environment.{Environment, nothing_defined, with_value, with_values, HaveTypes, HasNamedTypes}
+use Rattle.meta_verify.specs.Wrong.{Replies, question_of, LacksName, IsRepliedTo, IsAccepted, IsMistake, IsFaultless, IsWrong, Answers, Feeds}
 use Rattle.meta_verify.specs.Verdict.{LeadTo, IsAnsweredAt, AreRightTo, IsVerdict}
 use Rattle.meta_verify.proofs.OneAnswer.{right_not_wrong}
 use Rattle.meta_verify.proofs.OneReply.{one_accepted}
+use Rattle.meta_verify.proofs.Allowed.{unknown_back, allowed, unknown_forth}
 use Rattle.meta_verify.specs.declared.reason.Reason.{Reason}
 use Rattle.meta_verify.specs.declared.reason.Reason.TheVariants.{Bad, Unknown, Undefined, Redefined, Refused}
-
--- each type is one that can be named
-abbrev pub HasNamedTypes : Environment → Type 0
-HasNamedTypes env = (v : ℕ) (t : TypeParts) → env v ≡ Some t → IsType t
 
 types_named : (env : Environment) (values : List ℕ) (types : List TypeParts) → HasNamedTypes env → HaveTypes env values types → All IsType types
 types_named env [] [] named h = All-nil IsType
@@ -60,61 +58,108 @@ question_typed a types can h = record {
 pub nothing_named : HasNamedTypes nothing_defined
 nothing_named v t e = absurd (cc)
 
-module _ (d : InstructionSet) (tables : TableContents) (made : AreTablesOf d tables) (means : (op : ℕ) (c e : Option ℕ) (rs vs : List ℕ) → (Allows tables op c e rs vs ↔ AcceptsOpcode d op c e rs vs)) where
-  -- what no instruction is called no opcode is called
-  lacks_back : (s : Statement) → LacksName (AcceptedReply d) s → LacksName (AllowedReply tables) s
-  lacks_back (OfParameter r) h = h
-  lacks_back (OfApplication a) h = λ op e.
-      let (k, b, number, at, is) = opcode_is d tables made op a.name e in
-      h k b at is
+-- ---- behind lines the types can still be named
 
-  replied : (env : Environment) (a : Application) (answer : _) → HasNamedTypes env → CanApply a → IsRepliedTo (AllowedReply tables) env a answer → IsRepliedTo (AcceptedReply d) env a answer
-  replied env a answer named can (types, have, h) =
-      (types, have, accepted d tables made means (question_of a types) (question_typed a types can (types_named env a.values types named have)) answer h)
+module _ (R : Replies) where
+  answers_named : (env env' : Environment) (line : List ℕ) (answer : Option Reason) → HasNamedTypes env → Answers R env line answer env' → HasNamedTypes env'
+  answers_named env env' line None named (s, (states, h), e) = subst HasNamedTypes (sym e) (all_named env (defined_by s) named (results_typed s states.can))
+  answers_named env env' line (Some reason) named (h, e) = subst HasNamedTypes (sym e) named
 
-  accepts : (env : Environment) (s : Statement) → HasNamedTypes env → CanBeStated s → IsAccepted (AllowedReply tables) env s → IsAccepted (AcceptedReply d) env s
+  feeds_named : (env env' : Environment) (line : List ℕ) (answer : Option Reason) → HasNamedTypes env → Feeds R env line answer env' → HasNamedTypes env'
+  feeds_named env env' [] answer named (a, e) = subst HasNamedTypes (sym e) named
+  feeds_named env env' (c ∷ cs) answer named h = answers_named env env' (c ∷ cs) answer named h
+
+  pub leads_named : (env env' : Environment) (lines : List (List ℕ)) → HasNamedTypes env → LeadTo R env lines env' → HasNamedTypes env'
+  leads_named env env' [] named e = subst HasNamedTypes (sym e) named
+  leads_named env env' (line ∷ lines) named (answer, between, fed, rest) = leads_named between env' lines (feeds_named env between line answer named fed) rest
+
+-- ---- where S replies what R does, and `unknown` only where R does, S says the same of lines
+
+module _ (R S : Replies) (means : (q : Question) → HasTypes q → (r : Reply) → R q r → S q r) (unknown : (q : Question) → HasTypes q → S q reply.Unknown → R q reply.Unknown) where
+  lacks_back : (s : Statement) → CanBeStated s → LacksName S s → LacksName R s
+  lacks_back (OfParameter r) can h = h
+  lacks_back (OfApplication a) can h = unknown (question_of a []) (question_typed a [] can (All-nil IsType)) h
+
+  replied : (env : Environment) (a : Application) (answer : Reply) → HasNamedTypes env → CanApply a → IsRepliedTo R env a answer → IsRepliedTo S env a answer
+  replied env a answer named can (types, have, h) = (types, have, means (question_of a types) (question_typed a types can (types_named env a.values types named have)) answer h)
+
+  accepts : (env : Environment) (s : Statement) → HasNamedTypes env → CanBeStated s → IsAccepted R env s → IsAccepted S env s
   accepts env (OfParameter r) named can h = h
   accepts env (OfApplication a) named can h = replied env a reply.Accept named can h
 
-  mistake : (env : Environment) (s : Statement) (reason : Reason) → HasNamedTypes env → CanBeStated s → IsMistake (AllowedReply tables) env s reason → IsMistake (AcceptedReply d) env s reason
+  pub mistake : (env : Environment) (s : Statement) (reason : Reason) → HasNamedTypes env → CanBeStated s → IsMistake R env s reason → IsMistake S env s reason
   mistake env s Bad named can h = h
   mistake env (OfParameter r) Unknown named can h = h
-  mistake env (OfApplication a) Unknown named can h = accepted d tables made means (question_of a []) (question_typed a [] can (All-nil IsType)) reply.Unknown h
-  mistake env s (Undefined v) named can (known, u) = (λ l. known (lacks_back s l), u)
-  mistake env s (Redefined v) named can (known, u, r) = (λ l. known (lacks_back s l), u, r)
+  mistake env (OfApplication a) Unknown named can h = means (question_of a []) (question_typed a [] can (All-nil IsType)) reply.Unknown h
+  mistake env s (Undefined v) named can (known, u) = (λ l. known (lacks_back s can l), u)
+  mistake env s (Redefined v) named can (known, u, r) = (λ l. known (lacks_back s can l), u, r)
   mistake env (OfParameter r) Refused named can (known, u, f, h) = absurd h
-  mistake env (OfApplication a) Refused named can (known, u, f, h) = (λ l. known (lacks_back (OfApplication a) l), u, f, replied env a reply.Refuse named can h)
+  mistake env (OfApplication a) Refused named can (known, u, f, h) = (λ l. known (lacks_back (OfApplication a) can l), u, f, replied env a reply.Refuse named can h)
 
-  faultless : (env : Environment) (s : Statement) → HasNamedTypes env → CanBeStated s → IsFaultless (AllowedReply tables) env s → IsFaultless (AcceptedReply d) env s
-  faultless env s named can h = record { named = λ l. h.named (lacks_back s l); defined = h.defined; fresh = h.fresh; accepted = accepts env s named can h.accepted }
+  pub faultless : (env : Environment) (s : Statement) → HasNamedTypes env → CanBeStated s → IsFaultless R env s → IsFaultless S env s
+  faultless env s named can h = record { named = λ l. h.named (lacks_back s can l); defined = h.defined; fresh = h.fresh; accepted = accepts env s named can h.accepted }
 
-  wrong : (env : Environment) (line : List ℕ) (reason : Reason) → HasNamedTypes env → IsWrong (AllowedReply tables) env line reason → IsWrong (AcceptedReply d) env line reason
+  wrong : (env : Environment) (line : List ℕ) (reason : Reason) → HasNamedTypes env → IsWrong R env line reason → IsWrong S env line reason
   wrong env line reason named (inl (s, states, h)) = inl (s, states, mistake env s reason named states.can h)
   wrong env line reason named (inr h) = inr h
 
-  answers : (env env' : Environment) (line : List ℕ) (answer : Option Reason) → HasNamedTypes env → Answers (AllowedReply tables) env line answer env' → Answers (AcceptedReply d) env line answer env' × HasNamedTypes env'
-  answers env env' line None named (s, (states, h), e) = ((s, (states, faultless env s named states.can h), e), subst HasNamedTypes (sym e) (all_named env (defined_by s) named (results_typed s states.can)))
-  answers env env' line (Some reason) named (h, e) = ((wrong env line reason named h, e), subst HasNamedTypes (sym e) named)
+  answers : (env env' : Environment) (line : List ℕ) (answer : Option Reason) → HasNamedTypes env → Answers R env line answer env' → Answers S env line answer env'
+  answers env env' line None named (s, (states, h), e) = (s, (states, faultless env s named states.can h), e)
+  answers env env' line (Some reason) named (h, e) = (wrong env line reason named h, e)
 
-  feeds_mean : (env env' : Environment) (line : List ℕ) (answer : Option Reason) → HasNamedTypes env → Feeds (AllowedReply tables) env line answer env' → Feeds (AcceptedReply d) env line answer env' × HasNamedTypes env'
-  feeds_mean env env' [] answer named (a, e) = ((a, e), subst HasNamedTypes (sym e) named)
-  feeds_mean env env' (c ∷ cs) answer named h = answers env env' (c ∷ cs) answer named h
+  feeds : (env env' : Environment) (line : List ℕ) (answer : Option Reason) → HasNamedTypes env → Feeds R env line answer env' → Feeds S env line answer env'
+  feeds env env' [] answer named h = h
+  feeds env env' (c ∷ cs) answer named h = answers env env' (c ∷ cs) answer named h
 
-  leads_mean : (env env' : Environment) (lines : List (List ℕ)) → HasNamedTypes env → LeadTo (AllowedReply tables) env lines env' → LeadTo (AcceptedReply d) env lines env' × HasNamedTypes env'
-  leads_mean env env' [] named e = (e, subst HasNamedTypes (sym e) named)
-  leads_mean env env' (line ∷ lines) named (answer, between, fed, rest) =
-      let meant = feeds_mean env between line answer named fed in
-      let others = leads_mean between env' lines meant.1 rest in
-      ((answer, between, meant.0, others.0), others.1)
+  leads : (env env' : Environment) (lines : List (List ℕ)) → HasNamedTypes env → LeadTo R env lines env' → LeadTo S env lines env'
+  leads env env' [] named e = e
+  leads env env' (line ∷ lines) named (answer, between, fed, rest) =
+      (answer, between, feeds env between line answer named fed, leads between env' lines (feeds_named R env between line answer named fed) rest)
 
+-- ---- by tables of declarations
+
+module _ (d : InstructionSet) (tables : TableContents) (made : AreTablesOf d tables) (means : (op : ℕ) (c e : Option ℕ) (rs vs : List ℕ) → (Allows tables op c e rs vs ↔ AcceptsOpcode d op c e rs vs)) where
   -- the answer to a line
   pub answered_means : (lines : List (List ℕ)) (n : ℕ) (answer : Option Reason) → IsAnsweredAt (AllowedReply tables) lines n answer → IsAnsweredAt (AcceptedReply d) lines n answer
   answered_means lines n answer h =
-      let leads = leads_mean nothing_defined h.before (take n lines) nothing_named h.leads in
-      record { line = h.line; at = h.at; before = h.before; leads = leads.0; behind = h.behind; fed = (feeds_mean h.before h.behind h.line answer leads.1 h.fed).0 }
+      let named = leads_named (AllowedReply tables) nothing_defined h.before (take n lines) nothing_named h.leads in
+      record {
+        line = h.line;
+        at = h.at;
+        before = h.before;
+        leads = leads (AllowedReply tables) (AcceptedReply d) (accepted d tables made means) (unknown_back d tables made) nothing_defined h.before (take n lines) nothing_named h.leads;
+        behind = h.behind;
+        fed = feeds (AllowedReply tables) (AcceptedReply d) (accepted d tables made means) (unknown_back d tables made) h.before h.behind h.line answer named h.fed;
+      }
 
-  -- and what is said of an input, where the declarations are valid
+  -- and where the declarations are valid
   module _ (valid : IsValid d) where
+    module _ (env : Environment) (named : HasNamedTypes env) where
+      pub mistake_means : (s : Statement) → CanBeStated s → (reason : Reason) → (IsMistake (AllowedReply tables) env s reason ↔ IsMistake (AcceptedReply d) env s reason)
+      mistake_means s can reason = (
+        λ h. mistake (AllowedReply tables) (AcceptedReply d) (accepted d tables made means) (unknown_back d tables made) env s reason named can h,
+        λ h. mistake (AcceptedReply d) (AllowedReply tables) (allowed d tables made means valid) (unknown_forth d tables made means) env s reason named can h,
+      )
+
+      pub right_means : (s : Statement) → CanBeStated s → (IsFaultless (AllowedReply tables) env s ↔ IsFaultless (AcceptedReply d) env s)
+      right_means s can = (
+        λ h. faultless (AllowedReply tables) (AcceptedReply d) (accepted d tables made means) (unknown_back d tables made) env s named can h,
+        λ h. faultless (AcceptedReply d) (AllowedReply tables) (allowed d tables made means valid) (unknown_forth d tables made means) env s named can h,
+      )
+
+      pub fed_means : (line : List ℕ) (answer : Option Reason) (behind : Environment) → (Feeds (AllowedReply tables) env line answer behind ↔ Feeds (AcceptedReply d) env line answer behind)
+      fed_means line answer behind = (
+        λ h. feeds (AllowedReply tables) (AcceptedReply d) (accepted d tables made means) (unknown_back d tables made) env behind line answer named h,
+        λ h. feeds (AcceptedReply d) (AllowedReply tables) (allowed d tables made means valid) (unknown_forth d tables made means) env behind line answer named h,
+      )
+
+      pub led_means : (lines : List (List ℕ)) (behind : Environment) → (LeadTo (AllowedReply tables) env lines behind ↔ LeadTo (AcceptedReply d) env lines behind)
+      led_means lines behind = (
+        λ h. leads (AllowedReply tables) (AcceptedReply d) (accepted d tables made means) (unknown_back d tables made) env behind lines named h,
+        λ h. leads (AcceptedReply d) (AllowedReply tables) (allowed d tables made means valid) (unknown_forth d tables made means) env behind lines named h,
+      )
+
+    -- what is said of an input
     rights_mean : (lines : List (List ℕ)) (count : ℕ) → AreRightTo (AllowedReply tables) lines count → AreRightTo (AcceptedReply d) lines count
     rights_mean lines count h = record {
       each = λ n l. answered_means lines n None (h.each n l);

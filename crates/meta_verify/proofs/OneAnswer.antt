@@ -38,7 +38,7 @@ module _ (R : Replies) (one : (q : Question) (r s : Reply) → R q r → R q s �
       absurd (cc)
 
   -- what is right is no mistake
-  right_is_none : (env : Environment) (s : Statement) (reason : Reason) → IsFaultless R env s → IsMistake R env s reason → ⊥
+  pub right_is_none : (env : Environment) (s : Statement) (reason : Reason) → IsFaultless R env s → IsMistake R env s reason → ⊥
   right_is_none env s Bad h g = g
   right_is_none env s Unknown h g = h.named g
   right_is_none env s (Undefined v) h (known, u) = let e : None ≡ Some v = sym h.defined ∙ u in absurd (cc)
@@ -46,7 +46,7 @@ module _ (R : Replies) (one : (q : Question) (r s : Reply) → R q r → R q s �
   right_is_none env s Refused h (known, u, r, refused) = not_both env s h.accepted refused
 
   -- what is stated has one mistake
-  one_mistake : (env : Environment) (s : Statement) (a b : Reason) → IsMistake R env s a → IsMistake R env s b → a ≡ b
+  pub one_mistake : (env : Environment) (s : Statement) (a b : Reason) → IsMistake R env s a → IsMistake R env s b → a ≡ b
   one_mistake env s Bad b h g = absurd h
   one_mistake env s a Bad h g = absurd g
   one_mistake env s Unknown Unknown h g = refl
@@ -85,7 +85,7 @@ module _ (R : Replies) (one : (q : Question) (r s : Reply) → R q r → R q s �
   one_answer env e f line (Some a) None (wrong, is) (t, right, too) = absurd (not_wrong env line t a right wrong)
   one_answer env e f line (Some a) (Some b) (wrong, is) (also, too) = (ap (λ r. Some r) (one_wrong env line a b wrong also), is ∙ sym too)
 
-  one_fed : (env e f : Environment) (line : List ℕ) (a b : Option Reason) → Feeds R env line a e → Feeds R env line b f → (a ≡ b) × (e ≡ f)
+  pub one_fed : (env e f : Environment) (line : List ℕ) (a b : Option Reason) → Feeds R env line a e → Feeds R env line b f → (a ≡ b) × (e ≡ f)
   one_fed env e f [] a b (none, is) (nothing, too) = (none ∙ sym nothing, is ∙ sym too)
   one_fed env e f (c ∷ cs) a b h g = one_answer env e f (c ∷ cs) a b h g
 

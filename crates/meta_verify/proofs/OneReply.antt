@@ -45,10 +45,10 @@ one_allowed tables q (Setting line) s h g = absurd h
 -- ---- by declarations, in which no two instructions have the same name
 
 module _ (d : InstructionSet) (valid : IsValid d) where
-  name_at : (k : ℕ) (b : Builder) → IsAt d k b → slice_get (names_of d) k ≡ Some b.name
+  pub name_at : (k : ℕ) (b : Builder) → IsAt d k b → slice_get (names_of d) k ≡ Some b.name
   name_at k b at = get_map (λ (b : Builder). b.name) d.instructions k b at
 
-  one_asked : (name : List ℕ) (b c : Builder) → IsAskedFor d name b → IsAskedFor d name c → b ≡ c
+  pub one_asked : (name : List ℕ) (b c : Builder) → IsAskedFor d name b → IsAskedFor d name c → b ≡ c
   one_asked name b c h g =
       let place : h.place ≡ g.place = different_names d valid h.place g.place c.name (name_at h.place b h.at ∙ ap (λ n. Some n) (h.named ∙ sym g.named)) (name_at g.place c g.at) in
       same_Some b c (sym h.at ∙ ap (slice_get d.instructions) place ∙ g.at)

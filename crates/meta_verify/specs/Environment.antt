@@ -1,6 +1,6 @@
 -- Which values are defined, and of which types.
 use Rattle.std.specs.Prelude.{◌≡◌, ℕ, ◌==◌, List, [], ◌∷◌, map, Option, None, Some, if◌then◌else◌, is_some}
-use Rattle.meta_types.specs.TypeParts.{TypeParts}
+use Rattle.meta_types.specs.TypeParts.{TypeParts, IsType}
 use Rattle.meta_verify.specs.Statement.{TypedValue}
 
 -- the type of each value that is defined
@@ -33,3 +33,7 @@ first_redefined env (r ∷ rs) = if is_some (env r.value) then Some r.value else
 -- the values have these types
 abbrev pub HaveTypes : Environment → List ℕ → List TypeParts → Type 0
 HaveTypes env values types = map env values ≡ map (λ t. Some t) types
+
+-- the type of each value that is defined can be named, as those that a checker knows
+abbrev pub HasNamedTypes : Environment → Type 0
+HasNamedTypes env = (v : ℕ) (t : TypeParts) → env v ≡ Some t → IsType t

@@ -2,7 +2,7 @@ ghost use Rattle.std.specs.Prelude.{◌≡◌, ℕ, List, Option, None, IfOk, If
 ghost use Rattle.std.specs.Option.{option_map};
 ghost use Rattle.meta_types.specs.TypeParts.{number_of};
 ghost use Rattle.meta_answers.specs.Answer.{AllowedReply};
-ghost use Rattle.meta_verify.specs.Environment.{nothing_defined, with_values, first_redefined};
+ghost use Rattle.meta_verify.specs.Environment.{nothing_defined, with_values, first_redefined, HasNamedTypes};
 ghost use Rattle.meta_verify.specs.Defined.{definitions};
 ghost use Rattle.meta_verify.specs.Numbers.{stated, HasTypeNumbers};
 ghost use Rattle.meta_verify.specs.Statement as spec;
@@ -54,6 +54,14 @@ impl Checker {
         ensures { result ≡ option_map number_of (definitions self.now value) }
     {
         self.types.get(value)
+    }
+
+    /// The type of each value that is defined can be named. It does nothing: it tells a proof what is so of any checker (this project's
+    /// own).
+    pub fn types_can_be_named(&self)
+        ensures { HasNamedTypes (definitions self.now) }
+    {
+        let _types = &self.types;
     }
 
     /// Why what is stated is wrong, by the tables, and `None` exactly where it is right.

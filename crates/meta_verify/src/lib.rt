@@ -16,7 +16,10 @@ mod verdict;
 mod verifier;
 
 pub use checker::Checker;
-pub use laws::{answers_mean, one_verdict};
+pub use laws::{
+    answers_mean, mistakes_mean, one_answer, one_mistake, one_statement, one_verdict,
+    types_stay_named,
+};
 pub use meta_run::Ending as VerifyStatus;
 pub use reason::Reason;
 pub use statement::{Application, Statement, TypedNumber};
