@@ -5,12 +5,12 @@ use Rattle.meta_inst.specs.InstructionSet.{InstructionSet}
 use Rattle.meta_meaning.specs.Tables.{TableContents}
 use Rattle.meta_answers.specs.Answer.{AllowedReply, AcceptedReply}
 use Rattle.meta_verify.specs.Statement.{defined_by}
-use Rattle.meta_verify.specs.Environment.{Environment, nothing_defined, with_values}
+use Rattle.meta_verify.specs.Environment.{Environment, nothing_defined, with_values, HasNamedTypes}
 use Rattle.meta_verify.specs.Verdict.{IsVerdict}
 use Rattle.meta_verify.proofs.StatementLemmas.{one_statement}
 use Rattle.meta_verify.proofs.Meaning.{all_named, results_typed, nothing_named}
 use Rattle.meta_short.specs.Manners.{IsMannerIn, IsMannerDeclared}
-use Rattle.meta_short.specs.Reading.{IsShortIn, IsShortDeclared, HasNamedTypes}
+use Rattle.meta_short.specs.Reading.{IsShortIn, IsShortDeclared}
 use Rattle.meta_asm.specs.Listing.{filled, AreShort, IsFirstUnread, IsShortened, IsSpelled}
 
 module _ (d : InstructionSet) (tables : TableContents) (means : (env : Environment) → HasNamedTypes env → (line text : List ℕ) → (IsShortIn tables env line text ↔ IsShortDeclared d env line text)) where

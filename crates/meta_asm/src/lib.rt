@@ -1,6 +1,6 @@
 //! Lists of lines whose types are left out, both ways.
 //!
-//! `read_line` reads a line with types left out, as `print_line` of `meta_short` writes it. `asm` writes whole lists, in the short form or
+//! `print_line` writes a line with its types left out, and `read_line` reads it back. `asm` writes whole lists, in the short form or
 //! in the explicit one, over declarations.
 #![tactic(auto)]
 
@@ -17,4 +17,5 @@ mod written;
 pub use assembler::asm;
 pub use laws::lists_are_written_back;
 pub use meta_run::Ending as AsmStatus;
+pub use meta_short::print_line;
 pub use reader::read_line;

@@ -12,11 +12,11 @@ use Rattle.meta_answers.specs.Answer.{AllowedReply, AcceptedReply}
 use Rattle.meta_answers.specs.declared.reply.Reply.TheVariants as reply
 use Rattle.meta_answers.proofs.Meant.{accepted}
 use Rattle.meta_verify.specs.Statement.{TypedValue, Application, Statement, OfParameter, OfApplication, IsTyped, CanApply, CanBeStated}
-use Rattle.meta_verify.specs.Environment.{Environment, HaveTypes}
+use Rattle.meta_verify.specs.Environment.{Environment, HaveTypes, HasNamedTypes}
 use Rattle.meta_verify.specs.Wrong.{question_of, LacksName, IsAccepted, IsFaultless}
 use Rattle.meta_short.specs.Short.{Manner}
 use Rattle.meta_short.specs.Manners.{IsMannerIn, IsMannerDeclared}
-use Rattle.meta_short.specs.Reading.{HasManner, IsShortIn, IsShortDeclared, HasNamedTypes}
+use Rattle.meta_short.specs.Reading.{HasManner, IsShortIn, IsShortDeclared}
 use Rattle.meta_short.specs.Made.{AreMade}
 use Rattle.meta_short.proofs.MannersMean.{manner_means, manner_back, first_named}
 

@@ -3,8 +3,7 @@
 --     IsShort R M env line text       behind lines that define env the line is right, and the text is its short form
 --     ReadsAs R M env text line       behind them the text reads as the line
 --     IsShortIn tables, IsShortDeclared d       the same by tables, and as declarations mean
-use Rattle.std.specs.Prelude.{◌≡◌, ⊤, ℕ, List, Some}
-use Rattle.meta_types.specs.TypeParts.{TypeParts, IsType}
+use Rattle.std.specs.Prelude.{◌≡◌, ⊤, ℕ, List}
 use Rattle.meta_inst.specs.InstructionSet.{InstructionSet}
 use Rattle.meta_meaning.specs.Tables.{TableContents}
 use Rattle.meta_answers.specs.Answer.{AllowedReply, AcceptedReply}
@@ -48,7 +47,3 @@ IsShortDeclared d env line text = IsShort (AcceptedReply d) (IsMannerDeclared d)
 
 abbrev pub ReadsDeclared : InstructionSet → Environment → List ℕ → List ℕ → Type 0
 ReadsDeclared d env text line = IsShortDeclared d env line text
-
--- the type of each value that is defined can be named, as those that a checker knows
-abbrev pub HasNamedTypes : Environment → Type 0
-HasNamedTypes env = (v : ℕ) (t : TypeParts) → env v ≡ Some t → IsType t

@@ -3,17 +3,24 @@ ghost use Rattle.meta_inst.specs.InstructionSet.{InstructionSet};
 ghost use Rattle.meta_inst.specs.Faults.{IsValid};
 ghost use Rattle.meta_meaning.specs.Tables.{TableContents};
 ghost use Rattle.meta_opcode_tables.specs.WellFormed.{IsWellFormedOpcodes};
-ghost use Rattle.meta_verify.specs.Environment.{Environment};
+ghost use Rattle.meta_verify.specs.Environment.{Environment, HasNamedTypes};
 ghost use Rattle.meta_short.specs.Short.{Manner};
 ghost use Rattle.meta_short.specs.Manners.{IsMannerIn, IsMannerDeclared};
 ghost use Rattle.meta_short.specs.Made.{AreMade};
-ghost use Rattle.meta_short.specs.Reading.{IsShortIn, ReadsIn, IsShortDeclared, ReadsDeclared, HasNamedTypes};
+ghost use Rattle.meta_short.specs.Reading.{IsShortIn, ReadsIn, IsShortDeclared, ReadsDeclared};
 
-/// For one environment a text reads as one line at most: by well-formed tables, and as valid declarations mean. So what `print_line`
-/// wrote of a line reads as that line, and as no other.
+/// For one environment a text reads as one line at most: by well-formed tables, and as valid declarations mean.
 pub fn one_line_reads()
     ensures tables { (tables : TableContents) → IsWellFormedOpcodes tables → (env : Environment) (text a b : List ℕ) → ReadsIn tables env text a → ReadsIn tables env text b → a ≡ b }
     ensures declared { (d : InstructionSet) → IsValid d → (env : Environment) (text a b : List ℕ) → ReadsDeclared d env text a → ReadsDeclared d env text b → a ≡ b }
+{}
+
+/// What `print_line` wrote of a line reads as that line, and as no other: by well-formed tables, and as valid declarations mean.
+pub fn printed_lines_read()
+    ensures tables { (tables : TableContents) → IsWellFormedOpcodes tables → (env : Environment) (line text : List ℕ) → IsShortIn tables env line text
+        → ReadsIn tables env text line × ((other : List ℕ) → ReadsIn tables env text other → other ≡ line) }
+    ensures declared { (d : InstructionSet) → IsValid d → (env : Environment) (line text : List ℕ) → IsShortDeclared d env line text
+        → ReadsDeclared d env text line × ((other : List ℕ) → ReadsDeclared d env text other → other ≡ line) }
 {}
 
 /// By tables a line has one short form at most.

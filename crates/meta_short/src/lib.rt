@@ -9,6 +9,6 @@ mod manner;
 mod print;
 mod push;
 
-pub use laws::{one_line_reads, one_short_form, short_forms_mean};
+pub use laws::{one_line_reads, one_short_form, printed_lines_read, short_forms_mean};
 pub use manner::{Manner, is_control, value_constraints};
 pub use print::{print_line, push_line, push_short};
