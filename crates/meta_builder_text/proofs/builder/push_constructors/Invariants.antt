@@ -1,6 +1,7 @@
 use Rattle.std.proofs.Common.{◌≡◌, ◌++◌, drop, string_bytes}
 use Rattle.std.specs.List.{flat_map}
-use Rattle.meta_builder_text.specs.BuilderText.{gap_text, constructor_at}
+use Rattle.meta_rust_lines.specs.Ends.{gap_text}
+use Rattle.meta_builder_text.specs.BuilderText.{constructor_at}
 use Rattle.meta_builder_text.proofs.builder.push_constructors.Given as goal
 
 -- what is written, and then what is left to write
