@@ -1,23 +1,25 @@
 -- What is written is read.
-use Rattle.std.proofs.Common.{◌≡◌, ◌∙◌, ℕ, Bool, true, false, cond, List, [], ◌∷◌, ◌++◌, None, refl, sym, ap, subst, append_assoc, codes, inl, inr}
+use Rattle.std.proofs.Common.{◌≡◌, ◌∙◌, ℕ, suc, ◌-◌, length, get_or, arith, length-append, Bool, true, false, cond, List, [], ◌∷◌, ◌++◌, None, refl, sym, ap, subst, append_assoc, codes, inl, inr}
 use Rattle.std.specs.Prelude.{◌==◌, ◌||◌}
 use Rattle.std.proofs.lemmas.Bool.{eqb-true}
 use Rattle.std.proofs.lemmas.List.{append-nil}
+use Rattle.std.proofs.Math.Seq.{take-append_seam}
 use Rattle.meta_tokens.specs.Scan.{is_word_byte, scanned, tokens_in, next, ended_by, ended, class_of, word_token}
-use Rattle.meta_tokens.specs.Laid.{escaped, escaped_byte, AreWordBytes, keyword_text, CanWrite, CanWriteAll, written, behind, laid, separator, starts, is_doc, closes, opens, IsWord, IsSignByte}
-use Rattle.meta_tokens.specs.Keywords.{keyword_of}
+use Rattle.std.specs.Str.Lines.{strip_carriage_return}
+use Rattle.meta_tokens.specs.Laid.{escaped, escaped_byte, cr_more, doc_line, AreWordBytes, AreLineBytes, CanWrite, CanWriteAll, written, behind, laid, separator, starts, is_doc, closes, opens, IsWord, IsSignByte}
+use Rattle.meta_tokens.specs.Keywords.{keyword_of, keyword_text}
 use Rattle.meta_tokens.specs.declared.keyword.Keyword.{Keyword}
 use Rattle.meta_tokens.specs.declared.keyword.Keyword.TheVariants as key
 use Rattle.meta_tokens.specs.declared.scanner.Mode.{Mode}
 use Rattle.meta_tokens.specs.declared.token.Token.{Token}
 use Rattle.meta_tokens.specs.declared.token.Token.TheVariants.{Key, Word, Quoted, Sign, Doc, Stray}
-use Rattle.meta_tokens.specs.declared.scanner.Mode.TheVariants.{Start, Between, InWord, InText, Escape, InDoc, Lost}
+use Rattle.meta_tokens.specs.declared.scanner.Mode.TheVariants.{Start, Between, InWord, InText, Escape, ThreeSlashes, InDoc, Lost}
 
 word_is_no_lf_by : (c : ℕ) (b : Bool) → (c == 10) ≡ b → is_word_byte c ≡ true → b ≡ false
 word_is_no_lf_by c false e h = refl
 word_is_no_lf_by c true e h =
     let is : c ≡ 10 = eqb-true c 10 e in
-    let no : is_word_byte 10 ≡ true = subst (λ (n : ℕ). is_word_byte n ≡ true) is h in
+    let wrong : is_word_byte 10 ≡ true = subst (λ (n : ℕ). is_word_byte n ≡ true) is h in
     absurd (cc)
 
 pub word_is_no_lf : (c : ℕ) → is_word_byte c ≡ true → (c == 10) ≡ false
@@ -58,6 +60,47 @@ pub text_reads : (u rest : List ℕ) → scanned Between [] (34 ∷ (escaped u +
 unfolding next ended_by class_of
 text_reads u rest = text_goes_on [] u (34 ∷ rest)
 
+-- a line of documentation goes on
+pub doc_goes_on : (v w rest : List ℕ) → AreLineBytes w → scanned InDoc v (w ++ rest) ≡ scanned InDoc (v ++ w) rest
+unfolding next ended_by
+doc_goes_on v [] rest h = ap (λ (x : List ℕ). scanned InDoc x rest) (sym (append-nil v))
+doc_goes_on v (c ∷ cs) rest h =
+    let lf : (c == 10) ≡ false = h.0 in
+    let one : scanned InDoc v ((c ∷ cs) ++ rest) ≡ scanned InDoc (v ++ c ∷ []) (cs ++ rest) = rw lf refl in
+    one ∙ doc_goes_on (v ++ c ∷ []) cs rest h.1 ∙ ap (λ (x : List ℕ). scanned InDoc x rest) (append_assoc v (c ∷ []) cs)
+
+-- the CR more has no LF
+cr_is_line_by : (b : Bool) → AreLineBytes (cond b (13 ∷ []) [])
+cr_is_line_by true = (refl, tt)
+cr_is_line_by false = tt
+
+cr_is_line : (d : List ℕ) → AreLineBytes (cr_more d)
+cr_is_line d = cr_is_line_by (get_or d (length d - 1) 0 == 13)
+
+line_append : (v w : List ℕ) → AreLineBytes v → AreLineBytes w → AreLineBytes (v ++ w)
+line_append [] w h g = g
+line_append (c ∷ cs) w h g = (h.0, line_append cs w h.1 g)
+
+at_seam : (d : List ℕ) (x : ℕ) → get_or (d ++ x ∷ []) (length d) 0 ≡ x
+at_seam [] x = refl
+at_seam (c ∷ cs) x = at_seam cs x
+
+strip_one : (d : List ℕ) → strip_carriage_return (d ++ 13 ∷ []) ≡ d
+strip_one d =
+    let k : length (d ++ 13 ∷ []) - 1 ≡ length d = omega (arith, length-append d (13 ∷ [])) in
+    rw (k, at_seam d 13) (take-append_seam d (13 ∷ []))
+
+strip_none : (d : List ℕ) → (get_or d (length d - 1) 0 == 13) ≡ false → strip_carriage_return d ≡ d
+strip_none d e = rw e refl
+
+strip_by : (d : List ℕ) (b : Bool) → (get_or d (length d - 1) 0 == 13) ≡ b → strip_carriage_return (d ++ cond b (13 ∷ []) []) ≡ d
+strip_by d true e = strip_one d
+strip_by d false e = ap strip_carriage_return (append-nil d) ∙ strip_none d e
+
+-- without its last CR, a line with one CR more is the line
+strip_more : (d : List ℕ) → strip_carriage_return (d ++ cr_more d) ≡ d
+strip_more d = strip_by d _ refl
+
 -- ---- whole tokens
 
 abbrev mode_after : Token → Mode
@@ -65,7 +108,8 @@ mode_after (Key k) = InWord
 mode_after (Word w) = InWord
 mode_after (Quoted t) = Between
 mode_after (Sign c) = Between
-mode_after (Doc d) = InDoc
+mode_after (Doc []) = ThreeSlashes
+mode_after (Doc (c ∷ cs)) = InDoc
 mode_after (Stray f) = Lost
 
 abbrev bytes_after : Token → List ℕ
@@ -73,7 +117,8 @@ bytes_after (Key k) = keyword_text k
 bytes_after (Word w) = w
 bytes_after (Quoted t) = []
 bytes_after (Sign c) = []
-bytes_after (Doc d) = d
+bytes_after (Doc []) = []
+bytes_after (Doc (c ∷ cs)) = (c ∷ cs) ++ cr_more (c ∷ cs)
 bytes_after (Stray f) = []
 
 -- the token where it isn't told before what stands behind it
@@ -99,8 +144,8 @@ emitted-pending (Key k) ts h = refl
 emitted-pending (Word w) ts h = refl
 emitted-pending (Quoted t) ts h = refl
 emitted-pending (Sign c) ts h = refl
-emitted-pending (Doc d) ts h = absurd (let no = h tt in cc)
-emitted-pending (Stray f) ts h = absurd cc
+emitted-pending (Doc d) ts h = refl
+emitted-pending (Stray f) ts h = absurd h
 
 word_token_of_key : (k : Keyword) → word_token (keyword_text k) ≡ Key k
 unfolding keyword_of
@@ -174,14 +219,30 @@ unfolding next ended_by class_of
 text_opens true u rest = rw (append_assoc (escaped u) (34 ∷ []) rest) (text_goes_on [] u (34 ∷ rest))
 text_opens false u rest = rw (append_assoc (escaped u) (34 ∷ []) rest) (text_goes_on [] u (34 ∷ rest))
 
--- a token where nothing began
-opened : (front : Bool) (t : Token) (rest : List ℕ) → CanWrite t → scanned (free_mode front) [] (written t ++ rest) ≡ emitted t ++ scanned (mode_after t) (bytes_after t) rest
-opened front (Key k) rest h = key_opens front k rest
-opened front (Word w) rest h = subst (λ (v : List ℕ). scanned (free_mode front) [] (v ++ rest) ≡ scanned InWord v rest) (sym h.is) (word_opens front h.first h.more rest h.bytes)
-opened front (Quoted t) rest h = text_opens front t rest
-opened front (Sign c) rest h = sign_opens front c rest h
-opened front (Doc d) rest h = absurd (let no = h tt in cc)
-opened front (Stray f) rest h = absurd cc
+-- a line of documentation, at the front of a line
+doc_opens : (d rest : List ℕ) → AreLineBytes d → scanned Start [] (written (Doc d) ++ rest) ≡ scanned (mode_after (Doc d)) (bytes_after (Doc d)) rest
+unfolding next ended_by class_of
+doc_opens [] rest h = refl
+doc_opens (c ∷ cs) rest h = doc_goes_on [] ((c ∷ cs) ++ cr_more (c ∷ cs)) rest (line_append (c ∷ cs) (cr_more (c ∷ cs)) h (cr_is_line (c ∷ cs)))
+
+-- a token where nothing began: documentation only at the front of a line
+opened : (front : Bool) (t : Token) (rest : List ℕ) → CanWrite t → (is_doc t ≡ true → front ≡ true) → scanned (free_mode front) [] (written t ++ rest) ≡ emitted t ++ scanned (mode_after t) (bytes_after t) rest
+opened front (Key k) rest h g = key_opens front k rest
+opened front (Word w) rest h g = subst (λ (v : List ℕ). scanned (free_mode front) [] (v ++ rest) ≡ scanned InWord v rest) (sym h.is) (word_opens front h.first h.more rest h.bytes)
+opened front (Quoted t) rest h g = text_opens front t rest
+opened front (Sign c) rest h g = sign_opens front c rest h
+opened true (Doc d) rest h g = doc_opens d rest h
+opened false (Doc d) rest h g = absurd (let wrong : false ≡ true = g refl in cc)
+opened front (Stray f) rest h g = absurd h
+
+-- what doesn't begin a line is no documentation
+no_doc : (t : Token) → starts t ≡ false → is_doc t ≡ true → false ≡ true
+no_doc (Key k) e d = d
+no_doc (Word w) e d = d
+no_doc (Quoted t) e d = d
+no_doc (Sign c) e d = d
+no_doc (Doc x) e d = sym e
+no_doc (Stray f) e d = d
 
 word_is : (w : List ℕ) → IsWord w → word_token w ≡ Word w
 word_is w h = rw h.free refl
@@ -193,55 +254,63 @@ line_ends (Key k) rest h = rw (word_token_of_key k) refl
 line_ends (Word w) rest h = rw (word_is w h) refl
 line_ends (Quoted t) rest h = refl
 line_ends (Sign c) rest h = refl
-line_ends (Doc d) rest h = absurd (let no = h tt in cc)
-line_ends (Stray f) rest h = absurd cc
+line_ends (Doc []) rest h = refl
+line_ends (Doc (c ∷ cs)) rest h = ap (λ (x : List ℕ). Doc x ∷ scanned Start [] rest) (strip_more (c ∷ cs))
+line_ends (Stray f) rest h = absurd h
 
-blank_stands : (u : Token) (rest : List ℕ) → CanWrite u → scanned (mode_after u) (bytes_after u) (32 ∷ rest) ≡ pending u ++ scanned Between [] rest
+blank_stands : (u : Token) (rest : List ℕ) → CanWrite u → is_doc u ≡ false → scanned (mode_after u) (bytes_after u) (32 ∷ rest) ≡ pending u ++ scanned Between [] rest
 unfolding next ended_by class_of
-blank_stands (Key k) rest h = rw (word_token_of_key k) refl
-blank_stands (Word w) rest h = rw (word_is w h) refl
-blank_stands (Quoted t) rest h = refl
-blank_stands (Sign c) rest h = refl
-blank_stands (Doc d) rest h = absurd (let no = h tt in cc)
-blank_stands (Stray f) rest h = absurd cc
+blank_stands (Key k) rest h undoc = rw (word_token_of_key k) refl
+blank_stands (Word w) rest h undoc = rw (word_is w h) refl
+blank_stands (Quoted t) rest h undoc = refl
+blank_stands (Sign c) rest h undoc = refl
+blank_stands (Doc d) rest h undoc = absurd cc
+blank_stands (Stray f) rest h undoc = absurd h
 
-touches : (u t : Token) (rest : List ℕ) → CanWrite u → CanWrite t → (closes t || opens u) ≡ true
+touches : (u t : Token) (rest : List ℕ) → CanWrite u → CanWrite t → is_doc u ≡ false → starts t ≡ false → (closes t || opens u) ≡ true
     → scanned (mode_after u) (bytes_after u) (written t ++ rest) ≡ pending u ++ (emitted t ++ scanned (mode_after t) (bytes_after t) rest)
-touches (Sign c) t rest h g e = opened false t rest g
-touches (Key k) (Sign c) rest h g e = sign_ends_word (keyword_text k) (Key k) c rest (word_token_of_key k) g
-touches (Word w) (Sign c) rest h g e = sign_ends_word w (Word w) c rest (word_is w h) g
-touches (Quoted u) (Sign c) rest h g e = sign_opens false c rest g
-touches (Key k) (Key l) rest h g e = absurd cc
-touches (Key k) (Word w) rest h g e = absurd cc
-touches (Key k) (Quoted w) rest h g e = absurd cc
-touches (Key k) (Doc w) rest h g e = absurd cc
-touches (Key k) (Stray f) rest h g e = absurd cc
-touches (Word v) (Key l) rest h g e = absurd cc
-touches (Word v) (Word w) rest h g e = absurd cc
-touches (Word v) (Quoted w) rest h g e = absurd cc
-touches (Word v) (Doc w) rest h g e = absurd cc
-touches (Word v) (Stray f) rest h g e = absurd cc
-touches (Quoted v) (Key l) rest h g e = absurd cc
-touches (Quoted v) (Word w) rest h g e = absurd cc
-touches (Quoted v) (Quoted w) rest h g e = absurd cc
-touches (Quoted v) (Doc w) rest h g e = absurd cc
-touches (Quoted v) (Stray f) rest h g e = absurd cc
-touches (Doc d) t rest h g e = absurd (let no = h tt in cc)
-touches (Stray f) t rest h g e = absurd cc
+touches (Sign c) t rest h g undoc still e = opened false t rest g (no_doc t still)
+touches (Key k) (Sign c) rest h g undoc still e = sign_ends_word (keyword_text k) (Key k) c rest (word_token_of_key k) g
+touches (Word w) (Sign c) rest h g undoc still e = sign_ends_word w (Word w) c rest (word_is w h) g
+touches (Quoted u) (Sign c) rest h g undoc still e = sign_opens false c rest g
+touches (Key k) (Key l) rest h g undoc still e = absurd cc
+touches (Key k) (Word w) rest h g undoc still e = absurd cc
+touches (Key k) (Quoted w) rest h g undoc still e = absurd cc
+touches (Key k) (Doc w) rest h g undoc still e = absurd cc
+touches (Key k) (Stray f) rest h g undoc still e = absurd cc
+touches (Word v) (Key l) rest h g undoc still e = absurd cc
+touches (Word v) (Word w) rest h g undoc still e = absurd cc
+touches (Word v) (Quoted w) rest h g undoc still e = absurd cc
+touches (Word v) (Doc w) rest h g undoc still e = absurd cc
+touches (Word v) (Stray f) rest h g undoc still e = absurd cc
+touches (Quoted v) (Key l) rest h g undoc still e = absurd cc
+touches (Quoted v) (Word w) rest h g undoc still e = absurd cc
+touches (Quoted v) (Quoted w) rest h g undoc still e = absurd cc
+touches (Quoted v) (Doc w) rest h g undoc still e = absurd cc
+touches (Quoted v) (Stray f) rest h g undoc still e = absurd cc
+touches (Doc d) t rest h g undoc still e = absurd cc
+touches (Stray f) t rest h g undoc still e = absurd h
 
-separated : (u t : Token) (rest : List ℕ) (p q : Bool) → CanWrite u → CanWrite t → (closes t || opens u) ≡ q
+neither : (a b : Bool) → (a || b) ≡ false → (a ≡ false) × (b ≡ false)
+neither false false e = (refl, refl)
+neither false true e = absurd cc
+neither true b e = absurd cc
+
+separated : (u t : Token) (rest : List ℕ) (p q : Bool) → CanWrite u → CanWrite t → (is_doc u || starts t) ≡ p → (closes t || opens u) ≡ q
     → scanned (mode_after u) (bytes_after u) (cond p (10 ∷ []) (cond q [] (32 ∷ [])) ++ (written t ++ rest)) ≡ pending u ++ (emitted t ++ scanned (mode_after t) (bytes_after t) rest)
-separated u t rest true q h g e = line_ends u (written t ++ rest) h ∙ ap (λ (x : List Token). pending u ++ x) (opened true t rest g)
-separated u t rest false true h g e = touches u t rest h g e
-separated u t rest false false h g e = blank_stands u (written t ++ rest) h ∙ ap (λ (x : List Token). pending u ++ x) (opened false t rest g)
+separated u t rest true q h g l e = line_ends u (written t ++ rest) h ∙ ap (λ (x : List Token). pending u ++ x) (opened true t rest g (λ d. refl))
+separated u t rest false true h g l e = let n = neither (is_doc u) (starts t) l in touches u t rest h g n.0 n.1 e
+separated u t rest false false h g l e =
+    let n = neither (is_doc u) (starts t) l in
+    blank_stands u (written t ++ rest) h n.0 ∙ ap (λ (x : List Token). pending u ++ x) (opened false t rest g (no_doc t n.1))
 
 laid_behind : (u : Token) (ts : List Token) → CanWrite u → CanWriteAll ts → scanned (mode_after u) (bytes_after u) (behind u ts) ≡ pending u ++ ts
 unfolding behind ended
 laid_behind u [] h all = line_ends u [] h
 laid_behind u (t ∷ ts) h all =
-    separated u t (behind t ts) _ _ h all.0 refl ∙ ap (λ (x : List Token). pending u ++ (emitted t ++ x)) (laid_behind t ts all.0 all.1) ∙ ap (λ (x : List Token). pending u ++ x) (emitted-pending t ts all.0)
+    separated u t (behind t ts) _ _ h all.0 refl refl ∙ ap (λ (x : List Token). pending u ++ (emitted t ++ x)) (laid_behind t ts all.0 all.1) ∙ ap (λ (x : List Token). pending u ++ x) (emitted-pending t ts all.0)
 
 pub laid_reads : (ts : List Token) → CanWriteAll ts → tokens_in (laid ts) ≡ ts
 unfolding laid ended
 laid_reads [] all = refl
-laid_reads (t ∷ ts) all = opened true t (behind t ts) all.0 ∙ ap (λ (x : List Token). emitted t ++ x) (laid_behind t ts all.0 all.1) ∙ emitted-pending t ts all.0
+laid_reads (t ∷ ts) all = opened true t (behind t ts) all.0 (λ d. refl) ∙ ap (λ (x : List Token). emitted t ++ x) (laid_behind t ts all.0 all.1) ∙ emitted-pending t ts all.0

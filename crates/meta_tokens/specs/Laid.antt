@@ -1,22 +1,9 @@
--- The text of tokens: documentation and keywords begin a line, and a blank stands between two others, but for signs that stand close.
-use Rattle.std.specs.Prelude.{◌≡◌, ◌⊎◌, ℕ, ◌==◌, ◌||◌, Bool, true, false, List, [], ◌∷◌, ◌++◌, Option, None, codes, if◌then◌else◌}
+-- The canonical text of tokens: documentation and keywords begin a line, and a blank stands between two others, but for signs that stand close.
+use Rattle.std.specs.Prelude.{◌≡◌, ◌⊎◌, ℕ, ◌-◌, ◌==◌, length, slice_index, ◌||◌, Bool, true, false, List, [], ◌∷◌, ◌++◌, Option, None, codes, if◌then◌else◌}
 use Rattle.meta_tokens.specs.Scan.{is_word_byte}
-use Rattle.meta_tokens.specs.Keywords.{keyword_of}
-use Rattle.meta_tokens.specs.declared.keyword.Keyword.{Keyword}
-use Rattle.meta_tokens.specs.declared.keyword.Keyword.TheVariants as key
+use Rattle.meta_tokens.specs.Keywords.{keyword_of, keyword_text}
 use Rattle.meta_tokens.specs.declared.token.Token.{Token}
 use Rattle.meta_tokens.specs.declared.token.Token.TheVariants.{Key, Word, Quoted, Sign, Doc, Stray}
-
-abbrev pub keyword_text : Keyword → List ℕ
-keyword_text key.Type = codes "type"
-keyword_text key.Kind = codes "kind"
-keyword_text key.Format = codes "format"
-keyword_text key.Inst = codes "inst"
-keyword_text key.Group = codes "group"
-keyword_text key.Bool = codes "bool"
-keyword_text key.Num = codes "num"
-keyword_text key.Enum = codes "enum"
-keyword_text key.Preset = codes "preset"
 
 -- a byte between quotes
 abbrev pub escaped_byte : ℕ → List ℕ
@@ -26,13 +13,21 @@ abbrev pub escaped : List ℕ → List ℕ
 escaped [] = []
 escaped (c ∷ cs) = escaped_byte c ++ escaped cs
 
--- a token, which isn't documentation here
+-- one CR more where a line ends in CR, since a CR before the line end is no part of the line
+abbrev pub cr_more : List ℕ → List ℕ
+cr_more line = if slice_index line (length line - 1) == 13 then 13 ∷ [] else []
+
+-- a line of documentation behind its three slashes
+abbrev pub doc_line : List ℕ → List ℕ
+doc_line [] = []
+doc_line (c ∷ cs) = 32 ∷ ((c ∷ cs) ++ cr_more (c ∷ cs))
+
 abbrev pub written : Token → List ℕ
 written (Key k) = keyword_text k
 written (Word w) = w
 written (Quoted t) = 34 ∷ (escaped t ++ 34 ∷ [])
 written (Sign c) = c ∷ []
-written (Doc d) = 47 ∷ (47 ∷ (47 ∷ (32 ∷ d)))
+written (Doc d) = 47 ∷ (47 ∷ (47 ∷ doc_line d))
 written (Stray f) = []
 
 abbrev pub is_doc : Token → Bool
@@ -86,10 +81,10 @@ abbrev pub AreWordBytes : List ℕ → Type 0
 AreWordBytes [] = Unit {0}
 AreWordBytes (c ∷ cs) = (is_word_byte c ≡ true) × AreWordBytes cs
 
--- bytes of one line of documentation: no LF, and no CR (a last one would be lost)
-abbrev pub AreDocBytes : List ℕ → Type 0
-AreDocBytes [] = Unit {0}
-AreDocBytes (c ∷ cs) = (c == 10 ≡ false) × (c == 13 ≡ false) × AreDocBytes cs
+-- bytes of one line: no LF
+abbrev pub AreLineBytes : List ℕ → Type 0
+AreLineBytes [] = Unit {0}
+AreLineBytes (c ∷ cs) = (c == 10 ≡ false) × AreLineBytes cs
 
 -- a word that can be written: one byte and more, all of words, and no keyword
 pub record IsWord (w : List ℕ) : Type 0 where
@@ -103,14 +98,14 @@ pub record IsWord (w : List ℕ) : Type 0 where
 abbrev pub IsSignByte : ℕ → Type 0
 IsSignByte c = (c ≡ 61) ⊎ ((c ≡ 58) ⊎ ((c ≡ 44) ⊎ ((c ≡ 40) ⊎ ((c ≡ 41) ⊎ ((c ≡ 91) ⊎ ((c ≡ 93) ⊎ ((c ≡ 45) ⊎ ((c ≡ 62) ⊎ (c ≡ 46)))))))))
 
--- the token can be written: in the trial no documentation
+-- the token can be written
 abbrev pub CanWrite : Token → Type 0
 CanWrite (Key k) = Unit {0}
 CanWrite (Word w) = IsWord w
 CanWrite (Quoted t) = Unit {0}
 CanWrite (Sign c) = IsSignByte c
-CanWrite (Doc d) = Unit {0} → (true ≡ false)
-CanWrite (Stray f) = (true ≡ false)
+CanWrite (Doc d) = AreLineBytes d
+CanWrite (Stray f) = ⊥
 
 abbrev pub CanWriteAll : List Token → Type 0
 CanWriteAll [] = Unit {0}

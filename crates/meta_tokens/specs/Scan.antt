@@ -114,12 +114,18 @@ ended InDoc bytes = Doc (strip_carriage_return bytes) ∷ []
 ended Comment bytes = []
 ended Lost bytes = []
 
+-- the state behind a byte
+abbrev pub after : Mode → List ℕ → ℕ → State
+after mode bytes c = if c == 10 then in_mode Start [] else next mode bytes c
+
+-- the tokens that a byte ends
+abbrev pub given : Mode → List ℕ → ℕ → List Token
+given mode bytes c = if c == 10 then ended mode bytes else ended_by mode bytes c
+
 -- the tokens of a text from a state on
 abbrev pub scanned : Mode → List ℕ → List ℕ → List Token
 scanned mode bytes [] = ended mode bytes
-scanned mode bytes (c ∷ cs) =
-    if c == 10 then ended mode bytes ++ scanned Start [] cs
-    else ended_by mode bytes c ++ scanned (next mode bytes c).mode (next mode bytes c).bytes cs
+scanned mode bytes (c ∷ cs) = given mode bytes c ++ scanned (after mode bytes c).mode (after mode bytes c).bytes cs
 
 -- the tokens of a text
 abbrev pub tokens_in : List ℕ → List Token

@@ -1,5 +1,5 @@
 ghost use Rattle.std.specs.Prelude.{◌≡◌};
-ghost use Rattle.meta_tokens.specs.Keywords.{keyword_of};
+ghost use Rattle.meta_tokens.specs.Keywords.{keyword_of, keyword_text};
 
 /// A word that begins an item.
 #[derive(Clone, Copy, PartialEq, Eq)]
@@ -25,6 +25,23 @@ pub enum Keyword {
 }
 
 impl Keyword {
+    /// The word that it is.
+    pub fn as_slice(self) -> &'static [u8]
+        ensures { result.now ≡ keyword_text self }
+    {
+        match self {
+            Keyword::Type => b"type",
+            Keyword::Kind => b"kind",
+            Keyword::Format => b"format",
+            Keyword::Inst => b"inst",
+            Keyword::Group => b"group",
+            Keyword::Bool => b"bool",
+            Keyword::Num => b"num",
+            Keyword::Enum => b"enum",
+            Keyword::Preset => b"preset",
+        }
+    }
+
     /// The keyword that a word is, if it is one.
     #[tactic(auto, unfolding(crate::specs::Keywords::keyword_of))]
     pub fn of(word: &[u8]) -> Option<Keyword>

@@ -3,7 +3,7 @@ ghost use Rattle.meta_tokens.specs.Scan.{tokens_in};
 ghost use Rattle.meta_tokens.specs.Laid.{laid, CanWriteAll};
 ghost use Rattle.meta_tokens.specs.declared.token.Token.{Token};
 
-/// What is laid out is read again.
+/// What is laid out is read again as the same tokens, documentation too.
 pub fn what_is_laid_is_read()
     ensures { (ts : List Token) → CanWriteAll ts → tokens_in (laid ts) ≡ ts }
 {}

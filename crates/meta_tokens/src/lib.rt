@@ -1,4 +1,4 @@
-//! The words, texts, signs and lines of documentation of a file.
+//! The tokens of a file of declarations: words, texts in quotes, signs and lines of documentation, with their lines, and their canonical text.
 #![tactic(auto)]
 
 mod bytes;
@@ -6,11 +6,15 @@ mod flaw;
 mod keyword;
 mod laws;
 mod scanner;
+mod squeezing;
 mod token;
+mod tokens;
+mod writing;
 
 pub use bytes::Bytes;
 pub use flaw::Flaw;
 pub use keyword::Keyword;
 pub use laws::what_is_laid_is_read;
-pub use scanner::tokens_of;
 pub use token::Token;
+pub use tokens::{Tokens, tokens_of};
+pub use writing::write_tokens;

@@ -1,13 +1,15 @@
-ghost use Rattle.std.specs.Prelude.{◌≡◌, ◌==◌, ◌++◌, ◌∷◌, [], IfOk, OnOk};
+ghost use Rattle.std.specs.Prelude.{◌≡◌, ◌==◌, ◌+◌, ◌^◌, ◌<◌, ◌≤◌, ◌-◌, ◌++◌, ◌∷◌, [], length, replicate, IfOk, OnOk};
 ghost use Rattle.std.specs.Str.Lines.{strip_carriage_return};
 ghost use Rattle.meta_tokens.specs.declared.token.Token.TheVariants.{Word, Quoted, Sign, Doc, Stray};
 ghost use Rattle.meta_tokens.specs.declared.scanner.Mode.{Mode};
-ghost use Rattle.meta_tokens.specs.Scan.{in_mode, word_token, is_word_byte, is_blank, is_sign, class_of, begun, told, next, ended_by, ended, tokens_in};
+ghost use Rattle.meta_tokens.specs.Scan.{in_mode, word_token, is_word_byte, is_blank, is_sign, class_of, begun, told, next, ended_by, ended, after, given, tokens_in};
+ghost use Rattle.meta_tokens.specs.TokenLines.{line_behind, lines_in, last_line_in};
 
 use super::bytes::Bytes;
 use super::flaw::Flaw;
 use super::keyword::Keyword;
 use super::token::Token;
+use super::tokens::Tokens;
 use std::alloc::{AllocError, Global};
 use std::mem;
 
@@ -339,6 +341,17 @@ impl Scanner {
             Mode::Start | Mode::Between | Mode::TwoSlashes | Mode::Comment | Mode::Lost => Ok(()),
         }
     }
+
+    /// Reads a byte.
+    fn take(&mut self, byte: u8) -> Result<(), AllocError>
+        ensures state { OnOk result (in_mode self.new.mode self.new.bytes.items ≡ after self.old.mode self.old.bytes.items byte) }
+        ensures tokens { OnOk result (self.new.tokens.items ≡ self.old.tokens.items ++ given self.old.mode self.old.bytes.items byte) }
+    {
+        if byte == b'\n' {
+            return self.end_line();
+        }
+        self.step(byte)
+    }
 }
 
 /// The class of a byte.
@@ -364,9 +377,30 @@ fn class_of(byte: u8) -> Class
     Class::NoClass
 }
 
-/// The tokens of a text.
-pub fn tokens_of(alloc: Global, text: &[u8]) -> Result<Vec<Token>, AllocError>
-    ensures { IfOk result (λ v. v.items ≡ tokens_in text.now) }
+/// The line behind a byte.
+fn line_behind(line: usize, byte: u8) -> usize
+    requires { line + 1 < 2 ^ 64 }
+    ensures { result ≡ line_behind line byte }
+{
+    if byte == b'\n' { line + 1 } else { line }
+}
+
+/// Gives a line to each token that has none yet.
+#[tactic(auto, using(std::proofs::lemmas::List::take_all))]
+fn number(lines: &mut Vec<usize>, tokens: &[Token], line: usize) -> Result<(), AllocError>
+    requires { length lines.old.items ≤ length tokens.now }
+    ensures { OnOk result (lines.new.items ≡ lines.old.items ++ replicate (length tokens.now - length lines.old.items) line) }
+{
+    lines.resize(tokens.len(), line)
+}
+
+/// The tokens of a text, with their lines.
+pub(crate) fn scan(alloc: Global, text: &[u8]) -> Result<Tokens, AllocError>
+    ensures tokens { IfOk result (λ v. v.tokens.items ≡ tokens_in text.now) }
+    ensures lines { IfOk result (λ v. v.lines.items ≡ lines_in text.now) }
+    ensures last { IfOk result (λ v. v.last_line ≡ last_line_in text.now) }
+    // Each token has a line.
+    ensures each { IfOk result (λ v. length v.lines.items ≡ length v.tokens.items) }
 {
     let mut scanner = Scanner {
         alloc,
@@ -374,13 +408,20 @@ pub fn tokens_of(alloc: Global, text: &[u8]) -> Result<Vec<Token>, AllocError>
         bytes: Vec::new(alloc),
         tokens: Vec::new(alloc),
     };
+    let mut lines = Vec::new(alloc);
+    let mut line = 1;
+    let mut last_line = 1;
     for byte in text {
-        if *byte == b'\n' {
-            scanner.end_line()?;
-        } else {
-            scanner.step(*byte)?;
-        }
+        scanner.take(*byte)?;
+        number(&mut lines, &scanner.tokens, line)?;
+        last_line = line;
+        line = line_behind(line, *byte);
     }
     scanner.end_line()?;
-    Ok(scanner.tokens)
+    number(&mut lines, &scanner.tokens, line)?;
+    Ok(Tokens {
+        tokens: scanner.tokens,
+        lines,
+        last_line,
+    })
 }

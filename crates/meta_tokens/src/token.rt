@@ -1,6 +1,7 @@
 use super::bytes::Bytes;
 use super::flaw::Flaw;
 use super::keyword::Keyword;
+use std::alloc::{AllocError, Global};
 
 /// A part of a file that counts.
 #[derive(Drop)]
@@ -17,4 +18,22 @@ pub enum Token {
     Doc(Bytes),
     /// What no item has. The rest of its line isn't read.
     Stray(Flaw),
+}
+
+ghost use Rattle.std.specs.Prelude.{◌≡◌, IfOk};
+
+impl Token {
+    /// An equal token with bytes of its own.
+    pub fn copy(&self, alloc: Global) -> Result<Token, AllocError>
+        ensures { IfOk result (λ t. t ≡ self.now) }
+    {
+        match self {
+            Token::Key(keyword) => Ok(Token::Key(*keyword)),
+            Token::Word(word) => Ok(Token::Word(word.copy(alloc)?)),
+            Token::Quoted(text) => Ok(Token::Quoted(text.copy(alloc)?)),
+            Token::Sign(sign) => Ok(Token::Sign(*sign)),
+            Token::Doc(line) => Ok(Token::Doc(line.copy(alloc)?)),
+            Token::Stray(flaw) => Ok(Token::Stray(*flaw)),
+        }
+    }
 }
