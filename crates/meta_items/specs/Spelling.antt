@@ -33,6 +33,10 @@ abbrev pub truth : Bool → Token
 truth true = Word (codes "true")
 truth false = Word (codes "false")
 
+-- NUMBER: decimal, without leading zeros
+abbrev pub number : ℕ → Token
+number n = Word (decimal n)
+
 -- {"," NAME} ")"
 abbrev pub more_names : List Name → List Token
 more_names [] = Sign 41 ∷ []
@@ -49,7 +53,7 @@ bool_item i = name i.name ∷ (Sign 61 ∷ (truth i.default ∷ comment i.commen
 
 -- NAME "=" NUMBER [TEXT]
 abbrev pub num_item : NumItem → List Token
-num_item i = name i.name ∷ (Sign 61 ∷ (Word (decimal i.default) ∷ comment i.comment))
+num_item i = name i.name ∷ (Sign 61 ∷ (number i.default ∷ comment i.comment))
 
 -- NAME "(" [NAME {"," NAME}] ")" [TEXT]
 abbrev pub enum_item : EnumItem → List Token

@@ -4,7 +4,9 @@
 mod docs;
 mod items;
 mod name;
+mod spelling;
 
 pub use docs::Docs;
 pub use items::{BoolItem, EnumItem, Item, NumItem, PresetItem};
 pub use name::{Name, Names};
+pub use spelling::{spell, write_items};
