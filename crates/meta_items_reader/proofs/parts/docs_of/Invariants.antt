@@ -9,5 +9,5 @@ invariant-loop-line l = record {
   rest : (docs_at l.rest).1 ≡ (docs_at l.tokens).1;
 }
 
-abbrev pub measure-loop-line : goal.measure-loop-line
-measure-loop-line l = length l.rest
+abbrev pub decreases-loop-line : goal.decreases-loop-line
+decreases-loop-line l = length l.rest
