@@ -1,0 +1,3 @@
+pub mod Leading
+pub mod Kept
+pub mod Utf8
