@@ -1,0 +1,42 @@
+-- What a text declares.
+use Rattle.std.proofs.Common.{◌≡◌, ◌⊎◌, inl, inr, ℕ, List, refl, sym, ap, ◌∙◌, subst}
+use Rattle.std.specs.Prelude.{Result, Ok, Err}
+use Rattle.meta_types.specs.declared.fault.DefinitionError.{DefinitionError}
+use Rattle.meta_inst.specs.InstructionSet.{InstructionSet}
+use Rattle.meta_settings.specs.GroupDeclaration.{GroupDeclaration}
+use Rattle.meta_declared.specs.AllDeclared.{Declared, ShowsFirst, AreValid}
+use Rattle.meta_items.specs.declared.items.Item.{Item}
+use Rattle.meta_items_declared.specs.Said.{Says, SaysAll}
+use Rattle.meta_items_declared.proofs.Leading.{says_one, says_right}
+use Rattle.meta_file.specs.File.{Reads, Declares, IsRefusal}
+
+-- a text reads as one list of items
+one_reading : (text : List ℕ) (items others : List Item) → Reads text items → Reads text others → items ≡ others
+one_reading text items others h g = let same = sym h.is ∙ g.is in cc
+
+-- declarations are their parts
+same_parts : (d e : Declared) → d.set ≡ e.set → d.groups ≡ e.groups → d ≡ e
+same_parts d e sets groups =
+    ap (λ (s : InstructionSet). let r : Declared = record { set = s; groups = d.groups } in r) sets
+    ∙ ap (λ (g : List GroupDeclaration). let r : Declared = record { set = e.set; groups = g } in r) groups
+
+-- items make one list of declarations
+one_said : (items : List Item) (d e : Declared) → SaysAll items d → SaysAll items e → d ≡ e
+one_said items d e h g = same_parts d e (h.set ∙ sym g.set) (says_one items d.groups e.groups h.groups g.groups)
+
+pub one_declared : (text : List ℕ) (d e : Declared) → Declares text d → Declares text e → d ≡ e
+one_declared text d e h g =
+    let same = one_reading text h.items g.items h.reads g.reads in
+    one_said g.items d e (subst (λ (is : List Item). SaysAll is d) same h.says) g.says
+
+pub not_refused : ((d : Declared) (e : DefinitionError) → AreValid d → ShowsFirst d e → ⊥)
+    → (path text message : List ℕ) (d : Declared) → IsRefusal path text message → Declares text d → AreValid d → ⊥
+not_refused no_fault path text message d (inl unread) h valid = let never = sym unread.reads_none ∙ h.reads.is in cc
+not_refused no_fault path text message d (inr (inl undeclared)) h valid =
+    let same = one_reading text h.items undeclared.items h.reads undeclared.read.reads in
+    let said = subst (λ (is : List Item). Says is d.groups) same h.says.groups in
+    says_right undeclared.items d.groups undeclared.tells.place undeclared.tells.reason said undeclared.tells.wrong
+not_refused no_fault path text message d (inr (inr faulty)) h valid =
+    let same = one_reading text h.items faulty.items h.reads faulty.read.reads in
+    let is = one_said faulty.items d faulty.declared (subst (λ (js : List Item). SaysAll js d) same h.says) faulty.says in
+    no_fault faulty.declared faulty.fault (subst AreValid is valid) faulty.first

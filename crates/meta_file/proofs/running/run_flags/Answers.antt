@@ -1,0 +1,24 @@
+use Rattle.std.proofs.Common.{◌≡◌, ◌⊎◌, inl, inr, ℕ, Bool, true, false, List, [], refl, sym, ap, ◌∙◌, subst}
+use Rattle.meta_file.proofs.ToolRuns as lemma
+use Rattle.meta_run.specs.declared.ending.Ending.{Ending}
+use Rattle.meta_run.specs.Ending.{ending_of}
+use Rattle.meta_flags.specs.FlagsOutput.{flags_texts}
+use Rattle.meta_file.specs.Outcome.{RanTool}
+use Rattle.meta_file.proofs.running.run_flags.Goals as goal
+
+pub returns : goal.returns
+returns g c =
+    let v = c.flags.ensures in
+    subst (λ (ending : Ending). RanTool g.S.Source.left g.S.Source.faults g.K.Sink.taken g.K.Sink.faults _ _ _ _ _ true flags_texts ending) (sym c.ending.ensures) (record {
+      did = lemma.did_status g.S.Source.left g.S.Source.faults g.K.Sink.taken g.K.Sink.faults _ _ _ _ _ true flags_texts c.flags.result
+          v.done
+          (λ e. (v.refused_unread e, v.refused e))
+          (λ e. v.usage e c.requires)
+          (λ e. let h = v.read_fault e in (refl, h.0, h.1, v.untouched (inr (inl e))))
+          (λ e. (v.write_fault e, v.written_in_part e))
+          (λ e. v.untouched (inr (inr (inr e))))
+          (λ e. let h = v.too_long e in (refl, h.0, h.1, v.untouched (inr (inr (inl e)))));
+      else_within = lemma.within_status g.S.Source.left g.S.Source.faults g.K.Sink.taken g.K.Sink.faults _ _ _ _ _ true flags_texts c.flags.result v.else_within;
+      read_counted = v.read_counted;
+      write_counted = v.write_counted;
+    })
