@@ -1,6 +1,7 @@
 -- Why words are no command of a program.
 --     AreWordsOf commands words     they are one
---     IsMisuse commands words m     m tells of the first word that makes them none
+--     AreTaken commands words       they are the first one of its name
+--     IsMisuse commands words m     they aren't taken, and m tells of the first word for which they aren't
 use Rattle.std.specs.Prelude.{◌≡◌, ◌≢◌, ◌<◌, ◌≤◌, ℕ, List, [], ◌∷◌, length, slice_get, Some}
 use Rattle.std.specs.Fmt.{decimal}
 use Rattle.meta_main.specs.declared.manual.Command.{Command}
@@ -30,6 +31,15 @@ pub record IsNamed (commands : List Command) (name : List ℕ) (command : Comman
   pub at : slice_get commands place ≡ Some command
   pub name_is : command.name.now ≡ name
 
+-- none of the commands before this place has this name
+abbrev pub NamesNoneBefore : ℕ → List Command → List ℕ → Type 0
+NamesNoneBefore place commands name = (k : ℕ) (command : Command) → k < place → slice_get commands k ≡ Some command → command.name.now ≢ name
+
+-- the command is the first of these with this name
+pub record IsFirstNamed (commands : List Command) (name : List ℕ) (command : Command) : Type 0 where
+  pub named : IsNamed commands name command
+  pub first : NamesNoneBefore named.place commands name
+
 -- no command has this name
 abbrev pub NamesNone : List Command → List ℕ → Type 0
 NamesNone commands name = (k : ℕ) (command : Command) → slice_get commands k ≡ Some command → command.name.now ≢ name
@@ -42,6 +52,11 @@ pub record AreWordsOf (commands : List Command) (words : List (List ℕ)) : Type
   pub named : IsNamed commands command.name.now command
   pub numbers : AreNumbersIn command.numbers.now behind
 
+-- the words are a command, and none of the commands before it has its name
+pub record AreTaken (commands : List Command) (words : List (List ℕ)) : Type 0 where
+  pub are : AreWordsOf commands words
+  pub first : NamesNoneBefore are.named.place commands are.command.name.now
+
 -- the words behind a name aren't numbers of these ranges, and m tells of the first word that makes them none
 abbrev pub IsMisuseBehind : List Range → List (List ℕ) → Misuse → Type 0
 IsMisuseBehind ranges words NoWord = ⊥
@@ -50,15 +65,15 @@ IsMisuseBehind ranges words (NoNumber k) = AreNumbersTo k ranges words × (range
 IsMisuseBehind ranges words (WordTooMany k) = AreNumbersTo k ranges words × (k ≡ length ranges) × (k < length words)
 IsMisuseBehind ranges words NumberMissing = AreNumbersTo (length words) ranges words × (length words < length ranges)
 
--- the words begin with the name of a command, and this is so of those behind it
+-- the words begin with the name of a command, the first of this name, and this is so of those behind it
 pub record IsMisuseOf (commands : List Command) (words : List (List ℕ)) (m : Misuse) : Type 0 where
   pub command : Command
   pub behind : List (List ℕ)
   pub are : words ≡ command.name.now ∷ behind
-  pub named : IsNamed commands command.name.now command
+  pub named : IsFirstNamed commands command.name.now command
   pub misuse : IsMisuseBehind command.numbers.now behind m
 
--- the words are none of the commands, and m tells of the first word that makes them none
+-- the words aren't taken, and m tells of the first word for which they aren't
 abbrev pub IsMisuse : List Command → List (List ℕ) → Misuse → Type 0
 IsMisuse commands words NoWord = words ≡ []
 IsMisuse commands words NoCommand = (name : List ℕ) × (behind : List (List ℕ)) × (words ≡ name ∷ behind) × NamesNone commands name

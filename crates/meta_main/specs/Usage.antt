@@ -1,6 +1,7 @@
 -- The line that names the wrong word of words that are no command.
 --     IsUsageLine commands words line     the line names the word that a misuse of the words tells of, and the commands
-use Rattle.std.specs.Prelude.{◌≡◌, ◌≤◌, ◌<◌, ℕ, List, [], ◌∷◌, ◌++◌, codes, slice_get, Some}
+use Rattle.std.specs.Prelude.{◌≡◌, ◌≤◌, ◌<◌, ℕ, List, [], ◌∷◌, ◌++◌, codes, slice_get, None, Some}
+use Rattle.std.specs.Char.Escape.{escape_ascii}
 use Rattle.std.specs.List.{flat_map}
 use Rattle.meta_main.specs.Misuse.{IsMisuse}
 use Rattle.meta_main.specs.declared.manual.Command.{Command}
@@ -11,13 +12,19 @@ use Rattle.meta_main.specs.declared.misuse.Misuse.TheVariants.{NoWord, NoCommand
 abbrev pub IsPlain : List ℕ → Type 0
 IsPlain word = (k byte : ℕ) → slice_get word k ≡ Some byte → (32 ≤ byte) × (byte < 127)
 
--- what a line shows of a word: a plain one stands between quotes as it is
-abbrev pub IsShown : List ℕ → List ℕ → Type 0
-IsShown word shown = IsPlain word → shown ≡ codes "'" ++ (word ++ codes "'")
+-- the word between double quotes, each byte as `u8::escape_ascii` writes it: `\n`, `\"`, `\x1b`, or itself where it is plain
+abbrev pub escaped : List ℕ → List ℕ
+escaped word = codes "\"" ++ (flat_map escape_ascii word ++ codes "\"")
 
--- the same of the word at a place, where there is one
-abbrev pub IsShownAt : List (List ℕ) → ℕ → List ℕ → Type 0
-IsShownAt words place shown = (word : List ℕ) → slice_get words place ≡ Some word → IsShown word shown
+-- what a line shows of a word: a plain one stands between quotes as it is, and any other with escapes
+pub record IsShown (word shown : List ℕ) : Type 0 where
+  pub plain : IsPlain word → shown ≡ codes "'" ++ (word ++ codes "'")
+  pub others : (IsPlain word → ⊥) → shown ≡ escaped word
+
+-- the same of the word at a place, and nothing where there is none
+pub record IsShownAt (words : List (List ℕ)) (place : ℕ) (shown : List ℕ) : Type 0 where
+  pub word : (word : List ℕ) → slice_get words place ≡ Some word → IsShown word shown
+  pub none : slice_get words place ≡ None → shown ≡ []
 
 -- what is wrong with the words behind a name of which m tells, by the name and the word as they are shown
 abbrev pub wrong_text : Misuse → List ℕ → List ℕ → List ℕ
@@ -43,6 +50,7 @@ pub record IsWrongBehind (name : List ℕ) (behind : List (List ℕ)) (m : Misus
   pub shows_word : IsShownAt behind (place_of m) word_shown
   pub is : text ≡ wrong_text m name_shown word_shown
 
+-- the same of all words: the first is the name, and where there is no word, the text says just that there is no command
 abbrev pub IsWrong : List (List ℕ) → Misuse → List ℕ → Type 0
 IsWrong [] m text = text ≡ codes "no command"
 IsWrong (name ∷ behind) m text = IsWrongBehind name behind m text
@@ -60,6 +68,10 @@ names_text (command ∷ commands) = command.name.now ++ flat_map behind_comma co
 abbrev pub commands_text : List Command → List ℕ
 commands_text [] = codes "the program takes no words"
 commands_text (command ∷ commands) = codes "the commands are " ++ names_text (command ∷ commands)
+
+-- the name of each command is plain
+abbrev pub ArePlainlyNamed : List Command → Type 0
+ArePlainlyNamed commands = (k : ℕ) (command : Command) → slice_get commands k ≡ Some command → IsPlain command.name.now
 
 -- the line names the wrong word and the commands
 pub record IsUsageLine (commands : List Command) (words : List (List ℕ)) (line : List ℕ) : Type 0 where

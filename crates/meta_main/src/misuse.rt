@@ -1,6 +1,6 @@
 ghost use Rattle.std.specs.Prelude.{◌≡◌, ◌↔◌, IsTrue, IfSome, IfNone};
 ghost use Rattle.meta_main.specs.Usage.{place_of};
-ghost use Rattle.meta_main.specs.Misuse.{IsNumberIn, AreNumbersIn, IsMisuseBehind, IsMisuse, AreWordsOf, IsNamed, NamesNone};
+ghost use Rattle.meta_main.specs.Misuse.{IsNumberIn, AreNumbersIn, IsMisuseBehind, IsMisuse, AreTaken, IsFirstNamed, NamesNone};
 
 use super::manual::{Command, Range};
 use super::word::is_text;
@@ -34,9 +34,9 @@ impl Range {
     }
 }
 
-/// The command of this name.
+/// The first command of this name.
 fn named<'c>(commands: &'c [Command], name: &Text) -> Option<&'c Command>
-    ensures some { IfSome result (λ c. IsNamed commands.now name.now c.now) }
+    ensures some { IfSome result (λ c. IsFirstNamed commands.now name.now c.now) }
     ensures none { IfNone result (NamesNone commands.now name.now) }
 {
     for command in commands {
@@ -64,9 +64,10 @@ fn behind(numbers: &[Range], words: &[Text]) -> Option<Misuse>
 }
 
 impl Misuse {
-    /// Why the words are none of these commands, and `None` where they are one: it tells of the first word that makes them none.
+    /// Why the words are none of these commands, and `None` where they are one: it tells of the first word that makes them none. Of
+    /// commands of one name the first counts.
     pub fn of(commands: &[Command], words: &[Text]) -> Option<Misuse>
-        ensures none { IfNone result (AreWordsOf commands.now words.now) }
+        ensures none { IfNone result (AreTaken commands.now words.now) }
         ensures some { IfSome result (IsMisuse commands.now words.now) }
     {
         match words {
