@@ -1,18 +1,19 @@
 -- What was written in the short form reads as the list that it was written of.
-use Rattle.std.proofs.Common.{◌≡◌, ◌≢◌, ◌↔◌, inl, inr, ℕ, zero, suc, ◌-◌, ◌<◌, ◌≤◌, ◌==◌, Bool, true, false, List, [], ◌∷◌, ◌++◌, map, take, length, get_or, slice_get, slice_index, All, Some, codes, refl, sym, ap, ap₂, ◌∙◌, subst, append_assoc, arith, rules, tests}
+use Rattle.std.proofs.Common.{◌≡◌, ◌≢◌, ◌↔◌, inl, inr, ℕ, zero, suc, ◌-◌, ◌<◌, ◌≤◌, ◌==◌, Bool, true, false, List, [], ◌∷◌, ◌++◌, map, length, get_or, slice_index, All, Some, codes, refl, sym, ap, ap₂, ◌∙◌, subst, append_assoc, arith, rules, tests}
 use Rattle.std.specs.Str.Lines.{strip_carriage_return}
 use Rattle.std.proofs.lemmas.Bool.{cond-false}
 use Rattle.std.proofs.lemmas.List.Elements.{All-nil, All-cons, All-head, All-tail, All-append, All-weaker}
-use Rattle.meta_types.specs.Name.{IsNameByte}
+use Rattle.meta_types.specs.Name.{IsNameByte, IsName}
 use Rattle.meta_inst.specs.InstructionSet.{InstructionSet}
 use Rattle.meta_inst.specs.Faults.{IsValid}
 use Rattle.meta_meaning.specs.Tables.{TableContents, at_opcode}
 use Rattle.meta_opcode_tables.specs.WellFormed.{IsWellFormedOpcodes}
+use Rattle.meta_lists.proofs.Everywhere.{at_place}
 use Rattle.meta_words.specs.Lines.{lines_of, lines_of_pieces}
 use Rattle.meta_words.specs.Words.{pieces_of}
 use Rattle.meta_words.proofs.PieceLemmas.{slice_split_cons, first_piece}
 use Rattle.meta_answers.specs.Answer.{AllowedReply, AcceptedReply}
-use Rattle.meta_verify.specs.Statement.{TypedValue, Application, Statement, OfParameter, OfApplication, IsTyped, CanApply, IsStatement, value_text, defined_by}
+use Rattle.meta_verify.specs.Statement.{TypedValue, Application, Statement, OfParameter, OfApplication, IsTyped, CanApply, value_text, defined_by}
 use Rattle.meta_verify.specs.Environment.{Environment, nothing_defined, with_values}
 use Rattle.meta_verify.specs.Wrong.{Replies, IsAccepted, IsRight}
 use Rattle.meta_verify.proofs.StatementLemmas.{one_statement}
@@ -22,10 +23,11 @@ use Rattle.meta_short.specs.Manners.{IsMannerIn, IsMannerDeclared}
 use Rattle.meta_short.specs.Reading.{Manners, IsShort}
 use Rattle.meta_short.proofs.SplitLemmas.{Lacks, lacks_joined}
 use Rattle.meta_short.proofs.ShortLemmas.{IsMark, value_lacks, type_lacks, short_lacks, control_lacks, values_lack}
-use Rattle.meta_short.proofs.OneLine.{all_name_bytes, all_at, one_line}
+use Rattle.meta_short.proofs.OneLine.{all_name_bytes, one_line}
 use Rattle.meta_short.proofs.DeclaredLine.{asked_name, one_line_declared}
-use Rattle.meta_asm.specs.Listing.{text_of_lines, filled, AreShort, IsFirstUnread, IsShortened, IsSpelled}
+use Rattle.meta_asm.specs.Listing.{text_of_lines, filled, AreShort, IsShortened, IsSpelled}
 use Rattle.meta_asm.proofs.ListingLemmas.{has_text}
+use Rattle.meta_asm.proofs.OneOutput.{one_reading, reads_all}
 
 -- ---- the lines of what was written
 
@@ -116,69 +118,20 @@ module _ (R : Replies) (M : Manners) (bytes : (env : Environment) (a : Applicati
   texts_filled env env' (l ∷ ls) [] h = absurd h
   texts_filled env env' (l ∷ ls) (t ∷ ts) (short, rest) = All-cons (λ t. t ≢ []) t ts (has_text R M env l t short) (texts_filled (with_values env (defined_by short.statement)) env' ls ts rest)
 
-  -- ---- the lines are one
-
-  one_reading : (env e f : Environment) (ls ks texts : List (List ℕ)) → AreShort R M env ls texts e → AreShort R M env ks texts f → (ls ≡ ks) × (e ≡ f)
-  one_reading env e f [] [] [] h g = (refl, h ∙ sym g)
-  one_reading env e f [] (k ∷ ks) [] h g = absurd g
-  one_reading env e f (l ∷ ls) ks [] h g = absurd h
-  one_reading env e f [] ks (t ∷ ts) h g = absurd h
-  one_reading env e f (l ∷ ls) [] (t ∷ ts) h g = absurd g
-  one_reading env e f (l ∷ ls) (k ∷ ks) (t ∷ ts) (short, rest) (also, others) =
-      let line : l ≡ k = one env t l k short also in
-      let same = one_statement l short.statement also.statement short.right.0 (subst (λ x. IsStatement x also.statement) (sym line) also.right.0) in
-      let both = one_reading (with_values env (defined_by also.statement)) e f ls ks ts (subst (λ s. AreShort R M (with_values env (defined_by s)) ls ts e) same rest) others in
-      (ap₂ ◌∷◌ line both.0, both.1)
-
-  -- behind the texts before it each text reads as a line
-  pub record ReadsNext (env : Environment) (texts : List (List ℕ)) (n : ℕ) (text : List ℕ) : Type 0 where
-    pub before : List (List ℕ)
-    pub between : Environment
-    pub short : AreShort R M env before (take n texts) between
-    pub line : List ℕ
-    pub reads : IsShort R M between line text
-
-  each_reads : (env env' : Environment) (lines texts : List (List ℕ)) (n : ℕ) (text : List ℕ) → AreShort R M env lines texts env' → slice_get texts n ≡ Some text → ReadsNext env texts n text
-  each_reads env env' [] [] n text h at = absurd (cc)
-  each_reads env env' [] (t ∷ ts) n text h at = absurd h
-  each_reads env env' (l ∷ ls) [] n text h at = absurd h
-  each_reads env env' (l ∷ ls) (t ∷ ts) zero text (short, rest) at =
-      let same : t ≡ text = cc in
-      record { before = []; between = env; short = refl; line = l; reads = subst (IsShort R M env l) same short }
-  each_reads env env' (l ∷ ls) (t ∷ ts) (suc n) text (short, rest) at =
-      let more = each_reads (with_values env (defined_by short.statement)) env' ls ts n text rest at in
-      record { before = l ∷ more.before; between = more.between; short = (short, more.short); line = more.line; reads = more.reads }
-
-  -- so none is the first that reads as none
-  reads_all : (lines texts : List (List ℕ)) (env : Environment) (n : ℕ) → AreShort R M nothing_defined lines texts env → filled texts ≡ texts → IsFirstUnread R M texts n → ⊥
-  reads_all lines texts env n h whole first =
-      let next = each_reads nothing_defined env lines texts n first.text h first.at in
-      let front : filled (take n texts) ≡ take n texts = all_filled (take n texts) (taken n texts (texts_filled nothing_defined env lines texts h)) in
-      let same = one_reading nothing_defined first.before next.between first.lines next.before (take n texts) (subst (λ ts. AreShort R M nothing_defined first.lines ts first.before) front first.reads) next.short in
-      first.unread next.line (subst (λ e. IsShort R M e next.line first.text) (sym same.1) next.reads)
-    where
-      taken : (n : ℕ) (ts : List (List ℕ)) → All (λ t. t ≢ []) ts → All (λ t. t ≢ []) (take n ts)
-      taken zero ts h = All-nil (λ t. t ≢ [])
-      taken (suc n) [] h = All-nil (λ t. t ≢ [])
-      taken (suc n) (t ∷ ts) h = All-cons (λ t. t ≢ []) t (take n ts) (All-head (λ t. t ≢ []) t ts h) (taken n ts (All-tail (λ t. t ≢ []) t ts h))
-
   -- ---- what was written so is written back
 
-  -- the lines of what was written are the texts
-  texts_back : (lines texts : List (List ℕ)) (env : Environment) (out : List ℕ) → AreShort R M nothing_defined lines texts env → out ≡ text_of_lines texts → lines_of out ≡ texts
-  texts_back lines texts env out short is = ap lines_of is ∙ lines_back texts (texts_plain nothing_defined env lines texts short)
-
+  -- the lines of what was written are the texts, and none of them is skipped
   filled_back : (lines texts : List (List ℕ)) (env : Environment) (out : List ℕ) → AreShort R M nothing_defined lines texts env → out ≡ text_of_lines texts → filled (lines_of out) ≡ texts
-  filled_back lines texts env out short is = ap filled (texts_back lines texts env out short is) ∙ all_filled texts (texts_filled nothing_defined env lines texts short)
+  filled_back lines texts env out short is = ap filled (ap lines_of is ∙ lines_back texts (texts_plain nothing_defined env lines texts short)) ∙ all_filled texts (texts_filled nothing_defined env lines texts short)
 
   only_back : (input out : List ℕ) → IsShortened R M input false out → (is_rejection : Bool) (text : List ℕ) → IsSpelled R M out is_rejection text → (is_rejection ≡ false) × (text ≡ text_of_lines (filled (lines_of input)))
   only_back input out (texts, (env, short), is) false text (lines, (e, reads), said) =
       let back = filled_back (filled (lines_of input)) texts env out short is in
-      let same = one_reading nothing_defined e env lines (filled (lines_of input)) texts (subst (λ ts. AreShort R M nothing_defined lines ts e) back reads) short in
+      let same = one_reading R M one_statement one nothing_defined e env lines (filled (lines_of input)) texts (subst (λ ts. AreShort R M nothing_defined lines ts e) back reads) short in
       (refl, said ∙ ap text_of_lines same.0)
   only_back input out (texts, (env, short), is) true text (n, first, said) =
-      let back = texts_back (filled (lines_of input)) texts env out short is in
-      absurd (reads_all (filled (lines_of input)) texts env n short (all_filled texts (texts_filled nothing_defined env (filled (lines_of input)) texts short)) (subst (λ ts. IsFirstUnread R M ts n) back first))
+      let back = filled_back (filled (lines_of input)) texts env out short is in
+      absurd (reads_all R M one_statement one (filled (lines_of input)) (lines_of out) env n (subst (λ ts. AreShort R M nothing_defined (filled (lines_of input)) ts env) (sym back) short) first)
 
   list_back : (input out : List ℕ) → IsShortened R M input false out → IsSpelled R M out false (text_of_lines (filled (lines_of input)))
   list_back input out (texts, (env, short), is) =
@@ -196,7 +149,7 @@ module _ (R : Replies) (M : Manners) (bytes : (env : Environment) (a : Applicati
 module _ (tables : TableContents) (well : IsWellFormedOpcodes tables) where
   opcode_bytes : (op : ℕ) (name : List ℕ) → at_opcode tables.names op ≡ Some name → All IsNameByte name
   opcode_bytes zero name e = absurd (cc)
-  opcode_bytes (suc k) name e = all_name_bytes name (all_at tables.names k name well.parts.names e)
+  opcode_bytes (suc k) name e = all_name_bytes name (at_place IsName tables.names k name well.parts.names e)
 
   allowed_bytes : (env : Environment) (a : Application) → IsAccepted (AllowedReply tables) env (OfApplication a) → All IsNameByte a.name
   allowed_bytes env a (types, have, h) = (let (op, named, allows) = h in opcode_bytes op a.name named.holds)

@@ -10,7 +10,7 @@ use Rattle.meta_verify.specs.Wrong.{Replies, IsWrong, Feeds}
 use Rattle.meta_verify.specs.declared.reason.Reason.{Reason}
 use Rattle.meta_verify.proofs.StatementLemmas.{one_statement, name_has_bytes}
 use Rattle.meta_verify.proofs.OneAnswer.{not_wrong}
-use Rattle.meta_verify.proofs.OneReply.{one_allowed}
+use Rattle.meta_answers.proofs.OneReply.{one_allowed}
 use Rattle.meta_short.specs.Short.{Manner, short_results, short_result_text, behind, control_written, values_written, results_part, short_text}
 use Rattle.meta_short.specs.Manners.{IsMannerIn}
 use Rattle.meta_short.specs.Reading.{Manners, IsShort, IsShortIn}
@@ -158,13 +158,6 @@ module _ (tables : TableContents) where
       → AddsLine tables env text env' out out'
   line_added env env' line text out between out' answer short some fed first second =
       inr (line, short, some, leads env env' line text short answer fed, second ∙ ap (λ t. t ++ 10 ∷ []) first ∙ append_assoc out line (10 ∷ []))
-
--- where the lines from this one on begin with this line
-pub at_front : (lines : List (List ℕ)) (n : ℕ) (line : List ℕ) (rest : List (List ℕ)) → drop n lines ≡ line ∷ rest → slice_get lines n ≡ Some line
-at_front [] zero line rest e = absurd (cc)
-at_front [] (suc n) line rest e = absurd (cc)
-at_front (l ∷ lines) zero line rest e = let same : l ≡ line = cc in ap (λ x. Some x) same
-at_front (l ∷ lines) (suc n) line rest e = at_front lines n line rest e
 
 -- none is left
 past : (lines : List (List ℕ)) (n : ℕ) → drop n lines ≡ [] → take n lines ≡ lines

@@ -47,7 +47,7 @@ module _ {X : Type 0} (now : X → List ℕ) (text first : List ℕ) (rest : Opt
         let there : option_map now rest ≡ Some (now r) = ap (option_map now) some in
         absurd (cc)
     has_results (t ∷ ts) other h g e =
-        let is : text ≡ (joined (t ∷ ts) ++ 32 ∷ []) ++ behind 61 (Some (32 ∷ other)) = e ∙ results_form (t ∷ ts) other in
+        let is : text ≡ joined (t ∷ ts) ++ 32 ∷ [] ++ behind 61 (Some (32 ∷ other)) = e ∙ results_form (t ∷ ts) other in
         let front : first ≡ joined (t ∷ ts) ++ 32 ∷ [] = first_is now 61 text first rest cut (joined (t ∷ ts) ++ 32 ∷ []) (Some (32 ∷ other)) (front_lacks (t ∷ ts) h) is in
         let back : option_map now rest ≡ Some (32 ∷ other) = rest_is now 61 text first rest cut (joined (t ∷ ts) ++ 32 ∷ []) (Some (32 ∷ other)) (front_lacks (t ∷ ts) h) is in
         let there : option_map now rest ≡ Some (now r) = ap (option_map now) some in

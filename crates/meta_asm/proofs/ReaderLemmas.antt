@@ -1,5 +1,5 @@
 -- What is read of the short form of an application, by tables.
-use Rattle.std.proofs.Common.{◌≡◌, ◌≢◌, ◌⊎◌, inl, inr, ℕ, zero, suc, ◌+◌, ◌<◌, ◌≤◌, ◌/◌, ◌%◌, ◌==◌, ◌&&◌, Bool, true, false, List, [], ◌∷◌, map, length, drop, get_or, slice_get, All, Option, None, Some, is_some, cond, nat_lt, IfSome, IfNone, codes, refl, sym, ap, ◌∙◌, subst, arith, rules, tests}
+use Rattle.std.proofs.Common.{◌≡◌, ◌≢◌, ◌⊎◌, inl, inr, ℕ, zero, suc, ◌+◌, ◌<◌, ◌≤◌, ◌/◌, ◌%◌, ◌==◌, ◌&&◌, Bool, true, false, List, [], ◌∷◌, map, length, get_or, slice_get, All, Option, None, Some, is_some, cond, nat_lt, IfSome, IfNone, codes, refl, sym, ap, ◌∙◌, subst, arith, rules, tests}
 use Rattle.std.specs.Option.{option_map}
 use Rattle.std.specs.List.{join_with_byte, list_any, position, position_or_len}
 use Rattle.std.proofs.lemmas.List.Quantifiers.{position-Some}
@@ -7,16 +7,16 @@ use Rattle.std.proofs.lemmas.List.Folds.{list_any_none}
 use Rattle.std.proofs.lemmas.List.Sums.{fails_before_first}
 use Rattle.std.proofs.lemmas.List.Elements.{All-map}
 use Rattle.std.proofs.lemmas.Bool.{and_parts}
-use Rattle.std.proofs.lemmas.Option.{same_Some, slice_get_within, slice_get-get_or, get_or_from_slice_get}
+use Rattle.std.proofs.lemmas.Option.{same_Some, slice_get_within, slice_get-get_or}
 use Rattle.std.proofs.lemmas.List.{length-map}
 use Rattle.meta_lists.specs.First.{IsFirst}
-use Rattle.meta_lists.proofs.Places.{get_there, get_stays, get_take, get_drop}
+use Rattle.meta_lists.proofs.Places.{get_there, get_stays}
 use Rattle.meta_lists.proofs.Mapped.{get_map}
-use Rattle.meta_types.specs.Name.{IsNameByte}
+use Rattle.meta_types.specs.Name.{IsNameByte, IsName}
 use Rattle.meta_types.specs.TypeParts.{TypeParts, IsType, number_of}
 use Rattle.meta_types.specs.Function.{StepsNumbers}
 use Rattle.meta_types.specs.TypeNumber.{type_with, IsTypeNumber}
-use Rattle.meta_types.proofs.TypeNumbers.{type_back}
+use Rattle.meta_types.proofs.TypeNumbers.{type_back, number_is_one}
 use Rattle.meta_inst.specs.Which.{First, both}
 use Rattle.meta_meaning.specs.Inference.{GivesNumber, GivesAt, GivesResults}
 use Rattle.meta_meaning.specs.Tables.{TableContents, OpcodeNumbers, NumberConstraint, ConcreteNumber, FreeOf, SameNumber, ByNumber, NumberPasses, PassesAt, Allows, at_opcode, result_count, value_count, no_type_set}
@@ -25,6 +25,7 @@ use Rattle.meta_opcode_tables.specs.declared.constraint.Constraint.{Constraint}
 use Rattle.meta_opcode_tables.specs.declared.constraint.Constraint.TheVariants.{Same}
 use Rattle.meta_opcode_tables.specs.Contents.{IsOpcode, IsOpcodeNamed}
 use Rattle.meta_opcode_tables.specs.WellFormed.{IsWellFormedOpcodes}
+use Rattle.meta_lists.proofs.Everywhere.{at_place}
 use Rattle.meta_words.specs.Control.{control_text, IsBehind}
 use Rattle.meta_answers.specs.Answer.{AllowedReply}
 use Rattle.meta_verify.specs.Statement.{TypedValue, Application, Statement, OfParameter, OfApplication, IsStatement, value_text, typed_text, list_text}
@@ -33,17 +34,16 @@ use Rattle.meta_verify.specs.Wrong.{IsRight, IsWrong}
 use Rattle.meta_verify.specs.declared.reason.Reason.{Reason}
 use Rattle.meta_verify.proofs.StatementLemmas.{pieces_are, name_has_bytes}
 use Rattle.meta_verify.proofs.OneAnswer.{not_wrong}
-use Rattle.meta_verify.proofs.OneReply.{one_allowed}
+use Rattle.meta_answers.proofs.OneReply.{one_allowed}
 use Rattle.meta_short.specs.Short.{Manner, control_written, short_application, short_text}
 use Rattle.meta_short.specs.Parts.{IsPlain}
-use Rattle.meta_short.specs.Manners.{is_open, is_control, value_constraints, result_constraints, manner_of, IsMannerIn}
+use Rattle.meta_short.specs.Manners.{is_open, is_control, value_constraints, manner_of, IsMannerIn}
 use Rattle.meta_short.specs.Reading.{HasManner, IsShortIn}
-use Rattle.meta_short.proofs.Determined.{not_relation, one_step, taken_within, control_is, control_of}
-use Rattle.meta_short.proofs.OneLine.{all_name_bytes, all_at, name_plain, same_opcode, one_manner, number_at}
+use Rattle.meta_short.proofs.Determined.{not_relation, one_number_reached, mark_is, value_within, control_constraint_is, control_of}
+use Rattle.meta_short.proofs.OneLine.{all_name_bytes, name_plain, same_opcode, one_manner, result_number_at}
 use Rattle.meta_asm.specs.Parts.{TellTypes}
 use Rattle.meta_asm.specs.Written.{shown_control}
 use Rattle.meta_asm.specs.Read.{IsReadBy}
-use Rattle.meta_asm.proofs.ResultLemmas.{numbered}
 use Rattle.meta_asm.proofs.LineLemmas.{parameter_line, parameter_small, application_small}
 
 -- ---- an application that is right is read by the opcode of its name
@@ -125,7 +125,7 @@ module _ (tables : TableContents) (env : Environment) (op : ℕ) (entry : Opcode
     -- there is a value at its place
     pub has_value : j < length a.values
     has_value =
-        let few : j < value_count entry.flags = taken_within (drop (entry.constraint_offset + result_count entry.flags) tables.operand_constraints) (value_count entry.flags) j (SameNumber First) there in
+        let few = value_within tables entry j (SameNumber First) there in
         let counted : length (map number_of h.types) ≡ value_count entry.flags = h.allows.values ∙ ap (λ (e : OpcodeNumbers). value_count e.flags) own_entry in
         let types : length (map number_of h.types) ≡ length a.values = length-map h.types number_of ∙ have_length env a.values h.types h.have in
         omega (arith, few, counted, types)
@@ -142,11 +142,7 @@ module _ (tables : TableContents) (env : Environment) (op : ℕ) (entry : Opcode
 
   -- a result that isn't written with its type stands under a constraint that leaves one
   mark_at : (k : ℕ) (x : NumberConstraint) → k < result_count entry.flags → slice_get tables.operand_constraints (entry.constraint_offset + k) ≡ Some x → get_or m.opened k false ≡ is_open x
-  mark_at k x few at =
-      let there : slice_get (result_constraints tables entry) k ≡ Some x =
-      get_take (drop entry.constraint_offset tables.operand_constraints) (result_count entry.flags) k few ∙ get_drop tables.operand_constraints entry.constraint_offset k ∙ at in
-      ap (λ (y : Manner). get_or y.opened k false) h.manner
-      ∙ get_or_from_slice_get (map is_open (result_constraints tables entry)) k (is_open x) false (get_map is_open (result_constraints tables entry) k x there)
+  mark_at k x few at = ap (λ (y : Manner). get_or y.opened k false) h.manner ∙ mark_is tables entry k x few at
 
   -- so the number that is given is that of its type
   gives_one : (x : NumberConstraint) (n k : ℕ) → is_open x ≡ false → GivesNumber (both (option_map number_of a.control) (option_map number_of a.second)) x n → NumberPasses tables (both (option_map number_of a.control) (option_map number_of a.second)) x k → n ≡ k
@@ -156,12 +152,12 @@ module _ (tables : TableContents) (env : Environment) (op : ℕ) (entry : Opcode
   gives_one (ByNumber w f) n k closed (inl (inl e, zero_is)) p = absurd ((not_relation f closed).0 e)
   gives_one (ByNumber w f) n k closed (inl (inr e, zero_is)) p = absurd ((not_relation f closed).1 e)
   gives_one (ByNumber w f) n k closed (inr (u, is, answers)) (v, also, steps) =
-      one_step f u n k (not_relation f closed) answers.steps (subst (λ z. StepsNumbers f z k) (same_Some v u (sym also ∙ is)) steps)
+      one_number_reached f u n k (not_relation f closed) answers.steps (subst (λ z. StepsNumbers f z k) (same_Some v u (sym also ∙ is)) steps)
 
   tells_one : (numbers : List ℕ) → GivesResults tables op (option_map number_of a.control) (option_map number_of a.second) numbers → (k : ℕ) (r : TypedValue) → slice_get a.results k ≡ Some r → get_or m.opened k false ≡ false → slice_get numbers k ≡ Some (number_of r.type)
   tells_one numbers g k r r_at closed =
       let rs : List ℕ = map number_of (map (λ (q : TypedValue). q.type) a.results) in
-      let n_at : slice_get rs k ≡ Some (number_of r.type) = number_at a.results k r r_at in
+      let n_at : slice_get rs k ≡ Some (number_of r.type) = result_number_at a.results k r r_at in
       let inside : k < length rs = slice_get_within rs k (number_of r.type) n_at in
       let given : g.entry ≡ entry = same_Some g.entry entry (sym g.is_opcode ∙ h.is_entry) in
       let counted : length rs ≡ result_count entry.flags = h.allows.results ∙ ap (λ (e : OpcodeNumbers). result_count e.flags) own_entry in
@@ -195,7 +191,7 @@ control_word_is leaves_out None None written known word typed behind is e as_wri
     as_known is (subst (λ k. IfSome k IsTypeNumber) (sym e) tt) ∙ ap (λ k. control_text (option_map type_with k) None) e
 control_word_is leaves_out None (Some d) written known word typed behind is e as_written as_known = let none : Some d ≡ None = behind refl in absurd (cc)
 control_word_is true (Some c) None written known word typed behind is e as_written as_known =
-    as_known is (subst (λ k. IfSome k IsTypeNumber) (sym e) (numbered c typed)) ∙ ap (λ k. control_text (option_map type_with k) None) e ∙ ap (λ t. control_text (Some t) None) (type_back c typed)
+    as_known is (subst (λ k. IfSome k IsTypeNumber) (sym e) (number_is_one c typed)) ∙ ap (λ k. control_text (option_map type_with k) None) e ∙ ap (λ t. control_text (Some t) None) (type_back c typed)
 control_word_is false (Some c) None written known word typed behind is e as_written as_known = as_written (control_text (Some c) None) is
 control_word_is leaves_out (Some c) (Some d) written known word typed behind is e as_written as_known = as_written (control_text (Some c) (Some d)) is
 
@@ -228,7 +224,7 @@ stated_small tables well env line (OfApplication a) (states, faultless) =
   where
     name_bytes : (op : ℕ) → at_opcode tables.names op ≡ Some a.name → All IsNameByte a.name
     name_bytes zero e = absurd (cc)
-    name_bytes (suc k) e = all_name_bytes a.name (all_at tables.names k a.name well.parts.names e)
+    name_bytes (suc k) e = all_name_bytes a.name (at_place IsName tables.names k a.name well.parts.names e)
 
 pub short_small : (tables : TableContents) (well : IsWellFormedOpcodes tables) (env : Environment) (line text : List ℕ) → IsShortIn tables env line text → All (λ b. b < 128) line
 short_small tables well env line text h = stated_small tables well env line h.statement h.right
@@ -242,7 +238,7 @@ pub place_is : (cs : List Constraint) (j : ℕ) → position has_control cs ≡ 
 place_is cs j e =
     let found = position-Some has_control cs j Same e in
     let at : slice_get cs j ≡ Some (get_or cs j Same) = slice_get-get_or cs j Same found.0 in
-    get_map number_constraint_of cs j (get_or cs j Same) at ∙ ap (λ x. Some x) (control_is (number_constraint_of (get_or cs j Same)) found.1)
+    get_map number_constraint_of cs j (get_or cs j Same) at ∙ ap (λ x. Some x) (control_constraint_is (number_constraint_of (get_or cs j Same)) found.1)
 
 none_passes : (p : Constraint → Bool) (cs : List Constraint) → position p cs ≡ None → length cs ≤ position_or_len p cs
 none_passes p cs e = by (nat_lt (position_or_len p cs) (length cs)) refl e

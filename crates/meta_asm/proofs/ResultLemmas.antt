@@ -6,9 +6,9 @@ use Rattle.std.specs.List.{join_with_byte, flat_map}
 use Rattle.std.specs.Option.{option_map, option_map_or}
 use Rattle.std.proofs.lemmas.Option.{same_Some}
 use Rattle.std.proofs.lemmas.List.Elements.{All-head, All-tail}
-use Rattle.meta_types.specs.TypeParts.{TypeParts, IsType, number_of, name_of}
+use Rattle.meta_types.specs.TypeParts.{number_of, name_of}
 use Rattle.meta_types.specs.TypeNumber.{type_with, IsTypeNumber}
-use Rattle.meta_types.proofs.TypeNumbers.{type_back}
+use Rattle.meta_types.proofs.TypeNumbers.{type_back, number_is_one}
 use Rattle.meta_words.specs.Words.{pieces_of}
 use Rattle.meta_verify.specs.Statement.{TypedValue, IsTyped, value_text, typed_text, list_text}
 use Rattle.meta_short.specs.Short.{shortened, short_results, short_result_text, joined, values_written}
@@ -16,10 +16,6 @@ use Rattle.meta_short.proofs.SplitLemmas.{Lacks, joined_pieces}
 use Rattle.meta_short.proofs.ShortLemmas.{colon, comma, value_lacks, short_lacks}
 use Rattle.meta_asm.specs.Parts.{TellTypes, comma_behind}
 use Rattle.meta_asm.proofs.PartLemmas.{rest_is}
-
--- the number of a type is one
-pub numbered : (t : TypeParts) → IsType t → IsTypeNumber (number_of t)
-numbered t h = record { is_type = subst IsType (sym (type_back t h)) h; numbered = ap number_of (type_back t h) }
 
 -- ---- one result
 
@@ -53,7 +49,7 @@ module _ {X : Type 0} (now : X → List ℕ) (text first : List ℕ) (rest : Opt
 pub put_together : (before with_text with_colon after text : List ℕ) (r : TypedValue) (n : ℕ) (found : Bool) → IsTyped r → n ≡ number_of r.type → text ≡ value_text r.value → with_text ≡ before ++ text → with_colon ≡ with_text ++ 58 ∷ []
     → (IsTypeNumber n → (found ≡ true) × (after ≡ with_colon ++ name_of (type_with n))) → (found ≡ true) × (after ≡ before ++ typed_text r)
 put_together before with_text with_colon after text r n found h number is second third last =
-    let named = last (subst IsTypeNumber (sym number) (numbered r.type h.is_type)) in
+    let named = last (subst IsTypeNumber (sym number) (number_is_one r.type h.is_type)) in
     let type : name_of (type_with n) ≡ name_of r.type = ap (λ m. name_of (type_with m)) number ∙ ap name_of (type_back r.type h.is_type) in
     let front : with_colon ≡ (before ++ value_text r.value) ++ 58 ∷ [] = third ∙ ap (λ t. t ++ 58 ∷ []) (second ∙ ap (λ t. before ++ t) is) in
     (named.0, named.1 ∙ ap₂ (λ (x y : List ℕ). x ++ y) front type ∙ append_assoc (before ++ value_text r.value) (58 ∷ []) (name_of r.type) ∙ append_assoc before (value_text r.value) (58 ∷ name_of r.type))
@@ -70,10 +66,10 @@ join_is t [] = sym (append-nil t)
 join_is t (u ∷ us) = ap (λ r. t ++ 44 ∷ r) (join_is u us)
 
 -- a text more, which has bytes
-pub one_more_text : (word : List ℕ) (c : ℕ) (cs : List ℕ) (ts : List (List ℕ)) → ((word ++ comma_behind word) ++ (c ∷ cs)) ++ still ((word ++ comma_behind word) ++ (c ∷ cs)) ts ≡ word ++ still word ((c ∷ cs) ∷ ts)
+pub one_more_text : (word : List ℕ) (c : ℕ) (cs : List ℕ) (ts : List (List ℕ)) → word ++ comma_behind word ++ c ∷ cs ++ still (word ++ comma_behind word ++ c ∷ cs) ts ≡ word ++ still word ((c ∷ cs) ∷ ts)
 one_more_text [] c cs ts = sym (join_is (c ∷ cs) ts)
 one_more_text (w ∷ ws) c cs ts =
-    append_assoc ((w ∷ ws) ++ 44 ∷ []) (c ∷ cs) (flat_map (λ (t : List ℕ). 44 ∷ t) ts) ∙ append_assoc (w ∷ ws) (44 ∷ []) ((c ∷ cs) ++ flat_map (λ (t : List ℕ). 44 ∷ t) ts)
+    append_assoc (w ∷ ws ++ 44 ∷ []) (c ∷ cs) (flat_map (λ (t : List ℕ). 44 ∷ t) ts) ∙ append_assoc (w ∷ ws) (44 ∷ []) (c ∷ cs ++ flat_map (λ (t : List ℕ). 44 ∷ t) ts)
 
 -- a piece is a text, or the text behind a space
 abbrev pub IsSpaced : List ℕ → List ℕ → Type 0

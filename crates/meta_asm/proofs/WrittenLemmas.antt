@@ -1,24 +1,19 @@
 -- What is read of the words that are written beside the results.
-use Rattle.std.proofs.Common.{◌≡◌, ℕ, ◌<◌, List, [], ◌∷◌, map, length, Option, None, Some, IfSome, codes, refl, sym, ap, ◌∙◌}
+use Rattle.std.proofs.Common.{◌≡◌, ℕ, ◌<◌, List, [], ◌∷◌, map, length, Option, None, Some, codes, sym, ap, ◌∙◌}
 use Rattle.std.specs.List.{join_with_byte}
 use Rattle.std.specs.Option.{option_map, unwrap_or}
 use Rattle.meta_types.specs.TypeParts.{number_of}
-use Rattle.meta_types.specs.TypeNumber.{type_with, IsTypeNumber}
 use Rattle.meta_verify.specs.Statement as spec
 use Rattle.meta_verify.specs.Statement.{CanApply, value_text, list_text}
 use Rattle.meta_verify.specs.Numbers.{applied, HasNumbers}
 use Rattle.meta_verify.specs.declared.statement.Application.{Application}
 use Rattle.meta_verify.proofs.StatementLemmas.{one_statement}
+use Rattle.meta_verify.proofs.EnvironmentLemmas.{number_back}
 use Rattle.meta_short.specs.Short.{Manner, control_written}
 use Rattle.meta_short.specs.Parts.{IsPlain}
 use Rattle.meta_asm.specs.Written.{HasWritten}
 use Rattle.meta_asm.specs.declared.written.Written.{Written}
 use Rattle.meta_asm.proofs.LineLemmas.{shown, shown_states}
-
--- the number of the type with a number is that number
-numbers_back : (o : Option ℕ) → IfSome o IsTypeNumber → option_map number_of (option_map type_with o) ≡ o
-numbers_back None h = refl
-numbers_back (Some n) h = ap (λ m. Some m) h.numbered
 
 -- what stands behind the point, and `-` where nothing does
 pub written_word : {X : Type 0} (now : X → List ℕ) (o : Option X) (w : Option (List ℕ)) (d : X) → now d ≡ codes "-" → option_map now o ≡ w → now (unwrap_or o d) ≡ unwrap_or w (codes "-")
@@ -43,8 +38,8 @@ module _ (m : Manner) (a : spec.Application) (can : CanApply a) (plain : IsPlain
       let same : spec.OfApplication (applied b) ≡ spec.OfApplication (shown m.leaves_out a) = one_statement line (spec.OfApplication (applied b)) (spec.OfApplication (shown m.leaves_out a)) states states_shown in
       let apps : applied b ≡ shown m.leaves_out a = cc in
       record {
-        control = c ∙ sym (numbers_back b.control known.control) ∙ ap (λ (x : spec.Application). option_map number_of x.control) apps;
-        second = s ∙ sym (numbers_back b.second known.second) ∙ ap (λ (x : spec.Application). option_map number_of x.second) apps;
+        control = c ∙ sym (number_back b.control known.control) ∙ ap (λ (x : spec.Application). option_map number_of x.control) apps;
+        second = s ∙ sym (number_back b.second known.second) ∙ ap (λ (x : spec.Application). option_map number_of x.second) apps;
         values = ap (λ v. v.items) v ∙ ap (λ (x : spec.Application). x.values) apps;
       }
 

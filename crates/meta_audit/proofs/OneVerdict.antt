@@ -1,21 +1,13 @@
 -- There is one verdict on tables beside declarations, and one line for a text.
-use Rattle.std.proofs.Common.{◌≡◌, ◌<◌, ◌≤◌, ◌+◌, ◌⊎◌, ℕ, List, [], ◌∷◌, ◌++◌, refl, sym, ap, ◌∙◌, subst, inl, inr, ⊎_elim, arith}
-use Rattle.std.proofs.lemmas.Bool.{cases_lt}
-use Rattle.meta_lists.specs.First.{IsFirst}
+use Rattle.std.proofs.Common.{◌≡◌, ◌+◌, ℕ, List, [], ◌∷◌, ◌++◌, refl, sym, ap, ◌∙◌, subst, inl, inr}
+use Rattle.meta_lists.proofs.First.{one_first}
 use Rattle.meta_declared.specs.AllDeclared.{Declared}
 use Rattle.meta_gen.specs.WholeTables.{WholeTables}
 use Rattle.meta_table_reader.specs.Readable.{Reads}
 use Rattle.meta_audit.specs.Verdict.{AllMatch, Differs, DiffersAt, IsVerdict}
-use Rattle.meta_audit.specs.AuditLine.{verdict_text, IsVerdictLine, IsAuditLine}
+use Rattle.meta_audit.specs.AuditLine.{verdict_text, IsAuditLine}
 use Rattle.meta_audit.specs.declared.verdict.Verdict.{Verdict}
 use Rattle.meta_audit.specs.declared.verdict.Verdict.TheVariants.{Yes, Opcodes, Opcode, Group}
-
--- the first number of which something holds is one
-one_first : (P : ℕ → Type 0) (m n : ℕ) → IsFirst P m → IsFirst P n → m ≡ n
-one_first P m n a b =
-    ⊎_elim (λ (l : m < n). absurd (b.none_before m l a.holds))
-    (λ (g : n ≤ m). ⊎_elim (λ (l : n < m). absurd (a.none_before n l b.holds)) (λ (h : m ≤ n). omega (arith, g, h)) (cases_lt n m))
-    (cases_lt m n)
 
 module _ (d : Declared) (t : WholeTables) where
   -- where all opcodes match none differs

@@ -2,6 +2,7 @@
 use Rattle.std.proofs.Common.{◌≡◌, ◌≢◌, ◌↔◌, ◌+◌, ◌<◌, ◌≤◌, ◌==◌, ◌⊎◌, ltb, ℕ, Bool, true, List, Option, None, Some, IfSome, MatchBool, All, length, slice_get, refl, sym, ap, ◌∙◌, subst, inl, inr, arith}
 use Rattle.std.proofs.lemmas.Bool.{MatchBool-at_true, MatchBool-at_false, eq-eqb, ne_eqb, ltb-true, cases_eq}
 use Rattle.std.proofs.lemmas.Option.{same_Some, none-some}
+use Rattle.meta_lists.proofs.Everywhere.{at_place}
 use Rattle.meta_types.specs.TypeParts.{TypeParts, IsType, number_of}
 use Rattle.meta_types.proofs.AllTypes.{at_all, at_all_types}
 use Rattle.meta_types.proofs.TypeNumbers.{number_is_one}
@@ -9,7 +10,6 @@ use Rattle.meta_inst.specs.Which.{Which, First, Second, both}
 use Rattle.meta_meaning.specs.Tables.{TableContents, NumberConstraint, ConcreteNumber, FreeOf, SameNumber, ByNumber, SetContains, ControlNumberFits, NumberPasses, PassesAt, no_type_set}
 use Rattle.meta_types.specs.TypeNumber.{type_with, IsTypeNumber}
 use Rattle.meta_opcode_tables.specs.WellFormed.{IsWellFormedConstraint, IsWellFormedOpcodes}
-use Rattle.meta_setting_tables.proofs.Everywhere.{at_place}
 use Rattle.meta_audit.specs.Comparison.{SameNumbers, SameControl}
 
 -- ---- numbers of types

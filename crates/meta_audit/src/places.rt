@@ -1,7 +1,7 @@
 ghost use Rattle.std.specs.Prelude.{◌≡◌, ◌↔◌, ℕ, Option, IsTrue, IfSome};
 ghost use Rattle.meta_inst.specs.Which.{both};
 ghost use Rattle.meta_meaning.specs.Tables.{ControlNumberFits};
-ghost use Rattle.meta_opcode_tables.specs.Demand.{which_of};
+ghost use Rattle.meta_inst.specs.Controls.{which_of};
 ghost use Rattle.meta_types.specs.TypeNumber.{IsTypeNumber};
 ghost use Rattle.meta_opcode_tables.specs.WellFormed.{IsWellFormedOpcodes};
 ghost use Rattle.meta_audit.specs.Comparison.{SameNumbers, SamePlace, paired};

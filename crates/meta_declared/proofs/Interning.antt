@@ -1,5 +1,5 @@
 -- Lists of sets that grow by what is needed.
-use Rattle.std.proofs.Common.{◌≡◌, ◌<◌, ◌≤◌, Bool, true, false, ◌⊎◌, inl, inr, ⊎_elim, ℕ, zero, suc, ◌+◌, List, [], ◌∷◌, ◌++◌, length, slice_get, Some, rules, refl, sym, ap, ◌∙◌, subst, arith}
+use Rattle.std.proofs.Common.{◌≡◌, ◌<◌, ◌≤◌, Bool, true, false, ◌⊎◌, inl, inr, ⊎_elim, ℕ, zero, suc, ◌+◌, List, [], ◌∷◌, ◌++◌, length, slice_get, Some, refl, sym, ap, ◌∙◌, subst, arith}
 use Rattle.std.proofs.lemmas.Bool.{cases_lt, cases_order, false≢true}
 use Rattle.std.proofs.lemmas.Option.{slice_get_within, same_Some}
 use Rattle.meta_lists.proofs.Places.{get_stays}
@@ -7,7 +7,7 @@ use Rattle.meta_lists.proofs.Pushed.{get_end, get_pushed_below}
 use Rattle.meta_typevar.specs.Compared.{are_equal}
 use Rattle.meta_typevar.specs.TypeSetParts.{TypeSetParts, IsTypeSet}
 use Rattle.meta_typevar.specs.Registry.{HoldTypeSets}
-use Rattle.meta_typevar.proofs.EqualSets.{one_set}
+use Rattle.meta_typevar.proofs.EqualSets.{one_set, equal_self}
 use Rattle.meta_inst.specs.Instruction.{controls_of}
 use Rattle.meta_inst.specs.Which.{Which, First, Second}
 use Rattle.meta_inst.specs.InstructionSet.{InstructionSet, root_sets, instruction_in_set}
@@ -46,8 +46,8 @@ pub adds_none : (P : TypeSetParts → Type 0) (sets : List TypeSetParts) → ((s
 adds_none P sets none = inl (none, refl)
 
 -- one set is needed
-pub adds_one : (P : TypeSetParts → Type 0) (s : TypeSetParts) (a b : List TypeSetParts) → P s → ((t : TypeSetParts) → P t → t ≡ s) → Adds s a b → AddsSome P a b
-adds_one P s a b is only adds = inr (s, is, only, adds)
+pub adds_one_set : (P : TypeSetParts → Type 0) (s : TypeSetParts) (a b : List TypeSetParts) → P s → ((t : TypeSetParts) → P t → t ≡ s) → Adds s a b → AddsSome P a b
+adds_one_set P s a b is only adds = inr (s, is, only, adds)
 
 -- two that say the same of sets
 pub adds_like : (P Q : TypeSetParts → Type 0) (a b : List TypeSetParts) → ((s : TypeSetParts) → P s → Q s) → ((s : TypeSetParts) → Q s → P s) → AddsSome P a b → AddsSome Q a b
@@ -247,14 +247,10 @@ module _ (d : InstructionSet) where
     ordered = h.ordered;
   }
 
--- a set compares equal to itself
-equal_self : (s : TypeSetParts) → are_equal s s ≡ true
-equal_self s = search rules
-
 -- a set that stands in the table is found there
 module _ (sets : List TypeSetParts) (x s : TypeSetParts) (same : x ≡ s) (there : (k : ℕ) × (slice_get sets k ≡ Some s)) where
-  pub stands_at : (k : ℕ) × IsIndexOf are_equal sets x k
-  stands_at = (there.0, record { entry = s; there = there.1; equal = ap (λ (q : TypeSetParts). are_equal q s) same ∙ equal_self s })
+  pub interned_at : (k : ℕ) × IsIndexOf are_equal sets x k
+  interned_at = (there.0, record { entry = s; there = there.1; equal = ap (λ (q : TypeSetParts). are_equal q s) same ∙ equal_self s })
 
   pub found_there : (place : ℕ) → ((k : ℕ) → IsIndexOf are_equal sets x k → place ≡ k) → slice_get sets place ≡ Some s
   found_there place only =

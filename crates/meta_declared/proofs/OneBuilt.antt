@@ -14,11 +14,11 @@ use Rattle.meta_typevar.specs.declared.content.TypeVarContent.{TypeVarContent}
 use Rattle.meta_typevar.proofs.Variables.{one_variable}
 use Rattle.meta_operands.specs.declared.format.InstructionFormat.{InstructionFormat}
 use Rattle.meta_inst.specs.Builder.{Builder}
-use Rattle.meta_inst.specs.Built.{Built}
+use Rattle.meta_inst.specs.Built.{BuiltInstruction}
 use Rattle.meta_inst.specs.Content.{content_of, control_kept, IsPolymorphicInfoOf}
 use Rattle.meta_inst.specs.Faults.{IsAt}
 use Rattle.meta_inst.specs.Instruction.{IsDesignated}
-use Rattle.meta_inst.specs.InstructionSet.{InstructionSet, Fits, instruction_of_builder}
+use Rattle.meta_inst.specs.InstructionSet.{InstructionSet, AreOfRegistries, instruction_of_builder}
 use Rattle.meta_inst.specs.declared.polymorphic.PolymorphicInfo.{PolymorphicInfo}
 use Rattle.meta_inst.proofs.OneControl.{same_control}
 use Rattle.meta_settings.specs.LaidOut.{built_of}
@@ -99,7 +99,7 @@ first_strict formats f g a b =
     let names : slice_cmp nat_cmp a.other.name a.one.name ≡ slice_cmp nat_cmp b.one.name b.other.name = λ i. slice_cmp nat_cmp (other i).name (one i).name in
     less_strict a.one.name a.other.name a.before (names ∙ b.before)
 
-module _ (d : InstructionSet) (fits : Fits d.vars d.formats d.instructions) where
+module _ (d : InstructionSet) (fits : AreOfRegistries d.vars d.formats d.instructions) where
   -- a format in use is of the table
   of_table : (f : ℕ) → IsInUse d f → (format : InstructionFormat) × (slice_get d.formats f ≡ Some format)
   of_table f h = get_there d.formats f (subst (λ (g : ℕ). g < length d.formats) h.uses (fits h.place h.user h.at).format)
@@ -160,14 +160,14 @@ one_info vars formats b registry p q h g = told p q h g (same_control (sets_of v
         (λ t. here.1 (subst (λ (n : ℕ). IsDesignated (instruction_of_builder vars formats b) (variable_at vars n)) (sym one) (there.0 t))) in
         λ i. Some (record { use_typevar_operand = mark i; ctrl_typevar = one i; second_typevar = second i })
 
-one_at : (d : InstructionSet) (k : ℕ) (x y : Built) → IsRegistry d.vars → IsBuiltAt d k x → IsBuiltAt d k y → x ≡ y
+one_at : (d : InstructionSet) (k : ℕ) (x y : BuiltInstruction) → IsRegistry d.vars → IsBuiltAt d k x → IsBuiltAt d k y → x ≡ y
 one_at d k x y registry a b =
     let builder : a.builder ≡ b.builder = same_Some a.builder b.builder (sym a.at ∙ b.at) in
     let info : x.polymorphic_info ≡ y.polymorphic_info = one_info d.vars d.formats b.builder registry x.polymorphic_info y.polymorphic_info (subst (λ (u : Builder). IsPolymorphicInfoOf d.vars d.formats u x.polymorphic_info) builder a.is.control) b.is.control in
     let made : content_of d.formats a.builder x.polymorphic_info ≡ content_of d.formats b.builder y.polymorphic_info = λ i. content_of d.formats (builder i) (info i) in
     a.is.content ∙ made ∙ sym b.is.content
 
-pub one_instructions : (d : InstructionSet) (xs ys : List Built) → IsRegistry d.vars → AreInstructionsOf d xs → AreInstructionsOf d ys → xs ≡ ys
+pub one_instructions : (d : InstructionSet) (xs ys : List BuiltInstruction) → IsRegistry d.vars → AreInstructionsOf d xs → AreInstructionsOf d ys → xs ≡ ys
 one_instructions d xs ys registry h g = same_places xs ys (h.count ∙ sym g.count) (λ j l.
     let (x, at_x) = get_there xs j l in
     let (y, at_y) = get_there ys j (omega (arith, l, h.count, g.count)) in

@@ -8,7 +8,7 @@ use Rattle.meta_types.specs.declared.fault.DefinitionError.{DefinitionError}
 use Rattle.meta_types.specs.declared.fault.DefinitionError.TheVariants.{DuplicateName, TooManyTypeSets, FormatClash}
 use Rattle.meta_types.specs.FirstFault.{Key}
 use Rattle.meta_types.proofs.SharedNames.{one_earlier}
-use Rattle.meta_types.proofs.FirstFault.{IsIn, IsSearchable, one_first}
+use Rattle.meta_types.proofs.FirstFault.{IsIn, IsSearchable, one_first_shown}
 use Rattle.meta_inst.specs.Builder.{Builder}
 use Rattle.meta_inst.specs.InstructionSet.{InstructionSet}
 use Rattle.meta_inst.specs.InstructionFaults.{Rule, Breaks}
@@ -106,7 +106,7 @@ module _ (d : InstructionSet) where
 
 -- Declarations show one first fault at most.
 pub one_fault : (d : InstructionSet) (e f : DefinitionError) → IsFirstFault d e → IsFirstFault d f → e ≡ f
-one_fault d = one_first (searchable d)
+one_fault d = one_first_shown (searchable d)
 
 -- Valid declarations show none.
 pub none_where_valid : (d : InstructionSet) (e : DefinitionError) → IsValid d → IsFirstFault d e → ⊥

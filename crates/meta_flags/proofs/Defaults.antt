@@ -3,6 +3,7 @@ use Rattle.std.proofs.Common.{◌≡◌, ℕ, ◌+◌, ◌≤◌, List, [], ◌�
 use Rattle.std.specs.Prelude.{slice_index_or}
 use Rattle.std.proofs.lemmas.List.{length-drop, length-take}
 use Rattle.std.proofs.lemmas.Option.{slice_get_past, same_Some, none-some}
+use Rattle.meta_lists.proofs.Everywhere.{at_place}
 use Rattle.meta_lists.proofs.Places.{drop_next, drop_past}
 use Rattle.meta_setting_tables.specs.declared.descriptor.Descriptor.{Descriptor}
 use Rattle.meta_setting_tables.specs.declared.descriptor.Detail.{Detail}
@@ -10,7 +11,6 @@ use Rattle.meta_setting_tables.specs.declared.descriptor.Detail.TheVariants.{Enu
 use Rattle.meta_setting_tables.specs.EntryValues.{values_in}
 use Rattle.meta_setting_tables.specs.GroupTables.{GroupContents, default_in}
 use Rattle.meta_setting_tables.specs.WellFormed.{HasValues, HasItsValues, IsWellFormedGroup}
-use Rattle.meta_setting_tables.proofs.Everywhere.{at_place}
 use Rattle.meta_flags.specs.Served.{NumValue, EnumValue, State, default_of, kind_in}
 use Rattle.meta_flags.specs.Held.{AreHeld}
 use Rattle.meta_flags.proofs.Places.{defaults, counted, settings_first, setting_count}

@@ -6,13 +6,13 @@ use Rattle.meta_setting_tables.specs.declared.descriptor.Detail.{Detail}
 use Rattle.meta_setting_tables.specs.declared.descriptor.Detail.TheVariants.{Bool as BoolDetail, Enum as EnumDetail, Num as NumDetail, Preset as PresetDetail}
 use Rattle.meta_setting_tables.specs.declared.descriptor.Descriptor.{Descriptor}
 use Rattle.meta_setting_tables.specs.GroupTables.{GroupContents}
-use Rattle.meta_setting_tables.specs.WellFormed.{is_preset, own_byte_count, boolean_count, byte_count, IsPlaced, IsWellFormedGroup}
+use Rattle.meta_setting_tables.specs.WellFormed.{is_preset, own_byte_count, described_boolean_count, described_byte_count, IsPlaced, IsWellFormedGroup}
 use Rattle.meta_flags.specs.Served.{ServedEntry, State, default_of, settings_in, kind_in, served_entry}
 use Rattle.meta_flags.specs.Held.{AreSettings}
 
 -- how many settings there are
 abbrev pub setting_count : List Descriptor → ℕ
-setting_count ds = own_byte_count ds + boolean_count ds
+setting_count ds = own_byte_count ds + described_boolean_count ds
 
 -- an entry that is placed is a setting exactly where it stands among the first
 placed_setting : (own booleans size e offset : ℕ) (detail : Detail) → IsPlaced own booleans size e offset detail → ((is_preset detail ≡ false) ↔ (e < own + booleans))
@@ -23,7 +23,7 @@ placed_setting own booleans size e offset PresetDetail at = ((λ x. absurd (fals
 
 -- in well-formed tables the settings are the first entries
 pub settings_first : (t : GroupContents) → IsWellFormedGroup t → AreSettings t.descriptors (setting_count t.descriptors)
-settings_first t well e d at = placed_setting (own_byte_count t.descriptors) (boolean_count t.descriptors) (byte_count t.descriptors) e d.offset d.detail (well.placed e d at)
+settings_first t well e d at = placed_setting (own_byte_count t.descriptors) (described_boolean_count t.descriptors) (described_byte_count t.descriptors) e d.offset d.detail (well.placed e d at)
 
 -- a setting has one default
 one_default : (t : GroupContents) (offset : ℕ) (detail : Detail) → is_preset detail ≡ false → length (default_of (kind_in t offset detail)) ≡ 1

@@ -4,8 +4,8 @@ use Rattle.std.proofs.lemmas.List.Elements.{All-head, All-tail, All-cons, All-ni
 use Rattle.meta_words.specs.Words.{IsWord, pieces_of}
 use Rattle.meta_words.proofs.WordLemmas.{words_pieces, are_words}
 use Rattle.meta_flags.specs.Request.{Request, Set, Enable, Get, Toml, request_words, Requests, command_word}
-use Rattle.meta_flags.specs.declared.request.Command.{Command}
-use Rattle.meta_flags.specs.declared.request.Command.TheVariants as command
+use Rattle.meta_flags.specs.declared.request.RequestWord.{RequestWord}
+use Rattle.meta_flags.specs.declared.request.RequestWord.TheVariants as command
 
 -- the word has bytes
 abbrev pub HasBytes : List ℕ → Type 0
@@ -18,7 +18,7 @@ letter words = get_or (get_or words 0 []) 0 0
 -- ---- the words of a request
 
 -- the command of a request, and the words behind it
-abbrev pub command_in : Request → Command
+abbrev pub command_in : Request → RequestWord
 command_in (Set name value) = command.Set
 command_in (Enable name) = command.Enable
 command_in (Get name) = command.Get
@@ -36,7 +36,7 @@ first_word (Enable name) = refl
 first_word (Get name) = refl
 first_word Toml = refl
 
-command_has_bytes : (c : Command) → HasBytes (command_word c)
+command_has_bytes : (c : RequestWord) → HasBytes (command_word c)
 command_has_bytes command.Set = omega arith
 command_has_bytes command.Enable = omega arith
 command_has_bytes command.Get = omega arith
@@ -128,13 +128,13 @@ module _ (line : List ℕ) where
 
   module _ (word : List ℕ) (rest : List (List ℕ)) (pieces : pieces_of 32 line ≡ word ∷ rest) where
     -- nor does one whose first word is no command
-    pub no_command : ((c : Command) → word ≢ command_word c) → (r : Request) → Requests line r → ⊥
+    pub no_command : ((c : RequestWord) → word ≢ command_word c) → (r : Request) → Requests line r → ⊥
     no_command none r h =
         let both : word ∷ rest ≡ command_word (command_in r) ∷ behind_in r = sym pieces ∙ request_pieces line r h ∙ first_word r in
         let same : word ≡ command_word (command_in r) = cc in
         none (command_in r) same
 
-    module _ (c : Command) (is : word ≡ command_word c) where
+    module _ (c : RequestWord) (is : word ≡ command_word c) where
       own : pieces_of 32 line ≡ command_word c ∷ rest
       own = pieces ∙ ap (λ w. w ∷ rest) is
 

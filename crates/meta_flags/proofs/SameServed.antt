@@ -18,7 +18,7 @@ use Rattle.meta_setting_tables.specs.Descriptor.{IsDetailOf}
 use Rattle.meta_setting_tables.specs.GroupTables.{GroupContents, AreTablesOfGroup}
 use Rattle.meta_setting_tables.specs.EntryValues.{is_on, masks_from, is_one_of}
 use Rattle.meta_setting_tables.specs.WellFormed.{is_preset}
-use Rattle.meta_setting_tables.proofs.Enabled.{AreAlike, alike, default_back}
+use Rattle.meta_setting_tables.proofs.Enabled.{AreNamedAlike, alike, default_back}
 use Rattle.meta_flags.specs.Served.{BoolKind, NumKind, EnumKind, PresetKind, kind_in, kind_of_setting, served_setting, served_preset, settings_in, marks_in, served_entry, served_in, served_of}
 
 -- a setting is of the same kind by its detail, the enumerators and the defaults
@@ -39,7 +39,7 @@ no_preset enumerators before (ANum default) detail is = ap is_preset is
 
 module _ (marked : Descriptor → Bool) (is_named : PlacedSetting → Bool) where
   -- settings and their descriptors, behind which presets stand, are marked the same
-  same_marks : (ss : List PlacedSetting) (ds : List Descriptor) → ((k : ℕ) (s : PlacedSetting) (d : Descriptor) → slice_get ss k ≡ Some s → slice_get ds k ≡ Some d → AreAlike marked is_named s d × (is_preset d.detail ≡ false)) → length ss ≤ length ds
+  same_marks : (ss : List PlacedSetting) (ds : List Descriptor) → ((k : ℕ) (s : PlacedSetting) (d : Descriptor) → slice_get ss k ≡ Some s → slice_get ds k ≡ Some d → AreNamedAlike marked is_named s d × (is_preset d.detail ≡ false)) → length ss ≤ length ds
       → ((k : ℕ) (d : Descriptor) → length ss ≤ k → slice_get ds k ≡ Some d → is_preset d.detail ≡ true) → map marked (settings_in ds) ≡ map is_named ss
   same_marks [] [] same few behind = refl
   same_marks [] (d ∷ ds) same few behind =
@@ -69,7 +69,7 @@ module _ (g : GroupDeclaration) (t : GroupContents) (made : AreTablesOfGroup (bu
   marks_at k p p_at = let count = made.count in same_marks _ _ layout.settings t.descriptors like (omega (arith, count)) behind
     where
       like : (j : ℕ) (s : PlacedSetting) (d : Descriptor) → slice_get layout.settings j ≡ Some s → slice_get t.descriptors j ≡ Some d
-          → AreAlike (λ (x : Descriptor). is_on (masks_from (length t.defaults) t.preset_masks (k * layout.settings_size)) x.offset x.detail) (λ (s : PlacedSetting). is_one_of p.booleans s.specific) s d × (is_preset d.detail ≡ false)
+          → AreNamedAlike (λ (x : Descriptor). is_on (masks_from (length t.defaults) t.preset_masks (k * layout.settings_size)) x.offset x.detail) (λ (s : PlacedSetting). is_one_of p.booleans s.specific) s d × (is_preset d.detail ≡ false)
       like j s d s_at d_at = (alike g t made k p p_at j s d s_at d_at, no_preset t.enumerators (take j layout.settings) s.specific d.detail ((made.entries j d d_at).setting s s_at).detail)
 
       behind : (j : ℕ) (d : Descriptor) → length layout.settings ≤ j → slice_get t.descriptors j ≡ Some d → is_preset d.detail ≡ true

@@ -60,17 +60,17 @@ Sets g name text old (Err Kind) new = IsOfPreset g name × (new ≡ old)
 Sets g name text old (Err Value) new = IsNoValue g name text × (new ≡ old)
 
 -- the values with each marked setting true
-abbrev pub turned_on : List Bool → State → State
-turned_on [] state = state
-turned_on (mark ∷ marks) [] = []
-turned_on (mark ∷ marks) (v ∷ vs) = (if mark then BoolValue true else v) ∷ turned_on marks vs
+abbrev pub with_marked_true : List Bool → State → State
+with_marked_true [] state = state
+with_marked_true (mark ∷ marks) [] = []
+with_marked_true (mark ∷ marks) (v ∷ vs) = (if mark then BoolValue true else v) ∷ with_marked_true marks vs
 
 -- what becomes of the values where the entry of this kind at e is enabled: a boolean is true, and of a preset what it marks
 abbrev pub IsEnabled : EntryKind → ℕ → State → State → Type 0
 IsEnabled (BoolKind default) e old new = new ≡ slice_set old e (BoolValue true)
 IsEnabled (NumKind default) e old new = ⊥
 IsEnabled (EnumKind values) e old new = ⊥
-IsEnabled (PresetKind marks) e old new = new ≡ turned_on marks old
+IsEnabled (PresetKind marks) e old new = new ≡ with_marked_true marks old
 
 -- the entry is a number or an enum
 abbrev pub IsNoSwitch : EntryKind → Type 0

@@ -1,16 +1,16 @@
 -- Parts have one well-formed table at most.
 use Rattle.std.proofs.Common.{◌≡◌, ◌<◌, ℕ, List, All, length, slice_get, Some, sym, ap, ◌∙◌, arith}
+use Rattle.meta_lists.proofs.Everywhere.{at_place}
 use Rattle.meta_lists.proofs.Places.{get_there, same_places}
 use Rattle.meta_typevar.specs.declared.masks.Masks.{Masks}
 use Rattle.meta_meaning.specs.Tables.{TableContents}
 use Rattle.meta_opcode_tables.specs.WellFormed.{IsWellFormedOpcodes, HaveParts}
 use Rattle.meta_opcode_tables.specs.declared.constraint.Constraint.{Constraint}
 use Rattle.meta_opcode_tables.specs.declared.constraint.OpcodeConstraints.{OpcodeConstraints}
-use Rattle.meta_opcode_tables.proofs.ValidNames.{at_place}
 use Rattle.meta_setting_tables.specs.declared.parts.GroupParts.{GroupParts}
 use Rattle.meta_setting_tables.specs.GroupTables.{GroupContents}
 use Rattle.meta_setting_tables.specs.WellFormed.{IsWellFormedGroup}
-use Rattle.meta_setting_tables.specs.Parts.{HasParts as GroupHasParts}
+use Rattle.meta_setting_tables.specs.Parts.{HasGroupParts}
 use Rattle.meta_gen.specs.declared.parts.TableParts.{TableParts}
 use Rattle.meta_gen.specs.Parts.{HaveGroupParts, HasParts}
 use Rattle.meta_gen.specs.WellFormed.{IsWellFormed}
@@ -21,7 +21,7 @@ abbrev OneOfOpcodes : Type 0
 OneOfOpcodes = (names formats : List (List ℕ)) (type_sets : List Masks) (operand_constraints : List Constraint) (constraints : List OpcodeConstraints) (one other : TableContents) → IsWellFormedOpcodes one → IsWellFormedOpcodes other → HaveParts one names formats type_sets operand_constraints constraints → HaveParts other names formats type_sets operand_constraints constraints → one ≡ other
 
 abbrev OneOfGroup : Type 0
-OneOfGroup = (parts : GroupParts) (one other : GroupContents) → IsWellFormedGroup one → IsWellFormedGroup other → GroupHasParts parts one → GroupHasParts parts other → one ≡ other
+OneOfGroup = (parts : GroupParts) (one other : GroupContents) → IsWellFormedGroup one → IsWellFormedGroup other → HasGroupParts parts one → HasGroupParts parts other → one ≡ other
 
 -- so have those of groups
 one_groups : OneOfGroup → (parts : List GroupParts) (one other : List GroupContents) → All IsWellFormedGroup one → All IsWellFormedGroup other → HaveGroupParts parts one → HaveGroupParts parts other → one ≡ other

@@ -14,7 +14,7 @@ ghost use Rattle.meta_opcode_tables.specs.Inferred.{InfersControl, InfersOpcode,
 ghost use Rattle.meta_setting_tables.specs.declared.descriptor.Descriptor.{Descriptor};
 ghost use Rattle.meta_setting_tables.specs.Descriptor.{DescribesEntry};
 ghost use Rattle.meta_unique.specs.NameSlots.{AreNameSlots, IsNameLookup};
-ghost use Rattle.meta_setting_tables.specs.FoundSetting.{entry_count, FindsEntry};
+ghost use Rattle.meta_setting_tables.specs.FoundSetting.{laid_entry_count, FindsEntry};
 ghost use Rattle.meta_setting_tables.specs.PresetMasks.{AreJoined};
 ghost use Rattle.meta_setting_tables.specs.GroupTables.{names_in, IsPresetIn, AreTablesOfGroup, default_in, AnswersDefault, Applies};
 ghost use Rattle.meta_declared.specs.AllDeclared.{Declared};
@@ -306,7 +306,7 @@ impl Tables {
     pub fn descriptor(&self, group: usize, index: u16) -> Option<&Descriptor>
         ensures entry { OfGroup self.now group (λ t. option_map (λ d. d.now) result ≡ slice_get t.descriptors index) }
         ensures no_group { HasNoGroup self.now group → result ≡ None }
-        ensures none { OfGroup self.now group (λ t. (g : Layout) → AreTablesOfGroup g t → (IsSome result ↔ (index < entry_count g))) }
+        ensures none { OfGroup self.now group (λ t. (g : Layout) → AreTablesOfGroup g t → (IsSome result ↔ (index < laid_entry_count g))) }
         ensures meaning { OfGroup self.now group (λ t. (g : Layout) → AreTablesOfGroup g t → IfSome result (λ d. DescribesEntry g t.enumerators index d.now)) }
     {
         let tables = self.group(group)?;

@@ -12,6 +12,7 @@ use Rattle.meta_typevar.specs.Variable.{Variable, underived}
 use Rattle.meta_typevar.specs.Registry.{sets_of, variable_at, IsKept, IsRegistry}
 use Rattle.meta_typevar.proofs.Variables.{kept_at, kept_variable, underived_told, root_is, root_underived, one_variable}
 use Rattle.meta_typevar.specs.declared.content.TypeVarContent.{TypeVarContent}
+use Rattle.meta_inst.specs.Which.{First, Second, both}
 use Rattle.meta_inst.specs.Instruction.{Instruction, operands, IsOperand, IsDesignated, IsFirstOutput}
 use Rattle.meta_inst.specs.Control.{IsLoneInput, IsRuled, MayControl, CannotBeSecond, HasBadSecond, IsPolymorphic, HasOneEverywhere, IsControlledBy, DesignatesNone}
 use Rattle.meta_inst.specs.Operands.{OperandList, instruction_of_operands, variables_at, IsLone, LetsControl, CanControl, HasSeveralTypes, AllHaveOneType, designated_number, first_number, AreOf, SecondIsOf, IsNoSecond, second_in}
@@ -87,23 +88,23 @@ module _ (vars : List TypeVarContent) (o : OperandList) (within : o.result_count
   }
 
   -- what lets v control rules the operand
-  ruled : (v k n : ℕ) → v < length vars → (variable_at vars v).chain ≡ [] → slice_get o.variables k ≡ Some n → LetsControl vars o.second o.variables o.result_count v k n → IsRuled (sets_of vars) i (variable_at vars v) k (variable_at vars n)
-  ruled v k n l none at (inl e) = inl (e ∙ sym (root_self vars v registry l none))
-  ruled v k n l none at (inr (inl second)) =
+  ruled : (v k n : ℕ) → v < length vars → (variable_at vars v).chain ≡ [] → slice_get o.variables k ≡ Some n → LetsControl vars (both (Some v) o.second) o.variables o.result_count k n → IsRuled (sets_of vars) i (variable_at vars v) k (variable_at vars n)
+  ruled v k n l none at (inl (First, e)) = inl (sym (same_Some v (variable_at vars n).root e) ∙ sym (root_self vars v registry l none))
+  ruled v k n l none at (inl (Second, second)) =
       let (c, kept) = kept_at vars n (are k n at) in
       let root : (variable_at vars n).root ≡ c.root = root_kept vars n c kept in
       inr (inl (ap (option_map (variable_at vars)) (second ∙ ap Some root) ∙ ap Some (root_underived vars n c registry kept ∙ ap underived (sym root))))
-  ruled v k n l none at (inr (inr (inl one))) = inr (inr (inl one))
-  ruled v k n l none at (inr (inr (inr alone))) = inr (inr (inr (lone k n at alone)))
+  ruled v k n l none at (inr (inl one)) = inr (inr (inl one))
+  ruled v k n l none at (inr (inr alone)) = inr (inr (inr (lone k n at alone)))
 
-  ruled_from : (v k n : ℕ) → v < length vars → (variable_at vars v).chain ≡ [] → slice_get o.variables k ≡ Some n → IsRuled (sets_of vars) i (variable_at vars v) k (variable_at vars n) → LetsControl vars o.second o.variables o.result_count v k n
-  ruled_from v k n l none at (inl e) = inl (e ∙ root_self vars v registry l none)
+  ruled_from : (v k n : ℕ) → v < length vars → (variable_at vars v).chain ≡ [] → slice_get o.variables k ≡ Some n → IsRuled (sets_of vars) i (variable_at vars v) k (variable_at vars n) → LetsControl vars (both (Some v) o.second) o.variables o.result_count k n
+  ruled_from v k n l none at (inl e) = inl (First, ap Some (sym (e ∙ root_self vars v registry l none)))
   ruled_from v k n l none at (inr (inl second)) =
       let (s, is, e) = mapped (variable_at vars) o.second (underived (variable_at vars n).root) second in
       let root : (variable_at vars s).root ≡ s = root_self vars s registry (second_of s is) (ap (λ (x : Variable). x.chain) e) in
-      inr (inl (is ∙ ap Some (sym (sym (ap (λ (x : Variable). x.root) e) ∙ root))))
-  ruled_from v k n l none at (inr (inr (inl one))) = inr (inr (inl one))
-  ruled_from v k n l none at (inr (inr (inr lone))) = inr (inr (inr (alone_from k n at lone)))
+      inl (Second, is ∙ ap Some (sym (sym (ap (λ (x : Variable). x.root) e) ∙ root)))
+  ruled_from v k n l none at (inr (inr (inl one))) = inr (inl one)
+  ruled_from v k n l none at (inr (inr (inr lone))) = inr (inr (alone_from k n at lone))
 
   -- that all let v control is that it may control
   may : (v : ℕ) → v < length vars → CanControl vars o.second o.variables o.result_count v → MayControl (sets_of vars) i (variable_at vars v)
@@ -126,8 +127,8 @@ module _ (vars : List TypeVarContent) (o : OperandList) (within : o.result_count
       option_and_then_some (λ place. slice_get (drop o.result_count o.variables) place) o.designated u d
       (λ place is at. are (o.result_count + place) u (sym (get_drop o.variables o.result_count place) ∙ at))
 
-  pub first_of : (u : ℕ) → first_number o ≡ Some u → u < length vars
-  first_of u f =
+  pub first_of_registry : (u : ℕ) → first_number o ≡ Some u → u < length vars
+  first_of_registry u f =
       let (begins, at) = chosen o.begins_with_value (slice_get (take o.result_count o.variables) 0) u f in
       are 0 u (get_taken o.variables o.result_count 0 u at)
 
@@ -200,10 +201,10 @@ module _ (vars : List TypeVarContent) (o : OperandList) (within : o.result_count
   first_never : MayNot vars o.second o.variables o.result_count (first_number o) → (w : Variable) → IsFirstOutput i w → MayControl (sets_of vars) i w → ⊥
   first_never never w is m =
       let (v, at, e) = first_from w is in
-      never v at (may_from v (first_of v at) (subst (MayControl (sets_of vars) i) e m))
+      never v at (may_from v (first_of_registry v at) (subst (MayControl (sets_of vars) i) e m))
 
   chosen_of : (v : ℕ) → IsChosen vars o.second o.variables o.result_count (designated_number o) (first_number o) v → v < length vars
-  chosen_of v h = ⊎_elim (λ d. designated_of v d) (λ f. first_of v f.1) h.chosen
+  chosen_of v h = ⊎_elim (λ d. designated_of v d) (λ f. first_of_registry v f.1) h.chosen
 
   controlled : (v : ℕ) → IsChosen vars o.second o.variables o.result_count (designated_number o) (first_number o) v → IsControlledBy (sets_of vars) i (variable_at vars v)
   controlled v h = record {
@@ -213,10 +214,10 @@ module _ (vars : List TypeVarContent) (o : OperandList) (within : o.result_count
   }
 
   -- what was found by numbers is found of the instruction
-  pub found : (c : Controlling) → IsFoundIn vars o.second o.variables o.result_count (designated_number o) (first_number o) c → IsFound vars i c
-  found NotPolymorphic h = one_everywhere h
-  found (By v) h = controlled v h
-  found Missing h = record { polymorphic = polymorphic h.several; designated = designates_none h.designated_may_not; first = first_never h.first_may_not }
+  pub found_by_numbers : (c : Controlling) → IsFoundIn vars o.second o.variables o.result_count (designated_number o) (first_number o) c → IsFound vars i c
+  found_by_numbers NotPolymorphic h = one_everywhere h
+  found_by_numbers (By v) h = controlled v h
+  found_by_numbers Missing h = record { polymorphic = polymorphic h.several; designated = designates_none h.designated_may_not; first = first_never h.first_may_not }
 
   -- the variable that controls is of the registry
   pub of_registry : (c : Controlling) (v : ℕ) → IsFoundIn vars o.second o.variables o.result_count (designated_number o) (first_number o) c → c ≡ By v → v < length vars

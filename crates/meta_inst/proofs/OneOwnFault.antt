@@ -78,5 +78,5 @@ module _ (vars : List TypeVarContent) (formats : List InstructionFormat) (b : Bu
   }
 
   -- the first fault that an instruction shows is one
-  pub one_first : (e f : DefinitionError) → IsFirstOwnFault vars formats b n e → IsFirstOwnFault vars formats b n f → e ≡ f
-  one_first = first.one_first searchable
+  pub one_own_first : (e f : DefinitionError) → IsFirstOwnFault vars formats b n e → IsFirstOwnFault vars formats b n f → e ≡ f
+  one_own_first = first.one_first_shown searchable

@@ -5,7 +5,7 @@ use Rattle.std.proofs.lemmas.Option.{same_Some}
 use Rattle.meta_types.specs.Name.{IsName}
 use Rattle.meta_types.specs.declared.fault.DefinitionError.{DefinitionError}
 use Rattle.meta_types.specs.FirstFault.{key_at, ShowsNoneBefore}
-use Rattle.meta_types.proofs.FirstFault.{start, passed}
+use Rattle.meta_types.proofs.FirstFault.{none_before_first, passed}
 use Rattle.meta_typevar.specs.declared.content.TypeVarContent.{TypeVarContent}
 use Rattle.meta_typevar.specs.Registry.{sets_of}
 use Rattle.meta_operands.specs.Operand.{variables_of}
@@ -28,7 +28,7 @@ untrue P r failed told h = false≢true (sym failed ∙ told.1 h)
 module _ (vars : List TypeVarContent) (formats : List InstructionFormat) (b : Builder) where
   -- no rule comes before the first
   pub begun : KeepsRulesBefore vars formats b NameRule
-  begun n = start rule_key (Breaks vars formats b n)
+  begun n = none_before_first rule_key (Breaks vars formats b n)
 
   -- a rule is kept: on to the next
   pub kept : (rule : Rule) → KeepsRulesBefore vars formats b rule → ((n : ℕ) (e : DefinitionError) → Breaks vars formats b n rule e → ⊥) → (n : ℕ) → ShowsNoneBefore rule_key (Breaks vars formats b n) (key_at 0 0 (suc (rule_number rule)))

@@ -36,7 +36,6 @@ fn clone_pattern(alloc: Global, format: &InstructionFormat) -> Result<String, Al
 }
 
 /// Adds the values: a list is copied.
-#[tactic(auto, unfolding(crate::specs::DeepCloneMethod::cloned_values))]
 fn push_cloned_values(out: &mut String, values: Values) -> Result<(), AllocError>
     ensures { OnOk result (string_bytes out.new ≡ string_bytes out.old ++ cloned_values values) }
 {
@@ -49,7 +48,6 @@ fn push_cloned_values(out: &mut String, values: Values) -> Result<(), AllocError
 }
 
 /// Adds the blocks, which are copied with the lists of their arguments.
-#[tactic(auto, unfolding(crate::specs::DeepCloneMethod::cloned_blocks))]
 fn push_cloned_blocks(out: &mut String, blocks: Blocks) -> Result<(), AllocError>
     ensures { OnOk result (string_bytes out.new ≡ string_bytes out.old ++ cloned_blocks blocks) }
 {

@@ -80,7 +80,6 @@ fn push_equal_fields(out: &mut String, fields: &[FormatField]) -> Result<(), All
 }
 
 /// Adds that the values are equal.
-#[tactic(auto, unfolding(crate::specs::EqMethod::equal_values))]
 fn push_equal_values(out: &mut String, values: Values) -> Result<(), AllocError>
     ensures { OnOk result (string_bytes out.new ≡ string_bytes out.old ++ equal_values values) }
 {
@@ -101,7 +100,6 @@ fn push_equal_values(out: &mut String, values: Values) -> Result<(), AllocError>
 }
 
 /// Adds that the blocks are equal.
-#[tactic(auto, unfolding(crate::specs::EqMethod::equal_blocks))]
 fn push_equal_blocks(out: &mut String, blocks: Blocks) -> Result<(), AllocError>
     ensures { OnOk result (string_bytes out.new ≡ string_bytes out.old ++ equal_blocks blocks) }
 {

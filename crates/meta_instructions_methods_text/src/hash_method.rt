@@ -74,7 +74,6 @@ fn push_each_value(out: &mut String, count: &str, args: &str) -> Result<(), Allo
 }
 
 /// Adds that the values are hashed.
-#[tactic(auto, unfolding(crate::specs::HashMethod::hashed_values))]
 fn push_hashed_values(out: &mut String, values: Values) -> Result<(), AllocError>
     ensures { OnOk result (string_bytes out.new ≡ string_bytes out.old ++ hashed_values values) }
 {
@@ -105,7 +104,6 @@ fn push_each_block(out: &mut String, count: &str, blocks: &str) -> Result<(), Al
 }
 
 /// Adds that the blocks are hashed.
-#[tactic(auto, unfolding(crate::specs::HashMethod::hashed_blocks))]
 fn push_hashed_blocks(out: &mut String, blocks: Blocks) -> Result<(), AllocError>
     ensures { OnOk result (string_bytes out.new ≡ string_bytes out.old ++ hashed_blocks blocks) }
 {

@@ -83,7 +83,6 @@ fn push_mapped_values(alloc: Global, out: &mut String, values: Values) -> Result
 }
 
 /// Adds the blocks.
-#[tactic(auto, unfolding(crate::specs::MapMethod::mapped_blocks))]
 fn push_mapped_blocks(out: &mut String, blocks: Blocks) -> Result<(), AllocError>
     ensures { OnOk result (string_bytes out.new ≡ string_bytes out.old ++ mapped_blocks blocks) }
 {

@@ -13,8 +13,8 @@ use Rattle.meta_typevar.specs.Variable.{Variable, Sets, underived}
 use Rattle.meta_inst.specs.Which.{Which, First, Second, both}
 use Rattle.meta_inst.specs.Instruction.{Instruction, IsOperand, IsDesignated, IsFirstOutput, operands, controls_of}
 use Rattle.meta_inst.specs.Control.{IsControl, DesignatesNone, IsRuled, IsLoneInput, HasBadSecond}
-use Rattle.meta_meaning.specs.Acceptance.{Accepts, Controls}
-use Rattle.meta_meaning.specs.Constraint.{Constraint, IsConstraint, PassesOwn, ControlFits, Admits}
+use Rattle.meta_meaning.specs.Acceptance.{Accepts, IsChosenControl}
+use Rattle.meta_meaning.specs.Constraint.{TypeConstraint, IsConstraint, PassesOwn, ControlFits, Admits}
 use Rattle.meta_meaning.proofs.Candidates.{same_variable}
 use Rattle.meta_meaning.proofs.Family.{IsControlled, IsUsed, IsSettled, Ruling, AllFit, IsChoice}
 use Rattle.meta_meaning.proofs.OneChoice.{choice_from_tests, passes_from_choice, fits_from_choice}
@@ -161,7 +161,7 @@ module _ (sets : Sets) (i : Instruction) (control : Option Variable) (c d : Opti
   all_fit f g Second = g
 
   -- the controlling types of a choice
-  controlled : (choice : ℕ → TypeParts) → Controls choice control c → Controls choice i.second d → (a : Which) → Controls choice (controls_of i control a) (both c d a)
+  controlled : (choice : ℕ → TypeParts) → IsChosenControl choice control c → IsChosenControl choice i.second d → (a : Which) → IsChosenControl choice (controls_of i control a) (both c d a)
   controlled choice f g First = f
   controlled choice f g Second = g
 
@@ -176,7 +176,7 @@ module _ (sets : Sets) (i : Instruction) (control : Option Variable) (c d : Opti
   choice_of a = record { members = a.members; controlled = controlled a.choice a.controlled a.second_controlled; agrees = a.agrees }
 
   -- One joint choice gives one test an operand, where each operand has a constraint.
-  pub admits_from_accepts : ((k : ℕ) (w : Variable) → IsOperand i k w → (x : Constraint) × IsConstraint sets (controls_of i control) w x) → Accepts sets i control c d rs vs → Admits sets i control c d rs vs
+  pub admits_from_accepts : ((k : ℕ) (w : Variable) → IsOperand i k w → (x : TypeConstraint) × IsConstraint sets (controls_of i control) w x) → Accepts sets i control c d rs vs → Admits sets i control c d rs vs
   admits_from_accepts constrained a = record {
     results = a.results;
     values = a.values;

@@ -3,13 +3,13 @@ use Rattle.std.proofs.Common.{◌≡◌, ◌≢◌, ℕ, zero, suc, ◌+◌, Lis
 use Rattle.std.proofs.lemmas.Option.{same_Some}
 use Rattle.meta_lists.proofs.Places.{get_stays}
 use Rattle.meta_types.specs.TypeParts.{TypeParts, number_of}
-use Rattle.meta_types.specs.Function.{Function, IsFunction, Steps, StepsNumbers, AnswersNumber}
+use Rattle.meta_types.proofs.Functions.{relation_or_not, no_function}
+use Rattle.meta_types.specs.Function.{Function, IsFunction, StepsTypes, StepsNumbers, AnswersNumber}
 use Rattle.meta_types.proofs.OneAnswer.{one}
 use Rattle.meta_types.proofs.Numbers.{one_number}
 use Rattle.meta_inst.specs.Which.{Which, both}
 use Rattle.meta_meaning.specs.Inference.{GivesNumber, GivesAt, GivesResults}
 use Rattle.meta_meaning.specs.Tables.{TableContents, NumberConstraint, ConcreteNumber, FreeOf, SameNumber, ByNumber, NumberPasses, PassesAt, Allows, OpcodeNumbers, at_opcode}
-use Rattle.meta_meaning.proofs.Giving.{relation_or_not, no_function}
 
 module _ (tables : TableContents) (c : Which → Option ℕ) where
   -- a constraint that some number passes gives one
@@ -51,7 +51,7 @@ module _ (tables : TableContents) (c : Which → Option ℕ) where
   one_answered : (f : Function) (u m n : ℕ) → AnswersNumber f u n → StepsNumbers f u m → m ≡ n
   one_answered f u m n a s =
       let from : s.from ≡ a.steps.from = one_number s.from a.steps.from s.steps.from a.steps.steps.from (s.number_from ∙ sym a.steps.number_from) in
-      let to : s.to ≡ a.steps.to = one f a.steps.from s.to a.steps.to (record { is_function = a.is_function; steps = subst (λ v. Steps f v s.to) from s.steps }) (record { is_function = a.is_function; steps = a.steps.steps }) in
+      let to : s.to ≡ a.steps.to = one f a.steps.from s.to a.steps.to (record { is_function = a.is_function; steps = subst (λ v. StepsTypes f v s.to) from s.steps }) (record { is_function = a.is_function; steps = a.steps.steps }) in
       sym s.number_to ∙ ap number_of to ∙ a.steps.number_to
 
   -- a number that is given and isn't 0 is the one that passes

@@ -12,7 +12,7 @@ use Rattle.meta_inst.specs.Instruction.{Instruction, IsOperand, controls_of}
 use Rattle.meta_inst.specs.Control.{IsControl, HasBadSecond, HasBadDerivation, IsLoneInput}
 use Rattle.meta_lists.proofs.Places.{get_beside, get_stays, get_right}
 use Rattle.meta_meaning.specs.Acceptance.{Accepts}
-use Rattle.meta_meaning.specs.Constraint.{Constraint, Concrete, Free, Same, By, IsConstraint, ControlFits}
+use Rattle.meta_meaning.specs.Constraint.{TypeConstraint, ConcreteType, FreeType, SameType, ByType, IsConstraint, ControlFits}
 use Rattle.meta_meaning.specs.Inference.{EndsInRelation, IsRootOf, RootHas, IsInferred}
 use Rattle.meta_meaning.specs.Tables.{DesignatedControls}
 use Rattle.meta_meaning.proofs.Candidates.{same_variable, underived_agrees}
@@ -31,11 +31,11 @@ agrees_one (f ∷ fs) r t u all (x, s, h) (y, q, k) =
 
 module _ (sets : Sets) (i : Instruction) (controls : Which → Option Variable) (ruling : Ruling sets i controls) where
   -- an operand with a constraint has no relation in its chain, if it doesn't end in one
-  no_relation : (w : Variable) (x : Constraint) → IsConstraint sets controls w x → (EndsInRelation w → ⊥) → All IsFunction w.chain
-  no_relation w (Concrete t) h ends = h.functions
-  no_relation w (Free s) h ends = subst (λ fs. All IsFunction fs) (sym h.underived) (All-nil IsFunction)
-  no_relation w (Same a) h ends = subst (λ fs. All IsFunction fs) (sym (ruling.underived a w h.controls_is)) (All-nil IsFunction)
-  no_relation w (By a f) h ends =
+  no_relation : (w : Variable) (x : TypeConstraint) → IsConstraint sets controls w x → (EndsInRelation w → ⊥) → All IsFunction w.chain
+  no_relation w (ConcreteType t) h ends = h.functions
+  no_relation w (FreeType s) h ends = subst (λ fs. All IsFunction fs) (sym h.underived) (All-nil IsFunction)
+  no_relation w (SameType a) h ends = subst (λ fs. All IsFunction fs) (sym (ruling.underived a w h.controls_is)) (All-nil IsFunction)
+  no_relation w (ByType a f) h ends =
       let chain : w.chain ≡ f ∷ [] = h.derived.chain ∙ ap (λ (fs : List Function). fs ++ (f ∷ [])) (ruling.underived a h.variable h.controls_is) in
       let is_function : IsFunction f = (
         (λ e. ends (record { before = h.variable.chain; last = f; chain = h.derived.chain; relation = inl e })),
@@ -52,7 +52,7 @@ module _ (sets : Sets) (i : Instruction) (controls : Which → Option Variable) 
     one_root r s (inr (none, m, e)) (inr (nothing, n, g)) = e ∙ (n.only m.one m.member ∙ sym g)
 
     -- so one type is inferred
-    pub one_inferred : (x : Constraint) → IsConstraint sets controls w x → (EndsInRelation w → ⊥) → (t u : TypeParts) → IsInferred sets controls c w t → IsInferred sets controls c w u → t ≡ u
+    pub one_inferred : (x : TypeConstraint) → IsConstraint sets controls w x → (EndsInRelation w → ⊥) → (t u : TypeParts) → IsInferred sets controls c w t → IsInferred sets controls c w u → t ≡ u
     one_inferred x is ends t u a b =
         agrees_one w.chain a.root_type t u (no_relation w x is ends) a.agrees (subst (λ r. Agrees w.chain r u) (one_root b.root_type a.root_type b.root a.root) b.agrees)
 

@@ -38,8 +38,8 @@ pub AreNumbersOf-length : (ts : List TypeParts) (ns : List ℕ) → AreNumbersOf
 AreNumbersOf-length ts ns a = ap (length {A = ℕ}) a.numbers ∙ length-map ts number_of
 
 -- at the place of a type stands its number
-pub number_at : (ts : List TypeParts) (ns : List ℕ) (k : ℕ) (t : TypeParts) → AreNumbersOf ts ns → slice_get ts k ≡ Some t → slice_get ns k ≡ Some (number_of t)
-number_at ts ns k t a at = ap (λ (xs : List ℕ). slice_get xs k) a.numbers ∙ (slice_get-map number_of ts k ∙ ap (option_map number_of) at)
+pub number_of_type_at : (ts : List TypeParts) (ns : List ℕ) (k : ℕ) (t : TypeParts) → AreNumbersOf ts ns → slice_get ts k ≡ Some t → slice_get ns k ≡ Some (number_of t)
+number_of_type_at ts ns k t a at = ap (λ (xs : List ℕ). slice_get xs k) a.numbers ∙ (slice_get-map number_of ts k ∙ ap (option_map number_of) at)
 
 -- at the place of a number stands a type that has it
 pub type_at : (ts : List TypeParts) (ns : List ℕ) (k n : ℕ) → AreNumbersOf ts ns → slice_get ns k ≡ Some n → (t : TypeParts) × (slice_get ts k ≡ Some t) × (number_of t ≡ n)

@@ -1,6 +1,6 @@
 -- The masks of a set contain the numbers of its members. Of sets and masks alone.
 use Rattle.std.proofs.Common.{◌≡◌, ℕ, ◌↔◌, Bool, true, false, Contains, sym, subst}
-use Rattle.meta_types.specs.TypeParts.{Kind, IntKind, FloatKind, TypeParts, widths, lane_counts, number_of}
+use Rattle.meta_types.specs.TypeParts.{NumberKind, IntKind, FloatKind, TypeParts, widths, lane_counts, number_of}
 use Rattle.meta_typevar.specs.TypeSetParts.{TypeSetParts, IsMember, IsTypeSet, widths_in, lanes_in}
 use Rattle.meta_typevar.specs.Masks.{Holds, width_mask, lane_mask, ContainsType, ContainsNumber, AreMasksOf}
 use Rattle.meta_typevar.specs.declared.masks.Masks.{Masks}
@@ -8,7 +8,7 @@ use Rattle.meta_meaning.proofs.Marks.{holds_what_it_contains, fixed_lanes_tell, 
 
 module _ (s : TypeSetParts) (m : Masks) (is : IsTypeSet s) (are : AreMasksOf s m) where
   -- the mask of a kind holds those of its widths that the set contains
-  widths_held : (kind : Kind) (w : ℕ) → Contains (widths kind) w → (Holds (width_mask m kind) w ↔ Contains (widths_in s kind) w)
+  widths_held : (kind : NumberKind) (w : ℕ) → Contains (widths kind) w → (Holds (width_mask m kind) w ↔ Contains (widths_in s kind) w)
   widths_held IntKind w c = subst (λ x. Holds x w ↔ Contains s.ints w) (sym are.ints) (holds_what_it_contains (widths IntKind) s.ints w ints_tell is.ints c)
   widths_held FloatKind w c = subst (λ x. Holds x w ↔ Contains s.floats w) (sym are.floats) (holds_what_it_contains (widths FloatKind) s.floats w floats_tell is.floats c)
 

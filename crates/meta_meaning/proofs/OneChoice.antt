@@ -10,11 +10,11 @@ use Rattle.meta_typevar.specs.TypeSetParts.{IsMember}
 use Rattle.meta_typevar.specs.Chain.{Agrees}
 use Rattle.meta_typevar.specs.Variable.{Variable, Sets}
 use Rattle.meta_inst.specs.Instruction.{Instruction, IsOperand, operands}
-use Rattle.meta_meaning.specs.Acceptance.{Controls}
+use Rattle.meta_meaning.specs.Acceptance.{IsChosenControl}
 use Rattle.meta_inst.specs.Which.{Which}
-use Rattle.meta_meaning.specs.Constraint.{Constraint, Concrete, Free, Same, By, IsConstraint, Passes, PassesOwn, ControlFits}
+use Rattle.meta_meaning.specs.Constraint.{TypeConstraint, ConcreteType, FreeType, SameType, ByType, IsConstraint, Passes, PassesOwn, ControlFits}
 use Rattle.meta_meaning.proofs.Family.{Ruling, AllFit, IsChoice}
-use Rattle.meta_meaning.proofs.Candidates.{Candidate, Reason, candidate, same_candidate, underived_agrees, step_agrees}
+use Rattle.meta_meaning.proofs.Candidates.{Candidate, RootReason, has_candidate, same_candidate, underived_agrees, step_agrees}
 use Rattle.meta_meaning.proofs.Choice.{Asked, choose, chosen}
 
 module _ (sets : Sets) (i : Instruction) (controls : Which → Option Variable) (ruling : Ruling sets i controls) (c : Which → Option TypeParts) (ts : List TypeParts) where
@@ -24,7 +24,7 @@ module _ (sets : Sets) (i : Instruction) (controls : Which → Option Variable) 
 
   -- the candidate at a place
   at_place : AllFit sets controls c → AllPass → (k : ℕ) (w : Variable) (t : TypeParts) → IsOperand i k w → slice_get ts k ≡ Some t → Candidate sets i controls c k w t
-  at_place fits pass k w t at_k t_at = candidate sets i controls ruling c k w t fits at_k (pass k w t at_k t_at)
+  at_place fits pass k w t at_k t_at = has_candidate sets i controls ruling c k w t fits at_k (pass k w t at_k t_at)
 
   -- the candidates of all places
   asked : AllFit sets controls c → AllPass → Asked (operands i) ts
@@ -40,12 +40,12 @@ module _ (sets : Sets) (i : Instruction) (controls : Which → Option Variable) 
   made_at fits pass k w t at_k t_at = chosen (operands i) ts (asked fits pass) (λ j l v x s y at_j at_l s_at y_at r. same_candidate sets i controls ruling c ts j l v x s y r at_j at_l s_at y_at (at_place fits pass j v s at_j s_at) (at_place fits pass l x y at_l y_at)) k w t at_k t_at
 
   -- a candidate of a control's root is the controlling type
-  reason_controls : (k : ℕ) (w v : Variable) (a : Which) (t e : TypeParts) → controls a ≡ Some v → w.root ≡ v.root → Reason sets i controls c k w t e → c a ≡ Some e
+  reason_controls : (k : ℕ) (w v : Variable) (a : Which) (t e : TypeParts) → controls a ≡ Some v → w.root ≡ v.root → RootReason sets i controls c k w t e → c a ≡ Some e
   reason_controls k w v a t e at r (inl (b, p, is)) = ap c (ruling.one a b v p.variable at p.controls_is (sym r ∙ p.root)) ∙ is
   reason_controls k w v a t e at r (inr (free, why)) = absurd (free (a, record { variable = v; controls_is = at; root = r }))
 
   -- the choice gives each control its controlling type
-  made_controls : (fits : AllFit sets controls c) (pass : AllPass) → length (operands i) ≡ length ts → (a : Which) (o : Option Variable) → controls a ≡ o → Controls (made fits pass) o (c a)
+  made_controls : (fits : AllFit sets controls c) (pass : AllPass) → length (operands i) ≡ length ts → (a : Which) (o : Option Variable) → controls a ≡ o → IsChosenControl (made fits pass) o (c a)
   made_controls fits pass l a None e = subst (λ x. ControlFits sets x (c a)) e (fits a)
   made_controls fits pass l a (Some v) e =
       let used = ruling.used a v e in
@@ -72,22 +72,22 @@ module _ (sets : Sets) (i : Instruction) (controls : Which → Option Variable) 
 
   -- what a choice gives to a control that is there
   pub controlled_at : (choice : ℕ → TypeParts) → IsChoice sets i controls c ts choice → (a : Which) (v : Variable) → controls a ≡ Some v → c a ≡ Some (choice v.root)
-  controlled_at choice fits a v e = subst (λ o. Controls choice o (c a)) e (fits.controlled a)
+  controlled_at choice fits a v e = subst (λ o. IsChosenControl choice o (c a)) e (fits.controlled a)
 
   -- Where one choice fits all, an operand's type passes each rule of it.
-  pub passes_from_choice : (choice : ℕ → TypeParts) → IsChoice sets i controls c ts choice → (k : ℕ) (w : Variable) (t : TypeParts) → IsOperand i k w → slice_get ts k ≡ Some t → (x : Constraint) → IsConstraint sets controls w x → Passes c x t
-  passes_from_choice choice fits k w t at_k t_at (Concrete n) r = r.only (choice w.root) t (fits.members k w at_k) (fits.agrees k w t at_k t_at)
-  passes_from_choice choice fits k w t at_k t_at (Free s) r =
+  pub passes_from_choice : (choice : ℕ → TypeParts) → IsChoice sets i controls c ts choice → (k : ℕ) (w : Variable) (t : TypeParts) → IsOperand i k w → slice_get ts k ≡ Some t → (x : TypeConstraint) → IsConstraint sets controls w x → Passes c x t
+  passes_from_choice choice fits k w t at_k t_at (ConcreteType n) r = r.only (choice w.root) t (fits.members k w at_k) (fits.agrees k w t at_k t_at)
+  passes_from_choice choice fits k w t at_k t_at (FreeType s) r =
       subst (λ y. IsMember y t) (sym r.set) (subst (λ y. IsMember (sets w.root) y) (sym (underived_agrees w.chain (choice w.root) t r.underived (fits.agrees k w t at_k t_at))) (fits.members k w at_k))
-  passes_from_choice choice fits k w t at_k t_at (Same a) r =
+  passes_from_choice choice fits k w t at_k t_at (SameType a) r =
       controlled_at choice fits a w r.controls_is ∙ ap Some (sym (underived_agrees w.chain (choice w.root) t (ruling.underived a w r.controls_is) (fits.agrees k w t at_k t_at)))
-  passes_from_choice choice fits k w t at_k t_at (By a f) r =
+  passes_from_choice choice fits k w t at_k t_at (ByType a f) r =
       let one : w.chain ≡ f ∷ [] = r.derived.chain ∙ ap (λ (fs : List Function). fs ++ (f ∷ [])) (ruling.underived a r.variable r.controls_is) in
       (choice w.root, controlled_at choice fits a r.variable r.controls_is ∙ ap (λ n. Some (choice n)) (sym r.derived.root), step_agrees w.chain f (choice w.root) t one (fits.agrees k w t at_k t_at))
 
   -- what a choice gives to a control is a member of its set
   fits_by : (choice : ℕ → TypeParts) → IsChoice sets i controls c ts choice → (a : Which) (o : Option Variable) → controls a ≡ o → ControlFits sets o (c a)
-  fits_by choice fits a None e = subst (λ o. Controls choice o (c a)) e (fits.controlled a)
+  fits_by choice fits a None e = subst (λ o. IsChosenControl choice o (c a)) e (fits.controlled a)
   fits_by choice fits a (Some v) e =
       let used = ruling.used a v e in
       (choice v.root, controlled_at choice fits a v e, subst (λ r. IsMember (sets r) (choice r)) used.root (fits.members used.place used.variable used.operand))

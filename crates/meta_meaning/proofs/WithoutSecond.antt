@@ -6,7 +6,7 @@ use Rattle.meta_typevar.specs.TypeSetParts.{HasOne}
 use Rattle.meta_typevar.specs.Variable.{Variable, Sets}
 use Rattle.meta_inst.specs.Instruction.{Instruction, IsDesignated, IsFirstOutput}
 use Rattle.meta_inst.specs.Control.{IsControl, IsRuled, IsLoneInput, MayControl, DesignatesNone, HasBadSecond}
-use Rattle.meta_meaning.specs.Acceptance.{Accepts, Controls}
+use Rattle.meta_meaning.specs.Acceptance.{Accepts, IsChosenControl}
 use Rattle.meta_meaning.specs.OneControl.{MayControlAlone, DesignatesNoneAlone, IsControlAlone, AcceptsAlone}
 
 module _ (sets : Sets) (i : Instruction) (none : i.second ≡ None) where
@@ -48,7 +48,7 @@ module _ (sets : Sets) (i : Instruction) (none : i.second ≡ None) where
   accepts_to : (control : Option Variable) (c d : Option TypeParts) (rs vs : List TypeParts) → Accepts sets i control c d rs vs → AcceptsAlone sets i control c rs vs × (d ≡ None)
   accepts_to control c d rs vs a = (
     record { results = a.results; values = a.values; choice = a.choice; members = a.members; controlled = a.controlled; agrees = a.agrees },
-    subst (λ o. Controls a.choice o d) none a.second_controlled,
+    subst (λ o. IsChosenControl a.choice o d) none a.second_controlled,
   )
 
   accepts_from : (control : Option Variable) (c d : Option TypeParts) (rs vs : List TypeParts) → AcceptsAlone sets i control c rs vs × (d ≡ None) → Accepts sets i control c d rs vs
@@ -58,7 +58,7 @@ module _ (sets : Sets) (i : Instruction) (none : i.second ≡ None) where
     choice = a.choice;
     members = a.members;
     controlled = a.controlled;
-    second_controlled = subst (λ o. Controls a.choice o d) (sym none) e;
+    second_controlled = subst (λ o. IsChosenControl a.choice o d) (sym none) e;
     agrees = a.agrees;
   }
 

@@ -4,7 +4,7 @@
 --     GivesResults tables op c d numbers     the same by tables
 use Rattle.std.specs.Prelude.{◌≡◌, ◌⊎◌, ℕ, ◌+◌, List, [], ◌∷◌, ◌++◌, length, slice_get, Option, Some}
 use Rattle.meta_types.specs.TypeParts.{TypeParts, number_of}
-use Rattle.meta_types.specs.Function.{Function, Narrower, Wider, AnswersNumber}
+use Rattle.meta_types.specs.Function.{Function, IsRelation, AnswersNumber}
 use Rattle.meta_typevar.specs.TypeSetParts.{HasOne}
 use Rattle.meta_typevar.specs.Chain.{Agrees}
 use Rattle.meta_typevar.specs.Variable.{Variable, Sets, underived}
@@ -19,7 +19,7 @@ pub record EndsInRelation (w : Variable) : Type 0 where
   pub before : List Function
   pub last : Function
   pub chain : w.chain ≡ before ++ last ∷ []
-  pub relation : (last ≡ Narrower) ⊎ (last ≡ Wider)
+  pub relation : IsRelation last
 
 -- control a is the root of w
 abbrev pub IsRootOf : (Which → Option Variable) → Which → Variable → Type 0
@@ -55,10 +55,6 @@ pub record InfersNumbers (sets : Sets) (i : Instruction) (control : Option Varia
   pub infers : Infers sets i control control_type second_type numbers
 
 -- ---- by tables
-
--- f is a relation
-abbrev pub IsRelation : Function → Type 0
-IsRelation f = (f ≡ Narrower) ⊎ (f ≡ Wider)
 
 -- n is the number that f gives of the number of a control: what a function answers, and 0 for a relation, which leaves several
 abbrev pub GivesBy : Option ℕ → Function → ℕ → Type 0

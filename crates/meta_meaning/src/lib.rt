@@ -7,7 +7,7 @@
 
 ghost use Rattle.std.specs.Prelude.{◌≡◌, ◌≢◌, ℕ, ◌↔◌, List, [], ◌∷◌, ◌++◌, slice_get, Option, None, Some};
 ghost use Rattle.meta_types.specs.TypeParts.{TypeParts, IsType, number_of, name_of};
-ghost use Rattle.meta_types.specs.Function.{Function, Steps};
+ghost use Rattle.meta_types.specs.Function.{Function, StepsTypes};
 ghost use Rattle.meta_typevar.specs.TypeSetParts.{TypeSetParts, IsMember, IsTypeSet};
 ghost use Rattle.meta_typevar.specs.Masks.{ContainsNumber, AreMasksOf};
 ghost use Rattle.meta_typevar.specs.declared.masks.Masks.{Masks};
@@ -17,7 +17,7 @@ ghost use Rattle.meta_inst.specs.Which.{Which, both};
 ghost use Rattle.meta_inst.specs.Instruction.{Instruction, IsOperand, controls_of};
 ghost use Rattle.meta_inst.specs.Control.{IsControl, HasNoControl, HasBadSecond, HasBadDerivation};
 ghost use Rattle.meta_meaning.specs.Acceptance.{Accepts, AcceptsNumbers};
-ghost use Rattle.meta_meaning.specs.Constraint.{Constraint, IsConstraint, ControlFits, Admits};
+ghost use Rattle.meta_meaning.specs.Constraint.{TypeConstraint, IsConstraint, ControlFits, Admits};
 ghost use Rattle.meta_meaning.specs.Inference.{EndsInRelation, IsInferred, InfersNumbers, GivesResults};
 ghost use Rattle.meta_meaning.specs.OneControl.{IsControlAlone, AcceptsAlone};
 ghost use Rattle.meta_meaning.specs.Tables.{TableContents, OpcodeNumbers, at_opcode, Allows, DesignatedControls, AreOpcodeNumbersOf};
@@ -42,9 +42,9 @@ pub fn one_control()
 
 /// An operand has at most one constraint. It has one exactly where it isn't badly derived.
 pub fn one_constraint()
-    ensures same { (sets : Sets) (i : Instruction) (control : Option Variable) → IsControl sets i control → (HasBadSecond sets i → ⊥) → (w : Variable) (x y : Constraint) → IsConstraint sets (controls_of i control) w x → IsConstraint sets (controls_of i control) w y → x ≡ y }
-    ensures no_fault { (sets : Sets) (i : Instruction) (control : Option Variable) (k : ℕ) (w : Variable) (x : Constraint) → IsControl sets i control → (HasBadSecond sets i → ⊥) → IsOperand i k w → IsConstraint sets (controls_of i control) w x → HasBadDerivation sets i control k → ⊥ }
-    ensures some { (sets : Sets) (i : Instruction) (control : Option Variable) → IsControl sets i control → (HasBadSecond sets i → ⊥) → ((k : ℕ) → HasBadDerivation sets i control k → ⊥) → (k : ℕ) (w : Variable) → IsOperand i k w → (x : Constraint) × IsConstraint sets (controls_of i control) w x }
+    ensures same { (sets : Sets) (i : Instruction) (control : Option Variable) → IsControl sets i control → (HasBadSecond sets i → ⊥) → (w : Variable) (x y : TypeConstraint) → IsConstraint sets (controls_of i control) w x → IsConstraint sets (controls_of i control) w y → x ≡ y }
+    ensures no_fault { (sets : Sets) (i : Instruction) (control : Option Variable) (k : ℕ) (w : Variable) (x : TypeConstraint) → IsControl sets i control → (HasBadSecond sets i → ⊥) → IsOperand i k w → IsConstraint sets (controls_of i control) w x → HasBadDerivation sets i control k → ⊥ }
+    ensures some { (sets : Sets) (i : Instruction) (control : Option Variable) → IsControl sets i control → (HasBadSecond sets i → ⊥) → ((k : ℕ) → HasBadDerivation sets i control k → ⊥) → (k : ℕ) (w : Variable) → IsOperand i k w → (x : TypeConstraint) × IsConstraint sets (controls_of i control) w x }
 {}
 
 /// In an accepted combination the controlling types determine each result whose chain doesn't end in a relation: its type is
@@ -88,5 +88,5 @@ pub fn masks_contain_the_members()
 
 /// A chain leads to a type exactly where all of it but its last function leads to a type from which that one does.
 pub fn chain_end()
-    ensures { (fs : List Function) (f : Function) (r t : TypeParts) → (Agrees (fs ++ f ∷ []) r t ↔ ((u : TypeParts) × Agrees fs r u × Steps f u t)) }
+    ensures { (fs : List Function) (f : Function) (r t : TypeParts) → (Agrees (fs ++ f ∷ []) r t ↔ ((u : TypeParts) × Agrees fs r u × StepsTypes f u t)) }
 {}

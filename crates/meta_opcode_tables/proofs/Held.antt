@@ -9,7 +9,8 @@ use Rattle.meta_typevar.specs.declared.content.TypeVarContent.{TypeVarContent}
 use Rattle.meta_operands.specs.declared.format.InstructionFormat.{InstructionFormat}
 use Rattle.meta_inst.specs.Builder.{Builder}
 use Rattle.meta_inst.specs.Instruction.{Instruction, IsOperand, controls_of}
-use Rattle.meta_inst.specs.Which.{Which, First, Second}
+use Rattle.meta_inst.specs.Which.{Which, Second, both}
+use Rattle.meta_inst.specs.Controls.{AreControlsOf}
 use Rattle.meta_inst.specs.Control.{IsControl, HasBadSecond}
 use Rattle.meta_inst.specs.InstructionSet.{InstructionSet, root_sets, instruction_of_builder, instruction_in_set}
 use Rattle.meta_inst.specs.Faults.{IsAt, AreNeededSets}
@@ -22,9 +23,8 @@ use Rattle.meta_opcode_tables.specs.declared.constraint.Constraint.{Constraint}
 use Rattle.meta_opcode_tables.specs.declared.constraint.OpcodeConstraints.{OpcodeConstraints}
 use Rattle.meta_unique.specs.Overlap.{added, added_at}
 use Rattle.meta_opcode_tables.specs.ConstraintLists.{same_constraint, three_same, overlapped, IsConstraintAt, IsConstraintList, AreOverlapped}
-use Rattle.meta_opcode_tables.specs.Entries.{StaysIn, IsHeld, IsFreeNumber, HoldNeeded, HoldFree, HasTypeSets, IsDescribedAt, AreDescribed, EntryHolds, IsAdded, AreAdded, IsListOf, IsHeldAt, set_with}
-use Rattle.meta_declared.specs.Needed.{IsOfRegistry, control_at}
-use Rattle.meta_opcode_tables.proofs.Describing.{control_is, control_from}
+use Rattle.meta_opcode_tables.specs.Entries.{StaysIn, IsHeld, HoldNeeded, HoldFree, HasTypeSets, IsDescribedAt, AreDescribed, EntryHolds, IsAdded, AreAdded, IsListOf, IsHeldAt}
+use Rattle.meta_inst.proofs.ControlLemmas.{control_is, control_from}
 use Rattle.meta_opcode_tables.proofs.Overlapping.{one_list_more}
 use Rattle.std.proofs.Math.Seq.{take-append_seam}
 use Rattle.std.proofs.lemmas.List.{take-append-le, length-map}
@@ -37,38 +37,32 @@ pub needed_held : (d : InstructionSet) (type_sets : List TypeSetParts) → AreNe
 needed_held d type_sets needed k b at control s is which = needed.all s (k, record { user = b; at = at; control = control; is_control = is; needs = which })
 
 module _ (vars : List TypeVarContent) (o : OperandList) (within : o.result_count ≤ length o.variables) (control : Option ℕ) (type_sets : List TypeSetParts)
-    (held : HoldNeeded type_sets (sets_of vars) (instruction_of_operands vars o)) (is_control : IsControl (sets_of vars) (instruction_of_operands vars o) (control_at vars control)) (registry : IsRegistry vars) (are : AreOf vars o.variables) (of : IsOfRegistry vars control) (second_of : SecondIsOf vars o.second) where
-  -- the set of the control is held
-  pub control_held : (v : ℕ) → control ≡ Some v → IsHeld type_sets (sets_of vars (variable_at vars v).root)
-  control_held v e = held (control_at vars control) (sets_of vars (variable_at vars v).root) is_control (inl (First, record { variable = variable_at vars v; controls_is = control_is vars control v e; set = refl }))
-
-  -- that of the second control
-  pub second_held : (v : ℕ) → o.second ≡ Some v → IsHeld type_sets (sets_of vars (variable_at vars v).root)
-  second_held v e = held (control_at vars control) (sets_of vars (variable_at vars v).root) is_control (inl (Second, record { variable = variable_at vars v; controls_is = control_is vars o.second v e; set = refl }))
+    (held : HoldNeeded type_sets (sets_of vars) (instruction_of_operands vars o)) (is_control : IsControl (sets_of vars) (instruction_of_operands vars o) (option_map (variable_at vars) control)) (registry : IsRegistry vars) (are : AreOf vars o.variables) (of : AreControlsOf vars (both control o.second)) where
+  -- the set of each control is held
+  pub control_held : (a : Which) (v : ℕ) → both control o.second a ≡ Some v → IsHeld type_sets (sets_of vars (variable_at vars v).root)
+  control_held a v e = held (option_map (variable_at vars) control) (sets_of vars (variable_at vars v).root) is_control (inl (a, record { variable = variable_at vars v; controls_is = control_is vars (both control o.second) a v e; set = refl }))
 
   -- and the set of each other operand that needs one
-  pub free_held : (numbers : List ℕ) → numbers ≡ o.variables → HoldFree vars control o.second type_sets numbers
-  free_held numbers same k n at f = held (control_at vars control) (sets_of vars (variable_at vars n).root) is_control (inr record {
-    place = k;
-    variable = variable_at vars n;
-    operand = operand_at vars o within registry are second_of k n (ap (λ ns. slice_get ns k) (sym same) ∙ at);
-    underived = f.underived;
-    other = no_control n (are k n (ap (λ ns. slice_get ns k) (sym same) ∙ at)) f;
-    set = refl;
-    several = f.several;
-  })
-    where
-      no_control : (n : ℕ) → n < length vars → IsFreeNumber vars control o.second n → (a : Which) → controls_of (instruction_of_operands vars o) (control_at vars control) a ≡ Some (variable_at vars n) → ⊥
-      no_control n below f First e = f.other (control_from vars registry control of n below e)
-      no_control n below f Second e = f.not_second (control_from vars registry o.second second_of n below e)
+  pub free_held : (numbers : List ℕ) → numbers ≡ o.variables → HoldFree vars (both control o.second) type_sets numbers
+  free_held numbers same k n at f =
+      let there : slice_get o.variables k ≡ Some n = ap (λ ns. slice_get ns k) (sym same) ∙ at in
+      held (option_map (variable_at vars) control) (sets_of vars (variable_at vars n).root) is_control (inr record {
+        place = k;
+        variable = variable_at vars n;
+        operand = operand_at vars o within registry are (of Second) k n there;
+        underived = f.underived;
+        other = λ a e. f.other (a, control_from vars (both control o.second) registry of a n (are k n there) e);
+        set = refl;
+        several = f.several;
+      })
 
-module _ (vars : List TypeVarContent) (o : OperandList) (within : o.result_count ≤ length o.variables) (registry : IsRegistry vars) (are : AreOf vars o.variables) (second_of : SecondIsOf vars o.second) (control : Option ℕ) (type_sets : List TypeSetParts) (list : List Constraint) (described : AreDescribed vars control o.second type_sets list o.variables) where
+module _ (vars : List TypeVarContent) (o : OperandList) (within : o.result_count ≤ length o.variables) (registry : IsRegistry vars) (are : AreOf vars o.variables) (second_of : SecondIsOf vars o.second) (control : Option ℕ) (type_sets : List TypeSetParts) (list : List Constraint) (described : AreDescribed vars (both control o.second) type_sets list o.variables) where
   -- the constraint of an operand
-  constraint_at : (tables : TableContents) → HasTypeSets tables type_sets → (k : ℕ) (w : Variable) → IsOperand (instruction_of_operands vars o) k w → IsConstraintAt (sets_of vars) (controls_of (instruction_of_operands vars o) (control_at vars control)) tables list k w
+  constraint_at : (tables : TableContents) → HasTypeSets tables type_sets → (k : ℕ) (w : Variable) → IsOperand (instruction_of_operands vars o) k w → IsConstraintAt (sets_of vars) (controls_of (instruction_of_operands vars o) (option_map (variable_at vars) control)) tables list k w
   constraint_at tables has k w op =
       let (n, at, is) = operand_from vars o within registry are second_of k w op in
-      let h : IsDescribedAt vars control o.second type_sets list k n = described.each k n at in
-      subst (IsConstraintAt (sets_of vars) (controls_of (instruction_of_operands vars o) (control_at vars control)) tables list k) (sym is) (record {
+      let h : IsDescribedAt vars (both control o.second) type_sets list k n = described.each k n at in
+      subst (IsConstraintAt (sets_of vars) (controls_of (instruction_of_operands vars o) (option_map (variable_at vars) control)) tables list k) (sym is) (record {
         type_constraint = h.describes.constraint;
         is_constraint = h.describes.is_constraint;
         constraint = h.constraint;
@@ -83,20 +77,20 @@ module _ (vars : List TypeVarContent) (o : OperandList) (within : o.result_count
       let values : length (instruction_of_operands vars o).values ≡ length o.variables - o.result_count = length-map (drop o.result_count o.variables) (variable_at vars) ∙ length-drop o.result_count o.variables in
       omega (arith, described.count, results, values, within)
 
-  pub is_list : (tables : TableContents) → HasTypeSets tables type_sets → IsConstraintList (sets_of vars) (control_at vars control) tables (instruction_of_operands vars o) list
+  pub is_list : (tables : TableContents) → HasTypeSets tables type_sets → IsConstraintList (sets_of vars) (option_map (variable_at vars) control) tables (instruction_of_operands vars o) list
   is_list tables has = record { count = list_length; each = constraint_at tables has }
 
   -- the entry of an instruction whose list stands in the constraints
   pub entry_holds : (e : OpcodeConstraints) (constraints : List Constraint)
-      → IsControl (sets_of vars) (instruction_of_operands vars o) (control_at vars control)
+      → IsControl (sets_of vars) (instruction_of_operands vars o) (option_map (variable_at vars) control)
       → (HasBadSecond (sets_of vars) (instruction_of_operands vars o) → ⊥)
-      → AreFlagsOf (instruction_of_operands vars o) (control_at vars control) e.flags
-      → ((tables : TableContents) → HasTypeSets tables type_sets → IsTypeSetOffset (sets_of vars) (control_at vars control) tables e.typeset_offset)
+      → AreFlagsOf (instruction_of_operands vars o) (option_map (variable_at vars) control) e.flags
+      → ((tables : TableContents) → HasTypeSets tables type_sets → IsTypeSetOffset (sets_of vars) (option_map (variable_at vars) control) tables e.typeset_offset)
       → ((tables : TableContents) → HasTypeSets tables type_sets → IsTypeSetOffset (sets_of vars) (second_in vars o.second) tables e.second_offset)
       → ((k : ℕ) (x : Constraint) → slice_get list k ≡ Some x → slice_get constraints (e.constraint_offset + k) ≡ Some x)
       → EntryHolds vars (instruction_of_operands vars o) type_sets constraints e
   entry_holds e constraints is_control good flags type_set second_set stands = record {
-    control = control_at vars control;
+    control = option_map (variable_at vars) control;
     is_control = is_control;
     good = good;
     is_entry = λ tables has hold. record {
@@ -147,7 +141,7 @@ module _ (vars : List TypeVarContent) (formats : List InstructionFormat) (type_s
 
   -- the tables hold an instruction whose entry holds it
   pub instruction_held : (instructions : List Builder) (tables : TableContents) (constraints : List Constraint) (entries : List OpcodeConstraints) → HasTypeSets tables type_sets → tables.operand_constraints ≡ map number_constraint_of constraints → tables.entries ≡ map entry_of entries → (k : ℕ) (b : Builder)
-      → IsHeldAt vars formats type_sets constraints entries k b → HoldsInstruction (set_with vars formats instructions) tables k b
+      → IsHeldAt vars formats type_sets constraints entries k b → HoldsInstruction (record { vars = vars; formats = formats; instructions = instructions }) tables k b
   instruction_held instructions tables constraints entries has has_constraints has_entries k b h = record {
     control = h.holds.control;
     is_control = h.holds.is_control;

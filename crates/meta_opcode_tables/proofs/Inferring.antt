@@ -6,30 +6,31 @@ use Rattle.std.proofs.lemmas.List.{length-take-le, get_or-set_same, get_or-set_o
 use Rattle.meta_lists.proofs.Places.{same_places, get_take, get_drop}
 use Rattle.meta_types.specs.TypeParts.{number_of}
 use Rattle.meta_types.specs.DerivedFunc.{function_of}
-use Rattle.meta_types.specs.Function.{Function, AnswersNumber}
+use Rattle.meta_types.specs.Function.{Function, IsRelation, AnswersNumber}
 use Rattle.meta_types.specs.declared.derived_func.DerivedFunc.{DerivedFunc}
 use Rattle.meta_typevar.specs.Registry.{HoldTypeSets}
 use Rattle.meta_inst.specs.Builder.{Builder}
 use Rattle.meta_inst.specs.Which.{Which, both}
+use Rattle.meta_inst.specs.Controls.{which_of}
+use Rattle.meta_inst.specs.declared.controls.Which.{Which as WhichType}
 use Rattle.meta_inst.specs.Control.{IsControl, HasBadSecond}
 use Rattle.meta_inst.specs.Faults.{IsValid}
 use Rattle.meta_inst.specs.InstructionSet.{InstructionSet, root_sets, instruction_in_set}
 use Rattle.meta_inst.proofs.OneControl.{same_control}
-use Rattle.meta_meaning.specs.Inference.{IsRelation, GivesBy, GivesNumber, GivesAt, GivesResults, InfersNumbers}
+use Rattle.meta_inst.proofs.ValidControls.{good_second}
+use Rattle.meta_meaning.specs.Inference.{GivesBy, GivesNumber, GivesAt, GivesResults, InfersNumbers}
 use Rattle.meta_meaning.specs.Tables.{TableContents, NumberConstraint, OpcodeNumbers, ControlNumberFits, Allows, SaysDesignated, DesignatedControls, at_opcode, result_count}
 use Rattle.meta_meaning.proofs.Decoding.{tables_mean}
 use Rattle.meta_meaning.proofs.Inferring.{designated_typed as value_typed}
-use Rattle.meta_meaning.proofs.Listed.{number_of_type, number_at}
+use Rattle.meta_meaning.proofs.Listed.{number_of_type, number_of_type_at}
 use Rattle.meta_meaning.proofs.Giving.{results_mean}
 use Rattle.meta_meaning.proofs.Given.{allowed_given, given_is}
-use Rattle.meta_opcode_tables.specs.Demand.{which_of, number_constraint_demanded}
+use Rattle.meta_opcode_tables.specs.Demand.{number_constraint_demanded}
 use Rattle.meta_opcode_tables.specs.TablesOf.{AreTablesOf, HoldsInstruction, AcceptsOpcode}
 use Rattle.meta_opcode_tables.specs.Inferred.{InfersOpcode, HasDesignatedControl, HasControlType}
 use Rattle.meta_opcode_tables.specs.declared.constraint.Demand.{Demand}
 use Rattle.meta_opcode_tables.specs.declared.constraint.Demand.TheVariants.{Controlling, By}
-use Rattle.meta_opcode_tables.specs.declared.constraint.Which.{Which as WhichType}
 use Rattle.meta_opcode_tables.proofs.Declared.{declared_as}
-use Rattle.meta_opcode_tables.proofs.Entering.{good_second}
 
 -- ---- one constraint
 
@@ -185,7 +186,7 @@ typed_designated d op c e rs vs a good (v, is, to) =
       designated = to.designates;
       type_number = number_of t;
       controls = number_of_type x.control_type c t x.control_number is_t;
-      stands = number_at x.value_types vs to.place t x.value_numbers t_at;
+      stands = number_of_type_at x.value_types vs to.place t x.value_numbers t_at;
     }
 
 -- where the flags say so

@@ -16,7 +16,7 @@ use Rattle.meta_opcode_tables.specs.Constraint.{number_constraint_of}
 use Rattle.meta_opcode_tables.specs.ConstraintLists.{same_constraint, overlapped, IsConstraintList}
 use Rattle.meta_opcode_tables.specs.TablesOf.{AreFormatNames, AreTablesOf}
 use Rattle.meta_opcode_tables.specs.declared.constraint.Constraint.{Constraint}
-use Rattle.meta_opcode_tables.proofs.OneFilling.{one_filling}
+use Rattle.meta_unique.proofs.OneFilling.{one_filling}
 use Rattle.meta_opcode_tables.proofs.OneTable.{same_tables}
 use Rattle.meta_opcode_tables.proofs.OneNeed.{one_needed}
 use Rattle.meta_opcode_tables.proofs.OneEntry.{one_flags, one_offset, one_list}

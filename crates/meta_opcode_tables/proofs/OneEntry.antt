@@ -11,9 +11,9 @@ use Rattle.meta_typevar.specs.declared.masks.Masks.{Masks}
 use Rattle.meta_inst.specs.Instruction.{Instruction, IsOperand, operands, controls_of}
 use Rattle.meta_inst.specs.Control.{IsControl, HasBadSecond}
 use Rattle.meta_inst.specs.InstructionSet.{InstructionSet, root_sets}
-use Rattle.meta_meaning.specs.Constraint.{Constraint as TypeConstraint, Concrete as ConcreteType, Free as FreeType, Same as SameType, By as ByType, IsConstraint}
+use Rattle.meta_meaning.specs.Constraint.{TypeConstraint, ConcreteType, FreeType, SameType, ByType, IsConstraint}
 use Rattle.meta_meaning.specs.Tables.{TableContents, NumberConstraint, FreeOf, AreFlagsOf, IsTypeSetOffset, HoldsSet, StandsFor}
-use Rattle.meta_meaning.proofs.Only.{same_constraint}
+use Rattle.meta_meaning.proofs.Only.{only_constraint}
 use Rattle.meta_declared.specs.Needed.{AreNeededMasks}
 use Rattle.meta_opcode_tables.specs.Constraint.{number_constraint_of}
 use Rattle.meta_opcode_tables.specs.ConstraintLists.{IsConstraintAt, IsConstraintList}
@@ -65,7 +65,7 @@ module _ (d : InstructionSet) (s t : TableContents) (typed : HoldTypeSets d.vars
     -- what stands for the constraint of an operand is one
     one_at : (xs ys : List Constraint) (k : ℕ) (w : Variable) → IsConstraintAt (root_sets d) (controls_of i control) s xs k w → IsConstraintAt (root_sets d) (controls_of i control) t ys k w → slice_get xs k ≡ slice_get ys k
     one_at xs ys k w a b =
-        let same : b.type_constraint ≡ a.type_constraint = same_constraint (root_sets d) i control is_control good w b.type_constraint a.type_constraint b.is_constraint a.is_constraint in
+        let same : b.type_constraint ≡ a.type_constraint = only_constraint (root_sets d) i control is_control good w b.type_constraint a.type_constraint b.is_constraint a.is_constraint in
         let stands : StandsFor t a.type_constraint (number_constraint_of b.constraint) = subst (λ (x : TypeConstraint). StandsFor t x (number_constraint_of b.constraint)) same b.stands in
         a.placed ∙ ap Some (same_number a.constraint b.constraint (one_number w a.type_constraint (number_constraint_of a.constraint) (number_constraint_of b.constraint) a.is_constraint a.stands stands)) ∙ sym b.placed
 

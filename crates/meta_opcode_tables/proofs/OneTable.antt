@@ -6,7 +6,7 @@ use Rattle.meta_unique.specs.NameSlots.{AreNameSlots}
 use Rattle.meta_opcode_tables.specs.WellFormed.{IsWellFormedOpcodes, HaveParts}
 use Rattle.meta_opcode_tables.specs.declared.constraint.Constraint.{Constraint}
 use Rattle.meta_opcode_tables.specs.declared.constraint.OpcodeConstraints.{OpcodeConstraints}
-use Rattle.meta_opcode_tables.proofs.OneFilling.{one_filling}
+use Rattle.meta_unique.proofs.OneFilling.{one_filling}
 
 -- tables with the same parts and slots are the same
 pub same_tables : (s t : TableContents) → s.names ≡ t.names → s.formats ≡ t.formats → s.opcode_slots ≡ t.opcode_slots → s.type_sets ≡ t.type_sets → s.operand_constraints ≡ t.operand_constraints → s.entries ≡ t.entries → s ≡ t

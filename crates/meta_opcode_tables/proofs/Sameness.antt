@@ -41,6 +41,9 @@ is_entry a b e = search rules
 pub entry_decides : (a b : OpcodeConstraints) → Decides (entry_eq.it a b) (a ≡ b)
 entry_decides a b = (entry_is a b, is_entry a b)
 
+-- ---- constraints by their numbers
+
+-- the constraint that asks for what a function gives of a control
 abbrev by_function : Which → Function → Constraint
 by_function First LaneOfFunction = LaneOf
 by_function First AsTruthyFunction = AsTruthy
@@ -61,36 +64,27 @@ by_function Second DynamicToVectorFunction = DynamicToVector2
 by_function Second NarrowerRelation = Narrower2
 by_function Second WiderRelation = Wider2
 
-abbrev constraint_from : NumberConstraint → Constraint
+-- the constraint that is meant
+abbrev pub constraint_from : NumberConstraint → Constraint
 constraint_from (ConcreteNumber n) = Concrete n
 constraint_from (FreeOf j) = Free j
 constraint_from (SameNumber First) = Same
 constraint_from (SameNumber Second) = Same2
 constraint_from (ByNumber a f) = by_function a f
 
-constraint_back : (x : Constraint) → constraint_from (number_constraint_of x) ≡ x
+pub number_constraint_back : (x : NumberConstraint) → number_constraint_of (constraint_from x) ≡ x
+number_constraint_back (ConcreteNumber n) = refl
+number_constraint_back (FreeOf j) = refl
+number_constraint_back (SameNumber First) = refl
+number_constraint_back (SameNumber Second) = refl
+number_constraint_back (ByNumber First LaneOfFunction) = refl
+number_constraint_back (ByNumber First f) = refl
+number_constraint_back (ByNumber Second LaneOfFunction) = refl
+number_constraint_back (ByNumber Second f) = refl
+
+pub constraint_back : (x : Constraint) → constraint_from (number_constraint_of x) ≡ x
 constraint_back (Concrete n) = refl
-constraint_back (Free j) = refl
-constraint_back Same = refl
-constraint_back LaneOf = refl
-constraint_back AsTruthy = refl
-constraint_back HalfWidth = refl
-constraint_back DoubleWidth = refl
-constraint_back SplitLanes = refl
-constraint_back MergeLanes = refl
-constraint_back DynamicToVector = refl
-constraint_back Narrower = refl
-constraint_back Wider = refl
-constraint_back Same2 = refl
-constraint_back LaneOf2 = refl
-constraint_back AsTruthy2 = refl
-constraint_back HalfWidth2 = refl
-constraint_back DoubleWidth2 = refl
-constraint_back SplitLanes2 = refl
-constraint_back MergeLanes2 = refl
-constraint_back DynamicToVector2 = refl
-constraint_back Narrower2 = refl
-constraint_back Wider2 = refl
+constraint_back x = refl
 
 pub same_number : (x y : Constraint) → number_constraint_of x ≡ number_constraint_of y → x ≡ y
 same_number x y e = sym (constraint_back x) ∙ ap constraint_from e ∙ constraint_back y

@@ -1,6 +1,7 @@
 -- The entries of valid declarations.
 use Rattle.std.proofs.Common.{◌≡◌, ◌≢◌, ◌<◌, ◌≤◌, ◌+◌, inl, inr, ℕ, zero, suc, List, [], ◌∷◌, All, length, take, slice_get, Option, None, Some, refl, sym, ◌∙◌, subst, length-append, arith}
 use Rattle.std.proofs.lemmas.Option.{same_Some, slice_get_within}
+use Rattle.meta_lists.proofs.Everywhere.{everywhere}
 use Rattle.meta_lists.proofs.Places.{get_there, get_beside}
 use Rattle.meta_typevar.specs.Variable.{Variable, Sets}
 use Rattle.meta_inst.specs.Builder.{Builder}
@@ -14,7 +15,6 @@ use Rattle.meta_opcode_tables.specs.ConstraintLists.{same_constraint, overlapped
 use Rattle.meta_opcode_tables.specs.WellFormed.{IsSetOffset, IsWellFormedEntry}
 use Rattle.meta_opcode_tables.specs.declared.constraint.Constraint.{Constraint}
 use Rattle.meta_opcode_tables.proofs.Made.{HoldDeclared}
-use Rattle.meta_opcode_tables.proofs.ValidNames.{all_from_places}
 
 -- the offset of a control is in range, or says that there is none
 in_range : (sets : Sets) (control : Option Variable) (tables : TableContents) (offset : ℕ) → IsTypeSetOffset sets control tables offset → IsSetOffset (length tables.type_sets) offset
@@ -78,4 +78,4 @@ module _ (d : InstructionSet) (tables : TableContents) (h : HoldDeclared d table
       }
 
   pub entries_well : All (IsWellFormedEntry (length tables.type_sets) (length tables.operand_constraints)) tables.entries
-  entries_well = all_from_places (IsWellFormedEntry (length tables.type_sets) (length tables.operand_constraints)) tables.entries entry_well
+  entries_well = everywhere tables.entries entry_well

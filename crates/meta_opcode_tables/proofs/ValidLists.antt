@@ -4,11 +4,12 @@ use Rattle.std.specs.Prelude.{nat_lt}
 use Rattle.std.proofs.lemmas.List.{length-map}
 use Rattle.std.proofs.lemmas.List.Elements.{All-nil, All-cons, All-head, All-tail, All-append, All-drop, All-map}
 use Rattle.std.proofs.lemmas.Option.{same_Some, slice_get_within}
+use Rattle.meta_lists.proofs.Everywhere.{everywhere}
 use Rattle.meta_lists.proofs.Places.{get_there, get_beside}
 use Rattle.meta_types.specs.TypeParts.{TypeParts, IsType}
 use Rattle.meta_types.specs.Function.{Function}
 use Rattle.meta_types.proofs.TypeNumbers.{number_is_one}
-use Rattle.meta_typevar.specs.Chain.{Agrees, IsFixed}
+use Rattle.meta_typevar.specs.Chain.{IsFixed}
 use Rattle.meta_typevar.specs.TypeSetParts.{TypeSetParts}
 use Rattle.meta_typevar.specs.Variable.{Variable, Sets}
 use Rattle.meta_typevar.specs.Registry.{variable_at}
@@ -19,8 +20,9 @@ use Rattle.meta_inst.specs.Instruction.{Instruction, operands}
 use Rattle.meta_inst.specs.InstructionFaults.{CountRule, HasTooManyOperands}
 use Rattle.meta_inst.specs.InstructionSet.{InstructionSet, root_sets, instruction_in_set}
 use Rattle.meta_inst.specs.Faults.{IsAt, IsValid, OfInstruction}
-use Rattle.meta_meaning.specs.Constraint.{IsConstraint, Constraint as TypeConstraint, Concrete as ConcreteType, Free as FreeType, Same as SameType, By as ByType}
+use Rattle.meta_meaning.specs.Constraint.{IsConstraint, TypeConstraint, ConcreteType, FreeType, SameType, ByType}
 use Rattle.meta_meaning.specs.Tables.{TableContents, NumberConstraint, StandsFor}
+use Rattle.meta_meaning.proofs.Chains.{agrees_type}
 use Rattle.meta_unique.specs.Overlap.{added, first_place, shared}
 use Rattle.meta_opcode_tables.specs.Constraint.{number_constraint_of}
 use Rattle.meta_opcode_tables.specs.ConstraintLists.{same_constraint, three_same, overlapped, IsConstraintList, IsListAt, AreOverlapped}
@@ -28,7 +30,6 @@ use Rattle.meta_opcode_tables.specs.WellFormed.{IsWellFormedConstraint}
 use Rattle.meta_opcode_tables.specs.declared.constraint.Constraint.{Constraint}
 use Rattle.meta_opcode_tables.specs.declared.constraint.Constraint.TheVariants.{Same}
 use Rattle.meta_opcode_tables.proofs.Entering.{few_results, few_values}
-use Rattle.meta_opcode_tables.proofs.ValidNames.{all_from_places}
 
 -- ---- what is added list by list
 
@@ -70,13 +71,9 @@ all_added_length table (list ∷ lists) few =
 
 -- ---- one constraint
 
--- a chain leads from a type to a type
-reached_type : (chain : List Function) (r t : TypeParts) → IsType r → Agrees chain r t → IsType t
-reached_type [] r t is agrees = subst IsType (sym agrees) is
-reached_type (f ∷ fs) r t is (u, steps, rest) = reached_type fs u t steps.to rest
-
+-- a fixed type is a type
 fixed_type : (s : TypeSetParts) (chain : List Function) (t : TypeParts) → IsFixed s chain t → IsType t
-fixed_type s chain t h = reached_type chain h.member t h.inhabited.is_type (h.reached h.member h.inhabited)
+fixed_type s chain t h = agrees_type chain h.member t h.inhabited.is_type (h.reached h.member h.inhabited)
 
 -- what stands for the constraint of an operand is well-formed
 stands_well : (sets : Sets) (controls : Which → Option Variable) (w : Variable) (tables : TableContents) (c : TypeConstraint) (x : NumberConstraint) → IsConstraint sets controls w c → StandsFor tables c x → IsWellFormedConstraint (length tables.type_sets) x
@@ -94,7 +91,7 @@ abbrev pub IsWell : TableContents → Constraint → Type 0
 IsWell tables x = IsWellFormedConstraint (length tables.type_sets) (number_constraint_of x)
 
 list_well : (sets : Sets) (control : Option Variable) (tables : TableContents) (i : Instruction) (list : List Constraint) → IsConstraintList sets control tables i list → All (IsWell tables) list
-list_well sets control tables i list is = all_from_places (IsWell tables) list (λ k x at.
+list_well sets control tables i list is = everywhere list (λ k x at.
     let inside = slice_get_within list k x at in
     let (w, op) = get_there (operands i) k (omega (arith, is.count, length-append i.results i.values)) in
     let h = is.each k w op in
@@ -120,14 +117,14 @@ module _ (d : InstructionSet) (valid : IsValid d) where
         (b, b_at, (h, same_Some h.list list (sym h.at ∙ at)))
 
     lists_well : All (All (IsWell tables)) are.lists
-    lists_well = all_from_places (All (IsWell tables)) are.lists (λ k list at.
+    lists_well = everywhere are.lists (λ k list at.
         let (b, b_at, here) = list_at k list at in
         let h = here.0 in
         let same = here.1 in
         subst (All (IsWell tables)) same (list_well (root_sets d) h.control tables (instruction_in_set d b) h.list h.is_list))
 
     lists_short : All (λ (list : List Constraint). length list ≤ 14) are.lists
-    lists_short = all_from_places (λ (list : List Constraint). length list ≤ 14) are.lists (λ k list at.
+    lists_short = everywhere {P = λ (list : List Constraint). length list ≤ 14} are.lists (λ k list at.
         let (b, b_at, here) = list_at k list at in
         let h = here.0 in
         let same = here.1 in

@@ -10,7 +10,7 @@ use Rattle.meta_inst.specs.Instruction.{Instruction, IsOperand, controls_of}
 use Rattle.meta_inst.specs.Control.{IsControl}
 use Rattle.meta_inst.specs.InstructionSet.{InstructionSet, root_sets, instruction_in_set}
 use Rattle.meta_inst.specs.Faults.{IsAt}
-use Rattle.meta_meaning.specs.Constraint.{IsConstraint, Constraint as TypeConstraint}
+use Rattle.meta_meaning.specs.Constraint.{IsConstraint, TypeConstraint}
 use Rattle.meta_meaning.specs.Tables.{TableContents, OpcodeNumbers, StandsFor}
 use Rattle.meta_unique.specs.Overlap.{added, added_at}
 use Rattle.meta_opcode_tables.specs.Constraint.{number_constraint_of}

@@ -16,7 +16,9 @@ ghost use Rattle.meta_opcode_tables.specs.Found.{IsDeclaredAs, FindsName};
 ghost use Rattle.meta_opcode_tables.specs.Inferred.{InfersControl, InfersOpcode, HasControlType};
 ghost use Rattle.meta_meaning.specs.Inference.{GivesAt, GivesResults};
 
-use super::constraint::{Constraint, Controls, Demand, NO_TYPE_SET, OpcodeConstraints, given};
+use super::constraint::{
+    Constraint, ControlNumbers, Demand, NO_TYPE_SET, OpcodeConstraints, given,
+};
 use super::entries::entries;
 use super::masks::masks_of;
 use super::names::{copied_formats, copied_names};
@@ -300,7 +302,7 @@ impl OpcodeTables {
         if !self.control_fits(entry.second_offset, second) {
             return false;
         }
-        let controls = Controls { ctrl, second };
+        let controls = ControlNumbers { ctrl, second };
         let offset = entry.constraint_offset as usize;
         if !self.all_pass(controls, offset, results) {
             return false;
@@ -358,12 +360,12 @@ impl OpcodeTables {
         ensures accepted { IfSome result (λ count. (rs vs : List ℕ) → Allows self.now opcode ctrl second rs vs → (k m n : ℕ) → slice_get (take count out.new) k ≡ Some n → n ≢ 0 → slice_get rs k ≡ Some m → m ≡ n) }
         ensures unaccepted { IfNone result ((rs vs : List ℕ) → ¬ Allows self.now opcode ctrl second rs vs) }
     {
-        self.infer_into(Controls { ctrl, second }, opcode, out)
+        self.infer_into(ControlNumbers { ctrl, second }, opcode, out)
     }
 
     /// Writes what the constraints of the results give, one number each, to the front of `out`, and tells how many there are. `None`,
     /// with nothing written, where the controlling numbers don't fit or a constraint gives nothing.
-    fn infer_into(&self, controls: Controls, opcode: u16, out: &mut [u16; 7]) -> Option<usize>
+    fn infer_into(&self, controls: ControlNumbers, opcode: u16, out: &mut [u16; 7]) -> Option<usize>
         ensures given { IfSome result (λ count. GivesResults self.now opcode controls.ctrl controls.second (take count out.new)) }
         ensures few { IfSome result (λ count. count ≤ 7) }
         ensures rest { IfSome result (λ count. drop count out.new ≡ drop count out.old) }
@@ -388,7 +390,7 @@ impl OpcodeTables {
     }
 
     /// The number that the constraint at this place gives, and `None` where there is none or it gives none.
-    fn given_at(&self, controls: Controls, place: usize) -> Option<u16>
+    fn given_at(&self, controls: ControlNumbers, place: usize) -> Option<u16>
         ensures some { IfSome result (λ n. GivesAt self.now (both controls.ctrl controls.second) place n) }
         ensures none { IfNone result ((n : ℕ) → ¬ GivesAt self.now (both controls.ctrl controls.second) place n) }
     {
@@ -423,7 +425,7 @@ impl OpcodeTables {
     }
 
     /// Whether the number passes the constraint under the controlling numbers.
-    fn passes(&self, controls: Controls, constraint: Constraint, number: u16) -> bool
+    fn passes(&self, controls: ControlNumbers, constraint: Constraint, number: u16) -> bool
         ensures { IsTrue result ↔ NumberPasses self.now (both controls.ctrl controls.second) (number_constraint_of constraint) number }
     {
         match constraint.demanded() {
@@ -435,7 +437,7 @@ impl OpcodeTables {
     }
 
     /// Whether there is a constraint at this place and the number passes it.
-    fn passes_at(&self, controls: Controls, place: usize, number: u16) -> bool
+    fn passes_at(&self, controls: ControlNumbers, place: usize, number: u16) -> bool
         ensures { IsTrue result ↔ PassesAt self.now (both controls.ctrl controls.second) place number }
     {
         match self.operand_constraints.get(place) {
@@ -454,7 +456,7 @@ impl OpcodeTables {
     ) -> bool
         ensures { IsTrue result ↔ NumberPasses self.now (both ctrl second) (number_constraint_of constraint) number }
     {
-        self.passes(Controls { ctrl, second }, constraint, number)
+        self.passes(ControlNumbers { ctrl, second }, constraint, number)
     }
 
     /// Whether there is an operand constraint at this place of the one list and the number passes it under the numbers of the
@@ -468,11 +470,11 @@ impl OpcodeTables {
     ) -> bool
         ensures { IsTrue result ↔ PassesAt self.now (both ctrl second) place number }
     {
-        self.passes_at(Controls { ctrl, second }, place, number)
+        self.passes_at(ControlNumbers { ctrl, second }, place, number)
     }
 
     /// Whether each number passes the constraint at its place behind the offset.
-    fn all_pass(&self, controls: Controls, offset: usize, numbers: &[u16]) -> bool
+    fn all_pass(&self, controls: ControlNumbers, offset: usize, numbers: &[u16]) -> bool
         requires { offset < 2 ^ 32 }
         ensures { IsTrue result ↔ AllPass self.now (both controls.ctrl controls.second) offset numbers.now }
     {

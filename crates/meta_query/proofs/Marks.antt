@@ -1,8 +1,8 @@
 -- The line before the queries in an input of `recheck`.
-use Rattle.std.proofs.Common.{◌≡◌, ◌↔◌, ◌≤◌, ◌<◌, ◌+◌, inl, inr, ℕ, Bool, true, IsTrue, List, ◌++◌, length, length-append, take, drop, ⊎_elim, sym, ap, ◌∙◌, arith}
-use Rattle.std.proofs.lemmas.Bool.{cases_lt}
+use Rattle.std.proofs.Common.{◌≡◌, ◌↔◌, ◌≤◌, ◌<◌, ◌+◌, inl, inr, ℕ, Bool, true, IsTrue, List, ◌++◌, length, length-append, take, drop, sym, ap, ◌∙◌, arith}
 use Rattle.std.proofs.lemmas.List.{length-drop, drop-drop}
 use Rattle.meta_lists.specs.First.{IsFirst}
+use Rattle.meta_lists.proofs.First.{one_first}
 use Rattle.meta_query.specs.Recheck.{mark, BeginsLine, IsMarkAt, IsCut}
 
 -- behind the place of a mark there is room for it
@@ -26,13 +26,6 @@ mark_behind input rest at starts begins rest_is there whole =
 pub cut_at : (input : List ℕ) (at : ℕ) (text rest queries : List ℕ) → IsFirst (IsMarkAt input) at → text ≡ take at input → rest ≡ drop at input → queries ≡ drop 12 rest → IsCut input text queries
 cut_at input at text rest queries first text_is rest_is queries_are =
     inl (at, record { first = first; text_is = text_is; queries_are = queries_are ∙ ap (drop 12) rest_is ∙ drop-drop 12 at input })
-
--- the first of which something holds is one
-pub one_first : (P : ℕ → Type 0) (m n : ℕ) → IsFirst P m → IsFirst P n → m ≡ n
-one_first P m n h g =
-    ⊎_elim (λ (l : m < n). absurd (g.none_before m l h.holds))
-    (λ (le : n ≤ m). ⊎_elim (λ (l : n < m). absurd (h.none_before n l g.holds)) (λ (ge : m ≤ n). omega arith) (cases_lt n m))
-    (cases_lt m n)
 
 -- an input is cut in one way
 pub same_cut : (input text queries text' queries' : List ℕ) → IsCut input text queries → IsCut input text' queries' → (text ≡ text') × (queries ≡ queries')

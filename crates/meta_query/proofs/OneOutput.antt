@@ -16,7 +16,7 @@ use Rattle.meta_answers.specs.Query.{Asked, Asks}
 use Rattle.meta_answers.specs.Answer.{IsOutput}
 use Rattle.meta_query.specs.declared.command.Command.{Command}
 use Rattle.meta_query.specs.declared.command.Command.TheVariants.{Query, Recheck, Tables, Types, Settings, Instructions, Builder, Synth}
-use Rattle.meta_query.specs.Recheck.{line_of, IsTold, IsAnswerBy, IsRecheckOf}
+use Rattle.meta_query.specs.Recheck.{sameness_line, IsTold, IsAnswerBy, IsRecheckOf}
 use Rattle.meta_query.specs.Synthesis.{IsSynthOutput}
 use Rattle.meta_query.specs.Run.{IsBuiltText, IsRechecked, IsOutputOf}
 use Rattle.meta_query.proofs.Marks.{same_cut}
@@ -29,12 +29,12 @@ module _ (one_asked : (line : List ℕ) (q p : Asked) → Asks line q → Asks l
   one_told line t queries a b h g = h.is ∙ ap (λ x. line ++ x) (same_answers t one_asked (lines_of queries) h.answers g.answers h.are_answers g.are_answers) ∙ sym g.is
 
   one_answer_by : (tables : WholeTables) (text queries a b : List ℕ) → IsAnswerBy tables text queries a → IsAnswerBy tables text queries b → a ≡ b
-  one_answer_by tables text queries a b (inl (reads, told)) (inl (read, tells)) = one_told (line_of true) tables queries a b told tells
+  one_answer_by tables text queries a b (inl (reads, told)) (inl (read, tells)) = one_told (sameness_line true) tables queries a b told tells
   one_answer_by tables text queries a b (inl (reads, told)) (inr (inl g)) = absurd (g.others (one_read text g.read tables g.reads reads))
   one_answer_by tables text queries a b (inl (reads, told)) (inr (inr g)) = absurd (g.reads_none tables reads)
   one_answer_by tables text queries a b (inr (inl h)) (inl (reads, told)) = absurd (h.others (one_read text h.read tables h.reads reads))
   one_answer_by tables text queries a b (inr (inl h)) (inr (inl g)) =
-      one_told (line_of false) g.read queries a b (subst (λ t. IsTold (line_of false) t queries a) (one_read text h.read g.read h.reads g.reads) h.told) g.told
+      one_told (sameness_line false) g.read queries a b (subst (λ t. IsTold (sameness_line false) t queries a) (one_read text h.read g.read h.reads g.reads) h.told) g.told
   one_answer_by tables text queries a b (inr (inl h)) (inr (inr g)) = absurd (g.reads_none h.read h.reads)
   one_answer_by tables text queries a b (inr (inr h)) (inl (reads, told)) = absurd (h.reads_none tables reads)
   one_answer_by tables text queries a b (inr (inr h)) (inr (inl g)) = absurd (h.reads_none g.read g.reads)
@@ -66,7 +66,7 @@ module _ (one_tables : (d : Declared) (t u : WholeTables) → HoldTypeSets d.set
     one_built_text : (text : BuiltDeclarations → List ℕ) (d : Declared) (a b : List ℕ) → IsBuiltText text d a → IsBuiltText text d b → a ≡ b
     one_built_text text d a b (x, built, of, is) (y, other, too, tells) = is ∙ ap text (one_built x y built other (of ∙ sym too)) ∙ sym tells
 
-    pub same_output : (d : Declared) (c : Command) (input a b : List ℕ) → AreValid d → HoldTypeSets d.set.vars → IsOutputOf d c input a → IsOutputOf d c input b → a ≡ b
+    pub same_output : (d : Declared) (c : Command) (input a b : List ℕ) → AreValid d → HoldTypeSets d.set.vars → IsOutputOf c d input a → IsOutputOf c d input b → a ≡ b
     same_output d Query input a b valid sets h g = one_query d input a b valid h g
     same_output d Recheck input a b valid sets (t, of, is) (u, too, tells) =
         one_recheck_of u input a b (subst (λ x. IsRecheckOf x input a) (one_tables d t u sets of too) is) tells

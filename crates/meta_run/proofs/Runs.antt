@@ -1,5 +1,5 @@
 -- From how a run ended to what it did.
-use Rattle.std.proofs.Common.{◌≡◌, ◌≢◌, ◌<◌, ◌≤◌, ◌⊎◌, inl, inr, ℕ, Bool, true, false, List, [], ◌++◌, length, length-append, Option, None, Some, refl, sym, ap, ◌∙◌, subst, le_refl, arith}
+use Rattle.std.proofs.Common.{◌≡◌, ◌≢◌, ◌<◌, ◌≤◌, inl, inr, ℕ, Bool, true, false, List, [], ◌++◌, length, length-append, Option, None, Some, refl, sym, ap, ◌∙◌, subst, arith}
 use Rattle.std.proofs.lemmas.List.{append-nil}
 use Rattle.meta_types.specs.declared.fault.DefinitionError.{DefinitionError}
 use Rattle.meta_types.specs.declared.fault.DefinitionError.TheVariants as fault_of
@@ -7,7 +7,7 @@ use Rattle.meta_text.specs.Outside.{Rose, with_front, with_more, NothingLeft, lo
 use Rattle.meta_declared.specs.AllDeclared.{Declared, ShowsFirst, AreValid}
 use Rattle.meta_run.specs.declared.ending.Ending.{Ending}
 use Rattle.meta_run.specs.declared.ending.Ending.TheVariants.{Done, Refused, Usage, ReadFault, WriteFault, OutOfMemory, TooLong, Rejected}
-use Rattle.meta_run.specs.Run.{refusal, Texts, IsReadWhole, IsInput, IsAnsweredWhole, IsRefusedWhole, Refuses, Did, Ran, IsRun, IsGiven, AnswersInput, RefusesDeclarations, Completes}
+use Rattle.meta_run.specs.Run.{refusal, Texts, IsInput, IsAnsweredWhole, Refuses, Did, Ran, IsGiven, AnswersInput, RefusesDeclarations, Completes}
 
 -- what was read is all that was left, where that was told and nothing is left now
 read_all : (input bytes : List ℕ) (left' : Option (List ℕ)) → Some input ≡ with_front bytes left' → NothingLeft left' → bytes ≡ input
@@ -93,61 +93,8 @@ module _ {S K : Type 0} (left : S → Option (List ℕ)) (reads : S → ℕ) (ta
   complete has_input no_fault TooLong did valid no_read no_write = inr (inr (refl, did.0, did.2))
 
   -- what a run did that ended so
-  pub at : (has_input : Bool) (ending other : Ending) → ending ≡ other → Did left reads taken writes d s s' k k' has_input texts ending → Did left reads taken writes d s s' k k' has_input texts other
-  at has_input ending other same did = subst (λ e. Did left reads taken writes d s s' k k' has_input texts e) same did
-
--- what is known of a program with words, by how it ended
-module _ {S K W : Type 0} (left : S → Option (List ℕ)) (reads : S → ℕ) (taken : K → Option (List ℕ)) (writes : K → ℕ) (d : Declared) (s s' : S) (k k' : K) (Means : W → Type 0) (has_input : W → Bool) (texts : W → Texts) where
-  abbrev RunsTo : Ending → Type 0
-  RunsTo ending = IsRun left reads taken writes d s s' k k' Means has_input texts ending
-
-  abbrev DidBy : W → Ending → Type 0
-  DidBy w ending = Did left reads taken writes d s s' k k' (has_input w) (texts w) ending
-
-  pub ended : (ending other : Ending) → RunsTo ending → ending ≡ other → other ≢ Usage → (w : W) × Means w × DidBy w other
-  ended ending other (inl (w, means, ran)) e differs = (w, means, subst (DidBy w) e ran.did)
-  ended ending other (inr (none, is, source, sink)) e differs = absurd (differs (sym e ∙ is))
-
-  -- the words decide whether it is a usage error
-  pub usage : (ending : Ending) → RunsTo ending → ending ≡ Usage → (w : W) → Means w → ⊥
-  usage ending (inl (w, means, ran)) e = absurd (subst (DidBy w) e ran.did)
-  usage ending (inr (none, is, source, sink)) e = none
-
-  pub no_words : (ending : Ending) → RunsTo ending → ((w : W) → Means w → ⊥) → ending ≡ Usage
-  no_words ending (inl (w, means, ran)) none = absurd (none w means)
-  no_words ending (inr (none, is, source, sink)) nothing = is
-
-  -- a program that has no text for a rejection rejects nothing
-  pub never_rejects : (ending : Ending) → RunsTo ending → ((w : W) (input text : List ℕ) → texts w d input true text → ⊥) → ending ≢ Rejected
-  never_rejects ending h none e =
-      let (w, means, did) = ended ending Rejected h e (λ g. cc) in
-      none w did.input did.text did.answers
-
-  -- nothing was read or written after a usage error
-  pub usage_unread : (ending : Ending) → RunsTo ending → ending ≡ Usage → s' ≡ s
-  usage_unread ending (inl (w, means, ran)) e = absurd (subst (DidBy w) e ran.did)
-  usage_unread ending (inr (none, is, source, sink)) e = source
-
-  pub usage_untouched : (ending : Ending) → RunsTo ending → ending ≡ Usage → k' ≡ k
-  usage_untouched ending (inl (w, means, ran)) e = absurd (subst (DidBy w) e ran.did)
-  usage_untouched ending (inr (none, is, source, sink)) e = sink
-
-  -- and nothing is read for words that have no input
-  pub unread : (ending : Ending) → RunsTo ending → ((w : W) → Means w → has_input w ≡ false) → s' ≡ s
-  unread ending (inl (w, means, ran)) none = ran.unread (none w means)
-  unread ending (inr (none, is, source, sink)) nothing = source
-
-  pub else_within : (ending : Ending) → RunsTo ending → ending ≢ TooLong → GaveAtMost longest_input (left s) (left s')
-  else_within ending (inl (w, means, ran)) other = ran.else_within other
-  else_within ending (inr (none, is, source, sink)) other = subst (λ t. GaveAtMost longest_input (left s) (left t)) (sym source) (gave_nothing (left s))
-
-  pub read_counted : (ending : Ending) → RunsTo ending → reads s ≤ reads s'
-  read_counted ending (inl (w, means, ran)) = ran.read_counted
-  read_counted ending (inr (none, is, source, sink)) = subst (λ t. reads s ≤ reads t) (sym source) (le_refl _)
-
-  pub write_counted : (ending : Ending) → RunsTo ending → writes k ≤ writes k'
-  write_counted ending (inl (w, means, ran)) = ran.write_counted
-  write_counted ending (inr (none, is, source, sink)) = subst (λ t. writes k ≤ writes t) (sym sink) (le_refl _)
+  pub at_ending : (has_input : Bool) (ending other : Ending) → ending ≡ other → Did left reads taken writes d s s' k k' has_input texts ending → Did left reads taken writes d s s' k k' has_input texts other
+  at_ending has_input ending other same did = subst (λ e. Did left reads taken writes d s s' k k' has_input texts e) same did
 
 -- the refusal of declarations is a run that read nothing
 module _ {S K : Type 0} (left : S → Option (List ℕ)) (reads : S → ℕ) (taken : K → Option (List ℕ)) (writes : K → ℕ) (d : Declared) (s : S) (k k' : K) (has_input : Bool) (texts : Texts) (fault : DefinitionError) (first : fault ≢ fault_of.OutOfMemory → ShowsFirst d fault) where

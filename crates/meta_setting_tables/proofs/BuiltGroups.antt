@@ -9,21 +9,24 @@ use Rattle.meta_lists.proofs.Places.{get_left, get_right, get_drop, get_cases, g
 use Rattle.meta_lists.proofs.Pushed.{get_pushed}
 use Rattle.meta_types.specs.Name.{IsName}
 use Rattle.meta_types.specs.SharedNames.{AreDistinct}
+use Rattle.meta_types.proofs.NamesDecided.{name_so, names_so}
 use Rattle.meta_settings.specs.declared.index.PresetType.TheVariants.{BoolSetting as NamedBool}
 use Rattle.meta_settings.specs.declared.proto.ProtoSpecificSetting.{ProtoSpecificSetting}
 use Rattle.meta_settings.specs.declared.proto.ProtoSpecificSetting.TheVariants.{Bool as DeclaredBool, Enum as DeclaredEnum, Num as DeclaredNum}
 use Rattle.meta_settings.specs.declared.setting.BoolSetting.{BoolSetting}
 use Rattle.meta_settings.specs.declared.setting.SpecificSetting.TheVariants.{Bool as ABool, Enum as AnEnum}
-use Rattle.meta_settings.specs.GroupDeclaration.{SettingDeclaration, PresetDeclaration, GroupDeclaration, Entry, is_bool_specific, is_bool, has_own_byte, values_of, booleans_among, others_among, boolean_count, byte_count, start_of, setting_entry, preset_entry, entries_of}
-use Rattle.meta_settings.specs.GroupFaults.{IsPlainByte, IsWellNamed, IsGoodEnum, IsMet, NameRule, EnumRule, PresetRule, OfGroupName, OfEntry, OfCounts, IsValidGroup}
+use Rattle.meta_settings.specs.GroupDeclaration.{SettingDeclaration, PresetDeclaration, GroupDeclaration, Entry, is_bool_specific, is_bool, has_own_byte, values_of, booleans_among, others_among, boolean_count, start_of, setting_entry, preset_entry, entries_of}
+use Rattle.meta_settings.specs.GroupFaults.{IsPlainByte, IsWellNamed, IsGoodEnum, IsMet, EntryNameRule, EnumRule, PresetRule, OfGroupName, OfEntry, OfCounts, IsValidGroup}
 use Rattle.meta_settings.specs.Laws.{TurnsOn, IsNamedIn}
-use Rattle.meta_settings.specs.Layout.{PlacedSetting, BuiltPreset, IsSized, booleans_in}
+use Rattle.meta_settings.specs.Layout.{PlacedSetting, BuiltPreset, booleans_in}
 use Rattle.meta_settings.specs.LaidOut.{placed_specific, placed_at, in_bytes, in_bits, laid_out, built_of}
 use Rattle.meta_settings.specs.TurnedOn.{built_preset, presets_after, built_presets, booleans_at}
+use Rattle.meta_settings.proofs.Placing.{length-in_bits}
+use Rattle.meta_settings.proofs.Valid.{preset_at, start_length}
 use Rattle.meta_setting_tables.specs.BuiltLayout.{AreValues, IsBuiltLayout}
 use Rattle.meta_setting_tables.specs.FoundSetting.{entry_names}
 use Rattle.meta_setting_tables.proofs.Joining.{filter_from}
-use Rattle.meta_setting_tables.proofs.Telling.{name_so, names_so, plain_so}
+use Rattle.meta_setting_tables.proofs.Telling.{plain_so}
 
 -- ---- counts
 
@@ -31,14 +34,6 @@ two_kinds : (settings : List SettingDeclaration) → length (others_among settin
 two_kinds [] = refl
 two_kinds (s ∷ settings) = let rest = two_kinds settings in
     elim (is_bool s) as (λ b. length (cond (not b) (s ∷ others_among settings) (others_among settings)) + length (cond b (s ∷ booleans_among settings) (booleans_among settings)) ≡ suc (length settings)) [ true ↦ omega arith | false ↦ omega arith ]
-
-count_bytes : (byte : ℕ) (settings : List SettingDeclaration) → length (in_bytes byte settings) ≡ length settings
-count_bytes byte [] = refl
-count_bytes byte (s ∷ settings) = ap suc (count_bytes (byte + 1) settings)
-
-count_bits : (start k : ℕ) (settings : List SettingDeclaration) → length (in_bits start k settings) ≡ length settings
-count_bits start k [] = refl
-count_bits start k (s ∷ settings) = ap suc (count_bits start (k + 1) settings)
 
 count_after : (earlier : List BuiltPreset) (presets : List PresetDeclaration) → length (presets_after earlier presets) ≡ length earlier + length presets
 count_after earlier [] = omega arith
@@ -129,10 +124,6 @@ module _ (d : GroupDeclaration) (valid : IsValidGroup d) where
       let l = slice_get_within d.settings i x at in let long = length-map d.settings setting_entry in
       get_left (map setting_entry d.settings) (map preset_entry d.presets) i (omega (arith, l, long)) ∙ slice_get-map setting_entry d.settings i ∙ ap (option_map setting_entry) at
 
-  pub entry_preset : (k : ℕ) (p : PresetDeclaration) → slice_get d.presets k ≡ Some p → slice_get (entries_of d) (length d.settings + k) ≡ Some (preset_entry p)
-  entry_preset k p at =
-      ap (λ n. slice_get (entries_of d) (n + k)) (sym (length-map d.settings setting_entry)) ∙ get_right (map setting_entry d.settings) (map preset_entry d.presets) k ∙ slice_get-map preset_entry d.presets k ∙ ap (option_map preset_entry) at
-
   few_entries : length d.settings + length d.presets ≤ 65535
   few_entries = elim (cases_lt 65535 (length d.settings + length d.presets)) [ inl more ↦ absurd (valid 0 OfCounts _ (refl, inr (inr more))) | inr few ↦ few ]
 
@@ -145,7 +136,7 @@ module _ (d : GroupDeclaration) (valid : IsValidGroup d) where
   }
     where
       broken : (IsWellNamed x → ⊥) → ⊥
-      broken bad = valid 0 (OfEntry i NameRule) _ (x, at, (refl, bad))
+      broken bad = valid 0 (OfEntry i EntryNameRule) _ (x, at, (refl, bad))
 
   group_named : IsName d.name
   group_named = name_so d.name (λ bad. valid 0 OfGroupName _ (refl, bad))
@@ -168,7 +159,7 @@ module _ (d : GroupDeclaration) (valid : IsValidGroup d) where
     | inl below ↦ below
     | inr past ↦ absurd (valid 0 (OfEntry (length d.settings + k) PresetRule) _ (
       preset_entry p,
-      entry_preset k p at,
+      preset_at d valid k p at,
       (
         refl,
         λ met.
@@ -177,25 +168,11 @@ module _ (d : GroupDeclaration) (valid : IsValidGroup d) where
     ))
   ]
 
-  start_is : length (in_bytes 0 (others_among d.settings)) ≡ start_of d
-  start_is = count_bytes 0 (others_among d.settings)
-
   booleans_counted : length (booleans_in (built_of d)) ≡ boolean_count d
   booleans_counted =
       let a = length-append (in_bytes 0 (others_among d.settings)) (in_bits (start_of d) 0 (booleans_among d.settings)) in
-      let x = start_is in let y = count_bits (start_of d) 0 (booleans_among d.settings) in
+      let x = start_length d valid in let y = length-in_bits (start_of d) 0 (booleans_among d.settings) in
       let cut = length-drop (start_of d) (laid_out d) in omega (arith, a, x, y, cut)
-
-  pub built_few : byte_count d ≤ 255
-  built_few = elim (cases_lt 255 (byte_count d)) [ inl more ↦ absurd (valid 0 OfCounts _ (refl, inr (inl more))) | inr few ↦ few ]
-
-  pub built_sized : IsSized (laid_out d) (start_of d) (byte_count d)
-  built_sized =
-      let a = length-append (in_bytes 0 (others_among d.settings)) (in_bits (start_of d) 0 (booleans_among d.settings)) in
-      let x = start_is in
-      let count = booleans_counted in
-      let few : boolean_count d ≤ 248 = elim (cases_lt 248 (boolean_count d)) [ inl more ↦ absurd (valid 0 OfCounts _ (refl, inl more)) | inr few ↦ few ] in
-      record { within = omega (arith, a, x); few = omega (arith, count, few); bytes = omega (arith, count) }
 
   module _ (named : (k b : ℕ) (p : PresetDeclaration) → slice_get d.presets k ≡ Some p → TurnsOn d.presets k b ↔ IsNamedIn d.presets k p b) where
     below_all : (n k b : ℕ) → k < n → k < length d.presets → TurnsOn d.presets k b → b < boolean_count d
@@ -205,15 +182,15 @@ module _ (d : GroupDeclaration) (valid : IsValidGroup d) where
         ⊎_elim (λ own. named_boolean k b p.0 p.1 own) (λ other. below_all n other.0 b (let q = other.2 in omega (arith, q, l)) (let q = other.2 in omega (arith, q, inside)) other.3) ((named k b p.0 p.1).0 on)
 
     boolean_at : (k : ℕ) → slice_get (booleans_in (built_of d)) k ≡ slice_get (in_bits (start_of d) 0 (booleans_among d.settings)) k
-    boolean_at k = get_drop (laid_out d) (start_of d) k ∙ ap (λ n. slice_get (laid_out d) (n + k)) (sym start_is) ∙ get_right (in_bytes 0 (others_among d.settings)) (in_bits (start_of d) 0 (booleans_among d.settings)) k
+    boolean_at k = get_drop (laid_out d) (start_of d) k ∙ ap (λ n. slice_get (laid_out d) (n + k)) (sym (start_length d valid)) ∙ get_right (in_bytes 0 (others_among d.settings)) (in_bits (start_of d) 0 (booleans_among d.settings)) k
 
     pub built_layout : AreDistinct (entry_names (built_of d)) → IsBuiltLayout (built_of d)
     built_layout distinct = record {
       name = group_named;
       few = let own = few_entries in let kinds = two_kinds d.settings in let a = length-append (in_bytes 0 (others_among d.settings)) (in_bits (start_of d) 0 (booleans_among d.settings)) in
-          let x = start_is in let y = count_bits (start_of d) 0 (booleans_among d.settings) in let z = count_after [] d.presets in omega (arith, own, kinds, a, x, y, z);
+          let x = start_length d valid in let y = length-in_bits (start_of d) 0 (booleans_among d.settings) in let z = count_after [] d.presets in omega (arith, own, kinds, a, x, y, z);
       bytes = λ k s l at.
-          let own = sym (get_left (in_bytes 0 (others_among d.settings)) (in_bits (start_of d) 0 (booleans_among d.settings)) k (let x = start_is in omega (arith, l, x))) ∙ at in
+          let own = sym (get_left (in_bytes 0 (others_among d.settings)) (in_bits (start_of d) 0 (booleans_among d.settings)) k (let x = start_length d valid in omega (arith, l, x))) ∙ at in
           let r = byte_of 0 (others_among d.settings) k s own in
           let f = filter_from has_own_byte d.settings k r.0 r.1 in
           record {
@@ -236,7 +213,7 @@ module _ (d : GroupDeclaration) (valid : IsValidGroup d) where
           };
       described_presets = λ k p at.
           let f = preset_from_declared d.presets k p at in
-          let w = well_named (length d.settings + f.place) (preset_entry f.declared) (entry_preset f.place f.declared f.there) in
+          let w = well_named (length d.settings + f.place) (preset_entry f.declared) (preset_at d valid f.place f.declared f.there) in
           record { is_name = subst IsName (sym f.name) w.name; is_plain = subst (All IsPlainByte) (sym f.description) w.description };
       distinct = distinct;
       enums = λ k s values at is.

@@ -7,15 +7,16 @@ use Rattle.std.proofs.lemmas.Option.{slice_get_within, same_Some}
 use Rattle.meta_lists.proofs.Places.{get_cases}
 use Rattle.meta_lists.proofs.Mapped.{get_map, get_mapped}
 use Rattle.meta_types.specs.SharedNames.{SharesName, AreDistinct, AreDifferentNames}
-use Rattle.meta_settings.specs.GroupDeclaration.{SettingDeclaration, PresetDeclaration, GroupDeclaration, Entry, is_bool, has_own_byte, booleans_among, others_among, start_of, setting_entry, preset_entry, entries_of, names_of}
-use Rattle.meta_settings.specs.GroupFaults.{DuplicateRule, OfEntry, IsValidGroup}
+use Rattle.meta_settings.specs.GroupDeclaration.{SettingDeclaration, PresetDeclaration, GroupDeclaration, Entry, is_bool, has_own_byte, booleans_among, others_among, start_of, setting_entry, preset_entry, entries_of, names_of_entries}
+use Rattle.meta_settings.specs.GroupFaults.{EntryDuplicateRule, OfEntry, IsValidGroup}
 use Rattle.meta_settings.specs.Layout.{PlacedSetting, BuiltPreset}
 use Rattle.meta_settings.specs.LaidOut.{in_bytes, in_bits, laid_out, built_of}
 use Rattle.meta_settings.specs.TurnedOn.{built_preset, presets_after, built_presets}
+use Rattle.meta_settings.proofs.Valid.{preset_at}
 use Rattle.meta_setting_tables.specs.FoundSetting.{entry_names}
 use Rattle.meta_types.proofs.SharedNames.{distinct_differ}
 use Rattle.meta_setting_tables.proofs.Joining.{filter_from}
-use Rattle.meta_setting_tables.proofs.BuiltGroups.{entry_setting, entry_preset, setting_from_declared, preset_from_declared}
+use Rattle.meta_setting_tables.proofs.BuiltGroups.{entry_setting, setting_from_declared, preset_from_declared}
 
 -- ---- names that are apart
 
@@ -81,25 +82,25 @@ module _ (names : List (List ℕ)) (distinct : AreDistinct names) where
 -- ---- names of what is declared
 
 module _ (d : GroupDeclaration) (valid : IsValidGroup d) where
-  declared_distinct : AreDistinct (names_of d)
+  declared_distinct : AreDistinct (names_of_entries d)
   declared_distinct k j shared =
       let entry = get_mapped (λ (x : Entry). x.name) (entries_of d) k shared.name shared.is_name in
-      valid 0 (OfEntry k DuplicateRule) _ (entry.0, entry.1, (j, refl, shared))
+      valid 0 (OfEntry k EntryDuplicateRule) _ (entry.0, entry.1, (j, refl, shared))
 
-  declared_apart : AreDifferentNames (names_of d)
-  declared_apart = distinct_differ (names_of d) declared_distinct
+  declared_apart : AreDifferentNames (names_of_entries d)
+  declared_apart = distinct_differ (names_of_entries d) declared_distinct
 
-  setting_named : (k : ℕ) (s : SettingDeclaration) → slice_get d.settings k ≡ Some s → slice_get (names_of d) k ≡ Some s.name
+  setting_named : (k : ℕ) (s : SettingDeclaration) → slice_get d.settings k ≡ Some s → slice_get (names_of_entries d) k ≡ Some s.name
   setting_named k s e = get_map (λ (x : Entry). x.name) (entries_of d) k (setting_entry s) (entry_setting d valid k s e)
 
-  preset_named : (k : ℕ) (p : PresetDeclaration) → slice_get d.presets k ≡ Some p → slice_get (names_of d) (length d.settings + k) ≡ Some p.name
-  preset_named k p e = get_map (λ (x : Entry). x.name) (entries_of d) (length d.settings + k) (preset_entry p) (entry_preset d valid k p e)
+  preset_named : (k : ℕ) (p : PresetDeclaration) → slice_get d.presets k ≡ Some p → slice_get (names_of_entries d) (length d.settings + k) ≡ Some p.name
+  preset_named k p e = get_map (λ (x : Entry). x.name) (entries_of d) (length d.settings + k) (preset_entry p) (preset_at d valid k p e)
 
   -- the name of a built entry is that of a declared one
-  declared_name : (e : ℕ) (n : List ℕ) → slice_get (entry_names (built_of d)) e ≡ Some n → (k : ℕ) × (slice_get (names_of d) k ≡ Some n)
+  declared_name : (e : ℕ) (n : List ℕ) → slice_get (entry_names (built_of d)) e ≡ Some n → (k : ℕ) × (slice_get (names_of_entries d) k ≡ Some n)
   declared_name e n at = go (get_cases (map (λ (s : PlacedSetting). s.name) (laid_out d)) (map (λ (p : BuiltPreset). p.name) (built_presets d.presets)) e n at)
     where
-      go : (slice_get (map (λ (s : PlacedSetting). s.name) (laid_out d)) e ≡ Some n) ⊎ ((j : ℕ) × (e ≡ length (map (λ (s : PlacedSetting). s.name) (laid_out d)) + j) × (slice_get (map (λ (p : BuiltPreset). p.name) (built_presets d.presets)) j ≡ Some n)) → (k : ℕ) × (slice_get (names_of d) k ≡ Some n)
+      go : (slice_get (map (λ (s : PlacedSetting). s.name) (laid_out d)) e ≡ Some n) ⊎ ((j : ℕ) × (e ≡ length (map (λ (s : PlacedSetting). s.name) (laid_out d)) + j) × (slice_get (map (λ (p : BuiltPreset). p.name) (built_presets d.presets)) j ≡ Some n)) → (k : ℕ) × (slice_get (names_of_entries d) k ≡ Some n)
       go (inl own) =
           let s = get_mapped (λ (s : PlacedSetting). s.name) (laid_out d) e n own in
           let f = setting_from_declared d e s.0 s.1 in
@@ -187,7 +188,7 @@ built_distinct d valid k j shared =
     let m = declared_name d valid j shared.earlier shared.is_earlier in
     let n = declared_name d valid k shared.name shared.is_name in
     let before = shared.before in
-    let one : m.0 ≡ n.0 = two_apart (names_of d) (declared_distinct d valid) m.0 n.0 shared.earlier shared.name m.1 n.1 shared.shares in
-    let same : shared.earlier ≡ shared.name = same_Some shared.earlier shared.name (sym m.1 ∙ ap (slice_get (names_of d)) one ∙ n.1) in
+    let one : m.0 ≡ n.0 = two_apart (names_of_entries d) (declared_distinct d valid) m.0 n.0 shared.earlier shared.name m.1 n.1 shared.shares in
+    let same : shared.earlier ≡ shared.name = same_Some shared.earlier shared.name (sym m.1 ∙ ap (slice_get (names_of_entries d)) one ∙ n.1) in
     let place : j ≡ k = built_names d valid j k shared.name (shared.is_earlier ∙ ap Some same) shared.is_name in
     omega (arith, before, place)

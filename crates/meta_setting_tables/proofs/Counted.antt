@@ -8,7 +8,7 @@ use Rattle.meta_setting_tables.specs.declared.descriptor.Detail.{Detail}
 use Rattle.meta_setting_tables.specs.declared.descriptor.Descriptor.{Descriptor}
 use Rattle.meta_setting_tables.specs.declared.shape.Shape.{Shape}
 use Rattle.meta_setting_tables.specs.Shape.{IsShapeOf}
-use Rattle.meta_setting_tables.specs.WellFormed.{own_byte_count, boolean_count, preset_count, byte_count, IsPlaced, IsBooleanBit, HoldsBooleansAlone, HasFirstValue, AreGoodDefaults, AreGoodMasks}
+use Rattle.meta_setting_tables.specs.WellFormed.{own_byte_count, described_boolean_count, preset_count, described_byte_count, IsPlaced, IsBooleanBit, HoldsBooleansAlone, HasFirstValue, AreGoodDefaults, AreGoodMasks}
 
 -- a number that is given by a count
 place_as : {o o' b b' s s' : ℕ} → o ≡ o' → b ≡ b' → s ≡ s' → (e offset : ℕ) (detail : Detail) → IsPlaced o b s e offset detail → IsPlaced o' b' s' e offset detail
@@ -18,10 +18,10 @@ alone_as : {o o' b b' : ℕ} → o ≡ o' → b ≡ b' → (byte m : ℕ) → Ho
 alone_as {o} {o'} {b} {b'} p q byte m h = subst (λ n. HoldsBooleansAlone o' n byte m) q (subst (λ n. HoldsBooleansAlone n b byte m) p h)
 
 module _ (entries : List Descriptor) (shape : Shape) (is : IsShapeOf entries shape) where
-  pub place_counted : (e offset : ℕ) (detail : Detail) → IsPlaced shape.own_bytes shape.booleans shape.bytes e offset detail ↔ IsPlaced (own_byte_count entries) (boolean_count entries) (byte_count entries) e offset detail
+  pub place_counted : (e offset : ℕ) (detail : Detail) → IsPlaced shape.own_bytes shape.booleans shape.bytes e offset detail ↔ IsPlaced (own_byte_count entries) (described_boolean_count entries) (described_byte_count entries) e offset detail
   place_counted e offset detail = (place_as is.own_bytes is.booleans is.bytes e offset detail, place_as (sym is.own_bytes) (sym is.booleans) (sym is.bytes) e offset detail)
 
-  pub alone_counted : (byte m : ℕ) → HoldsBooleansAlone shape.own_bytes shape.booleans byte m ↔ HoldsBooleansAlone (own_byte_count entries) (boolean_count entries) byte m
+  pub alone_counted : (byte m : ℕ) → HoldsBooleansAlone shape.own_bytes shape.booleans byte m ↔ HoldsBooleansAlone (own_byte_count entries) (described_boolean_count entries) byte m
   alone_counted byte m = (alone_as is.own_bytes is.booleans byte m, alone_as (sym is.own_bytes) (sym is.booleans) byte m)
 
 -- a bit behind the bytes of the enums and numbers is a boolean's where its number is below their count

@@ -12,7 +12,7 @@ use Rattle.meta_settings.specs.Layout.{PlacedSetting, BuiltPreset}
 use Rattle.meta_setting_tables.specs.declared.descriptor.Detail.{Detail}
 use Rattle.meta_setting_tables.specs.declared.descriptor.Descriptor.{Descriptor}
 use Rattle.meta_setting_tables.specs.Descriptor.{IsDetailOf, DescribesSetting, setting_descriptor, preset_descriptor}
-use Rattle.meta_setting_tables.specs.EnumeratorList.{enumerators_of, values_of, with_values, StandAt, HasGrown}
+use Rattle.meta_setting_tables.specs.EnumeratorList.{enumerators_of, built_values_of, with_values, StandAt, HasGrown}
 use Rattle.meta_setting_tables.specs.GroupTables.{names_in}
 
 -- as many descriptors as things, by their names
@@ -67,10 +67,10 @@ detail_kept old new before s d kept h = record { name = h.name; description = h.
     of (AnEnum values) e = record { last = e.last; place = e.place; is = e.is; count = e.count; place_is = e.place_is; stand = stand_kept old new values e.place kept e.stand }
     of (ANum default) e = e
 
-pub enumerators_next : (settings : List PlacedSetting) (k : ℕ) (s : PlacedSetting) (old new : List (List ℕ)) → slice_get settings k ≡ Some s → old ≡ enumerators_of (take k settings) → new ≡ with_values old (values_of s.specific) → new ≡ enumerators_of (take (k + 1) settings)
+pub enumerators_next : (settings : List PlacedSetting) (k : ℕ) (s : PlacedSetting) (old new : List (List ℕ)) → slice_get settings k ≡ Some s → old ≡ enumerators_of (take k settings) → new ≡ with_values old (built_values_of s.specific) → new ≡ enumerators_of (take (k + 1) settings)
 enumerators_next settings k s old new at so more =
-    more ∙ ap (λ w. with_values w (values_of s.specific)) so
-    ∙ sym (ap enumerators_of (take_next settings k s at) ∙ fold-append (λ enumerators (s : PlacedSetting). with_values enumerators (values_of s.specific)) [] (take k settings) (s ∷ []))
+    more ∙ ap (λ w. with_values w (built_values_of s.specific)) so
+    ∙ sym (ap enumerators_of (take_next settings k s at) ∙ fold-append (λ enumerators (s : PlacedSetting). with_values enumerators (built_values_of s.specific)) [] (take k settings) (s ∷ []))
 
 pub record SettingsTo (settings : List PlacedSetting) (k : ℕ) (enumerators : List (List ℕ)) (ds : List Descriptor) : Type 0 where
   pub names : names_in ds ≡ map (λ (s : PlacedSetting). s.name) (take k settings)
@@ -78,7 +78,7 @@ pub record SettingsTo (settings : List PlacedSetting) (k : ℕ) (enumerators : L
   pub most : k ≤ 255 → length enumerators ≤ 256 * k
   pub described : (j : ℕ) (s : PlacedSetting) (d : Descriptor) → j < k → slice_get settings j ≡ Some s → slice_get ds j ≡ Some d → DescribesSetting enumerators (take j settings) s d
 
-pub settings_next : (settings : List PlacedSetting) (k : ℕ) (s : PlacedSetting) (detail : Detail) (d : Descriptor) (before after : List (List ℕ)) (old new : List Descriptor) → slice_get settings k ≡ Some s → IsDetailOf after (take k settings) s.specific detail → after ≡ with_values before (values_of s.specific) → HasGrown before after
+pub settings_next : (settings : List PlacedSetting) (k : ℕ) (s : PlacedSetting) (detail : Detail) (d : Descriptor) (before after : List (List ℕ)) (old new : List Descriptor) → slice_get settings k ≡ Some s → IsDetailOf after (take k settings) s.specific detail → after ≡ with_values before (built_values_of s.specific) → HasGrown before after
     → d ≡ setting_descriptor s detail → new ≡ old ++ d ∷ [] → SettingsTo settings k before old → SettingsTo settings (k + 1) after new
 settings_next settings k s detail d before after old new at is made grown own more so =
     let long = as_many (λ (s : PlacedSetting). s.name) settings k old (let l = slice_get_within settings k s at in omega (arith, l)) so.names in

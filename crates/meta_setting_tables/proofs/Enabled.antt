@@ -109,13 +109,13 @@ in_place g k s b e is = ⊎_elim
 -- ---- what is on
 
 -- the descriptor has the name of the setting, and both are among those that are looked for, or neither
-pub record AreAlike (looked_for : Descriptor → Bool) (is_named : PlacedSetting → Bool) (s : PlacedSetting) (d : Descriptor) : Type 0 where
+pub record AreNamedAlike (looked_for : Descriptor → Bool) (is_named : PlacedSetting → Bool) (s : PlacedSetting) (d : Descriptor) : Type 0 where
   pub name : d.name ≡ s.name
   pub same : looked_for d ≡ is_named s
 
 module _ (looked_for : Descriptor → Bool) (is_named : PlacedSetting → Bool) where
   -- the same names are found among settings and their descriptors, behind which none is looked for
-  same_names : (ss : List PlacedSetting) (ds : List Descriptor) → ((k : ℕ) (s : PlacedSetting) (d : Descriptor) → slice_get ss k ≡ Some s → slice_get ds k ≡ Some d → AreAlike looked_for is_named s d) → length ss ≤ length ds
+  same_names : (ss : List PlacedSetting) (ds : List Descriptor) → ((k : ℕ) (s : PlacedSetting) (d : Descriptor) → slice_get ss k ≡ Some s → slice_get ds k ≡ Some d → AreNamedAlike looked_for is_named s d) → length ss ≤ length ds
       → ((k : ℕ) (d : Descriptor) → length ss ≤ k → slice_get ds k ≡ Some d → looked_for d ≡ false)
       → map (λ (d : Descriptor). d.name) (filter looked_for ds) ≡ map (λ (s : PlacedSetting). s.name) (filter is_named ss)
   same_names [] [] alike few behind = refl
@@ -202,7 +202,7 @@ module _ (g : GroupDeclaration) (t : GroupContents) (made : AreTablesOfGroup (bu
     same_enabled before s (AnEnum values) detail e is placed within = ap (is_on (masks k) s.byte_offset) is.is
     same_enabled before s (ANum default) detail e is placed within = ap (is_on (masks k) s.byte_offset) is
 
-    pub alike : (j : ℕ) (s : PlacedSetting) (d : Descriptor) → slice_get layout.settings j ≡ Some s → slice_get t.descriptors j ≡ Some d → AreAlike is_turned is_enabled s d
+    pub alike : (j : ℕ) (s : PlacedSetting) (d : Descriptor) → slice_get layout.settings j ≡ Some s → slice_get t.descriptors j ≡ Some d → AreNamedAlike is_turned is_enabled s d
     alike j s d s_at d_at =
         let says = (made.entries j d d_at).setting s s_at in
         let held = made.defaults.hold j s s_at in

@@ -14,7 +14,7 @@ use Rattle.meta_setting_tables.specs.declared.descriptor.Detail.TheVariants.{Boo
 use Rattle.meta_setting_tables.specs.declared.descriptor.Descriptor.{Descriptor}
 use Rattle.meta_setting_tables.specs.Descriptor.{IsDetailOf, preset_descriptor, DescribesEntry}
 use Rattle.meta_setting_tables.specs.DefaultBytes.{default_number, HoldsDefault}
-use Rattle.meta_setting_tables.specs.FoundSetting.{entry_count}
+use Rattle.meta_setting_tables.specs.FoundSetting.{laid_entry_count}
 use Rattle.meta_unique.specs.NameSlots.{NameAnswers}
 use Rattle.meta_unique.proofs.Finding.{answers_name}
 use Rattle.meta_setting_tables.specs.GroupTables.{GroupContents, names_in, IsPresetIn, AreTablesOfGroup, IsPresetOf, default_in, AnswersDefault}
@@ -107,7 +107,7 @@ entry_read ds lent index None is past = sym (ap (λ (w : List Descriptor). slice
 entry_read ds lent index (Some d) is m = sym (read_at ds lent index d.now is m.0 (m.1 d.now))
 
 -- there is an entry exactly below the count of the entries
-pub entry_there : (g : Layout) (t : GroupContents) (e : ℕ) (r : Option (Bor Descriptor)) → option_map (λ d. d.now) r ≡ slice_get t.descriptors e → AreTablesOfGroup g t → (IsSome r → e < entry_count g) × (e < entry_count g → IsSome r)
+pub entry_there : (g : Layout) (t : GroupContents) (e : ℕ) (r : Option (Bor Descriptor)) → option_map (λ d. d.now) r ≡ slice_get t.descriptors e → AreTablesOfGroup g t → (IsSome r → e < laid_entry_count g) × (e < laid_entry_count g → IsSome r)
 entry_there g t e None at h =
     let count = h.count in
     (λ s. absurd (cc), λ l. let x = get_there t.descriptors e (omega (arith, l)) in let bad : None ≡ Some x.0 = at ∙ x.1 in absurd (cc))

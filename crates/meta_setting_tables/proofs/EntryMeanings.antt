@@ -12,13 +12,13 @@ use Rattle.meta_setting_tables.specs.declared.descriptor.Detail.TheVariants.{Enu
 use Rattle.meta_setting_tables.specs.declared.descriptor.Descriptor.{Descriptor}
 use Rattle.meta_setting_tables.specs.Descriptor.{IsDetailOf}
 use Rattle.meta_setting_tables.specs.EntryValues.{values_in, masks_from, names_on, names_enabled}
-use Rattle.meta_setting_tables.specs.EnumeratorList.{values_of}
+use Rattle.meta_setting_tables.specs.EnumeratorList.{built_values_of}
 use Rattle.meta_setting_tables.specs.GroupTables.{GroupContents, IsPresetIn, IsPresetOf, AreTablesOfGroup}
 use Rattle.meta_setting_tables.proofs.Enabled.{same_enabled_names}
 use Rattle.meta_setting_tables.proofs.EntriesRead.{preset_entry, preset_there}
 
 -- the values that a detail points to are those of the setting
-same_values : (enumerators : List (List ℕ)) (before : List PlacedSetting) (specific : SpecificSetting) (detail : Detail) → IsDetailOf enumerators before specific detail → values_in enumerators detail ≡ values_of specific
+same_values : (enumerators : List (List ℕ)) (before : List PlacedSetting) (specific : SpecificSetting) (detail : Detail) → IsDetailOf enumerators before specific detail → values_in enumerators detail ≡ built_values_of specific
 same_values enumerators before (ABool b) detail is = ap (values_in enumerators) is
 same_values enumerators before (AnEnum values) detail is = ap (values_in enumerators) is.is ∙ ap (λ n. take n (drop is.place enumerators)) (sym is.count) ∙ is.stand.values_are
 same_values enumerators before (ANum default) detail is = ap (values_in enumerators) is
@@ -35,7 +35,7 @@ for_entry ds enumerators given index own there is d at = is ∙ ap (λ (x : Desc
 
 -- the values that are given for an entry that is a setting are those of the setting
 pub values_meant : (g : Layout) (t : GroupContents) (index : ℕ) (given : List (List ℕ)) → ((d : Descriptor) → slice_get t.descriptors index ≡ Some d → given ≡ values_in t.enumerators d.detail)
-    → (s : PlacedSetting) → AreTablesOfGroup g t → slice_get g.settings index ≡ Some s → given ≡ values_of s.specific
+    → (s : PlacedSetting) → AreTablesOfGroup g t → slice_get g.settings index ≡ Some s → given ≡ built_values_of s.specific
 values_meant g t index given entry s made at =
     let within = slice_get_within g.settings index s at in
     let count = made.count in

@@ -3,7 +3,7 @@ use Rattle.std.proofs.Common.{◌≡◌, ◌↔◌, ℕ, Bool, List, slice_get, 
 use Rattle.std.proofs.lemmas.Option.{same_Some}
 use Rattle.meta_types.specs.SharedNames.{AreDifferentNames}
 use Rattle.meta_unique.specs.Probing.{IsLookup}
-use Rattle.meta_unique.specs.SimpleHash.{hash_of}
+use Rattle.meta_unique.specs.SimpleHash.{simple_hash_of}
 use Rattle.meta_unique.specs.NameSlots.{AreNameSlots, NameAnswers, IsNameLookup}
 use Rattle.meta_unique.proofs.Finding.{found_first, found_none, lookup_read}
 use Rattle.meta_setting_tables.specs.FoundSetting.{FindsEntry}
@@ -19,7 +19,7 @@ finds_entry names slots name (Some e) last s l =
     }
 
 -- what a probe finds in the slots of names
-pub finds_in : (names : List (List ℕ)) (name : List ℕ) (says : ℕ → Bool → Type 0) (own slots : List (Option ℕ)) (start : ℕ) (found : Option ℕ) → AreNameSlots 0 names own → slots ≡ own → start ≡ hash_of name → ((number : ℕ) (b : Bool) → says number b → NameAnswers 0 names name number b)
+pub finds_in : (names : List (List ℕ)) (name : List ℕ) (says : ℕ → Bool → Type 0) (own slots : List (Option ℕ)) (start : ℕ) (found : Option ℕ) → AreNameSlots 0 names own → slots ≡ own → start ≡ simple_hash_of name → ((number : ℕ) (b : Bool) → says number b → NameAnswers 0 names name number b)
     → (last : ℕ) × IsLookup says slots start found last → FindsEntry names name found
 finds_in names name says own slots start found s e h so l =
     finds_entry names own name found l.0 s (lookup_read 0 names name says slots own start found l.0 e h so l.1)

@@ -7,15 +7,15 @@ use Rattle.meta_setting_tables.specs.declared.descriptor.Detail.{Detail}
 use Rattle.meta_setting_tables.specs.declared.descriptor.Detail.TheVariants.{Bool as ABool, Enum as AnEnum, Num as ANum, Preset}
 use Rattle.meta_setting_tables.specs.declared.descriptor.Descriptor.{Descriptor}
 use Rattle.meta_setting_tables.specs.GroupTables.{GroupContents, IsInside}
-use Rattle.meta_setting_tables.specs.WellFormed.{has_own_byte, is_boolean, is_preset, own_byte_count, boolean_count, preset_count, byte_count, IsPlaced, IsWellFormedGroup}
+use Rattle.meta_setting_tables.specs.WellFormed.{describes_own_byte, is_boolean, is_preset, own_byte_count, described_boolean_count, preset_count, described_byte_count, IsPlaced, IsWellFormedGroup}
 
 -- each entry is of one kind
-pub all_kinds : (entries : List Descriptor) → own_byte_count entries + boolean_count entries + preset_count entries ≡ length entries
+pub all_kinds : (entries : List Descriptor) → own_byte_count entries + described_boolean_count entries + preset_count entries ≡ length entries
 all_kinds [] = refl
 all_kinds (d ∷ entries) = go d.detail (all_kinds entries)
   where
-    go : (detail : Detail) → own_byte_count entries + boolean_count entries + preset_count entries ≡ length entries
-        → length (cond (has_own_byte detail) (d ∷ filter (λ (d : Descriptor). has_own_byte d.detail) entries) (filter (λ (d : Descriptor). has_own_byte d.detail) entries))
+    go : (detail : Detail) → own_byte_count entries + described_boolean_count entries + preset_count entries ≡ length entries
+        → length (cond (describes_own_byte detail) (d ∷ filter (λ (d : Descriptor). describes_own_byte d.detail) entries) (filter (λ (d : Descriptor). describes_own_byte d.detail) entries))
         + length (cond (is_boolean detail) (d ∷ filter (λ (d : Descriptor). is_boolean d.detail) entries) (filter (λ (d : Descriptor). is_boolean d.detail) entries))
         + length (cond (is_preset detail) (d ∷ filter (λ (d : Descriptor). is_preset d.detail) entries) (filter (λ (d : Descriptor). is_preset d.detail) entries))
         ≡ length (d ∷ entries)
@@ -39,4 +39,4 @@ inside_of t w e d at =
     let total = all_kinds t.descriptors in
     let within = slice_get_within t.descriptors e d at in
     subst (λ n. IsInside n (length t.preset_masks) d.offset d.detail) (sym w.defaults.count)
-    (inside_as (own_byte_count t.descriptors) (boolean_count t.descriptors) (preset_count t.descriptors) (byte_count t.descriptors) (length t.preset_masks) e d.offset d.detail refl w.masks.count (omega (arith, total, within)) (w.placed e d at))
+    (inside_as (own_byte_count t.descriptors) (described_boolean_count t.descriptors) (preset_count t.descriptors) (described_byte_count t.descriptors) (length t.preset_masks) e d.offset d.detail refl w.masks.count (omega (arith, total, within)) (w.placed e d at))

@@ -14,7 +14,7 @@ use Rattle.meta_lists.proofs.Places.{get_set_here, get_set_other, get_drop}
 use Rattle.meta_settings.specs.declared.setting.BoolSetting.{BoolSetting}
 use Rattle.meta_settings.specs.declared.setting.SpecificSetting.{SpecificSetting}
 use Rattle.meta_settings.specs.declared.setting.SpecificSetting.TheVariants.{Bool as ABool, Enum as AnEnum, Num as ANum}
-use Rattle.meta_settings.specs.Layout.{PlacedSetting, Layout, IsSized, booleans_in, default_byte_of, default_of}
+use Rattle.meta_settings.specs.Layout.{PlacedSetting, Layout, IsSized, booleans_in, default_byte_of, specific_default}
 use Rattle.meta_setting_tables.specs.BuiltLayout.{IsBuiltLayout, HasByte, HasBit}
 use Rattle.meta_setting_tables.specs.DefaultBytes.{is_in_byte, joined_at, HoldsDefault, AreDefaultsOf}
 
@@ -112,19 +112,19 @@ same_number start i j a b e f g h = omega arith
 
 -- a boolean's default byte has its bit if it is true, and no other bit
 own_bit : (s : PlacedSetting) (byte bit : ℕ) (h : HasBit s byte bit) → h.boolean.default ≡ true → bit_at (default_byte_of s) bit ≡ 1
-own_bit s byte bit h t = ap (λ (x : SpecificSetting). bit_at (default_of x) bit) h.is_boolean ∙ ap (λ b. bit_at (cond b (2 ^ h.boolean.bit_offset) 0) bit) t ∙ ap (λ n. bit_at (2 ^ n) bit) h.bit_is ∙ bit_at-pow_same bit
+own_bit s byte bit h t = ap (λ (x : SpecificSetting). bit_at (specific_default x) bit) h.is_boolean ∙ ap (λ b. bit_at (cond b (2 ^ h.boolean.bit_offset) 0) bit) t ∙ ap (λ n. bit_at (2 ^ n) bit) h.bit_is ∙ bit_at-pow_same bit
 
 no_bit : (s : PlacedSetting) (byte bit : ℕ) (h : HasBit s byte bit) → h.boolean.default ≡ false → (other : ℕ) → bit_at (default_byte_of s) other ≡ 0
-no_bit s byte bit h t other = ap (λ (x : SpecificSetting). bit_at (default_of x) other) h.is_boolean ∙ ap (λ b. bit_at (cond b (2 ^ h.boolean.bit_offset) 0) other) t ∙ bit_at-zero other
+no_bit s byte bit h t other = ap (λ (x : SpecificSetting). bit_at (specific_default x) other) h.is_boolean ∙ ap (λ b. bit_at (cond b (2 ^ h.boolean.bit_offset) 0) other) t ∙ bit_at-zero other
 
 other_bit : (s : PlacedSetting) (byte bit : ℕ) (h : HasBit s byte bit) (other : ℕ) → other ≢ bit → bit_at (default_byte_of s) other ≡ 0
 other_bit s byte bit h other n = go h.boolean.default refl
   where
     go : (b : Bool) → h.boolean.default ≡ b → bit_at (default_byte_of s) other ≡ 0
     go false t = no_bit s byte bit h t other
-    go true t = ap (λ (x : SpecificSetting). bit_at (default_of x) other) h.is_boolean ∙ ap (λ b. bit_at (cond b (2 ^ h.boolean.bit_offset) 0) other) t ∙ ap (λ n. bit_at (2 ^ n) other) h.bit_is ∙ bit_at-pow_other bit other n
+    go true t = ap (λ (x : SpecificSetting). bit_at (specific_default x) other) h.is_boolean ∙ ap (λ b. bit_at (cond b (2 ^ h.boolean.bit_offset) 0) other) t ∙ ap (λ n. bit_at (2 ^ n) other) h.bit_is ∙ bit_at-pow_other bit other n
 
-holds_whole : (byte : ℕ) (x : SpecificSetting) → ((b : BoolSetting) → x ≡ ABool b → ⊥) → byte ≡ default_of x → HoldsDefault byte x
+holds_whole : (byte : ℕ) (x : SpecificSetting) → ((b : BoolSetting) → x ≡ ABool b → ⊥) → byte ≡ specific_default x → HoldsDefault byte x
 holds_whole byte (ABool b) n e = absurd (n b refl)
 holds_whole byte (AnEnum values) n e = e
 holds_whole byte (ANum default) n e = e

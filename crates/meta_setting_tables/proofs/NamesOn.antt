@@ -7,7 +7,7 @@ use Rattle.meta_setting_tables.specs.declared.descriptor.Detail.{Detail}
 use Rattle.meta_setting_tables.specs.declared.descriptor.Detail.TheVariants.{Bool as BoolDetail, Enum as EnumDetail, Num as NumDetail, Preset}
 use Rattle.meta_setting_tables.specs.declared.descriptor.Descriptor.{Descriptor}
 use Rattle.meta_setting_tables.specs.EntryValues.{is_on, names_on}
-use Rattle.meta_setting_tables.specs.WellFormed.{own_byte_count, boolean_count, byte_count, StandsAtMasks, IsPlaced, ArePlaced}
+use Rattle.meta_setting_tables.specs.WellFormed.{own_byte_count, described_boolean_count, described_byte_count, StandsAtMasks, IsPlaced, ArePlaced}
 
 -- a byte has no bit from 8 on
 pub not_above : (bytes : List ℕ) (byte bit : ℕ) (detail : Detail) → detail ≡ BoolDetail bit → 8 ≤ bit → ((i : ℕ) → Fits w8 (get_or bytes i 0)) → ltb bit 8 ≡ is_on bytes byte detail
@@ -36,12 +36,12 @@ module _ (bytes : List ℕ) where
   off_behind : (ds : List Descriptor) (i j : ℕ) (c d : Descriptor) → ArePlaced ds → i ≤ j → slice_get ds i ≡ Some c → slice_get ds j ≡ Some d → c.detail ≡ Preset → on d ≡ false
   off_behind ds i j c d placed order c_at d_at is = of_detail d.detail refl
     where
-      preset : StandsAtMasks (own_byte_count ds + boolean_count ds) (byte_count ds) i c.offset
-      preset = subst (IsPlaced (own_byte_count ds) (boolean_count ds) (byte_count ds) i c.offset) is (placed i c c_at)
+      preset : StandsAtMasks (own_byte_count ds + described_boolean_count ds) (described_byte_count ds) i c.offset
+      preset = subst (IsPlaced (own_byte_count ds) (described_boolean_count ds) (described_byte_count ds) i c.offset) is (placed i c c_at)
 
       of_detail : (detail : Detail) → d.detail ≡ detail → is_on bytes d.offset detail ≡ false
       of_detail (BoolDetail bit) e =
-          let at = subst (IsPlaced (own_byte_count ds) (boolean_count ds) (byte_count ds) j d.offset) e (placed j d d_at) in
+          let at = subst (IsPlaced (own_byte_count ds) (described_boolean_count ds) (described_byte_count ds) j d.offset) e (placed j d d_at) in
           let within = at.within in
           let behind = at.behind in
           let front = preset.behind in

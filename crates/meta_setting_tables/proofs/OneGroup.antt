@@ -14,10 +14,10 @@ use Rattle.meta_setting_tables.specs.declared.descriptor.Detail.TheVariants.{Enu
 use Rattle.meta_setting_tables.specs.declared.descriptor.Descriptor.{Descriptor}
 use Rattle.meta_setting_tables.specs.Descriptor.{IsDetailOf, DescribesSetting, DescribesEntry}
 use Rattle.meta_setting_tables.specs.DefaultBytes.{AreDefaultsOf}
-use Rattle.meta_setting_tables.specs.FoundSetting.{entry_names, entry_count}
+use Rattle.meta_setting_tables.specs.FoundSetting.{entry_names, laid_entry_count}
 use Rattle.meta_setting_tables.specs.GroupTables.{GroupContents, AreTablesOfGroup}
 use Rattle.meta_setting_tables.specs.PresetMasks.{ArePresetMasks}
-use Rattle.meta_setting_tables.proofs.SameSlots.{same_name_slots}
+use Rattle.meta_unique.proofs.OneFilling.{one_filling}
 
 -- ---- bytes
 
@@ -53,7 +53,7 @@ module _ (enumerators : List (List ℕ)) (before : List PlacedSetting) where
       λ i. record { name = name i; description = description i; offset = offset i; detail = detail i }
 
 -- an entry has one descriptor
-same_entry : (g : Layout) (enumerators : List (List ℕ)) (e : ℕ) (c d : Descriptor) → e < entry_count g → DescribesEntry g enumerators e c → DescribesEntry g enumerators e d → c ≡ d
+same_entry : (g : Layout) (enumerators : List (List ℕ)) (e : ℕ) (c d : Descriptor) → e < laid_entry_count g → DescribesEntry g enumerators e c → DescribesEntry g enumerators e d → c ≡ d
 same_entry g enumerators e c d within p q = ⊎_elim
     (λ setting. let s = get_there g.settings e setting in same_setting enumerators (take e g.settings) s.0 c d (p.setting s.0 s.1) (q.setting s.0 s.1))
     (λ preset.
@@ -74,7 +74,7 @@ module _ (g : Layout) (s t : GroupContents) (p : AreTablesOfGroup g s) (q : AreT
       each e less =
           let count = p.count in
           let other = q.count in
-          let within : e < entry_count g = omega (arith, less, count) in
+          let within : e < laid_entry_count g = omega (arith, less, count) in
           let c = get_there s.descriptors e less in
           let d = get_there t.descriptors e (omega (arith, within, other)) in
           c.1
@@ -119,5 +119,5 @@ one_group g s t p q =
     let enumerators = same_enumerators g s t p q in
     let defaults = same_defaults g s.defaults t.defaults p.defaults q.defaults in
     let masks = same_masks g s.preset_masks t.preset_masks p.masks q.masks in
-    let slots = same_name_slots 0 (entry_names g) s.slots t.slots p.slots q.slots in
+    let slots = one_filling 0 (entry_names g) s.slots t.slots p.slots q.slots in
     λ i. record { name = name i; descriptors = descriptors i; enumerators = enumerators i; defaults = defaults i; preset_masks = masks i; slots = slots i }

@@ -6,12 +6,12 @@ use Rattle.std.specs.Int.RustNames.{bit_or}
 use Rattle.std.proofs.lemmas.Bool.{cases_eq, cases_lt}
 use Rattle.std.proofs.lemmas.Nat.Bits.{bit_at_or, same_from_bits}
 use Rattle.std.proofs.lemmas.Option.{slice_get_within}
+use Rattle.meta_lists.proofs.Everywhere.{at_place}
 use Rattle.meta_lists.proofs.Places.{get_there, same_places}
 use Rattle.meta_settings.specs.Layout.{BuiltPreset, Layout}
 use Rattle.meta_setting_tables.specs.PresetMasks.{AreJoined, TurnsOnOnly}
 use Rattle.meta_setting_tables.specs.GroupTables.{IsPresetOf, Applies}
 use Rattle.meta_setting_tables.proofs.OneGroup.{same_byte}
-use Rattle.meta_setting_tables.proofs.Everywhere.{at_place}
 
 -- what is joined with a number again stays as it is
 or_again : (a m : ℕ) → bit_or (bit_or a m) m ≡ bit_or a m

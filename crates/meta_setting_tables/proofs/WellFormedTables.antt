@@ -6,6 +6,7 @@ use Rattle.std.proofs.lemmas.Bool.{cases_lt}
 use Rattle.std.proofs.lemmas.List.{length-drop, length-take}
 use Rattle.std.proofs.lemmas.List.Elements.{All-nil}
 use Rattle.std.proofs.lemmas.Option.{slice_get_within, same_Some}
+use Rattle.meta_lists.proofs.Everywhere.{everywhere, at_place}
 use Rattle.meta_lists.proofs.Places.{get_there}
 use Rattle.meta_types.specs.Name.{IsName}
 use Rattle.meta_types.specs.SharedNames.{AreDistinct}
@@ -22,16 +23,16 @@ use Rattle.meta_setting_tables.specs.BuiltLayout.{AreValues, IsDescribed, IsBuil
 use Rattle.meta_setting_tables.specs.DefaultBytes.{joined_at, HoldsDefault}
 use Rattle.meta_setting_tables.specs.Descriptor.{IsDetailOf, IsEnumDetail}
 use Rattle.meta_setting_tables.specs.GroupTables.{GroupContents, AreTablesOfGroup}
-use Rattle.meta_setting_tables.specs.WellFormed.{has_own_byte, is_boolean, is_preset, own_byte_count, boolean_count, preset_count, byte_count, KeepLimits, AreWellNamed, IsPlaced, ArePlaced, HasItsValues, HoldsBooleansAlone, HasFirstValue, AreGoodDefaults, AreGoodMasks, IsWellFormedGroup}
+use Rattle.meta_setting_tables.specs.WellFormed.{describes_own_byte, is_boolean, is_preset, own_byte_count, described_boolean_count, preset_count, described_byte_count, KeepLimits, AreWellNamed, IsPlaced, ArePlaced, HasItsValues, HoldsBooleansAlone, HasFirstValue, AreGoodDefaults, AreGoodMasks, IsWellFormedGroup}
 use Rattle.meta_setting_tables.proofs.EntriesRead.{preset_behind}
-use Rattle.meta_setting_tables.proofs.Everywhere.{everywhere, at_place, counted_between}
+use Rattle.meta_setting_tables.proofs.Passing.{counted_between}
 use Rattle.meta_setting_tables.proofs.EnumeratorsBuilt.{all_after, most_after}
 use Rattle.meta_setting_tables.proofs.Joining.{placed, boolean_on}
 
 -- ---- entries that are placed are of their kinds
 
 module _ (ds : List Descriptor) (own booleans size : ℕ) (are : (e : ℕ) (d : Descriptor) → slice_get ds e ≡ Some d → IsPlaced own booleans size e d.offset d.detail) where
-  own_where : (e offset : ℕ) (detail : Detail) → IsPlaced own booleans size e offset detail → ((e < own) × (has_own_byte detail ≡ true)) ⊎ ((own ≤ e) × (has_own_byte detail ≡ false))
+  own_where : (e offset : ℕ) (detail : Detail) → IsPlaced own booleans size e offset detail → ((e < own) × (describes_own_byte detail ≡ true)) ⊎ ((own ≤ e) × (describes_own_byte detail ≡ false))
   own_where e offset (BoolDetail bit) h = let b = h.behind in inr (omega (arith, b), refl)
   own_where e offset (EnumDetail last place) h = inl (h.first, refl)
   own_where e offset NumDetail h = inl (h.first, refl)
@@ -51,11 +52,11 @@ module _ (ds : List Descriptor) (own booleans size : ℕ) (are : (e : ℕ) (d : 
 
   module _ (presets : ℕ) (long : length ds ≡ own + booleans + presets) where
     own_counted : own_byte_count ds ≡ own
-    own_counted = counted_between (λ (d : Descriptor). has_own_byte d.detail) ds 0 own (omega (arith, long))
+    own_counted = counted_between (λ (d : Descriptor). describes_own_byte d.detail) ds 0 own (omega (arith, long))
         (λ e d at a b. ⊎_elim (λ h. h.1) (λ h. let l = h.0 in absurd (omega (arith, l, b))) (own_where e d.offset d.detail (are e d at)))
         (λ e d at out. ⊎_elim (λ h. let l = h.0 in absurd (⊎_elim (λ o. omega (arith, o)) (λ o. omega (arith, l, o)) out)) (λ h. h.1) (own_where e d.offset d.detail (are e d at)))
 
-    booleans_counted : boolean_count ds ≡ booleans
+    booleans_counted : described_boolean_count ds ≡ booleans
     booleans_counted = counted_between (λ (d : Descriptor). is_boolean d.detail) ds own booleans (omega (arith, long))
         (λ e d at a b. ⊎_elim (λ h. h.2) (λ h. absurd (⊎_elim (λ o. omega (arith, o, a)) (λ o. omega (arith, o, b)) h.0)) (boolean_where e d.offset d.detail (are e d at)))
         (λ e d at out. ⊎_elim (λ h. let l = h.0 in let m = h.1 in absurd (⊎_elim (λ o. omega (arith, l, o)) (λ o. omega (arith, m, o)) out)) (λ h. h.1) (boolean_where e d.offset d.detail (are e d at)))
@@ -105,19 +106,19 @@ module _ (g : Layout) (t : GroupContents) (built : IsBuiltLayout g) (sized : IsS
   own_is : own_byte_count t.descriptors ≡ g.bool_start_byte_offset
   own_is = own_counted t.descriptors g.bool_start_byte_offset (length (booleans_in g)) g.settings_size entries_placed (length g.presets) entries_long
 
-  booleans_are : boolean_count t.descriptors ≡ length (booleans_in g)
+  booleans_are : described_boolean_count t.descriptors ≡ length (booleans_in g)
   booleans_are = booleans_counted t.descriptors g.bool_start_byte_offset (length (booleans_in g)) g.settings_size entries_placed (length g.presets) entries_long
 
   presets_are : preset_count t.descriptors ≡ length g.presets
   presets_are = presets_counted t.descriptors g.bool_start_byte_offset (length (booleans_in g)) g.settings_size entries_placed (length g.presets) entries_long
 
-  bytes_are : byte_count t.descriptors ≡ g.settings_size
+  bytes_are : described_byte_count t.descriptors ≡ g.settings_size
   bytes_are = let a = own_is in let b = booleans_are in let size = sized.bytes in omega (arith, a, b, size)
 
   layout_rule : ArePlaced t.descriptors
   layout_rule e d at =
-      subst (λ n. IsPlaced n (boolean_count t.descriptors) (byte_count t.descriptors) e d.offset d.detail) (sym own_is)
-      (subst (λ n. IsPlaced g.bool_start_byte_offset n (byte_count t.descriptors) e d.offset d.detail) (sym booleans_are)
+      subst (λ n. IsPlaced n (described_boolean_count t.descriptors) (described_byte_count t.descriptors) e d.offset d.detail) (sym own_is)
+      (subst (λ n. IsPlaced g.bool_start_byte_offset n (described_byte_count t.descriptors) e d.offset d.detail) (sym booleans_are)
       (subst (λ n. IsPlaced g.bool_start_byte_offset (length (booleans_in g)) n e d.offset d.detail) (sym bytes_are) (entries_placed e d at)))
 
   -- texts of an entry
@@ -203,8 +204,8 @@ module _ (g : Layout) (t : GroupContents) (built : IsBuiltLayout g) (sized : IsS
       go None none = let p = preset_behind g t e d h at none in subst (λ (x : Descriptor). HasFirstValue t.defaults x.offset x.detail) (sym p.2.2) tt
 
   -- what is told of the counts of the group is told of those of the entries
-  alone_as_counted : (byte m : ℕ) → HoldsBooleansAlone g.bool_start_byte_offset (length (booleans_in g)) byte m → HoldsBooleansAlone (own_byte_count t.descriptors) (boolean_count t.descriptors) byte m
-  alone_as_counted byte m a = subst (λ n. HoldsBooleansAlone n (boolean_count t.descriptors) byte m) (sym own_is) (subst (λ n. HoldsBooleansAlone g.bool_start_byte_offset n byte m) (sym booleans_are) a)
+  alone_as_counted : (byte m : ℕ) → HoldsBooleansAlone g.bool_start_byte_offset (length (booleans_in g)) byte m → HoldsBooleansAlone (own_byte_count t.descriptors) (described_boolean_count t.descriptors) byte m
+  alone_as_counted byte m a = subst (λ n. HoldsBooleansAlone n (described_boolean_count t.descriptors) byte m) (sym own_is) (subst (λ n. HoldsBooleansAlone g.bool_start_byte_offset n byte m) (sym booleans_are) a)
 
   defaults_good : All (λ b. b < 256) t.defaults → AreGoodDefaults t.descriptors t.defaults
   defaults_good fit = record {

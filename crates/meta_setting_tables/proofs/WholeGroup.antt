@@ -11,7 +11,7 @@ use Rattle.meta_setting_tables.specs.EnumeratorList.{enumerators_of}
 use Rattle.meta_setting_tables.specs.Descriptor.{DescribesSetting, DescribesEntry, preset_descriptor}
 use Rattle.meta_setting_tables.specs.DefaultBytes.{AreDefaultsOf}
 use Rattle.meta_setting_tables.specs.PresetMasks.{ArePresetMasks}
-use Rattle.meta_setting_tables.specs.FoundSetting.{entry_names, entry_count}
+use Rattle.meta_setting_tables.specs.FoundSetting.{entry_names, laid_entry_count}
 use Rattle.meta_unique.specs.NameSlots.{AreNameSlots}
 use Rattle.meta_setting_tables.specs.GroupTables.{GroupContents, names_in, AreTablesOfGroup}
 use Rattle.meta_setting_tables.proofs.Joining.{placed}
@@ -62,7 +62,7 @@ module _ (g : Layout) (enumerators : List (List ℕ)) (settings presets ds : Lis
   }
 
 -- descriptors that have the names of the entries are as many
-pub named_count : (g : Layout) (ds : List Descriptor) → names_in ds ≡ entry_names g → length ds ≡ entry_count g
+pub named_count : (g : Layout) (ds : List Descriptor) → names_in ds ≡ entry_names g → length ds ≡ laid_entry_count g
 named_count g ds names = sym (length-map ds (λ (d : Descriptor). d.name)) ∙ ap length names ∙ length-append (map (λ (s : PlacedSetting). s.name) g.settings) (map (λ (p : BuiltPreset). p.name) g.presets)
     ∙ ap (λ n. n + length (map (λ (p : BuiltPreset). p.name) g.presets)) (length-map g.settings (λ (s : PlacedSetting). s.name)) ∙ ap (λ n. length g.settings + n) (length-map g.presets (λ (p : BuiltPreset). p.name))
 

@@ -5,8 +5,8 @@ ghost use Rattle.meta_settings.specs.LaidOut.{built_of};
 ghost use Rattle.meta_settings.specs.Layout.{PlacedSetting, BuiltPreset, Layout};
 ghost use Rattle.meta_setting_tables.specs.declared.descriptor.Descriptor.{Descriptor};
 ghost use Rattle.meta_setting_tables.specs.EntryValues.{values_in, masks_from, names_on, names_enabled};
-ghost use Rattle.meta_setting_tables.specs.EnumeratorList.{values_of};
-ghost use Rattle.meta_setting_tables.specs.FoundSetting.{entry_names, entry_count};
+ghost use Rattle.meta_setting_tables.specs.EnumeratorList.{built_values_of};
+ghost use Rattle.meta_setting_tables.specs.FoundSetting.{entry_names, laid_entry_count};
 ghost use Rattle.meta_setting_tables.specs.GroupTables.{names_in, IsPresetIn, IsPresetOf, AreTablesOfGroup};
 ghost use Rattle.meta_setting_tables.specs.WellFormed.{ArePlaced};
 
@@ -42,7 +42,7 @@ impl GroupTables {
     pub fn entry_count(&self) -> usize
         ensures count { result ≡ length self.now.descriptors }
         ensures few { result ≤ 65535 }
-        ensures meaning { (g : Layout) → AreTablesOfGroup g self.now → result ≡ entry_count g }
+        ensures meaning { (g : Layout) → AreTablesOfGroup g self.now → result ≡ laid_entry_count g }
     {
         self.descriptors().len()
     }
@@ -60,7 +60,7 @@ impl GroupTables {
     pub fn values(&self, index: u16) -> &[Text]
         ensures entry { (d : Descriptor) → slice_get self.now.descriptors index ≡ Some d → result.now ≡ values_in self.now.enumerators d.detail }
         ensures absent { slice_get self.now.descriptors index ≡ None → result.now ≡ [] }
-        ensures meaning { (g : Layout) (s : PlacedSetting) → AreTablesOfGroup g self.now → slice_get g.settings index ≡ Some s → result.now ≡ values_of s.specific }
+        ensures meaning { (g : Layout) (s : PlacedSetting) → AreTablesOfGroup g self.now → slice_get g.settings index ≡ Some s → result.now ≡ built_values_of s.specific }
     {
         let Some(entry) = self.descriptors().get(index as usize) else {
             return &[];

@@ -10,7 +10,7 @@ ghost use Rattle.meta_setting_tables.specs.GroupTables.{GroupContents, AreTables
 ghost use Rattle.meta_setting_tables.specs.PresetMasks.{AreJoined};
 ghost use Rattle.meta_setting_tables.specs.WellFormed.{IsWellFormedGroup};
 ghost use Rattle.meta_setting_tables.specs.declared.parts.GroupParts.{GroupParts};
-ghost use Rattle.meta_setting_tables.specs.Parts.{HasParts};
+ghost use Rattle.meta_setting_tables.specs.Parts.{HasGroupParts};
 
 use meta_settings::presets_turn_on_what_they_name;
 
@@ -32,7 +32,7 @@ pub fn built_groups_have_well_formed_tables()
 
 /// Parts are those of one group at most that is well-formed: the slots follow from the names.
 pub fn one_group_has_the_parts()
-    ensures { (parts : GroupParts) (s t : GroupContents) → IsWellFormedGroup s → IsWellFormedGroup t → HasParts parts s → HasParts parts t → s ≡ t }
+    ensures { (parts : GroupParts) (s t : GroupContents) → IsWellFormedGroup s → IsWellFormedGroup t → HasGroupParts parts s → HasGroupParts parts t → s ≡ t }
 {}
 
 /// Tables of a group are one: a group has no others.

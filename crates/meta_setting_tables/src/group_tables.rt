@@ -5,13 +5,13 @@ ghost use Rattle.meta_settings.specs.Layout.{PlacedSetting, BuiltPreset, Layout,
 ghost use Rattle.meta_setting_tables.specs.declared.descriptor.Descriptor.{Descriptor};
 ghost use Rattle.meta_setting_tables.specs.BuiltLayout.{HaveNumbers, IsBuiltLayout};
 ghost use Rattle.meta_setting_tables.specs.Descriptor.{IsDetailOf, DescribesSetting, DescribesEntry, setting_descriptor, preset_descriptor};
-ghost use Rattle.meta_setting_tables.specs.EnumeratorList.{enumerators_of, values_of, with_values, HasGrown};
+ghost use Rattle.meta_setting_tables.specs.EnumeratorList.{enumerators_of, built_values_of, with_values, HasGrown};
 ghost use Rattle.meta_unique.specs.NameSlots.{AreNameSlots, NameAnswers, IsNameLookup};
-ghost use Rattle.meta_setting_tables.specs.FoundSetting.{entry_names, entry_count, FindsEntry};
+ghost use Rattle.meta_setting_tables.specs.FoundSetting.{entry_names, laid_entry_count, FindsEntry};
 ghost use Rattle.meta_setting_tables.specs.DefaultBytes.{AreDefaultsOf};
 ghost use Rattle.meta_setting_tables.specs.PresetMasks.{AreJoined, ArePresetMasks};
 ghost use Rattle.meta_setting_tables.specs.WellFormed.{preset_count, IsWellFormedGroup};
-ghost use Rattle.meta_setting_tables.specs.Parts.{HasParts, AreGoodParts};
+ghost use Rattle.meta_setting_tables.specs.Parts.{HasGroupParts, AreGoodParts};
 ghost use Rattle.meta_setting_tables.specs.GroupTables.{names_in, IsInside, IsPresetIn, AreTablesOfGroup, default_in, AnswersDefault, Applies};
 
 use super::default_bytes::default_bytes;
@@ -41,13 +41,13 @@ pub struct GroupTables {
 
 impl Model for GroupTables {
     ghost use Rattle.meta_setting_tables.specs.GroupTables.{GroupContents};
-    ghost use Rattle.meta_setting_tables.specs.WellFormed.{AreKept};
+    ghost use Rattle.meta_setting_tables.specs.WellFormed.{AreKeptOfGroup};
 
     ghost Value = { GroupContents };
 
     ghost view = { λ t. record { name = t.name; descriptors = t.descriptors.items; enumerators = t.enumerators.items; defaults = t.defaults.items; preset_masks = t.preset_masks.items; slots = t.slots.items } };
 
-    ghost invariant = { λ t. AreKept (record { name = t.name; descriptors = t.descriptors.items; enumerators = t.enumerators.items; defaults = t.defaults.items; preset_masks = t.preset_masks.items; slots = t.slots.items }) };
+    ghost invariant = { λ t. AreKeptOfGroup (record { name = t.name; descriptors = t.descriptors.items; enumerators = t.enumerators.items; defaults = t.defaults.items; preset_masks = t.preset_masks.items; slots = t.slots.items }) };
 }
 
 /// What an entry is by default whose descriptor points inside these default bytes.
@@ -72,7 +72,7 @@ fn detail_of<'g>(
 ) -> Result<Detail, AllocError>
     requires { (values : List (List ℕ)) → specific.now ≡ Enum values → (length enumerators.old < 65536) × HaveNumbers values }
     ensures detail { (before : List PlacedSetting) → enumerators.old ≡ enumerators_of before → IfOk result (λ d. IsDetailOf enumerators.new before specific.now d) }
-    ensures added { OnOk result (enumerators.new ≡ with_values enumerators.old (values_of specific.now)) }
+    ensures added { OnOk result (enumerators.new ≡ with_values enumerators.old (built_values_of specific.now)) }
     ensures grown { OnOk result (HasGrown enumerators.old enumerators.new) }
 {
     match specific {
@@ -290,7 +290,7 @@ impl GroupTables {
     /// The tables with these parts, which well-formed tables can have.
     pub(crate) fn with_parts(alloc: Global, parts: GroupParts) -> Result<GroupTables, AllocError>
         requires { AreGoodParts parts }
-        ensures parts { IfOk result (HasParts parts) }
+        ensures parts { IfOk result (HasGroupParts parts) }
         ensures well_formed { IfOk result IsWellFormedGroup }
     {
         let slots = entry_slots(alloc, parts.descriptors.as_slice())?;
@@ -383,7 +383,7 @@ impl GroupTables {
     /// The entry with this number, from 0, and `None` exactly where there is no such entry.
     pub fn descriptor(&self, index: u16) -> Option<&Descriptor>
         ensures entry { option_map (λ d. d.now) result ≡ slice_get self.now.descriptors index }
-        ensures none { (g : Layout) → AreTablesOfGroup g self.now → (IsSome result ↔ (index < entry_count g)) }
+        ensures none { (g : Layout) → AreTablesOfGroup g self.now → (IsSome result ↔ (index < laid_entry_count g)) }
         ensures meaning { (g : Layout) → AreTablesOfGroup g self.now → IfSome result (λ d. DescribesEntry g self.now.enumerators index d.now) }
     {
         self.descriptors.get(index as usize)

@@ -2,7 +2,7 @@ ghost use Rattle.std.specs.Prelude.{◌≡◌, ◌↔◌, ◌≤◌, ◌<◌, �
 ghost use Rattle.std.specs.Int.{bit_at};
 ghost use Rattle.meta_setting_tables.specs.declared.descriptor.Descriptor.{Descriptor};
 ghost use Rattle.meta_setting_tables.specs.WellFormed.{IsBooleanBit, HoldsBooleansAlone, HasFirstValue, AreGoodDefaults, AreGoodMasks};
-ghost use Rattle.meta_setting_tables.specs.Shape.{IsShapeOf, IsSmall};
+ghost use Rattle.meta_setting_tables.specs.Shape.{IsShapeOf, HasSmallCounts};
 
 use super::descriptor::{Descriptor, Detail};
 use super::shape::Shape;
@@ -83,7 +83,7 @@ fn are_boolean_bytes(shape: &Shape, defaults: &[u8]) -> bool
 
 /// Whether these can be the default bytes of the entries, of which these are the counts.
 pub(crate) fn are_good_defaults(shape: &Shape, entries: &[Descriptor], defaults: &[u8]) -> bool
-    requires small { IsSmall shape.now }
+    requires small { HasSmallCounts shape.now }
     requires shape { IsShapeOf entries.now shape.now }
     ensures { IsTrue result ↔ AreGoodDefaults entries.now defaults.now }
 {
@@ -114,7 +114,7 @@ fn are_boolean_masks(shape: &Shape, masks: &[u8]) -> bool
 
 /// Whether these can be the masks of the presets among the entries, of which these are the counts.
 pub(crate) fn are_good_masks(shape: &Shape, entries: &[Descriptor], masks: &[u8]) -> bool
-    requires small { IsSmall shape.now }
+    requires small { HasSmallCounts shape.now }
     requires shape { IsShapeOf entries.now shape.now }
     ensures { IsTrue result ↔ AreGoodMasks entries.now masks.now }
 {

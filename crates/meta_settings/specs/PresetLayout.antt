@@ -35,8 +35,8 @@ abbrev pub boolean_name : List PlacedSetting → ℕ → List ℕ
 boolean_name booleans b = unwrap_or (option_map (λ s. s.name) (slice_get booleans b)) []
 
 -- the names of the booleans that a preset turns on
-abbrev pub names_on : Layout → BuiltPreset → List (List ℕ)
-names_on g p = map (boolean_name (booleans_in g)) p.booleans
+abbrev pub names_turned_on : Layout → BuiltPreset → List (List ℕ)
+names_turned_on g p = map (boolean_name (booleans_in g)) p.booleans
 
 -- m with this bit, below 8, turned on
 abbrev pub with_bit : ℕ → ℕ → ℕ

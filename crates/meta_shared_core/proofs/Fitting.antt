@@ -27,7 +27,7 @@ use Rattle.meta_shared_core.specs.declared.word.Word.{Word}
 use Rattle.meta_shared_core.specs.declared.word.Word.TheVariants.{Kind as AKind, Root as ARoot, Derived as ADerived}
 use Rattle.meta_shared_core.specs.Kinds.{kind_of, HoldsNoVariable, EntitiesHoldNoVariable, ImmediatesHoldNoVariable}
 use Rattle.meta_shared_core.specs.Words.{Meanings, AreMeant, Grows, IsKindOfWord}
-use Rattle.meta_shared_core.specs.Rows.{AreOperandsOf, IsBuilderOf, AreBuildersOf, AddsRows, FitsNames, builder_name, row_name, row_format}
+use Rattle.meta_shared_core.specs.Rows.{AreOperandsOfRows, IsBuilderOf, AreBuildersOf, AddsRows, FitsNames, builder_name, row_name, row_format}
 
 -- something isn't nothing
 apart : {X : Type 0} (x : X) → None ≡ Some x → ⊥
@@ -83,7 +83,7 @@ are_of_cons vars o operands (Some v) e below held =
     first_of vars v numbers within held zero n at = let same : v ≡ n = (cc) in subst (λ j. j < length vars) same within
     first_of vars v numbers within held (suc k) n at = held k n at
 
-operands_of : (vars : List TypeVarContent) (m : Meanings) (rows : List OperandRow) (operands : List Operand) → AreMeant vars m → AreOperandsOf vars m rows operands → AreOf vars (variables_of operands)
+operands_of : (vars : List TypeVarContent) (m : Meanings) (rows : List OperandRow) (operands : List Operand) → AreMeant vars m → AreOperandsOfRows vars m rows operands → AreOf vars (variables_of operands)
 operands_of vars m [] [] meant h = λ k n at. absurd (apart n at)
 operands_of vars m [] (o ∷ operands) meant h = absurd h
 operands_of vars m (row ∷ rows) [] meant h = absurd h

@@ -15,21 +15,21 @@ use Rattle.meta_shared_core.specs.declared.format.Format.{Format}
 use Rattle.meta_shared_core.specs.declared.row.OperandRow.{OperandRow}
 use Rattle.meta_shared_core.specs.declared.row.Row.{Row}
 use Rattle.meta_shared_core.specs.Words.{Meanings, Grows, is_derived, derived_count}
-use Rattle.meta_shared_core.specs.Rows.{IsOperandOf, AreOperandsOf, IsBuilderOf, AreBuildersOf, AddsRows, derived_among, derived_in_row, derived_in, is_derivable_row, rows_in, row_name, row_format, IsTable}
+use Rattle.meta_shared_core.specs.Rows.{IsOperandOf, AreOperandsOfRows, IsBuilderOf, AreBuildersOf, AddsRows, derived_among, derived_in_row, derived_in, is_derivable_row, rows_in, row_name, row_format, IsTable}
 use Rattle.meta_shared_core.proofs.Growing.{builders_grow}
 
 -- the operands of one row more
-pub operands_more : (vars : List TypeVarContent) (m : Meanings) (rows : List OperandRow) (k : ℕ) (d : OperandRow) (operands : List Operand) (o : Operand) → k < length rows → AreOperandsOf vars m (take k rows) operands → IsOperandOf vars m (get_or rows k d) o → AreOperandsOf vars m (take (k + 1) rows) (operands ++ o ∷ [])
+pub operands_more : (vars : List TypeVarContent) (m : Meanings) (rows : List OperandRow) (k : ℕ) (d : OperandRow) (operands : List Operand) (o : Operand) → k < length rows → AreOperandsOfRows vars m (take k rows) operands → IsOperandOf vars m (get_or rows k d) o → AreOperandsOfRows vars m (take (k + 1) rows) (operands ++ o ∷ [])
 operands_more vars m rows k d operands o within held is =
-    subst (λ xs. AreOperandsOf vars m xs (operands ++ o ∷ [])) (sym (take_more rows k d within)) (pairs_joined (IsOperandOf vars m) (take k rows) (get_or rows k d ∷ []) operands (o ∷ []) held (is, tt))
+    subst (λ xs. AreOperandsOfRows vars m xs (operands ++ o ∷ [])) (sym (take_more rows k d within)) (pairs_joined (IsOperandOf vars m) (take k rows) (get_or rows k d ∷ []) operands (o ∷ []) held (is, tt))
 
 pub derived_more : (rows : List OperandRow) (k : ℕ) (d : OperandRow) → k < length rows → derived_among (take k rows) + derived_count (get_or rows k d).word ≡ derived_among (take (k + 1) rows)
 derived_more rows k d within =
     sym (ap derived_among (take_more rows k d within) ∙ sum_by_push (λ row. cond (is_derived row.word) 1 0) (take k rows) (get_or rows k d))
 
 -- an instruction of one row more
-pub adds_one : (old new : List TypeVarContent) (n : ℕ) (m : Meanings) (rows : List Row) (k : ℕ) (d : Row) (start all now : List Builder) (b : Builder) → k < length rows → Grows n old new → AddsRows old m (take k rows) start all → IsBuilderOf new m (get_or rows k d) b → now ≡ all ++ b ∷ [] → AddsRows new m (take (k + 1) rows) start now
-adds_one old new n m rows k d start all now b within grows held is added = record {
+pub adds_one_row : (old new : List TypeVarContent) (n : ℕ) (m : Meanings) (rows : List Row) (k : ℕ) (d : Row) (start all now : List Builder) (b : Builder) → k < length rows → Grows n old new → AddsRows old m (take k rows) start all → IsBuilderOf new m (get_or rows k d) b → now ≡ all ++ b ∷ [] → AddsRows new m (take (k + 1) rows) start now
+adds_one_row old new n m rows k d start all now b within grows held is added = record {
   more = held.more ++ b ∷ [];
   is = added ∙ (ap (λ xs. xs ++ b ∷ []) held.is ∙ append_assoc start held.more (b ∷ []));
   builders = subst (λ xs. AreBuildersOf new m xs (held.more ++ b ∷ [])) (sym (take_more rows k d within))

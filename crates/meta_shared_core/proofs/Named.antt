@@ -11,20 +11,20 @@ use Rattle.meta_shared_core.specs.declared.immediates.Immediates.{Immediates}
 use Rattle.meta_shared_core.specs.declared.format.Format.{Format}
 use Rattle.meta_shared_core.specs.declared.formats.Formats.{Formats}
 use Rattle.meta_shared_core.specs.declared.formats.FormatRow.{FormatRow}
-use Rattle.meta_shared_core.specs.declared.formats.Part.{Part}
-use Rattle.meta_shared_core.specs.declared.formats.Part.TheVariants.{Value, Varargs, Block, RawBlock, Immediate}
-use Rattle.meta_shared_core.specs.Formats.{with_part, parts_added, designating, format_of, formats_of, format_names, format_name, name_at, row_name, place_of, id_of, AddsAll, AreNumberedFrom}
+use Rattle.meta_shared_core.specs.declared.formats.FormatPart.{FormatPart}
+use Rattle.meta_shared_core.specs.declared.formats.FormatPart.TheVariants.{Value, Varargs, Block, RawBlock, Immediate}
+use Rattle.meta_shared_core.specs.Formats.{with_part, parts_added, designating, format_of, formats_of, format_names, format_name, name_at, row_name, format_place, id_of, AddsAll, AreNumberedFrom}
 use Rattle.meta_shared_core.specs.Rows.{FitsNames, named_format}
 
 -- a part leaves the name as it is
-part_keeps : (imm : Immediates) (entities : EntityRefs) (f : InstructionFormat) (part : Part) → (with_part imm entities f part).name ≡ f.name
+part_keeps : (imm : Immediates) (entities : EntityRefs) (f : InstructionFormat) (part : FormatPart) → (with_part imm entities f part).name ≡ f.name
 part_keeps imm entities f Value = refl
 part_keeps imm entities f Varargs = refl
 part_keeps imm entities f Block = refl
 part_keeps imm entities f RawBlock = refl
 part_keeps imm entities f (Immediate kind) = refl
 
-parts_keep : (imm : Immediates) (entities : EntityRefs) (f : InstructionFormat) (parts : List Part) → (parts_added imm entities f parts).name ≡ f.name
+parts_keep : (imm : Immediates) (entities : EntityRefs) (f : InstructionFormat) (parts : List FormatPart) → (parts_added imm entities f parts).name ≡ f.name
 parts_keep imm entities f [] = refl
 parts_keep imm entities f (part ∷ parts) = parts_keep imm entities (with_part imm entities f part) parts ∙ part_keeps imm entities f part
 
@@ -50,7 +50,7 @@ all_named {imm} {entities} adds none =
 -- the format that an instruction is of stands in that table under its name
 named_one : (table : List InstructionFormat) (f : Formats) (format : Format) (b : Builder) → map format_name table ≡ format_names → AreNumberedFrom 0 f → b.format ≡ id_of f format → named_format table b ≡ name_at format
 named_one table f format b named numbers is =
-    let place : b.format ≡ place_of format = omega (arith, is, numbers format) in
+    let place : b.format ≡ format_place format = omega (arith, is, numbers format) in
     sym (slice_get-map format_name table b.format) ∙ (ap (λ names. slice_get names b.format) named ∙ ap (slice_get format_names) place)
 
 pub each_named : (vars : List TypeVarContent) (table : List InstructionFormat) (f : Formats) (formats : List Format) (builders : List Builder) → map format_name table ≡ format_names → AreNumberedFrom 0 f → AllZip (FitsNames vars f) formats builders → map (named_format table) builders ≡ map name_at formats

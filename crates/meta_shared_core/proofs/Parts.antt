@@ -7,12 +7,12 @@ use Rattle.meta_operands.specs.declared.format.InstructionFormat.{InstructionFor
 use Rattle.meta_shared_core.specs.declared.entities.EntityRefs.{EntityRefs}
 use Rattle.meta_shared_core.specs.declared.immediates.Immediates.{Immediates}
 use Rattle.meta_shared_core.specs.declared.formats.FormatRow.{FormatRow}
-use Rattle.meta_shared_core.specs.declared.formats.Part.{Part}
-use Rattle.meta_shared_core.specs.declared.formats.Part.TheVariants.{Value, Varargs, Block, RawBlock, Immediate}
+use Rattle.meta_shared_core.specs.declared.formats.FormatPart.{FormatPart}
+use Rattle.meta_shared_core.specs.declared.formats.FormatPart.TheVariants.{Value, Varargs, Block, RawBlock, Immediate}
 use Rattle.meta_shared_core.specs.Formats.{with_part, parts_added, is_value, is_place_within, IsFormatRow, CanPlace}
 
 -- no part designates a value
-undesignated : (imm : Immediates) (entities : EntityRefs) (f : InstructionFormat) (parts : List Part) → (parts_added imm entities f parts).typevar_operand ≡ f.typevar_operand
+undesignated : (imm : Immediates) (entities : EntityRefs) (f : InstructionFormat) (parts : List FormatPart) → (parts_added imm entities f parts).typevar_operand ≡ f.typevar_operand
 undesignated imm entities f [] = refl
 undesignated imm entities f (Value ∷ parts) = undesignated imm entities (with_part imm entities f Value) parts
 undesignated imm entities f (Varargs ∷ parts) = undesignated imm entities (with_part imm entities f Varargs) parts
@@ -21,7 +21,7 @@ undesignated imm entities f (RawBlock ∷ parts) = undesignated imm entities (wi
 undesignated imm entities f (Immediate kind ∷ parts) = undesignated imm entities (with_part imm entities f (Immediate kind)) parts
 
 -- the values are counted
-values_counted : (imm : Immediates) (entities : EntityRefs) (f : InstructionFormat) (parts : List Part) → (parts_added imm entities f parts).num_value_operands ≡ f.num_value_operands + count_by is_value parts
+values_counted : (imm : Immediates) (entities : EntityRefs) (f : InstructionFormat) (parts : List FormatPart) → (parts_added imm entities f parts).num_value_operands ≡ f.num_value_operands + count_by is_value parts
 values_counted imm entities f [] = omega arith
 values_counted imm entities f (Value ∷ parts) =
     let e : (parts_added imm entities f (Value ∷ parts)).num_value_operands ≡ (f.num_value_operands + 1) + count_by is_value parts = values_counted imm entities (with_part imm entities f Value) parts in

@@ -7,7 +7,7 @@ use Rattle.meta_operands.specs.Kind.{doc_of_kind}
 use Rattle.meta_operands.specs.declared.kind.OperandKind.{OperandKind}
 use Rattle.meta_operands.specs.declared.kind.OperandKindFields.{OperandKindFields}
 use Rattle.meta_operands.specs.declared.kind.OperandKindFields.TheVariants.{EntityRef, VariableArgs, ImmValue, ImmEnum, TypeVar}
-use Rattle.meta_shared_core.specs.Kinds.{values_of}
+use Rattle.meta_shared_core.specs.Kinds.{pairs_as_values}
 use Rattle.meta_shared_core.specs.declared.entities.EntityRefs.{EntityRefs}
 use Rattle.meta_shared_core.specs.declared.immediates.Immediates.{Immediates}
 use Rattle.meta_shared_core.specs.declared.kind_rows.Class.{Class}
@@ -19,7 +19,7 @@ abbrev pub fields_of : Class → OperandKindFields
 fields_of Entity = EntityRef
 fields_of Varargs = VariableArgs
 fields_of Number = ImmValue
-fields_of (Choice pairs) = ImmEnum (values_of pairs.now)
+fields_of (Choice pairs) = ImmEnum (pairs_as_values pairs.now)
 
 -- the kind is what the row says
 pub record IsKindOfRow (row : KindRow) (kind : OperandKind) : Type 0 where

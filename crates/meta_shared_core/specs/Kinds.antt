@@ -19,8 +19,8 @@ abbrev pub with_values : List (Bor (List ℕ) × Bor (List ℕ)) → EnumEntries
 with_values [] es = es
 with_values (pair ∷ pairs) es = with_values pairs (with_value es pair.0.now pair.1.now)
 
-abbrev pub values_of : List (Bor (List ℕ) × Bor (List ℕ)) → EnumEntries
-values_of pairs = with_values pairs []
+abbrev pub pairs_as_values : List (Bor (List ℕ) × Bor (List ℕ)) → EnumEntries
+pairs_as_values pairs = with_values pairs []
 
 -- a kind with this field name, Rust type and documentation
 pub record IsKind (field_name rust_type : List ℕ) (fields : OperandKindFields) (doc : List ℕ) (kind : OperandKind) : Type 0 where

@@ -1,11 +1,11 @@
 -- Rows of the table of root variables.
---     content_of row n         what is kept of the root that a row describes, whose number is n
+--     root_row_content row n   what is kept of the root that a row describes, whose number is n
 --     AreRootRows rows         the rows have the sets of the roots in order, and each can be built
 use Rattle.std.specs.Prelude.{◌≡◌, ℕ, ◌&&◌, ◌+◌, nat_le, nat_eq, Bool, true, false, List, [], ◌∷◌, length, map}
 use Rattle.std.specs.List.{list_any, list_all}
 use Rattle.meta_types.specs.Lane.{lane_parts}
 use Rattle.meta_types.specs.TypeParts.{IntKind, FloatKind, name_of, widths, lane_counts}
-use Rattle.meta_types.specs.TypeText.{doc_of}
+use Rattle.meta_types.specs.TypeText.{type_doc}
 use Rattle.meta_typevar.specs.TypeSetParts.{TypeSetParts}
 use Rattle.meta_typevar.specs.Derivation.{singleton_sets}
 use Rattle.meta_typevar.specs.Intervals.{Intervals, sets_between}
@@ -34,14 +34,14 @@ roots_in_order =
     []
 
 -- the interval that is meant
-abbrev pub interval_of : Span → Interval
-interval_of Nothing = NoInterval
-interval_of Everything = Full
-interval_of (Between low high) = Ranged (record { start = low; end = high })
+abbrev pub interval_meant : Span → Interval
+interval_meant Nothing = NoInterval
+interval_meant Everything = Full
+interval_meant (Between low high) = Ranged (record { start = low; end = high })
 
 -- the parts of a set
 abbrev pub parts_of : SetRow → Intervals
-parts_of row = record { ints = interval_of row.ints; floats = interval_of row.floats; simd_lanes = interval_of row.lanes; dynamic_simd_lanes = interval_of row.dynamic_lanes; includes_scalars = true }
+parts_of row = record { ints = interval_meant row.ints; floats = interval_meant row.floats; simd_lanes = interval_meant row.lanes; dynamic_simd_lanes = interval_meant row.dynamic_lanes; includes_scalars = true }
 
 -- the set of a row
 abbrev pub sets_of_row : RootRow → TypeSetParts
@@ -49,14 +49,14 @@ sets_of_row (Set row) = sets_between (parts_of row)
 sets_of_row (Single lane) = singleton_sets (lane_parts lane)
 
 -- what is kept of the root that a row describes
-abbrev pub content_of : RootRow → ℕ → TypeVarContent
-content_of (Set row) n = root_content row.name.now row.doc.now (sets_between (parts_of row)) n
-content_of (Single lane) n = root_content (name_of (lane_parts lane)) (doc_of (lane_parts lane)) (singleton_sets (lane_parts lane)) n
+abbrev pub root_row_content : RootRow → ℕ → TypeVarContent
+root_row_content (Set row) n = root_content row.name.now row.doc.now (sets_between (parts_of row)) n
+root_row_content (Single lane) n = root_content (name_of (lane_parts lane)) (type_doc (lane_parts lane)) (singleton_sets (lane_parts lane)) n
 
 -- the contents of rows, numbered from n
 abbrev pub contents_of : ℕ → List RootRow → List TypeVarContent
 contents_of n [] = []
-contents_of n (row ∷ rows) = content_of row n ∷ contents_of (n + 1) rows
+contents_of n (row ∷ rows) = root_row_content row n ∷ contents_of (n + 1) rows
 
 -- whether an interval may be built over the numbers
 abbrev pub is_within : List ℕ → Span → Bool

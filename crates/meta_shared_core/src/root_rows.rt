@@ -1,5 +1,5 @@
 ghost use Rattle.std.specs.Prelude.{◌≡◌, ◌+◌, ◌<◌, ◌-◌, ◌^◌, ◌++◌, ◌∷◌, [], IfOk, OnOk, OnErr, length};
-ghost use Rattle.meta_shared_core.specs.RootRows.{interval_of, parts_of, content_of, CanBuildRow, AreRootRows, AreFirstRoots};
+ghost use Rattle.meta_shared_core.specs.RootRows.{interval_meant, parts_of, root_row_content, CanBuildRow, AreRootRows, AreFirstRoots};
 
 use meta_types::{Float, Int, LaneType, Text, ValueType};
 use meta_typevar::{Interval, TypeSetBuilder, TypeVar, TypeVars};
@@ -127,7 +127,7 @@ fn rows() -> &'static [RootRow]
 impl Span {
     /// The interval that is meant.
     fn interval(self) -> Interval
-        ensures { result ≡ interval_of self }
+        ensures { result ≡ interval_meant self }
     {
         match self {
             Span::Nothing => Interval::None,
@@ -155,7 +155,7 @@ fn add_root(alloc: Global, vars: &mut TypeVars, row: RootRow) -> Result<TypeVar,
     requires room { length vars.old < 2 ^ 32 - 1 }
     requires buildable { CanBuildRow row }
     ensures number { IfOk result (λ v. v ≡ length vars.old) }
-    ensures added { OnOk result (vars.new ≡ vars.old ++ content_of row (length vars.old) ∷ []) }
+    ensures added { OnOk result (vars.new ≡ vars.old ++ root_row_content row (length vars.old) ∷ []) }
 {
     match row {
         RootRow::Set(row) => {

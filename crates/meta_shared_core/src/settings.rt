@@ -2,7 +2,7 @@
 ghost use Rattle.std.specs.Prelude.{◌≡◌, ◌+◌, ◌<◌, ◌^◌, [], IfOk, OnOk, length, map, take, drop};
 ghost use Rattle.meta_settings.specs.GroupDeclaration.{entry_count};
 ghost use Rattle.meta_settings.specs.Declaring.{with_setting};
-ghost use Rattle.meta_shared_core.specs.Settings.{texts_of, values_of, setting_of, setting_name, setting_names, with_settings, HasSharedSettings, IsSharedGroup};
+ghost use Rattle.meta_shared_core.specs.Settings.{texts_of, choice_values, setting_of, setting_name, setting_names, with_settings, HasSharedSettings, IsSharedGroup};
 
 use meta_settings::SettingGroupBuilder;
 use meta_types::Text;
@@ -101,7 +101,7 @@ fn texts(alloc: Global, values: &[&str]) -> Result<Vec<Text>, AllocError>
 
 /// The texts of the values, where the setting is an enum, and none else.
 fn values_of(alloc: Global, choice: Choice) -> Result<Vec<Text>, AllocError>
-    ensures { IfOk result (λ v. v.items ≡ values_of choice) }
+    ensures { IfOk result (λ v. v.items ≡ choice_values choice) }
 {
     match choice {
         Choice::Enum(values) => texts(alloc, values),

@@ -8,31 +8,33 @@ use Rattle.meta_types.specs.TypeParts.{TypeParts, IsType}
 use Rattle.meta_typevar.specs.Variable.{Variable, Sets}
 use Rattle.meta_inst.specs.Instruction.{Instruction}
 use Rattle.meta_inst.specs.Builder.{Builder}
-use Rattle.meta_inst.specs.Control.{IsControl, HasBadSecond, HasBadDerivation, DerivesBadly}
-use Rattle.meta_inst.specs.InstructionFaults.{NameRule, SecondRule, DerivationRule}
+use Rattle.meta_inst.specs.Control.{IsControl, HasBadSecond, HasBadDerivation}
+use Rattle.meta_inst.specs.InstructionFaults.{NameRule}
 use Rattle.meta_inst.specs.InstructionSet.{InstructionSet, root_sets, instruction_in_set}
-use Rattle.meta_inst.specs.Faults.{IsAt, IsValid, OfInstruction}
+use Rattle.meta_inst.specs.Faults.{IsValid, OfInstruction}
 use Rattle.meta_inst.proofs.OneControl.{same_control}
-use Rattle.meta_meaning.specs.Acceptance.{Accepts, Controls}
+use Rattle.meta_meaning.specs.Acceptance.{Accepts, IsChosenControl}
 use Rattle.meta_meaning.specs.Inference.{EndsInRelation}
 use Rattle.meta_meaning.specs.Tables.{DesignatedControls}
 use Rattle.meta_meaning.proofs.Inferring.{result_inferred, only_inferred, designated_typed}
 use Rattle.meta_opcode_tables.proofs.ValidNames.{is_name_where}
-use Rattle.meta_opcode_tables.proofs.Derivations.{none_bad}
-use Rattle.meta_declared.proofs.DifferentNames.{different_names}
+use Rattle.meta_opcode_tables.proofs.Derivations.{no_bad_place}
 use Rattle.meta_words.specs.Control.{IsBehind}
 use Rattle.meta_answers.specs.Answer.{IsAskedFor, AcceptsAsked, AcceptedReply}
+use Rattle.meta_inst.proofs.ValidControls.{good_second, well_derived}
 use Rattle.meta_verify.specs.Statement.{TypedValue, Application, OfApplication, CanApply}
-use Rattle.meta_verify.specs.Environment.{Environment}
+use Rattle.meta_verify.specs.Environment.{Environment, HaveTypes}
 use Rattle.meta_verify.specs.Wrong.{question_of, IsAccepted}
+use Rattle.meta_verify.proofs.OneAnswer.{same_found_types}
+use Rattle.meta_answers.proofs.OneReply.{one_asked}
 use Rattle.meta_short.specs.Short.{Manner, short_results, control_written, short_application}
 use Rattle.meta_short.specs.Parts.{IsPlain}
 use Rattle.meta_short.specs.Manners.{ControlHasOne, IsMannerOf, IsMannerDeclared}
 use Rattle.meta_short.specs.Reading.{IsShortDeclared}
-use Rattle.meta_short.proofs.ShortLemmas.{same_parts}
+use Rattle.meta_short.proofs.ShortLemmas.{same_line_parts}
 use Rattle.meta_short.proofs.Determined.{same_results}
 use Rattle.meta_short.proofs.MannersMean.{one_manner_of}
-use Rattle.meta_short.proofs.OneLine.{is_plain_name, same_found, written_alike, one_told}
+use Rattle.meta_short.proofs.OneLine.{is_plain_name, written_alike, one_shortened, one_form_of_line}
 
 -- ---- one instruction
 
@@ -52,8 +54,8 @@ module _ (sets : Sets) (i : Instruction) (control : Option Variable) (controlled
       let (t, t_at, first) = designated_typed sets i control c d rs vs controlled good x (v, is, designates) designates.place designates.designates in
       let (u, u_at, second) = designated_typed sets i control e g ps vs controlled good y (v, is, designates) designates.place designates.designates in
       let same : t ≡ u = same_Some t u (sym t_at ∙ u_at) in
-      let no : d ≡ None = subst (λ s. Controls x.choice s d) alone x.second_controlled in
-      let nor : g ≡ None = subst (λ s. Controls y.choice s g) alone y.second_controlled in
+      let no : d ≡ None = subst (λ s. IsChosenControl x.choice s d) alone x.second_controlled in
+      let nor : g ≡ None = subst (λ s. IsChosenControl y.choice s g) alone y.second_controlled in
       (first ∙ ap (λ z. Some z) same ∙ sym second, no ∙ sym nor)
 
   -- so controls that are written alike are the same
@@ -65,29 +67,25 @@ module _ (sets : Sets) (i : Instruction) (control : Option Variable) (controlled
 -- ---- declarations
 
 module _ (d : InstructionSet) (valid : IsValid d) where
-  one_asked : (name : List ℕ) (b c : Builder) → IsAskedFor d name b → IsAskedFor d name c → b ≡ c
-  one_asked name b c h g =
-      let place : h.place ≡ g.place = different_names d valid h.place g.place c.name (get_map (λ (x : Builder). x.name) d.instructions h.place b h.at ∙ ap (λ n. Some n) (h.named ∙ sym g.named)) (get_map (λ (x : Builder). x.name) d.instructions g.place c g.at) in
-      same_Some b c (sym h.at ∙ ap (slice_get d.instructions) place ∙ g.at)
-
   -- the name that an instruction is asked for by is a name
   pub asked_name : (name : List ℕ) (b : Builder) → IsAskedFor d name b → IsName name
   asked_name name b asked = subst IsName asked.named (is_name_where b.name (λ bad. valid (OfInstruction asked.place NameRule) _ (inl (record { builder = b; at = asked.at; breaks = (refl, bad) }))))
 
-  -- its second control can be one, and none of its operands is badly derived
-  good_second : (k : ℕ) (b : Builder) → IsAt d k b → HasBadSecond (root_sets d) (instruction_in_set d b) → ⊥
-  good_second k b at bad = valid (OfInstruction k SecondRule) _ (inl (record { builder = b; at = at; breaks = (refl, bad) }))
-
-  well_derived : (k : ℕ) (b : Builder) → IsAt d k b → (place : ℕ) → DerivesBadly (root_sets d) (instruction_in_set d b) place → ⊥
-  well_derived k b at place bad = valid (OfInstruction k DerivationRule) _ (inl (record { builder = b; at = at; breaks = (place, refl, bad) }))
-
   -- the lines of an instruction have one manner
   own_manner : (name : List ℕ) (b : Builder) (control : Option Variable) (m : Manner) → IsAskedFor d name b → IsControl (root_sets d) (instruction_in_set d b) control → IsMannerDeclared d name m → IsMannerOf (root_sets d) (instruction_in_set d b) control m
   own_manner name b control m asked controlled h =
-      let own : h.builder ≡ b = one_asked name h.builder b h.asked asked in
+      let own : h.builder ≡ b = one_asked d valid name h.builder b h.asked asked in
       let is = subst (λ x. IsMannerOf (root_sets d) (instruction_in_set d x) h.control m) own h.is in
       let same = same_control (root_sets d) (instruction_in_set d b) h.control control (subst (λ x. IsControl (root_sets d) (instruction_in_set d x) h.control) own h.is_control) controlled in
       subst (λ c. IsMannerOf (root_sets d) (instruction_in_set d b) c m) same is
+
+  pub one_manner_declared : (name : List ℕ) (m n : Manner) → IsMannerDeclared d name m → IsMannerDeclared d name n → m ≡ n
+  one_manner_declared name m n h k =
+      one_manner_of (root_sets d) (instruction_in_set d k.builder) k.control m n (own_manner name k.builder k.control m k.asked k.is_control h) k.is
+
+  -- so a line has one short form at most
+  pub one_form_declared : (env : Environment) (line a b : List ℕ) → IsShortDeclared d env line a → IsShortDeclared d env line b → a ≡ b
+  one_form_declared = one_form_of_line (AcceptedReply d) (IsMannerDeclared d) one_manner_declared
 
   module _ (env : Environment) where
     named_plain : (a : Application) → IsAccepted (AcceptedReply d) env (OfApplication a) → IsPlain a.name
@@ -96,7 +94,7 @@ module _ (d : InstructionSet) (valid : IsValid d) where
     one_application : (m n : Manner) (a b : Application) → CanApply a → CanApply b → IsAccepted (AcceptedReply d) env (OfApplication a) → IsAccepted (AcceptedReply d) env (OfApplication b)
         → IsMannerDeclared d a.name m → IsMannerDeclared d b.name n → short_application m a ≡ short_application n b → a ≡ b
     one_application m n a b ca cb fa fb hm hn e =
-        let parts = same_parts m n a b (named_plain a fa) (named_plain b fb) ca cb e in
+        let parts = same_line_parts m n a b (named_plain a fa) (named_plain b fb) ca cb e in
         let (types, have, replied) = fa in
         let (x, asked, accepts) = replied in
         let (others, has, answered) = fb in
@@ -106,12 +104,12 @@ module _ (d : InstructionSet) (valid : IsValid d) where
         let control : Option Variable = accepts.control in
         let rs : List TypeParts = map (λ (r : TypedValue). r.type) a.results in
         let ps : List TypeParts = map (λ (r : TypedValue). r.type) b.results in
-        let same_types : others ≡ types = same_found others types (sym has ∙ ap (map env) (sym parts.values) ∙ have) in
-        let same_builder : y ≡ x = one_asked a.name y x (subst (λ z. IsAskedFor d z y) (sym parts.names) also) asked in
-        let moved : AcceptsAsked d x (question_of b types) = subst (λ z. AcceptsAsked d z (question_of b types)) same_builder (subst (λ ts. AcceptsAsked d y (question_of b ts)) same_types accepted) in
+        let same : others ≡ types = same_found_types env a.values others types (subst (λ values. HaveTypes env values others) (sym parts.values) has) have in
+        let same_builder : y ≡ x = one_asked d valid a.name y x (subst (λ z. IsAskedFor d z y) (sym parts.names) also) asked in
+        let moved : AcceptsAsked d x (question_of b types) = subst (λ z. AcceptsAsked d z (question_of b types)) same_builder (subst (λ ts. AcceptsAsked d y (question_of b ts)) same accepted) in
         let other : Accepts sets i control b.control b.second ps types = subst (λ c. Accepts sets i c b.control b.second ps types) (same_control sets i moved.control control moved.is_control accepts.is_control) moved.accepts in
-        let good : HasBadSecond sets i → ⊥ = good_second asked.place x asked.at in
-        let none : (k : ℕ) → HasBadDerivation sets i control k → ⊥ = none_bad sets i control accepts.is_control (well_derived asked.place x asked.at) in
+        let good : HasBadSecond sets i → ⊥ = good_second d valid asked.place x asked.at in
+        let none : (k : ℕ) → HasBadDerivation sets i control k → ⊥ = no_bad_place sets i control accepts.is_control (well_derived d valid asked.place x asked.at) in
         let first : IsMannerOf sets i control m = own_manner a.name x control m asked accepts.is_control hm in
         let second : IsMannerOf sets i control n = own_manner a.name x control n asked accepts.is_control (subst (λ z. IsMannerDeclared d z n) (sym parts.names) hn) in
         let manner : m ≡ n = one_manner_of sets i control m n first second in
@@ -126,4 +124,4 @@ module _ (d : InstructionSet) (valid : IsValid d) where
 
     -- for one environment a text reads as one line at most
     pub one_line_declared : (text a b : List ℕ) → IsShortDeclared d env a text → IsShortDeclared d env b text → a ≡ b
-    one_line_declared = one_told (AcceptedReply d) (IsMannerDeclared d) env named_plain one_application
+    one_line_declared = one_shortened (AcceptedReply d) (IsMannerDeclared d) env named_plain one_application

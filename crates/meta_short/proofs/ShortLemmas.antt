@@ -5,9 +5,9 @@ use Rattle.std.proofs.lemmas.List.Elements.{All-nil, All-cons, All-head, All-tai
 use Rattle.meta_lists.proofs.Pushed.{not_empty}
 use Rattle.meta_types.specs.TypeParts.{TypeParts, IsType, name_of}
 use Rattle.meta_types.proofs.Names.{one_name}
-use Rattle.meta_words.proofs.NameLemmas.{IsDigit, lacks, name_lacks}
+use Rattle.meta_words.proofs.NameLemmas.{IsDigit, decimal_lacks, name_lacks}
 use Rattle.meta_verify.specs.Statement.{TypedValue, Application, IsValue, IsTyped, CanApply, value_text}
-use Rattle.meta_verify.proofs.StatementLemmas.{one_value}
+use Rattle.meta_verify.proofs.StatementLemmas.{one_written_value}
 use Rattle.meta_short.specs.Short.{Manner, ShortResult, shortened, short_results, type_part, short_result_text, joined, behind, control_written, values_written, results_part, short_application}
 use Rattle.meta_short.specs.Parts.{IsPlain, AreSameParts}
 use Rattle.meta_short.proofs.SplitLemmas.{Lacks, one_split, lacks_joined, one_joined}
@@ -19,19 +19,19 @@ abbrev pub applied_text : List ℕ → Option (List ℕ) → Option (List ℕ) �
 applied_text name control values = (name ++ behind 46 control) ++ behind 32 values
 
 -- the same behind the results: `v1, v2 = `, or nothing
-abbrev pub results_text : List (List ℕ) → List ℕ → List ℕ
-results_text [] rest = rest
-results_text (t ∷ ts) rest = (joined (t ∷ ts) ++ 32 ∷ []) ++ behind 61 (Some (32 ∷ rest))
+abbrev pub behind_results : List (List ℕ) → List ℕ → List ℕ
+behind_results [] rest = rest
+behind_results (t ∷ ts) rest = joined (t ∷ ts) ++ 32 ∷ [] ++ behind 61 (Some (32 ∷ rest))
 
-pub results_form : (ts : List (List ℕ)) (rest : List ℕ) → results_part ts ++ rest ≡ results_text ts rest
+pub results_form : (ts : List (List ℕ)) (rest : List ℕ) → results_part ts ++ rest ≡ behind_results ts rest
 results_form [] rest = refl
 results_form (t ∷ ts) rest = append_assoc (joined (t ∷ ts)) (codes " = ") rest ∙ sym (append_assoc (joined (t ∷ ts)) (32 ∷ []) (61 ∷ 32 ∷ rest))
 
 pub split_form : (m : Manner) (a : Application)
-    → short_application m a ≡ results_text (map short_result_text (short_results m.opened a.results)) (applied_text a.name (control_written m.leaves_out a.control a.second) (values_written (map value_text a.values)))
+    → short_application m a ≡ behind_results (map short_result_text (short_results m.opened a.results)) (applied_text a.name (control_written m.leaves_out a.control a.second) (values_written (map value_text a.values)))
 split_form m a =
     results_form (map short_result_text (short_results m.opened a.results)) _
-    ∙ ap (results_text (map short_result_text (short_results m.opened a.results))) (sym (append_assoc a.name (behind 46 (control_written m.leaves_out a.control a.second)) (behind 32 (values_written (map value_text a.values)))))
+    ∙ ap (behind_results (map short_result_text (short_results m.opened a.results))) (sym (append_assoc a.name (behind 46 (control_written m.leaves_out a.control a.second)) (behind 32 (values_written (map value_text a.values)))))
 
 -- ---- bytes that don't stand in the parts
 
@@ -57,7 +57,7 @@ pub equals : IsMark 61
 equals = record { digit = λ h. (let l : 61 ≤ 57 = h.high in omega arith); value = omega arith; int = omega arith; float = omega arith; lanes = omega arith; dynamic = omega arith }
 
 pub value_lacks : (byte v : ℕ) → IsMark byte → IsValue v → Lacks byte (value_text v)
-value_lacks byte v mark h = All-cons (λ b. b ≢ byte) 118 _ mark.value (lacks byte v (omega arith) mark.digit)
+value_lacks byte v mark h = All-cons (λ b. b ≢ byte) 118 _ mark.value (decimal_lacks byte v (omega arith) mark.digit)
 
 pub type_lacks : (byte : ℕ) (t : TypeParts) → IsMark byte → IsType t → Lacks byte (name_of t)
 type_lacks byte t mark h = name_lacks byte t h mark.int mark.float mark.lanes mark.dynamic mark.digit
@@ -90,7 +90,7 @@ pub one_result : (r s : ShortResult) → CanBeShort r → CanBeShort s → short
 one_result r s h k e =
     let both = one_split 58 (value_text r.value) (value_text s.value) (option_map name_of r.type) (option_map name_of s.type) (value_lacks 58 r.value colon h.value) (value_lacks 58 s.value colon k.value)
     (ap (λ p. value_text r.value ++ p) (sym (type_behind r.type)) ∙ e ∙ ap (λ p. value_text s.value ++ p) (type_behind s.type)) in
-    let value = one_value r.value s.value h.value k.value both.0 in
+    let value = one_written_value r.value s.value h.value k.value both.0 in
     let type = same_type r.type s.type h.type k.type both.1 in
     λ i. record { value = value i; type = type i }
 
@@ -138,7 +138,7 @@ same_front c (x ∷ xs) (y ∷ ys) e =
 pub front_lacks : (ts : List (List ℕ)) → All (Lacks 61) ts → Lacks 61 (joined ts ++ 32 ∷ [])
 front_lacks ts h = All-append (λ b. b ≢ 61) (joined ts) (32 ∷ []) (lacks_joined 61 ts (omega arith) (omega arith) h) (All-cons (λ b. b ≢ 61) 32 [] (omega arith) (All-nil (λ b. b ≢ 61)))
 
-one_results : (ts us : List (List ℕ)) (rest other : List ℕ) → Lacks 61 rest → Lacks 61 other → All (Lacks 61) ts → All (Lacks 61) us → All (Lacks 44) ts → All (Lacks 44) us → results_text ts rest ≡ results_text us other → (ts ≡ us) × (rest ≡ other)
+one_results : (ts us : List (List ℕ)) (rest other : List ℕ) → Lacks 61 rest → Lacks 61 other → All (Lacks 61) ts → All (Lacks 61) us → All (Lacks 44) ts → All (Lacks 44) us → behind_results ts rest ≡ behind_results us other → (ts ≡ us) × (rest ≡ other)
 one_results [] [] rest other hr ho ht hu ct cu e = (refl, e)
 one_results [] (u ∷ us) rest other hr ho ht hu ct cu e =
     let both = one_split 61 rest (joined (u ∷ us) ++ 32 ∷ []) None (Some (32 ∷ other)) hr (front_lacks (u ∷ us) hu) (append-nil rest ∙ e) in
@@ -160,7 +160,7 @@ one_values [] (u ∷ us) h k e = absurd (cc)
 one_values (v ∷ vs) [] h k e = absurd (cc)
 one_values (v ∷ vs) (u ∷ us) h k e =
     let lists : joined (map value_text (v ∷ vs)) ≡ joined (map value_text (u ∷ us)) = cc in
-    same_of_texts IsValue value_text one_value (v ∷ vs) (u ∷ us) h k
+    same_of_texts IsValue value_text one_written_value (v ∷ vs) (u ∷ us) h k
     (one_joined (value_text v) (value_text u) (map value_text vs) (map value_text us) (texts_lack (v ∷ vs) h) (texts_lack (u ∷ us) k) lists)
   where
     texts_lack : (xs : List ℕ) → All IsValue xs → All (Lacks 44) (map value_text xs)
@@ -177,8 +177,8 @@ pub short_lacks : (byte : ℕ) (opened : List Bool) (rs : List TypedValue) → I
 short_lacks byte opened rs mark other h =
     All-map (Lacks byte) short_result_text (short_results opened rs) (All-weaker CanBeShort (λ r. Lacks byte (short_result_text r)) (λ r is. result_lacks byte r mark other is) (short_results opened rs) (short_can opened rs h))
 
-pub same_parts : (m n : Manner) (a b : Application) → IsPlain a.name → IsPlain b.name → CanApply a → CanApply b → short_application m a ≡ short_application n b → AreSameParts m n a b
-same_parts m n a b pa pb ha hb e =
+pub same_line_parts : (m n : Manner) (a b : Application) → IsPlain a.name → IsPlain b.name → CanApply a → CanApply b → short_application m a ≡ short_application n b → AreSameParts m n a b
+same_line_parts m n a b pa pb ha hb e =
     let ra = short_can m.opened a.results ha.results in
     let rb = short_can n.opened b.results hb.results in
     let lines = one_results (map short_result_text (short_results m.opened a.results)) (map short_result_text (short_results n.opened b.results)) _ _

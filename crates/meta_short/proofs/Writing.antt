@@ -4,7 +4,7 @@ use Rattle.std.specs.List.{list_any, join_with_byte}
 use Rattle.std.proofs.Math.Seq.{take-length}
 use Rattle.std.proofs.lemmas.Bool.{eqb-true}
 use Rattle.std.proofs.lemmas.Option.{same_Some}
-use Rattle.std.proofs.lemmas.List.{map-append, take-map, drop-map}
+use Rattle.std.proofs.lemmas.List.{length-map, map-append, take-map, drop-map}
 use Rattle.meta_lists.proofs.Places.{take_next}
 use Rattle.meta_lists.proofs.Mapped.{get_map}
 use Rattle.meta_types.specs.TypeParts.{TypeParts, name_of}
@@ -15,7 +15,7 @@ use Rattle.meta_verify.specs.Statement.{TypedValue, Statement, OfParameter, IsSt
 use Rattle.meta_verify.specs.Environment.{Environment}
 use Rattle.meta_verify.specs.Wrong.{Replies, IsMistake, IsWrong}
 use Rattle.meta_verify.specs.declared.reason.Reason.{Reason}
-use Rattle.meta_verify.specs.Numbers.{typed}
+use Rattle.meta_verify.specs.Numbers.{typed_value_of}
 use Rattle.meta_verify.specs.declared.statement.TypedNumber.{TypedNumber}
 use Rattle.meta_short.specs.Short.{shortened, short_results, short_result_text, joined, behind, control_written, values_written, results_part, parameter_text}
 use Rattle.meta_short.specs.Written.{AddsShort, before_place}
@@ -115,22 +115,18 @@ short_length (o ∷ os) (r ∷ rs) = ap suc (short_length os rs)
 
 -- the texts of results as the program holds them
 abbrev pub result_texts : List Bool → List TypedNumber → List (List ℕ)
-result_texts opened rs = map short_result_text (short_results opened (map typed rs))
+result_texts opened rs = map short_result_text (short_results opened (map typed_value_of rs))
 
-pub text_at : (opened : List Bool) (rs : List TypedNumber) (k : ℕ) (r : TypedNumber) (o : Bool) → slice_get rs k ≡ Some r → o ≡ get_or opened k false → slice_get (result_texts opened rs) k ≡ Some (short_result_text (shortened o (typed r)))
+pub text_at : (opened : List Bool) (rs : List TypedNumber) (k : ℕ) (r : TypedNumber) (o : Bool) → slice_get rs k ≡ Some r → o ≡ get_or opened k false → slice_get (result_texts opened rs) k ≡ Some (short_result_text (shortened o (typed_value_of r)))
 text_at opened rs k r o at is =
-    get_map short_result_text (short_results opened (map typed rs)) k (shortened (get_or opened k false) (typed r)) (short_at opened (map typed rs) k (typed r) (get_map typed rs k r at))
-    ∙ ap (λ b. Some (short_result_text (shortened b (typed r)))) (sym is)
-
-map_length : {X Y : Type 0} (f : X → Y) (xs : List X) → length (map f xs) ≡ length xs
-map_length f [] = refl
-map_length f (x ∷ xs) = ap suc (map_length f xs)
+    get_map short_result_text (short_results opened (map typed_value_of rs)) k (shortened (get_or opened k false) (typed_value_of r)) (short_at opened (map typed_value_of rs) k (typed_value_of r) (get_map typed_value_of rs k r at))
+    ∙ ap (λ b. Some (short_result_text (shortened b (typed_value_of r)))) (sym is)
 
 pub texts_length : (opened : List Bool) (rs : List TypedNumber) → length (result_texts opened rs) ≡ length rs
-texts_length opened rs = map_length short_result_text (short_results opened (map typed rs)) ∙ short_length opened (map typed rs) ∙ map_length typed rs
+texts_length opened rs = length-map (short_results opened (map typed_value_of rs)) short_result_text ∙ short_length opened (map typed_value_of rs) ∙ length-map rs typed_value_of
 
 pub values_length : (vs : List ℕ) → length (map value_text vs) ≡ length vs
-values_length vs = map_length value_text vs
+values_length vs = length-map vs value_text
 
 pub results_none : (opened : List Bool) (rs : List TypedNumber) → (length rs == 0) ≡ true → [] ≡ results_part (result_texts opened rs)
 results_none opened rs h = ap (λ qs. results_part (result_texts opened qs)) (sym (nothing_listed rs h))
@@ -162,7 +158,7 @@ alone_kept true t h = absurd (cc)
 -- ---- what was added, and why nothing was
 
 -- a parameter is written in any manner
-pub adds_parameter : (tables : TableContents) (r : TypedNumber) (old new : List ℕ) → new ≡ old ++ parameter_text (typed r) → AddsShort tables (OfParameter (typed r)) old new
+pub adds_parameter : (tables : TableContents) (r : TypedNumber) (old new : List ℕ) → new ≡ old ++ parameter_text (typed_value_of r) → AddsShort tables (OfParameter (typed_value_of r)) old new
 adds_parameter tables r old new e = record { manner = record { leaves_out = false; opened = [] }; has_manner = tt; is = e }
 
 -- what is stated is a mistake, so the line is wrong

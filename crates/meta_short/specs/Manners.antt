@@ -81,7 +81,8 @@ ControlHasOne sets control = (v : Variable) × (control ≡ Some v) × HasOne (s
 pub record IsMannerOf (sets : Sets) (i : Instruction) (control : Option Variable) (m : Manner) : Type 0 where
   pub leaves_out : IsTrue m.leaves_out ↔ ((i.second ≡ None) × DesignatedControls i control × (ControlHasOne sets control → ⊥))
   pub count : length m.opened ≡ length i.results
-  pub opened : (k : ℕ) (w : Variable) (o : Bool) → slice_get i.results k ≡ Some w → slice_get m.opened k ≡ Some o → (IsTrue o ↔ EndsInRelation w)
+  pub opened : (k : ℕ) (w : Variable) (o : Bool)
+      → slice_get i.results k ≡ Some w → slice_get m.opened k ≡ Some o → (IsTrue o ↔ EndsInRelation w)
 
 -- the manner of the instruction that has the name
 pub record IsMannerDeclared (d : InstructionSet) (name : List ℕ) (m : Manner) : Type 0 where

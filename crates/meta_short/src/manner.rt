@@ -91,7 +91,10 @@ impl<'t> Manner<'t> {
     pub fn of(tables: &'t Tables, opcode: u16) -> Option<Manner<'t>>
         ensures opcode { IsSome result ↔ IsOpcode tables.now.opcodes opcode }
         ensures name { IfSome result (λ m. at_opcode tables.now.opcodes.names opcode ≡ Some m.name.now) }
-        ensures manner { IfSome result (λ m. (entry : OpcodeNumbers) × (at_opcode tables.now.opcodes.entries opcode ≡ Some entry) × (manner_in m ≡ manner_of tables.now.opcodes entry)) }
+        ensures manner { IfSome result (λ m. (entry : OpcodeNumbers) × (at_opcode tables.now.opcodes.entries opcode ≡ Some entry)
+            × (manner_in m ≡ manner_of tables.now.opcodes entry)) }
+        ensures results { IfSome result (λ m. (entry : OpcodeNumbers) × (at_opcode tables.now.opcodes.entries opcode ≡ Some entry)
+            × (map number_constraint_of m.results.now ≡ result_constraints tables.now.opcodes entry)) }
         ensures none { IfNone result (at_opcode tables.now.opcodes.names opcode ≡ None) }
     {
         let name = tables.opcode_name(opcode)?;

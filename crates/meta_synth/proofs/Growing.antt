@@ -5,13 +5,13 @@ use Rattle.meta_lists.proofs.Places.{get_stays, get_left}
 use Rattle.meta_lists.proofs.Pushed.{get_pushed_below, last}
 use Rattle.meta_lists.proofs.Pairs.{pairs_imply}
 use Rattle.meta_typevar.specs.Variable.{Variable}
-use Rattle.meta_typevar.specs.Registry.{variable_of, set_at, coded_of, coded_at, root_content, IsKept, IsRegistry}
+use Rattle.meta_typevar.specs.Registry.{variable_from, set_at, coded_of, coded_at, root_content, IsKept, IsRegistry}
 use Rattle.meta_typevar.specs.declared.content.TypeVarContent.{TypeVarContent}
 use Rattle.meta_operands.specs.declared.operand.Operand.{Operand}
 use Rattle.meta_operands.specs.declared.format.InstructionFormat.{InstructionFormat}
 use Rattle.meta_inst.specs.Builder.{Builder, inputs_of, outputs_of}
 use Rattle.meta_inst.specs.Marks.{no_marks}
-use Rattle.meta_inst.specs.InstructionSet.{Fits}
+use Rattle.meta_inst.specs.InstructionSet.{AreOfRegistries}
 use Rattle.meta_settings.specs.GroupDeclaration.{GroupDeclaration}
 use Rattle.meta_declared.specs.AllDeclared.{Declared}
 use Rattle.meta_synth.specs.declared.shape.Shape.{Shape}
@@ -32,7 +32,7 @@ module _ (old new : List TypeVarContent) (seed x : ℕ) (at : x ≡ length old) 
   new_root = subst (λ k. IsKept new k (root_of seed k)) (sym at) (last old new (root_of seed (length old)) added (length old) refl)
 
 pub root_coded : (vars : List TypeVarContent) (seed x : ℕ) → IsKept vars x (root_of seed x) → coded_at vars x ≡ set_of_seed seed
-root_coded vars seed x kept = ap (λ o. coded_of vars (variable_of x o)) kept ∙ ap set_at kept
+root_coded vars seed x kept = ap (λ o. coded_of vars (variable_from x o)) kept ∙ ap set_at kept
 
 -- ---- more variables
 
@@ -44,7 +44,7 @@ value_stays vars more p o h =
       doc = h.doc;
       number = h.number;
       of = omega (arith, of, length-append vars more);
-      variable = ap (variable_of h.number) (get_left vars more h.number of) ∙ h.variable;
+      variable = ap (variable_from h.number) (get_left vars more h.number of) ∙ h.variable;
       fields = h.fields;
       field_name = h.field_name;
       rust_type = h.rust_type;
@@ -151,7 +151,7 @@ three Copying = omega arith
 three Comparing = omega arith
 three Widening = omega arith
 
-pub all_fit : {vars : List TypeVarContent} {formats : List InstructionFormat} {n : ℕ} {all : List Builder} → formats ≡ all_formats → AreInstructions vars n all → Fits vars formats all
+pub all_fit : {vars : List TypeVarContent} {formats : List InstructionFormat} {n : ℕ} {all : List Builder} → formats ≡ all_formats → AreInstructions vars n all → AreOfRegistries vars formats all
 all_fit {vars} {formats} {n} {all} are_formats are k b at =
     let x = length (variables_to n k) in
     let is = are.each k b at in

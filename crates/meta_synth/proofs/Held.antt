@@ -8,7 +8,7 @@ use Rattle.meta_types.specs.DerivedFunc.{function_of}
 use Rattle.meta_types.specs.declared.derived_func.DerivedFunc.{DerivedFunc}
 use Rattle.meta_typevar.specs.TypeSetParts.{TypeSetParts}
 use Rattle.meta_typevar.specs.Variable.{underived, longer}
-use Rattle.meta_typevar.specs.Registry.{set_at, variable_of, variable_at, coded_of, coded_at, derived_content, IsKept, IsPlaced, IsRegistry}
+use Rattle.meta_typevar.specs.Registry.{set_at, variable_from, variable_at, coded_of, coded_at, derived_content, IsKept, IsRootOrDerived, IsRegistry}
 use Rattle.meta_typevar.specs.Derivation.{GrowsByOne}
 use Rattle.meta_typevar.specs.declared.content.TypeVarContent.{TypeVarContent}
 use Rattle.meta_typevar.specs.declared.content.TypeVarParent.{TypeVarParent}
@@ -29,7 +29,7 @@ module _ (old new : List TypeVarContent) (x : ℕ) (grows : GrowsByOne old new) 
 
   -- and it is a root yet
   pub still : variable_at new x ≡ underived x
-  still = subst (λ all. variable_at all x ≡ underived x) (sym grows.is) (ap (variable_of x) (get_left old grows.more x of) ∙ root)
+  still = subst (λ all. variable_at all x ≡ underived x) (sym grows.is) (ap (variable_from x) (get_left old grows.more x of) ∙ root)
 
   pub one_of_root : (name : List ℕ) (os : List Operand) → AllZip (IsValueOf new) ((name, variable_at new x) ∷ []) os
       → AllZip (IsValueOf new) ((name, underived x) ∷ []) os
@@ -59,7 +59,7 @@ extends_after old now new c added grows = record {
 -- the new variable is a root
 pub root_added : (now : List TypeVarContent) (x : ℕ) (c : TypeVarContent) → IsKept now x c → c.chain ≡ [] → c.root ≡ x
     → variable_at now x ≡ underived x
-root_added now x c kept chain root = ap (variable_of x) kept ∙ cc
+root_added now x c kept chain root = ap (variable_from x) kept ∙ cc
 
 -- ---- what is kept of the derived variable
 
@@ -69,7 +69,7 @@ none_derived vars x registry last f m l e =
     let child = variable_child vars x m f registry (omega (arith, last)) l e in
     later child.content child.content.base (registry.variables m child.content child.kept).placed child.derived
   where
-    later : (c : TypeVarContent) (base : Option TypeVarParent) → IsPlaced vars m c base → base ≡ Some (record { type_var = x; derived_func = f }) → ⊥
+    later : (c : TypeVarContent) (base : Option TypeVarParent) → IsRootOrDerived vars m c base → base ≡ Some (record { type_var = x; derived_func = f }) → ⊥
     later c None h is = absurd (cc)
     later c (Some p) h is =
         let parent : p.type_var ≡ x = ap (λ (q : TypeVarParent). q.type_var) (same_Some p (record { type_var = x; derived_func = f }) is) in
@@ -77,7 +77,7 @@ none_derived vars x registry last f m l e =
 
 -- the set of a root
 pub root_set : (vars : List TypeVarContent) (s : TypeSetParts) (x : ℕ) → IsKept vars x (root_with s x) → coded_at vars x ≡ s
-root_set vars s x kept = ap (λ o. coded_of vars (variable_of x o)) kept ∙ ap set_at kept
+root_set vars s x kept = ap (λ o. coded_of vars (variable_from x o)) kept ∙ ap set_at kept
 
 -- what is added where a root is derived from
 pub derived_added : (old new : List TypeVarContent) (s : TypeSetParts) (x : ℕ) (f : DerivedFunc) → IsKept old x (root_with s x) → new ≡ old ++ derived_content old x (root_with s x) f ∷ [] → new ≡ old ++ derived_with s x f ∷ []

@@ -3,7 +3,7 @@ ghost use Rattle.meta_typevar.specs.Registry.{HoldTypeSets};
 ghost use Rattle.meta_declared.specs.AllDeclared.{Declared};
 ghost use Rattle.meta_gen.specs.WholeTables.{AreWholeTablesOf};
 ghost use Rattle.meta_synth.specs.Synth.{IsSynth};
-ghost use Rattle.meta_synth.specs.Summary.{CountsTo, IsFound, TakesEverywhere, i64_number, IsSummary, IsSummaryOf, lengths_text, summary_line};
+ghost use Rattle.meta_synth.specs.Summary.{CountsTo, IsFoundByName, TakesEverywhere, i64_number, IsSummary, IsSummaryOf, lengths_text, summary_line};
 
 use super::counting::{found_count, taking_count};
 use meta_gen::Tables;
@@ -28,7 +28,7 @@ impl Counts {
         ensures type_sets { result.type_sets ≡ length tables.now.opcodes.type_sets }
         ensures constraints { result.constraints ≡ length tables.now.opcodes.operand_constraints }
         ensures slots { result.slots ≡ length tables.now.opcodes.opcode_slots }
-        ensures found { CountsTo (IsFound tables.now.opcodes) (length tables.now.opcodes.entries) result.found }
+        ensures found { CountsTo (IsFoundByName tables.now.opcodes) (length tables.now.opcodes.entries) result.found }
         ensures accepted { CountsTo (TakesEverywhere tables.now.opcodes i64_number) (length tables.now.opcodes.entries) result.accepted }
     {
         let number = LaneType::Int(Int::I64).number();

@@ -1,8 +1,7 @@
 -- Texts of opcodes, one after the other.
-use Rattle.std.proofs.Common.{◌≡◌, ℕ, zero, suc, ◌+◌, ◌-◌, ◌<◌, ◌≤◌, List, [], ◌++◌, length, slice_get, unwrap_or, ⊎_elim, sym, ap, ◌∙◌, subst, append_assoc, append-nil, add-one, arith}
+use Rattle.std.proofs.Common.{◌≡◌, ℕ, zero, suc, ◌+◌, ◌-◌, ◌<◌, ◌≤◌, List, [], ◌++◌, length, ⊎_elim, sym, ap, ◌∙◌, subst, append_assoc, append-nil, add-one, arith}
 use Rattle.std.proofs.lemmas.Bool.{cases_lt}
-use Rattle.std.proofs.lemmas.List.{length-append, same_lists}
-use Rattle.std.proofs.lemmas.Option.{unwrap_or-slice_get}
+use Rattle.std.proofs.lemmas.List.{length-append}
 use Rattle.meta_table_text.specs.OpcodeText.{each_opcode}
 
 -- what f gives of the next n opcodes behind opcode k
@@ -56,7 +55,3 @@ pub cancel_each : (f g : ℕ → List ℕ) (Q : ℕ → Type 0) (n : ℕ) → ((
 cancel_each f g Q n told r s e =
     let (all, rest) = cancel_behind f g Q 0 n (λ i low high. told i (omega (arith, high))) r s (ap (λ w. w ++ r) (sym (from_first f n)) ∙ e ∙ ap (λ w. w ++ s) (from_first g n)) in
     (λ i within. all i (omega arith) (omega (arith, within)), rest)
-
--- lists with the same elements at each place are the same
-pub same_places : {X : Type 0} (xs ys : List X) → length xs ≡ length ys → ((i : ℕ) → i < length xs → slice_get xs i ≡ slice_get ys i) → xs ≡ ys
-same_places xs ys same each = same_lists xs ys same (λ k d within. sym (unwrap_or-slice_get xs k d) ∙ ap (λ r. unwrap_or r d) (each k within) ∙ unwrap_or-slice_get ys k d)

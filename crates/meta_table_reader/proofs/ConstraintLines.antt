@@ -6,14 +6,13 @@ use Rattle.meta_types.specs.TypeNumber.{type_with, IsTypeNumber}
 use Rattle.meta_types.specs.TypeText.{rust_name_of}
 use Rattle.meta_types.proofs.Names.{one_name}
 use Rattle.meta_meaning.specs.Tables.{NumberConstraint, ConcreteNumber, FreeOf, SameNumber, ByNumber}
-use Rattle.meta_opcode_tables.specs.Constraint.{number_constraint_of}
 use Rattle.meta_text.specs.Lines.{at, text_of}
 use Rattle.meta_table_text.specs.ConstraintText.{type_text, constraint_text, constraint_line}
 use Rattle.meta_cursor.proofs.Cancel.{cancel_front, cancel_item, cancel_number}
 use Rattle.meta_table_reader.specs.Shown.{IsShownConstraint}
 use Rattle.meta_table_reader.specs.Words.{small_letter, IsOfControl}
 use Rattle.meta_table_reader.proofs.TypesRead.{capitals, come_back, capitals_lack_parenthesis, type_text_is}
-use Rattle.meta_table_reader.proofs.Controls.{named, named_back, word_lacks, form_letter, concrete_letter, free_letter, is_concrete, is_free, is_of_control}
+use Rattle.meta_table_reader.proofs.Controls.{one_word, word_lacks, form_letter, concrete_letter, free_letter, is_concrete, is_free, is_of_control}
 
 abbrev pub before_form : List ℕ
 before_form = codes "    OperandConstraint::"
@@ -64,7 +63,7 @@ free_told i j r s one other e =
 control_told : (m n : NumberConstraint) (r s : List ℕ) → IsOfControl m → IsOfControl n → constraint_line m ++ r ≡ constraint_line n ++ s → (m ≡ n) × (r ≡ s)
 control_told m n r s one other e =
     let (words, left) = cancel_item 44 (constraint_text m) (constraint_text n) (codes ",\n" ++ r) (codes ",\n" ++ s) (word_lacks m one) (word_lacks n other) refl refl (cancel_front before_form _ _ (sym (form_opened m r) ∙ e ∙ form_opened n s)) in
-    (sym (named_back m one) ∙ ap (λ w. number_constraint_of (named w)) words ∙ named_back n other, cancel_front (codes ",\n") r s left)
+    (one_word m n one other words, cancel_front (codes ",\n") r s left)
 
 of_control_told : (m n : NumberConstraint) (r s : List ℕ) → IsOfControl m → constraint_line m ++ r ≡ constraint_line n ++ s → (m ≡ n) × (r ≡ s)
 of_control_told m n r s one e =

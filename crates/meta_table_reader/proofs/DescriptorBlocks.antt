@@ -5,7 +5,7 @@ use Rattle.meta_types.specs.Name.{IsName}
 use Rattle.meta_setting_tables.specs.declared.descriptor.Detail.{Detail}
 use Rattle.meta_setting_tables.specs.declared.descriptor.Detail.TheVariants.{Bool as ABool, Enum as AnEnum, Num as ANum, Preset}
 use Rattle.meta_setting_tables.specs.declared.descriptor.Descriptor.{Descriptor}
-use Rattle.meta_table_text.specs.GroupItems.{enumerator_text, detail_text, block_text, descriptor_text}
+use Rattle.meta_table_text.specs.GroupItems.{enumerator_text, detail_text, descriptor_block, descriptor_text}
 use Rattle.meta_cursor.proofs.Cancel.{cancel_front, cancel_item, cancel_number}
 use Rattle.meta_table_reader.specs.ShownGroup.{IsShownEnum, IsShownDetail, IsShownDescriptor}
 use Rattle.meta_table_reader.proofs.NameBytes.{name_lacks_quote, plain_lacks_quote}
@@ -102,7 +102,7 @@ regroup_block : (a b c d e f g h i : List ℕ) → (a ++ (b ++ (c ++ (d ++ (e ++
 regroup_block a b c d e f g h i = simp append_assoc
 
 pub descriptor_opened : (d : Descriptor) (rest : List ℕ) → descriptor_text d ++ rest ≡ before_name ++ (d.name ++ at_description d rest)
-unfolding block_text
+unfolding descriptor_block
 descriptor_opened d rest = ap (λ (w : List ℕ). before_name ++ w) (regroup_block d.name before_description d.description before_offset (decimal d.offset) before_detail (detail_text d.detail) behind_detail rest)
 
 pub descriptor_told : (x y : Descriptor) (r s : List ℕ) → IsShownDescriptor x → IsShownDescriptor y → descriptor_text x ++ r ≡ descriptor_text y ++ s → (x ≡ y) × (r ≡ s)

@@ -9,13 +9,16 @@ use Rattle.std.proofs.lemmas.List.Folds.{flat_map-map}
 use Rattle.meta_types.specs.Name.{IsName}
 use Rattle.meta_setting_tables.specs.declared.descriptor.Descriptor.{Descriptor}
 use Rattle.meta_setting_tables.specs.GroupTables.{GroupContents}
-use Rattle.meta_table_text.specs.GroupItems.{head_text, list_head_text, list_end_text, enumerator_text, descriptor_text, slot_text, binary_text, pair_text, names_text, comment_text, bytes_text, template_text}
+use Rattle.meta_table_text.specs.declared.table_list.TableList.TheVariants.{Enumerators, Descriptors, SettingSlots, Presets}
+use Rattle.meta_table_text.specs.Lists.{list_end}
+use Rattle.meta_table_text.specs.GroupItems.{head_text, enumerator_text, descriptor_text, slot_text, binary_text, pair_text, texts_with_commas, comment_text, bytes_text, template_text}
 use Rattle.meta_setting_tables.specs.EntryValues.{masks_from, names_on}
 use Rattle.meta_setting_tables.specs.WellFormed.{is_preset}
 use Rattle.meta_table_text.specs.GroupText.{enumerators_text, descriptors_text, slots_text, presets_in, preset_text, presets_text, group_text}
 use Rattle.meta_cursor.proofs.Cancel.{cancel_front, cancel_item, cancel_line, cancel_lines, cancel_items}
 use Rattle.meta_cursor.proofs.Reading.{all_first, all_behind}
 use Rattle.meta_table_reader.specs.ShownGroup.{IsShownDescriptor, IsByte, AreShownMasksOf, AreShownPresets, AreShownGroup}
+use Rattle.meta_table_reader.proofs.Heads.{list_told}
 use Rattle.meta_table_reader.proofs.NameBytes.{name_lacks_dot}
 use Rattle.meta_table_reader.proofs.EntryBlocks.{glyph_told, hex_told}
 use Rattle.meta_table_reader.proofs.DescriptorBlocks.{enumerator_told, descriptor_told}
@@ -23,30 +26,29 @@ use Rattle.meta_table_reader.proofs.GroupLines.{slots_are_lines, comment_is_line
 use Rattle.meta_table_reader.proofs.Presets.{size_cases}
 use Rattle.meta_table_reader.proofs.ShownBytes.{behind_comma, without_comma, bytes_lack}
 use Rattle.meta_table_reader.proofs.TemplateLines.{template_lines, template_lines_are, before_defaults, behind_defaults, template_opened}
-use Rattle.meta_table_reader.proofs.OpcodesTold.{list_told}
 
 -- ---- lists of names, of entries and of slots
 
 enumerators_told : (xs ys : List (List ℕ)) (r s : List ℕ) → length xs < 2 ^ 16 → length ys < 2 ^ 16 → All IsName xs → All IsName ys → enumerators_text xs ++ r ≡ enumerators_text ys ++ s → (xs ≡ ys) × (r ≡ s)
-unfolding enumerators_text list_head_text list_end_text
+unfolding enumerators_text
 enumerators_told xs ys r s few few_too one other e =
-    let (count, a) = list_told (codes "static ENUMERATORS: [&str; ") (length xs) (length ys) (flat_map enumerator_text xs) (flat_map enumerator_text ys) (codes "];\n") r s (omega (arith, few)) (omega (arith, few_too)) e in
-    let (same, left) = cancel_items IsName enumerator_text enumerator_told xs ys (codes "];\n" ++ r) (codes "];\n" ++ s) one other count a in
-    (same, cancel_front (codes "];\n") r s left)
+    let (count, a) = list_told Enumerators (length xs) (length ys) (flat_map enumerator_text xs) (flat_map enumerator_text ys) r s (omega (arith, few)) (omega (arith, few_too)) e in
+    let (same, left) = cancel_items IsName enumerator_text enumerator_told xs ys (list_end ++ r) (list_end ++ s) one other count a in
+    (same, cancel_front list_end r s left)
 
 descriptors_told : (xs ys : List Descriptor) (r s : List ℕ) → length xs < 2 ^ 16 → length ys < 2 ^ 16 → All IsShownDescriptor xs → All IsShownDescriptor ys → descriptors_text xs ++ r ≡ descriptors_text ys ++ s → (xs ≡ ys) × (r ≡ s)
-unfolding descriptors_text list_head_text list_end_text
+unfolding descriptors_text
 descriptors_told xs ys r s few few_too one other e =
-    let (count, a) = list_told (codes "static DESCRIPTORS: [detail::Descriptor; ") (length xs) (length ys) (flat_map descriptor_text xs) (flat_map descriptor_text ys) (codes "];\n") r s (omega (arith, few)) (omega (arith, few_too)) e in
-    let (same, left) = cancel_items IsShownDescriptor descriptor_text descriptor_told xs ys (codes "];\n" ++ r) (codes "];\n" ++ s) one other count a in
-    (same, cancel_front (codes "];\n") r s left)
+    let (count, a) = list_told Descriptors (length xs) (length ys) (flat_map descriptor_text xs) (flat_map descriptor_text ys) r s (omega (arith, few)) (omega (arith, few_too)) e in
+    let (same, left) = cancel_items IsShownDescriptor descriptor_text descriptor_told xs ys (list_end ++ r) (list_end ++ s) one other count a in
+    (same, cancel_front list_end r s left)
 
 slots_passed : (xs ys : List (Option ℕ)) (r s : List ℕ) → length xs < 2 ^ 64 → length ys < 2 ^ 64 → slots_text xs ++ r ≡ slots_text ys ++ s → r ≡ s
-unfolding slots_text list_head_text list_end_text
+unfolding slots_text
 slots_passed xs ys r s few few_too e =
-    let (count, a) = list_told (codes "static HASH_TABLE: [u16; ") (length xs) (length ys) (flat_map slot_text xs) (flat_map slot_text ys) (codes "];\n") r s few few_too e in
-    let lines = ap (λ w. w ++ (codes "];\n" ++ r)) (flat_map-map (λ line. line) slot_text xs) ∙ a ∙ ap (λ w. w ++ (codes "];\n" ++ s)) (sym (flat_map-map (λ line. line) slot_text ys)) in
-    cancel_front (codes "];\n") r s (cancel_lines (map slot_text xs) (map slot_text ys) (codes "];\n" ++ r) (codes "];\n" ++ s) (slots_are_lines xs) (slots_are_lines ys) (length-map xs slot_text ∙ count ∙ sym (length-map ys slot_text)) lines)
+    let (count, a) = list_told SettingSlots (length xs) (length ys) (flat_map slot_text xs) (flat_map slot_text ys) r s few few_too e in
+    let lines = ap (λ w. w ++ (list_end ++ r)) (flat_map-map (λ line. line) slot_text xs) ∙ a ∙ ap (λ w. w ++ (list_end ++ s)) (sym (flat_map-map (λ line. line) slot_text ys)) in
+    cancel_front list_end r s (cancel_lines (map slot_text xs) (map slot_text ys) (list_end ++ r) (list_end ++ s) (slots_are_lines xs) (slots_are_lines ys) (length-map xs slot_text ∙ count ∙ sym (length-map ys slot_text)) lines)
 
 -- ---- presets
 
@@ -88,8 +90,8 @@ masks_told booleans (d ∷ ds) size ms ns r s all shown one other e =
     let have_too = all_first (AreShownMasksOf size ns) d ds other in
     let behind = flat_map text ds ++ r in
     let behind_too = flat_map text_too ds ++ s in
-    let comment = comment_text d.name (names_text (names_on booleans mine)) in
-    let comment_too = comment_text d.name (names_text (names_on booleans its)) in
+    let comment = comment_text d.name (texts_with_commas (names_on booleans mine)) in
+    let comment_too = comment_text d.name (texts_with_commas (names_on booleans its)) in
     let parted = sym (append_assoc (text d) (flat_map text ds) r ∙ preset_parts booleans size ms d behind) ∙ e ∙ append_assoc (text_too d) (flat_map text_too ds) s ∙ preset_parts booleans size ns d behind_too in
     let (here, a) = cancel_items IsByte pair_text pair_told mine its (comment ++ behind) (comment_too ++ behind_too) have.bytes have_too.bytes (have.count ∙ sym have_too.count) parted in
     let b = cancel_line comment comment_too behind behind_too (comment_is_line booleans mine d all is) (comment_is_line booleans its d all is) a in
@@ -98,22 +100,21 @@ masks_told booleans (d ∷ ds) size ms ns r s all shown one other e =
 
 presets_told : (ds : List Descriptor) (size other_size : ℕ) (ms ns r s : List ℕ) → All IsShownDescriptor ds → AreShownPresets ds size ms → AreShownPresets ds other_size ns
     → presets_text ds size ms ++ r ≡ presets_text ds other_size ns ++ s → (ms ≡ ns) × (r ≡ s)
-unfolding presets_text list_head_text list_end_text
+unfolding presets_text
 presets_told ds size other_size ms ns r s shown one other e =
     let ps = presets_in ds in
-    let end : List ℕ = codes "];\n" in
-    let (count, a) = list_told (codes "static PRESETS: [(u8, u8); ") (length ps * size) (length ps * other_size) (flat_map (preset_text ds size ms) ps) (flat_map (preset_text ds other_size ns) ps) end r s one.few other.few e in
+    let (count, a) = list_told Presets (length ps * size) (length ps * other_size) (flat_map (preset_text ds size ms) ps) (flat_map (preset_text ds other_size ns) ps) r s one.few other.few e in
     let shown_ps = All-filter (λ (d : Descriptor). is_preset d.detail) IsShownDescriptor ds shown in
     let cases = size_cases ps size other_size (λ some. sym (mul-div_cancel_left other_size some) ∙ ap (λ n. n / length ps) (sym count) ∙ mul-div_cancel_left size some) in
     ⊎_elim
     (λ same.
     let each = subst (λ n. All (AreShownMasksOf n ns) ps) same other.each in
-    let (masks, left) = masks_told ds ps size ms ns (end ++ r) (end ++ s) shown shown_ps one.each each (a ∙ ap (λ n. flat_map (preset_text ds n ns) ps ++ (end ++ s)) same) in
-    (sym one.joined ∙ masks ∙ ap (λ n. flat_map (λ (d : Descriptor). masks_from n ns d.offset) ps) (sym same) ∙ other.joined, cancel_front end r s left))
+    let (masks, left) = masks_told ds ps size ms ns (list_end ++ r) (list_end ++ s) shown shown_ps one.each each (a ∙ ap (λ n. flat_map (preset_text ds n ns) ps ++ (list_end ++ s)) same) in
+    (sym one.joined ∙ masks ∙ ap (λ n. flat_map (λ (d : Descriptor). masks_from n ns d.offset) ps) (sym same) ∙ other.joined, cancel_front list_end r s left))
     (λ none.
     let masks = sym one.joined ∙ ap (flat_map (λ (d : Descriptor). masks_from size ms d.offset)) none ∙ sym (ap (flat_map (λ (d : Descriptor). masks_from other_size ns d.offset)) none) ∙ other.joined in
-    let left = sym (ap (λ es. flat_map (preset_text ds size ms) es ++ (end ++ r)) none) ∙ a ∙ ap (λ es. flat_map (preset_text ds other_size ns) es ++ (end ++ s)) none in
-    (masks, cancel_front end r s left))
+    let left = sym (ap (λ es. flat_map (preset_text ds size ms) es ++ (list_end ++ r)) none) ∙ a ∙ ap (λ es. flat_map (preset_text ds other_size ns) es ++ (list_end ++ s)) none in
+    (masks, cancel_front list_end r s left))
     cases
 
 -- ---- default bytes

@@ -3,14 +3,14 @@ use Rattle.std.proofs.Common.{◌≡◌, ℕ, List, [], ◌∷◌, ◌++◌, cod
 use Rattle.std.specs.Fmt.{decimal}
 use Rattle.std.specs.List.{flat_map}
 use Rattle.meta_typevar.specs.declared.masks.Masks.{Masks}
-use Rattle.meta_table_text.specs.TypeSetText.{mask_lines, set_text, set_comment, block_end, set_block}
+use Rattle.meta_table_text.specs.TypeSetText.{mask_lines, masks_text, set_comment, block_end, set_block}
 use Rattle.meta_cursor.proofs.Cancel.{cancel_front, cancel_number, cancel_lines}
 use Rattle.meta_table_reader.specs.Shown.{AreShownMasks}
 use Rattle.meta_table_reader.proofs.SetLines.{set_lines}
 
 -- the lines behind the fields
 abbrev pub last_lines : Masks → List (List ℕ)
-last_lines m = set_comment [] (set_text m) ∷ (codes "    }\n" ∷ (codes "    ,\n" ∷ []))
+last_lines m = set_comment [] (masks_text m) ∷ (codes "    }\n" ∷ (codes "    ,\n" ∷ []))
 
 -- what stands before each field
 abbrev pub before_lanes : List ℕ
@@ -44,7 +44,7 @@ regroup p a q b r c s d t y z = simp append_assoc
 -- the block, and then the rest
 pub set_opened : (m : Masks) (rest : List ℕ) → set_block m ++ rest ≡ before_lanes ++ (decimal m.lanes ++ at_dynamic m rest)
 unfolding set_block mask_lines block_end
-set_opened m rest = regroup before_lanes (decimal m.lanes) before_dynamic (decimal m.dynamic_lanes) before_ints (decimal m.ints) before_floats (decimal m.floats) (codes "),\n") (set_comment [] (set_text m) ++ block_end) rest
+set_opened m rest = regroup before_lanes (decimal m.lanes) before_dynamic (decimal m.dynamic_lanes) before_ints (decimal m.ints) before_floats (decimal m.floats) (codes "),\n") (set_comment [] (masks_text m) ++ block_end) rest
 
 -- the block tells the set
 pub set_told : (m n : Masks) (r s : List ℕ) → AreShownMasks m → AreShownMasks n → set_block m ++ r ≡ set_block n ++ s → (m ≡ n) × (r ≡ s)

@@ -5,7 +5,7 @@ use Rattle.std.specs.Fmt.{decimal}
 use Rattle.std.proofs.lemmas.Bool.{and_parts, and_from, ltb-true}
 use Rattle.std.proofs.lemmas.List.Elements.{All-nil, All-cons, All-map, All-filter, All-weaker}
 use Rattle.meta_typevar.specs.declared.masks.Masks.{Masks}
-use Rattle.meta_table_text.specs.TypeSetText.{parted_behind, powers, held, members, part_of, set_text, set_or_nothing, set_comment}
+use Rattle.meta_table_text.specs.TypeSetText.{parted_behind, powers, held, members, part_of, masks_text, set_or_nothing, set_comment}
 use Rattle.meta_cursor.specs.Spans.{lacks, is_line}
 use Rattle.meta_cursor.proofs.Ends.{number_lacks}
 use Rattle.meta_cursor.proofs.Lacking.{both_lack, line_behind}
@@ -44,8 +44,8 @@ part_lacks before mask free = by_test (mask == 0)
     by_test false = both_lack 10 before (members mask ++ codes "}") free (both_lack 10 (members mask) (codes "}") (members_lack mask) refl)
 
 -- the text of a set has no LF
-pub set_text_lacks : (m : Masks) → HasNoEnd (set_text m)
-unfolding set_text
+pub set_text_lacks : (m : Masks) → HasNoEnd (masks_text m)
+unfolding masks_text
 set_text_lacks m =
     both_lack 10 (members m.lanes) (codes "}" ++ (part_of (codes ", ints={") m.ints ++ (part_of (codes ", floats={") m.floats ++ codes ")"))) (members_lack m.lanes)
     (both_lack 10 (part_of (codes ", ints={") m.ints) (part_of (codes ", floats={") m.floats ++ codes ")") (part_lacks (codes ", ints={") m.ints refl)
@@ -68,5 +68,5 @@ are_lines (line ∷ lines) e =
     All-cons (λ line. IsTrue (is_line line)) line lines here (are_lines lines behind)
 
 -- the lines at the end of the block of a set
-pub set_lines : (m : Masks) → All (λ line. IsTrue (is_line line)) (set_comment [] (set_text m) ∷ (codes "    }\n" ∷ (codes "    ,\n" ∷ [])))
-set_lines m = are_lines (set_comment [] (set_text m) ∷ (codes "    }\n" ∷ (codes "    ,\n" ∷ []))) (and_from (is_line (set_comment [] (set_text m))) true (set_comment_line [] (set_text m) refl (set_text_lacks m)) refl)
+pub set_lines : (m : Masks) → All (λ line. IsTrue (is_line line)) (set_comment [] (masks_text m) ∷ (codes "    }\n" ∷ (codes "    ,\n" ∷ [])))
+set_lines m = are_lines (set_comment [] (masks_text m) ∷ (codes "    }\n" ∷ (codes "    ,\n" ∷ []))) (and_from (is_line (set_comment [] (masks_text m))) true (set_comment_line [] (masks_text m) refl (set_text_lacks m)) refl)

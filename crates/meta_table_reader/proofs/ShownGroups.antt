@@ -1,5 +1,5 @@
 -- The tables of a group that are well-formed can be told from their text.
-use Rattle.std.proofs.Common.{◌≡◌, ℕ, zero, suc, ◌+◌, ◌-◌, ◌*◌, ◌/◌, ◌%◌, ◌^◌, ◌<◌, ◌≤◌, cond, Bool, true, false, ◌⊎◌, inl, inr, ⊎_elim, List, [], ◌∷◌, ◌++◌, All, length, filter, get_or, slice_get, take, drop, Option, Some, refl, sym, ap, ◌∙◌, subst, arith}
+use Rattle.std.proofs.Common.{◌≡◌, ℕ, suc, ◌+◌, ◌-◌, ◌*◌, ◌/◌, ◌%◌, ◌^◌, ◌<◌, ◌≤◌, cond, Bool, true, false, ◌⊎◌, inl, inr, ⊎_elim, List, [], ◌∷◌, ◌++◌, All, length, filter, get_or, slice_get, take, drop, Option, Some, refl, sym, ap, ◌∙◌, subst, arith}
 use Rattle.std.specs.List.{flat_map}
 use Rattle.std.proofs.Math.Nat.{mul_comm}
 use Rattle.std.proofs.lemmas.Bool.{cases_lt}
@@ -7,44 +7,25 @@ use Rattle.std.proofs.lemmas.Nat.{mul-le}
 use Rattle.std.proofs.lemmas.List.{take-append-drop, drop-drop, drop_all, length-take-le, length-drop, length-map}
 use Rattle.std.proofs.lemmas.List.Elements.{All-cons, All-nil, All-take, All-drop}
 use Rattle.std.proofs.lemmas.Option.{slice_get-get_or}
-use Rattle.meta_unique.specs.NameSlots.{numbers_from, AreNameSlots}
+use Rattle.meta_unique.specs.NameSlots.{AreNameSlots}
+use Rattle.meta_unique.proofs.Numbered.{count_of_numbers}
 use Rattle.meta_setting_tables.specs.declared.descriptor.Detail.{Detail}
 use Rattle.meta_setting_tables.specs.declared.descriptor.Detail.TheVariants.{Bool as ABool, Enum as AnEnum, Num as ANum, Preset}
 use Rattle.meta_setting_tables.specs.declared.descriptor.Descriptor.{Descriptor}
 use Rattle.meta_setting_tables.specs.GroupTables.{GroupContents, names_in}
-use Rattle.meta_setting_tables.specs.WellFormed.{has_own_byte, is_boolean, is_preset, own_byte_count, boolean_count, preset_count, byte_count, StandsAtMasks, IsPlaced, HasItsValues, AreGoodMasks, IsWellFormedGroup}
+use Rattle.meta_setting_tables.specs.WellFormed.{is_preset, own_byte_count, described_boolean_count, preset_count, described_byte_count, StandsAtMasks, IsPlaced, HasItsValues, AreGoodMasks, IsWellFormedGroup}
 use Rattle.meta_setting_tables.specs.EntryValues.{masks_from}
+use Rattle.meta_setting_tables.proofs.Inside.{all_kinds}
 use Rattle.meta_table_reader.specs.ShownGroup.{IsShownDetail, IsShownDescriptor, IsByte, AreShownMasksOf, AreShownPresets, AreShownGroup}
 
 -- ---- slots
 
-numbers_count : (first count : ℕ) → length (numbers_from first count) ≡ count
-numbers_count first zero = refl
-numbers_count first (suc count) = ap suc (numbers_count (first + 1) count)
-
 -- few names have few slots
 pub few_slots : (first : ℕ) (names : List (List ℕ)) (slots : List (Option ℕ)) → AreNameSlots first names slots → length names ≤ 65535 → length slots < 2 ^ 64
 few_slots first names slots are few =
-    let count = numbers_count first (length names) in
+    let count = count_of_numbers first (length names) in
     let most = are.size.least (2 ^ 17) (17, refl) (omega (arith, count, few)) in
     omega (arith, most)
-
--- ---- kinds of entries
-
--- each entry is of one kind
-kinds : (ds : List Descriptor) → own_byte_count ds + boolean_count ds + preset_count ds ≡ length ds
-kinds [] = refl
-kinds (d ∷ ds) = by_kind d.detail (kinds ds)
-  where
-    by_kind : (k : Detail) → own_byte_count ds + boolean_count ds + preset_count ds ≡ length ds
-        → length (cond (has_own_byte k) (d ∷ filter (λ d. has_own_byte d.detail) ds) (filter (λ d. has_own_byte d.detail) ds))
-        + length (cond (is_boolean k) (d ∷ filter (λ d. is_boolean d.detail) ds) (filter (λ d. is_boolean d.detail) ds))
-        + length (cond (is_preset k) (d ∷ filter (λ d. is_preset d.detail) ds) (filter (λ d. is_preset d.detail) ds))
-        ≡ length (d ∷ ds)
-    by_kind (ABool bit) more = omega (arith, more)
-    by_kind (AnEnum last enumerators) more = omega (arith, more)
-    by_kind ANum more = omega (arith, more)
-    by_kind Preset more = omega (arith, more)
 
 -- ---- presets, where so many settings stand before them
 
@@ -132,14 +113,14 @@ module _ (settings size : ℕ) (masks : List ℕ) where
 -- ---- the group
 
 all_bytes : (ds : List Descriptor) (masks : List ℕ) → AreGoodMasks ds masks → All IsByte masks
-all_bytes ds masks good = λ i d within. ⊎_elim (λ some. sized i d within some) (λ none. absurd (nothing i within (omega (arith, none)))) (cases_lt 0 (byte_count ds))
+all_bytes ds masks good = λ i d within. ⊎_elim (λ some. sized i d within some) (λ none. absurd (nothing i within (omega (arith, none)))) (cases_lt 0 (described_byte_count ds))
   where
-    nothing : (i : ℕ) → i < length masks → byte_count ds ≡ 0 → ⊥
+    nothing : (i : ℕ) → i < length masks → described_byte_count ds ≡ 0 → ⊥
     nothing i within none = let count = good.count ∙ ap (λ n. preset_count ds * n) none in omega (arith, count, within)
 
-    sized : (i d : ℕ) → i < length masks → 0 < byte_count ds → get_or masks i d < 256
+    sized : (i d : ℕ) → i < length masks → 0 < described_byte_count ds → get_or masks i d < 256
     sized i d within some =
-        let size = byte_count ds in
+        let size = described_byte_count ds in
         let place : i / size * size + i % size ≡ i = let comm = mul_comm (i / size) size in omega (arith, some, comm) in
         (good.booleans (i / size) (i % size) (get_or masks i d) (omega (arith, some)) (ap (slice_get masks) place ∙ slice_get-get_or masks i d within)).fits
 
@@ -164,10 +145,10 @@ entry_shown g is k d within =
     let ds = g.descriptors in
     let x = get_or ds k d in
     let own = own_byte_count ds in
-    let booleans = boolean_count ds in
-    let size = byte_count ds in
+    let booleans = described_boolean_count ds in
+    let size = described_byte_count ds in
     let few = is.limits.few_entries in
-    let settings : own + booleans ≤ 65535 = let count = kinds ds in omega (arith, count, few) in
+    let settings : own + booleans ≤ 65535 = let count = all_kinds ds in omega (arith, count, few) in
     let placed = is.placed k x (slice_get-get_or ds k d within) in
     record {
       name = is.names.entry_names k d within;
@@ -181,12 +162,12 @@ presets_shown g is =
     let ds = g.descriptors in
     let masks = g.preset_masks in
     let own = own_byte_count ds in
-    let booleans = boolean_count ds in
-    let size = byte_count ds in
+    let booleans = described_boolean_count ds in
+    let size = described_byte_count ds in
     let settings = own + booleans in
     let few = is.limits.few_entries in
     let sized = is.limits.few_bytes in
-    let count = kinds ds in
+    let count = all_kinds ds in
     let apart : (k : ℕ) (d : Descriptor) → slice_get ds k ≡ Some d → Apart settings size masks (0 + k) d = λ k d there. let first : k ≡ 0 + k = omega arith in subst (λ n. Apart settings size masks n d) first (placed_apart own booleans size k d d.detail (is.placed k d there)) in
     let number : 0 + length ds - settings ≡ preset_count ds = omega (arith, count) in
     let whole : (0 + length ds - settings) * size ≡ length masks = ap (λ n. n * size) number ∙ sym is.masks.count in

@@ -1,5 +1,5 @@
 -- Well-formed tables that fit a version can be told from their text in it.
-use Rattle.std.proofs.Common.{◌≡◌, ℕ, suc, ◌+◌, ◌≤◌, cond, Bool, true, false, inl, inr, List, [], ◌∷◌, length, sum, filter, get_or, slice_get, Some, arith}
+use Rattle.std.proofs.Common.{◌≡◌, ℕ, suc, ◌+◌, ◌≤◌, true, false, inl, inr, List, [], ◌∷◌, length, sum, get_or, slice_get, Some, arith}
 use Rattle.std.specs.List.{fold}
 use Rattle.std.proofs.lemmas.List.Elements.{All-weaker}
 use Rattle.std.proofs.lemmas.Option.{slice_get-get_or}
@@ -18,6 +18,7 @@ use Rattle.meta_table_reader.specs.Shown.{AreShownMasks, IsShownConstraint, IsSh
 use Rattle.meta_table_reader.specs.ShownGroup.{AreShownGroup}
 use Rattle.meta_table_reader.specs.Readable.{AreShown}
 use Rattle.meta_table_reader.proofs.ShownGroups.{few_slots, group_shown}
+use Rattle.meta_opcode_tables.proofs.MaskTests.{sum_some}
 
 -- ---- type sets
 
@@ -36,21 +37,12 @@ sum-cons n ns =
     let all : fold ◌+◌ (0 + n) ns ≡ n + fold ◌+◌ 0 ns = omega (arith, from) in
     all
 
--- what some of the numbers have in sum is at most what all have
-some_sum : (p : ℕ → Bool) (ns : List ℕ) → sum (filter p ns) ≤ sum ns
-some_sum p [] = omega arith
-some_sum p (n ∷ ns) = by_test (p n) (some_sum p ns)
-  where
-    by_test : (b : Bool) → sum (filter p ns) ≤ sum ns → sum (cond b (n ∷ filter p ns) (filter p ns)) ≤ sum (n ∷ ns)
-    by_test true more = let one = sum-cons n (filter p ns) in let all = sum-cons n ns in let less : sum (n ∷ filter p ns) ≤ sum (n ∷ ns) = omega (arith, more, one, all) in less
-    by_test false more = let all = sum-cons n ns in let less : sum (filter p ns) ≤ sum (n ∷ ns) = omega (arith, more, all) in less
-
 masks_shown : (m : Masks) → AreMasks m → AreShownMasks m
 masks_shown m are =
-    let lanes = some_sum (holds m.lanes) (lane_counts false) in
-    let dynamic_lanes = some_sum (holds m.dynamic_lanes) (lane_counts true) in
-    let ints = some_sum (holds m.ints) (widths IntKind) in
-    let floats = some_sum (holds m.floats) (widths FloatKind) in
+    let lanes = sum_some (holds m.lanes) (lane_counts false) in
+    let dynamic_lanes = sum_some (holds m.dynamic_lanes) (lane_counts true) in
+    let ints = sum_some (holds m.ints) (widths IntKind) in
+    let floats = sum_some (holds m.floats) (widths FloatKind) in
     let l = are.lanes in
     let d = are.dynamic_lanes in
     let i = are.ints in

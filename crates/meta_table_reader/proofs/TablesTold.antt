@@ -6,7 +6,7 @@ use Rattle.meta_unique.specs.NameSlots.{AreNameSlots}
 use Rattle.meta_opcode_tables.specs.WellFormed.{IsWellFormedOpcodes}
 use Rattle.meta_setting_tables.specs.GroupTables.{GroupContents, names_in}
 use Rattle.meta_setting_tables.specs.WellFormed.{IsWellFormedGroup}
-use Rattle.meta_setting_tables.proofs.SameSlots.{same_name_slots}
+use Rattle.meta_unique.proofs.OneFilling.{one_filling}
 use Rattle.meta_gen.specs.WholeTables.{WholeTables}
 use Rattle.meta_gen.specs.WellFormed.{IsWellFormed}
 use Rattle.meta_table_text.specs.declared.version.Version.{Version}
@@ -23,12 +23,12 @@ use Rattle.meta_table_reader.proofs.GroupsTold.{SameGroup, groups_told}
 -- slots follow from the names
 same_opcodes : (t u : TableContents) → IsWellFormedOpcodes t → IsWellFormedOpcodes u → SameOpcodes t u → t ≡ u
 same_opcodes t u one other same =
-    let slots = same_name_slots 1 u.names t.opcode_slots u.opcode_slots (subst (λ names. AreNameSlots 1 names t.opcode_slots) same.names one.slots) other.slots in
+    let slots = one_filling 1 u.names t.opcode_slots u.opcode_slots (subst (λ names. AreNameSlots 1 names t.opcode_slots) same.names one.slots) other.slots in
     λ i. record { names = same.names i; formats = same.formats i; opcode_slots = slots i; type_sets = same.type_sets i; operand_constraints = same.operand_constraints i; entries = same.entries i }
 
 same_group : (g h : GroupContents) → IsWellFormedGroup g → IsWellFormedGroup h → SameGroup g h → g ≡ h
 same_group g h one other same =
-    let slots = same_name_slots 0 (names_in h.descriptors) g.slots h.slots (subst (λ ds. AreNameSlots 0 (names_in ds) g.slots) same.descriptors one.slots) other.slots in
+    let slots = one_filling 0 (names_in h.descriptors) g.slots h.slots (subst (λ ds. AreNameSlots 0 (names_in ds) g.slots) same.descriptors one.slots) other.slots in
     λ i. record { name = same.name i; descriptors = same.descriptors i; enumerators = same.enumerators i; defaults = same.defaults i; preset_masks = same.preset_masks i; slots = slots i }
 
 same_groups : (gs hs : List GroupContents) → All IsWellFormedGroup gs → All IsWellFormedGroup hs → AllZip SameGroup gs hs → gs ≡ hs

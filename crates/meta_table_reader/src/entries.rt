@@ -6,13 +6,13 @@ ghost use Rattle.meta_table_text.specs.Version.{offset_shown};
 ghost use Rattle.meta_table_text.specs.OpcodeText.{each_opcode, second_line, entry_block, opcode_block};
 ghost use Rattle.meta_table_text.specs.TableText.{entries_part};
 ghost use Rattle.meta_table_reader.specs.EntryLines.{control_lines, second_lines};
-ghost use Rattle.meta_table_reader.specs.Shown.{IsShownOffset, IsShownSecond, IsShownEntry, IsShownConstraint, AreNamed, AreShownOpcodes};
+ghost use Rattle.meta_table_reader.specs.Shown.{IsShownOffset, IsShownSecond, IsShownEntry, IsShownConstraint, AreShownOpcodes};
 ghost use Rattle.meta_types.specs.Name.{IsName};
 
-use super::lists::list_count;
+use super::lists::{list_count, skip_list_end};
 use meta_cursor::Cursor;
 use meta_gen::{NO_TYPE_SET, OpcodeConstraints};
-use meta_table_text::Version;
+use meta_table_text::{TableList, Version};
 use std::alloc::{AllocError, Global};
 
 /// The place of a type set, or that there is none, by what the version shows for it.
@@ -115,11 +115,8 @@ pub(crate) fn entries(
 ) -> Result<Vec<OpcodeConstraints>, AllocError>
     ensures { IfOk result (λ v. (t : TableContents) (rest : List ℕ) → AreShownOpcodes version t → cursor.old ≡ entries_part version t ++ rest → (map entry_of v.items ≡ t.entries) × (cursor.new ≡ rest)) }
 {
-    let count = list_count(
-        cursor,
-        "// Table of opcode constraints.\nconst OPCODE_CONSTRAINTS: [OpcodeConstraints; ",
-    );
+    let count = list_count(cursor, TableList::Entries);
     let entries = blocks(alloc, cursor, version, count)?;
-    cursor.pass("];\n");
+    skip_list_end(cursor);
     Ok(entries)
 }

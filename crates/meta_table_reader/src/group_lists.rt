@@ -9,9 +9,10 @@ ghost use Rattle.meta_table_text.specs.GroupText.{enumerators_text, descriptors_
 ghost use Rattle.meta_table_reader.specs.ShownGroup.{IsByte, IsShownDescriptor, AreShownMasksOf, AreShownPresets};
 
 use super::item::items;
-use super::lists::list_count;
+use super::lists::{list_count, skip_list_end};
 use meta_cursor::Cursor;
 use meta_gen::{Descriptor, Detail};
+use meta_table_text::TableList;
 use meta_types::Text;
 use std::alloc::{AllocError, Global};
 
@@ -19,9 +20,9 @@ use std::alloc::{AllocError, Global};
 pub(crate) fn enumerators(alloc: Global, cursor: &mut Cursor) -> Result<Vec<Text>, AllocError>
     ensures { IfOk result (λ v. (names : List (List ℕ)) (rest : List ℕ) → length names < 2 ^ 16 → All IsName names → cursor.old ≡ enumerators_text names ++ rest → (v.items ≡ names) × (cursor.new ≡ rest)) }
 {
-    let count = list_count(cursor, "static ENUMERATORS: [&str; ");
+    let count = list_count(cursor, TableList::Enumerators);
     let names = items::<Text>(alloc, cursor, count)?;
-    cursor.pass("];\n");
+    skip_list_end(cursor);
     Ok(names)
 }
 
@@ -29,9 +30,9 @@ pub(crate) fn enumerators(alloc: Global, cursor: &mut Cursor) -> Result<Vec<Text
 pub(crate) fn descriptors(alloc: Global, cursor: &mut Cursor) -> Result<Vec<Descriptor>, AllocError>
     ensures { IfOk result (λ v. (ds : List Descriptor) (rest : List ℕ) → length ds < 2 ^ 16 → All IsShownDescriptor ds → cursor.old ≡ descriptors_text ds ++ rest → (v.items ≡ ds) × (cursor.new ≡ rest)) }
 {
-    let count = list_count(cursor, "static DESCRIPTORS: [detail::Descriptor; ");
+    let count = list_count(cursor, TableList::Descriptors);
     let entries = items::<Descriptor>(alloc, cursor, count)?;
-    cursor.pass("];\n");
+    skip_list_end(cursor);
     Ok(entries)
 }
 
@@ -39,9 +40,9 @@ pub(crate) fn descriptors(alloc: Global, cursor: &mut Cursor) -> Result<Vec<Desc
 pub(crate) fn skip_slots(cursor: &mut Cursor)
     ensures { (slots : List (Option ℕ)) (rest : List ℕ) → length slots < 2 ^ 64 → cursor.old ≡ slots_text slots ++ rest → cursor.new ≡ rest }
 {
-    let count = list_count(cursor, "static HASH_TABLE: [u16; ");
+    let count = list_count(cursor, TableList::SettingSlots);
     cursor.skip_lines(count);
-    cursor.pass("];\n");
+    skip_list_end(cursor);
 }
 
 /// Reads the line of a pair, of which the value is the mask.
@@ -116,10 +117,10 @@ pub(crate) fn preset_masks(
 ) -> Result<Vec<u8>, AllocError>
     ensures { IfOk result (λ v. (size : ℕ) (masks rest : List ℕ) → All IsShownDescriptor entries.now → AreShownPresets entries.now size masks → cursor.old ≡ presets_text entries.now size masks ++ rest → (v.items ≡ masks) × (cursor.new ≡ rest)) }
 {
-    let pairs = list_count(cursor, "static PRESETS: [(u8, u8); ");
+    let pairs = list_count(cursor, TableList::Presets);
     let presets = preset_count(entries);
     let size = size_of(pairs, presets);
     let masks = preset_lines(alloc, cursor, presets, size)?;
-    cursor.pass("];\n");
+    skip_list_end(cursor);
     Ok(masks)
 }

@@ -1,7 +1,7 @@
 ghost use Rattle.std.specs.Prelude.{◌≡◌, ◌<◌, ◌^◌, ℕ, List, ◌++◌, IfOk, All, length, map};
 ghost use Rattle.meta_types.specs.Name.{IsName};
 ghost use Rattle.meta_meaning.specs.Tables.{TableContents};
-ghost use Rattle.meta_opcode_tables.specs.Constraint.{number_constraint_of, entry_of};
+ghost use Rattle.meta_opcode_tables.specs.Constraint.{number_constraint_of};
 ghost use Rattle.meta_table_text.specs.declared.version.Version.{Version};
 ghost use Rattle.meta_table_text.specs.TableText.{version_line, slots_part, sets_list, sets_part, constraints_part, opcodes_text};
 ghost use Rattle.meta_table_reader.specs.OpcodeLists.{HaveOpcodeLists};
@@ -9,11 +9,11 @@ ghost use Rattle.meta_table_reader.specs.Shown.{AreShownLists, AreShownOpcodes};
 
 use super::entries::entries;
 use super::item::items;
-use super::lists::list_count;
+use super::lists::{list_count, skip_list_end};
 use super::opcode_names::{OpcodeNames, opcode_names};
 use meta_cursor::Cursor;
 use meta_gen::{Constraint, OpcodeConstraints};
-use meta_table_text::Version;
+use meta_table_text::{TableList, Version};
 use meta_typevar::Masks;
 use std::alloc::{AllocError, Global};
 
@@ -41,21 +41,18 @@ pub(crate) fn version_of(cursor: &Cursor) -> Version
 fn skip_slots(cursor: &mut Cursor)
     ensures { (t : TableContents) (rest : List ℕ) → All IsName t.names → length t.opcode_slots < 2 ^ 64 → cursor.old ≡ slots_part t ++ rest → cursor.new ≡ rest }
 {
-    let count = list_count(cursor, "const OPCODE_HASH_TABLE: [Option<Opcode>; ");
+    let count = list_count(cursor, TableList::OpcodeSlots);
     cursor.skip_lines(count);
-    cursor.pass("];\n");
+    skip_list_end(cursor);
 }
 
 /// Reads the list of the type sets.
 fn sets_list(alloc: Global, cursor: &mut Cursor) -> Result<Vec<Masks>, AllocError>
     ensures { IfOk result (λ v. (t : TableContents) (rest : List ℕ) → AreShownLists t → cursor.old ≡ sets_list t ++ rest → (v.items ≡ t.type_sets) × (cursor.new ≡ rest)) }
 {
-    let count = list_count(
-        cursor,
-        "// Table of value type sets.\nconst TYPE_SETS: [ir::instructions::ValueTypeSet; ",
-    );
+    let count = list_count(cursor, TableList::TypeSets);
     let sets = items::<Masks>(alloc, cursor, count)?;
-    cursor.pass("];\n");
+    skip_list_end(cursor);
     Ok(sets)
 }
 
@@ -74,12 +71,9 @@ fn type_sets(alloc: Global, cursor: &mut Cursor) -> Result<Vec<Masks>, AllocErro
 fn operand_constraints(alloc: Global, cursor: &mut Cursor) -> Result<Vec<Constraint>, AllocError>
     ensures { IfOk result (λ v. (t : TableContents) (rest : List ℕ) → AreShownLists t → cursor.old ≡ constraints_part t ++ rest → (map number_constraint_of v.items ≡ t.operand_constraints) × (cursor.new ≡ rest)) }
 {
-    let count = list_count(
-        cursor,
-        "// Table of operand constraint sequences.\nconst OPERAND_CONSTRAINTS: [OperandConstraint; ",
-    );
+    let count = list_count(cursor, TableList::Constraints);
     let constraints = items::<Constraint>(alloc, cursor, count)?;
-    cursor.pass("];\n");
+    skip_list_end(cursor);
     Ok(constraints)
 }
 

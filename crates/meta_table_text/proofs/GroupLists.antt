@@ -8,7 +8,7 @@ use Rattle.meta_lists.proofs.Places.{drop_past}
 use Rattle.meta_setting_tables.specs.declared.descriptor.Detail.{Detail}
 use Rattle.meta_setting_tables.specs.declared.descriptor.Detail.TheVariants.{Bool as ABool, Enum as AnEnum, Num as ANum, Preset}
 use Rattle.meta_setting_tables.specs.declared.descriptor.Descriptor.{Descriptor}
-use Rattle.meta_table_text.specs.GroupItems.{names_text}
+use Rattle.meta_table_text.specs.GroupItems.{texts_with_commas}
 use Rattle.meta_setting_tables.specs.WellFormed.{is_preset}
 use Rattle.meta_table_text.specs.GroupText.{presets_in}
 
@@ -31,7 +31,7 @@ list_written start head opened all now left tail new begun so_far none more =
     all_written opened all now left tail new so_far none more ∙ ap (λ t. t ++ (all ++ tail)) begun ∙ append_assoc start head (all ++ tail)
 
 -- names that are joined are parted by commas
-pub names_joined : (names : List (Bor (List ℕ))) → join_by (λ (n : Bor (List ℕ)). n.now) (codes ", ") names ≡ names_text (map (λ (n : Bor (List ℕ)). n.now) names)
+pub names_joined : (names : List (Bor (List ℕ))) → join_by (λ (n : Bor (List ℕ)). n.now) (codes ", ") names ≡ texts_with_commas (map (λ (n : Bor (List ℕ)). n.now) names)
 names_joined [] = refl
 names_joined (name ∷ names) = ap (λ t. name.now ++ t) (sym (flat_map-map (λ n. codes ", " ++ n) (λ (n : Bor (List ℕ)). n.now) names))
 

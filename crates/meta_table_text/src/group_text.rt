@@ -4,13 +4,15 @@ ghost use Rattle.meta_setting_tables.specs.declared.descriptor.Descriptor.{Descr
 ghost use Rattle.meta_setting_tables.specs.EntryValues.{masks_from};
 ghost use Rattle.meta_setting_tables.specs.GroupTables.{IsPresetIn};
 ghost use Rattle.meta_gen.specs.WholeTables.{OfGroup, HasNoGroup};
-ghost use Rattle.meta_table_text.specs.GroupItems.{pair_text, names_text, comment_text, bytes_text, template_text};
+ghost use Rattle.meta_table_text.specs.GroupItems.{pair_text, texts_with_commas, comment_text, bytes_text, template_text};
 ghost use Rattle.meta_table_text.specs.GroupText.{enumerators_text, descriptors_text, slots_text, presets_in, preset_text, presets_text, group_text};
 
 use super::group_items::{
-    hex_bytes, push_comment, push_descriptor, push_enumerator, push_head, push_list_end,
-    push_list_head, push_pair, push_slot, push_template,
+    hex_bytes, push_comment, push_descriptor, push_enumerator, push_head, push_pair, push_slot,
+    push_template,
 };
+use super::lines::{push_list_end, push_list_head};
+use super::table_list::TableList;
 use meta_gen::Tables;
 use meta_setting_tables::{Descriptor, GroupTables};
 use meta_types::Text;
@@ -20,7 +22,7 @@ use std::alloc::{AllocError, Global};
 fn push_enumerators(out: &mut String, names: &[Text]) -> Result<(), AllocError>
     ensures { OnOk result (string_bytes out.new ≡ string_bytes out.old ++ enumerators_text names.now) }
 {
-    push_list_head(out, "ENUMERATORS", "&str", names.len())?;
+    push_list_head(out, TableList::Enumerators, names.len())?;
     for name in names {
         push_enumerator(out, name.as_str())?;
     }
@@ -31,7 +33,7 @@ fn push_enumerators(out: &mut String, names: &[Text]) -> Result<(), AllocError>
 fn push_descriptors(out: &mut String, descriptors: &[Descriptor]) -> Result<(), AllocError>
     ensures { OnOk result (string_bytes out.new ≡ string_bytes out.old ++ descriptors_text descriptors.now) }
 {
-    push_list_head(out, "DESCRIPTORS", "detail::Descriptor", descriptors.len())?;
+    push_list_head(out, TableList::Descriptors, descriptors.len())?;
     for descriptor in descriptors {
         push_descriptor(out, descriptor)?;
     }
@@ -42,7 +44,7 @@ fn push_descriptors(out: &mut String, descriptors: &[Descriptor]) -> Result<(), 
 fn push_slots(out: &mut String, slots: &[Option<u16>]) -> Result<(), AllocError>
     ensures { OnOk result (string_bytes out.new ≡ string_bytes out.old ++ slots_text slots.now) }
 {
-    push_list_head(out, "HASH_TABLE", "u16", slots.len())?;
+    push_list_head(out, TableList::SettingSlots, slots.len())?;
     for slot in slots {
         push_slot(out, *slot)?;
     }
@@ -66,7 +68,7 @@ fn push_booleans(
     name: &str,
     booleans: &[&str],
 ) -> Result<(), AllocError>
-    ensures { OnOk result (string_bytes out.new ≡ string_bytes out.old ++ comment_text name.now (names_text (map (λ n. n.now) booleans.now))) }
+    ensures { OnOk result (string_bytes out.new ≡ string_bytes out.old ++ comment_text name.now (texts_with_commas (map (λ n. n.now) booleans.now))) }
 {
     let shown = booleans.join(alloc, ", ")?;
     push_comment(out, name, shown.as_str())
@@ -121,7 +123,7 @@ fn push_each_preset(alloc: Global, out: &mut String, group: &GroupTables) -> Res
 fn push_presets(alloc: Global, out: &mut String, group: &GroupTables) -> Result<(), AllocError>
     ensures { OnOk result (string_bytes out.new ≡ string_bytes out.old ++ presets_text group.now.descriptors (length group.now.defaults) group.now.preset_masks) }
 {
-    push_list_head(out, "PRESETS", "(u8, u8)", group.preset_masks().len())?;
+    push_list_head(out, TableList::Presets, group.preset_masks().len())?;
     push_each_preset(alloc, out, group)?;
     push_list_end(out)
 }

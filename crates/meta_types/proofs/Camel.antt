@@ -1,42 +1,30 @@
 -- The camel case of a text, character by character.
-use Rattle.std.proofs.Common.{◌≡◌, ℕ, ◌+◌, ◌/◌, ◌<◌, ◌≤◌, ◌≢◌, Bool, true, false, cond, ltb, List, [], ◌∷◌, ◌++◌, ap, ◌∙◌, sym, refl, arith, ⊎_elim, append_assoc, length}
+use Rattle.std.proofs.Common.{◌≡◌, ℕ, ◌<◌, ◌≤◌, ◌≢◌, Bool, true, false, List, [], ◌∷◌, ◌++◌, ap, ◌∙◌, sym, refl, arith, ⊎_elim, append_assoc, length}
 use Rattle.std.proofs.lemmas.List.{append-nil, nil_from_length}
 use Rattle.std.proofs.lemmas.Str.{encode_ascii}
 use Rattle.std.proofs.lemmas.Bool.Decides.{nat_tests}
 use Rattle.std.proofs.lemmas.Bool.{cases_lt}
-use lib.Utf8.{encode, next}
+use lib.Utf8.{encode}
 use Rattle.meta_types.specs.CamelCase.{capital_at, camel_from}
+use Rattle.meta_types.proofs.Characters.{ArePast, AreSomePast, past_ascii}
 
 -- a byte past ASCII stays as it is
 high : (b : ℕ) (up : Bool) (rest : List ℕ) → 128 ≤ b → camel_from up (b ∷ rest) ≡ b ∷ camel_from false rest
 high b true rest h = grind (arith, nat_tests)
 high b false rest h = grind (arith, nat_tests)
 
--- the bytes of a character of two, three and four bytes
-abbrev two : ℕ → List ℕ
-two c = (192 + c / 64) ∷ next c ∷ []
+-- so do bytes past ASCII that follow one another
+stay : (bs : List ℕ) (rest : List ℕ) → ArePast bs → camel_from false (bs ++ rest) ≡ bs ++ camel_from false rest
+stay [] rest h = refl
+stay (b ∷ bs) rest (h, hs) = high b false (bs ++ rest) h ∙ ap (◌∷◌ b) (stay bs rest hs)
 
-abbrev three : ℕ → List ℕ
-three c = (224 + c / 4096) ∷ next (c / 64) ∷ next c ∷ []
+some_stay : (bs : List ℕ) (up : Bool) (rest : List ℕ) → AreSomePast bs → camel_from up (bs ++ rest) ≡ bs ++ camel_from false rest
+some_stay [] up rest h = absurd h
+some_stay (b ∷ bs) up rest (h, hs) = high b up (bs ++ rest) h ∙ ap (◌∷◌ b) (stay bs rest hs)
 
-abbrev four : ℕ → List ℕ
-four c = (240 + c / 262144) ∷ next (c / 4096) ∷ next (c / 64) ∷ next c ∷ []
-
-not_ascii : (c : ℕ) → 128 ≤ c → ltb c 128 ≡ false
-not_ascii c h = grind (arith, nat_tests)
-
--- so does a character past ASCII
+-- and a character past ASCII
 camel_from-high : (c : ℕ) (up : Bool) (rest : List ℕ) → 128 ≤ c → camel_from up (encode c ++ rest) ≡ encode c ++ camel_from false rest
-unfolding encode
-camel_from-high c up rest h =
-    rw (not_ascii c h)
-    (elim (ltb c 2048) as (λ b. camel_from up (cond b (two c) (cond (ltb c 65536) (three c) (four c)) ++ rest) ≡ cond b (two c) (cond (ltb c 65536) (three c) (four c)) ++ camel_from false rest) [
-      | true ↦ high _ up (next c ∷ rest) (omega arith) ∙ ap (◌∷◌ (192 + c / 64)) (high _ false rest (omega arith))
-      | false ↦ elim (ltb c 65536) as (λ b. camel_from up (cond b (three c) (four c) ++ rest) ≡ cond b (three c) (four c) ++ camel_from false rest) [
-        | true ↦ high _ up (next (c / 64) ∷ next c ∷ rest) (omega arith) ∙ ap (◌∷◌ (224 + c / 4096)) (high _ false (next c ∷ rest) (omega arith) ∙ ap (◌∷◌ (next (c / 64))) (high _ false rest (omega arith)))
-        | false ↦ high _ up (next (c / 4096) ∷ next (c / 64) ∷ next c ∷ rest) (omega arith) ∙ ap (◌∷◌ (240 + c / 262144)) (high _ false (next (c / 64) ∷ next c ∷ rest) (omega arith) ∙ ap (◌∷◌ (next (c / 4096))) (high _ false (next c ∷ rest) (omega arith) ∙ ap (◌∷◌ (next (c / 64))) (high _ false rest (omega arith))))
-      ]
-    ])
+camel_from-high c up rest h = some_stay (encode c) up rest (past_ascii c h)
 
 capital_ascii : (up : Bool) (c : ℕ) → c < 128 → capital_at up c < 128
 capital_ascii true c h = grind (arith, nat_tests)

@@ -33,16 +33,16 @@ ordered k m =
     (cases_order k.part m.part)
 
 -- before the first key there is no position
-pub start : {P : Type 0} (key : P → Key) (Shows : P → DefinitionError → Type 0) → ShowsNoneBefore key Shows (key_at 0 0 0)
-start key Shows = λ p e l s. grind (arith, l)
+pub none_before_first : {P : Type 0} (key : P → Key) (Shows : P → DefinitionError → Type 0) → ShowsNoneBefore key Shows (key_at 0 0 0)
+none_before_first key Shows = λ p e l s. grind (arith, l)
 
 module _ {P : Type 0} {key : P → Key} {Shows : P → DefinitionError → Type 0} {parts : ℕ} {places rules : ℕ → ℕ} (so : IsSearchable key Shows parts places rules) where
   same : (p q : P) → key p ≡ key q → p ≡ q
   same p q is = sym (so.known p) ∙ ap so.position_of is ∙ so.known q
 
   -- two first faults are one
-  pub one_first : (e f : DefinitionError) → IsFirstShown key Shows e → IsFirstShown key Shows f → e ≡ f
-  one_first e f a b =
+  pub one_first_shown : (e f : DefinitionError) → IsFirstShown key Shows e → IsFirstShown key Shows f → e ≡ f
+  one_first_shown e f a b =
       ⊎_elim
       (λ is. so.one a.position e f a.shows (subst (λ p. Shows p f) (sym (same a.position b.position is)) b.shows))
       (⊎_elim (λ l. absurd (b.first a.position e l a.shows)) (λ l. absurd (a.first b.position f l b.shows)))

@@ -1,7 +1,7 @@
 -- A derived function leads from a type to one type at most.
 use Rattle.std.proofs.Common.{Bool, Contains, subst, ◌&&◌, ◌||◌, ◌==◌, not, nat_lt, ◌≡◌, ◌<◌, ℕ, ◌*◌, ◌/◌, false, true, if◌then◌else◌, refl, sym, ◌∙◌, ap, arith, ⊎_elim}
 use Rattle.std.proofs.lemmas.Bool.{and_parts, and_from, or_cases, eqb-true, ltb-true, ltb-false, not-true, false≢true}
-use Rattle.meta_types.specs.TypeParts.{Kind, IntKind, TypeParts, IsType, lane_counts, scalar}
+use Rattle.meta_types.specs.TypeParts.{NumberKind, IntKind, TypeParts, IsType, lane_counts, scalar}
 use Rattle.meta_types.specs.Function.{Function, LaneOf, AsTruthy, HalfWidth, DoubleWidth, SplitLanes, MergeLanes, DynamicToVector, Narrower, Wider, Answers, is_scalar, same_kind, same_mark}
 use Rattle.meta_types.proofs.AllTypes.{at_each_contained, same_kind_true, same_mark_true}
 
@@ -18,7 +18,7 @@ candidate Narrower u = u
 candidate Wider u = u
 
 -- a type of these parts
-with_parts : (t : TypeParts) (kind : Kind) (width lanes : ℕ) (mark : Bool) → t.kind ≡ kind → t.width ≡ width → t.lanes ≡ lanes → t.is_dynamic ≡ mark → t ≡ record { kind = kind; width = width; lanes = lanes; is_dynamic = mark }
+with_parts : (t : TypeParts) (kind : NumberKind) (width lanes : ℕ) (mark : Bool) → t.kind ≡ kind → t.width ≡ width → t.lanes ≡ lanes → t.is_dynamic ≡ mark → t ≡ record { kind = kind; width = width; lanes = lanes; is_dynamic = mark }
 with_parts t kind width lanes mark k w l m = λ i. record { kind = k i; width = w i; lanes = l i; is_dynamic = m i }
 
 -- what has one lane isn't dynamic

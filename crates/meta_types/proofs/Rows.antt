@@ -1,13 +1,13 @@
 -- The number of a type, taken apart: 112, the code of its lane, and 16 for each row that its lanes and its mark give.
 use Rattle.std.proofs.Common.{◌≡◌, ◌≢◌, ℕ, ◌+◌, ◌*◌, ◌/◌, ◌%◌, ◌<◌, ◌≤◌, zero, suc, Bool, true, false, nat_lt, Contains, refl, sym, ap, arith, le_of_suc-le-suc, if◌then◌else◌, ◌-◌}
 use Rattle.std.proofs.lemmas.Bool.{ltb-true}
-use Rattle.meta_types.specs.TypeParts.{Kind, IntKind, FloatKind, TypeParts, IsType, widths, lane_counts, lane_code, log2, number_of}
+use Rattle.meta_types.specs.TypeParts.{NumberKind, IntKind, FloatKind, TypeParts, IsType, widths, lane_counts, lane_code, log2, number_of}
 use Rattle.meta_types.specs.Lane.{lane_parts}
 use Rattle.meta_types.specs.declared.lane.LaneType.{LaneType}
 use Rattle.meta_types.specs.declared.lane.LaneType.TheVariants.{Int as IntLane, Float as FloatLane}
 use Rattle.meta_types.proofs.AllTypes.{at_each_contained}
 
-code_below : (kind : Kind) (width : ℕ) → Contains (widths kind) width → lane_code kind width < 16
+pub code_below : (kind : NumberKind) (width : ℕ) → Contains (widths kind) width → lane_code kind width < 16
 code_below IntKind width h = ltb-true _ 16 (at_each_contained (λ w. nat_lt (lane_code IntKind w) 16) (widths IntKind) width refl h)
 code_below FloatKind width h = ltb-true _ 16 (at_each_contained (λ w. nat_lt (lane_code FloatKind w) 16) (widths FloatKind) width refl h)
 
@@ -22,7 +22,7 @@ pub none_below : (n : ℕ) (t : TypeParts) → (112 ≤ n → ⊥) → number_of
 none_below n t low e = low (let parts : 112 + (lane_code t.kind t.width + (16 * log2 t.lanes + (if t.is_dynamic then 128 else 0))) ≡ n = e in omega arith)
 
 -- a type of that number has the code of its lane
-pub no_code : (n above : ℕ) (t : TypeParts) → IsType t → n ≡ 112 + above → ((kind : Kind) (width : ℕ) → Contains (widths kind) width → lane_code kind width ≢ above % 16) → number_of t ≡ n → ⊥
+pub no_code : (n above : ℕ) (t : TypeParts) → IsType t → n ≡ 112 + above → ((kind : NumberKind) (width : ℕ) → Contains (widths kind) width → lane_code kind width ≢ above % 16) → number_of t ≡ n → ⊥
 no_code n above t h is none e = none t.kind t.width h.width (by_mark t.is_dynamic (lane_code t.kind t.width) (log2 t.lanes) (code_below t.kind t.width h.width) e)
   where
     by_mark : (mark : Bool) (code row : ℕ) → code < 16 → 112 + (code + (16 * row + (if mark then 128 else 0))) ≡ n → code ≡ above % 16

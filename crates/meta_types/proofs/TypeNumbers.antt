@@ -6,7 +6,7 @@ use Rattle.std.specs.Option.{option_map, option_or, option_and_then}
 use Rattle.std.specs.Cmp.Lexicographic.{bytes_decides, pointwise}
 use Rattle.std.proofs.lemmas.Bool.{eqb-true}
 use Rattle.std.proofs.lemmas.List.{take-append-drop}
-use Rattle.meta_types.specs.TypeParts.{Kind, IntKind, FloatKind, TypeParts, IsType, widths, lane_counts, log2, lane_code, lane_name, lanes_name, number_of, name_of}
+use Rattle.meta_types.specs.TypeParts.{NumberKind, IntKind, FloatKind, TypeParts, IsType, widths, lane_counts, log2, lane_code, lane_name, lanes_name, number_of, name_of}
 use Rattle.meta_types.specs.TypeNumber.{type_with, IsTypeNumber, IsNameOf, found_in, lane_codes, fixed_rows, dynamic_rows, row_of, lane_length, number_of_parts, number_named}
 use Rattle.meta_types.specs.ValueTypes.{type_parts_of}
 use Rattle.meta_types.specs.declared.value_type.ValueType.{ValueType}
@@ -65,13 +65,13 @@ found_row P ((name, m) ∷ rows) (first, rest) text n e = by_test (pointwise nat
 
 -- the text is the name of a lane with this code
 record IsLane (text : List ℕ) (code : ℕ) : Type 0 where
-  kind : Kind
+  kind : NumberKind
   width : ℕ
   is_width : Contains (widths kind) width
   named : text ≡ lane_name kind width
   coded : code ≡ lane_code kind width
 
-lane : (kind : Kind) (width : ℕ) → Contains (widths kind) width → (text : List ℕ) → text ≡ lane_name kind width → IsLane text (lane_code kind width)
+lane : (kind : NumberKind) (width : ℕ) → Contains (widths kind) width → (text : List ℕ) → text ≡ lane_name kind width → IsLane text (lane_code kind width)
 lane kind width is text e = record { kind = kind; width = width; is_width = is; named = e; coded = refl }
 
 is_lane : (text : List ℕ) (code : ℕ) → found_in lane_codes text ≡ Some code → IsLane text code

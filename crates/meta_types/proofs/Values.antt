@@ -1,7 +1,7 @@
 -- Each type is one value of the program's.
 use Rattle.std.proofs.Common.{◌≡◌, ℕ, zero, suc, ◌==◌, ◌∙◌, sym, ap, refl, cond, Bool, true, false, Contains, le_of_suc-le-suc}
 use Rattle.std.specs.Prelude.{if◌then◌else◌}
-use Rattle.meta_types.specs.TypeParts.{Kind, IntKind, FloatKind, TypeParts, IsType, widths, lane_counts, scalar}
+use Rattle.meta_types.specs.TypeParts.{NumberKind, IntKind, FloatKind, TypeParts, IsType, widths, lane_counts, scalar}
 use Rattle.meta_types.specs.Lane.{lane_parts}
 use Rattle.meta_types.specs.Vector.{lane_count, lanes_of, least_lanes_of}
 use Rattle.meta_types.specs.ValueTypes.{type_parts_of}
@@ -20,7 +20,7 @@ use Rattle.meta_types.specs.declared.value_type.ValueType.TheVariants.{Lane, Vec
 use Rattle.meta_types.proofs.Lanes.{every_lane, every_count, not_one}
 
 -- a value of the type of this kind, width, count and mark
-value_of : (kind : Kind) (width lanes : ℕ) (mark : Bool) → Contains (widths kind) width → Contains (lane_counts mark) lanes → (t : ValueType) × (type_parts_of t ≡ record { kind = kind; width = width; lanes = lanes; is_dynamic = mark })
+value_of : (kind : NumberKind) (width lanes : ℕ) (mark : Bool) → Contains (widths kind) width → Contains (lane_counts mark) lanes → (t : ValueType) × (type_parts_of t ≡ record { kind = kind; width = width; lanes = lanes; is_dynamic = mark })
 value_of kind width lanes false w (zero, l, e) =
     let a = every_lane kind width w in
     (Lane a.0, a.1 ∙ (λ i. lanes_of (scalar kind width) (e i)))
@@ -45,7 +45,7 @@ int_of w = if w == 8 then I8 else (if w == 16 then I16 else (if w == 32 then I32
 abbrev float_of : ℕ → Float
 float_of w = if w == 16 then F16 else (if w == 32 then F32 else (if w == 64 then F64 else F128))
 
-abbrev lane_back : Kind → ℕ → LaneType
+abbrev lane_back : NumberKind → ℕ → LaneType
 lane_back IntKind w = IntLane (int_of w)
 lane_back FloatKind w = FloatLane (float_of w)
 

@@ -1,6 +1,6 @@
 -- Derived functions: what leads from the type of a variable to the type of one that is derived from it.
-use Rattle.std.specs.Prelude.{◌≡◌, ◌≢◌, ℕ, ◌*◌, ◌==◌, ◌&&◌, ◌||◌, not, nat_lt, Bool, true, false, IsTrue}
-use Rattle.meta_types.specs.TypeParts.{Kind, IntKind, FloatKind, TypeParts, IsType, number_of}
+use Rattle.std.specs.Prelude.{◌≡◌, ◌≢◌, ◌⊎◌, ℕ, ◌*◌, ◌==◌, ◌&&◌, ◌||◌, not, nat_lt, Bool, true, false, IsTrue}
+use Rattle.meta_types.specs.TypeParts.{NumberKind, IntKind, FloatKind, TypeParts, IsType, number_of}
 
 -- seven functions, which answer one type at most, and two relations, Narrower and Wider
 pub data Function : Type 0 where
@@ -15,7 +15,7 @@ pub data Function : Type 0 where
   Wider : Function
 
 -- whether two kinds of lane are the same
-abbrev pub same_kind : Kind → Kind → Bool
+abbrev pub same_kind : NumberKind → NumberKind → Bool
 same_kind IntKind IntKind = true
 same_kind IntKind FloatKind = false
 same_kind FloatKind IntKind = false
@@ -51,10 +51,14 @@ relates Narrower u t = same_kind t.kind u.kind && (is_scalar u && (is_scalar t &
 relates Wider u t = same_kind t.kind u.kind && (is_scalar u && (is_scalar t && nat_lt u.width t.width))
 
 -- f leads from the type u to the type t. A function gives nothing where its answer would be no type
-pub record Steps (f : Function) (u t : TypeParts) : Type 0 where
+pub record StepsTypes (f : Function) (u t : TypeParts) : Type 0 where
   pub from : IsType u
   pub to : IsType t
   pub relates : IsTrue (relates f u t)
+
+-- f is one of the two relations
+abbrev pub IsRelation : Function → Type 0
+IsRelation f = (f ≡ Narrower) ⊎ (f ≡ Wider)
 
 -- f is one of the seven functions, and no relation
 abbrev pub IsFunction : Function → Type 0
@@ -63,13 +67,13 @@ IsFunction f = (f ≢ Narrower) × (f ≢ Wider)
 -- t is the answer of f at the type u: f is a function, and leads from u to t
 pub record Answers (f : Function) (u t : TypeParts) : Type 0 where
   pub is_function : IsFunction f
-  pub steps : Steps f u t
+  pub steps : StepsTypes f u t
 
 -- f leads from a type of number c to a type of number m
 pub record StepsNumbers (f : Function) (c m : ℕ) : Type 0 where
   pub from : TypeParts
   pub to : TypeParts
-  pub steps : Steps f from to
+  pub steps : StepsTypes f from to
   pub number_from : number_of from ≡ c
   pub number_to : number_of to ≡ m
 

@@ -5,7 +5,7 @@ use Rattle.meta_lists.proofs.Pushed.{get_pushed_below, get_kept, get_end}
 use Rattle.meta_types.specs.Function.{Function}
 use Rattle.meta_types.specs.declared.derived_func.DerivedFunc.{DerivedFunc}
 use Rattle.meta_typevar.specs.TypeSetParts.{TypeSetParts, IsTypeSet, no_types}
-use Rattle.meta_typevar.specs.Registry.{set_of, set_at, sets_of, variable_of, coded_of, coded_at, coded_along, root_content, derived_content, IsDerivation, IsKept, IsRoot, IsPlaced, IsVariable, HoldTypeSets, AreDifferent, IsRegistry}
+use Rattle.meta_typevar.specs.Registry.{set_of, set_at, sets_of, variable_from, coded_of, coded_at, coded_along, root_content, derived_content, IsDerivation, IsKept, IsRoot, IsRootOrDerived, IsVariable, HoldTypeSets, AreDerivedOnce, IsRegistry}
 use Rattle.meta_typevar.specs.Children.{IsChild}
 use Rattle.meta_typevar.specs.declared.content.TypeVarContent.{TypeVarContent}
 use Rattle.meta_typevar.specs.declared.content.TypeVarParent.{TypeVarParent}
@@ -45,7 +45,7 @@ sets_more vars c d n k = ap set_at (get_kept vars c n d k) ∙ sym (ap set_at k)
 root_more : (vars : List TypeVarContent) (c : TypeVarContent) (n : ℕ) → IsRoot vars n → IsRoot (vars ++ c ∷ []) n
 root_more vars c n h = record { content = h.content; kept = get_kept vars c n h.content h.kept; without_parent = h.without_parent }
 
-placed_more : (vars : List TypeVarContent) (c d : TypeVarContent) (n : ℕ) (b : Option TypeVarParent) → IsRegistry vars → IsPlaced vars n d b → IsPlaced (vars ++ c ∷ []) n d b
+placed_more : (vars : List TypeVarContent) (c d : TypeVarContent) (n : ℕ) (b : Option TypeVarParent) → IsRegistry vars → IsRootOrDerived vars n d b → IsRootOrDerived (vars ++ c ∷ []) n d b
 placed_more vars c d n None r h = h
 placed_more vars c d n (Some p) r h =
     let root = (r.variables p.type_var h.parent_content h.kept).root in
@@ -65,7 +65,7 @@ variable_more vars c d n r h = record { placed = placed_more vars c d n d.base r
 abbrev pub NewParent : List TypeVarContent → TypeVarContent → Type 0
 NewParent vars c = (p : TypeVarParent) (m : ℕ) (d : TypeVarContent) → c.base ≡ Some p → IsKept vars m d → d.base ≡ Some p → ⊥
 
-different_more : (vars : List TypeVarContent) (c : TypeVarContent) → AreDifferent vars → NewParent vars c → AreDifferent (vars ++ c ∷ [])
+different_more : (vars : List TypeVarContent) (c : TypeVarContent) → AreDerivedOnce vars → NewParent vars c → AreDerivedOnce (vars ++ c ∷ [])
 different_more vars c h new n m a b p k l e f = elim (get_pushed_below vars c n a k) [
   | inl x ↦ elim (get_pushed_below vars c m b l) [
     | inl y ↦ h n m a b p x.1 y.1 e f
@@ -103,7 +103,7 @@ registry_root vars name doc s r is room =
 
 -- the registry gains a derived variable
 coded_kept : (vars : List TypeVarContent) (n : ℕ) (c : TypeVarContent) → IsKept vars n c → coded_at vars n ≡ coded_along c.chain (sets_of vars c.root)
-coded_kept vars n c k = ap (λ (o : Option TypeVarContent). coded_of vars (variable_of n o)) k
+coded_kept vars n c k = ap (λ (o : Option TypeVarContent). coded_of vars (variable_from n o)) k
 
 pub registry_derived : (vars : List TypeVarContent) (n : ℕ) (f : DerivedFunc) (c : TypeVarContent) → IsRegistry vars → IsKept vars n c → IsTypeSet (coded_at vars n) → length vars < 2 ^ 32 - 1 → ((m : ℕ) (d : TypeVarContent) → IsKept vars m d → d.base ≡ Some (record { type_var = n; derived_func = f }) → ⊥) → IsRegistry (vars ++ derived_content vars n c f ∷ [])
 registry_derived vars n f c r k is room new =

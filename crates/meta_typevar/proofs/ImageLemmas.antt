@@ -8,19 +8,19 @@ use Rattle.std.specs.Cmp.Lexicographic.{bytes_decides}
 use lib.Pointwise.{pointwise}
 use Rattle.meta_types.specs.TypeParts.{IntKind, FloatKind, widths, lane_counts}
 use Rattle.meta_types.specs.Function.{LaneOf, AsTruthy, HalfWidth, DoubleWidth, SplitLanes, MergeLanes, DynamicToVector, same_mark}
+use Rattle.meta_types.proofs.AllTypes.{same_mark_true}
 use Rattle.meta_typevar.specs.MaskSets.{holds, sets_in, AreMasks}
-use Rattle.meta_typevar.specs.Image.{halves, doubles, is_among, is_scalar, has_some, truthy_ints, can_halve, can_double}
+use Rattle.meta_typevar.specs.Image.{halves, doubles, is_among, is_one_lane, has_some, truthy_ints, can_halve, can_double}
 use Rattle.meta_typevar.specs.MaskImage.{IsMaskImage}
 use Rattle.meta_typevar.specs.declared.masks.Masks.{Masks}
 use Rattle.meta_typevar.proofs.MaskLemmas.{masks_of}
-use Rattle.meta_typevar.proofs.Finite.{same_mark_is}
-use Rattle.meta_typevar.proofs.Marks.{at_marks, marked, at_each, filter_marked}
+use Rattle.meta_typevar.proofs.Marks.{at_marks, marked, passes_at_marks, filter_marked}
 
 -- what a test of all masks of some numbers says of one mask
 pub at_mask : (all : List ℕ) (p : List ℕ → ℕ → Bool) → at_marks (length all) (λ ms. p (marked ms all) (sum (marked ms all))) ≡ true → (mask : ℕ) → mask ≡ sum (filter (holds mask) all) → p (filter (holds mask) all) mask ≡ true
 at_mask all p e mask h =
     let n : at_marks (length (map (holds mask) all)) (λ ms. p (marked ms all) (sum (marked ms all))) ≡ true = ap (λ n. at_marks n (λ ms. p (marked ms all) (sum (marked ms all)))) (length-map all (holds mask)) ∙ e in
-    let t : p (filter (holds mask) all) (sum (filter (holds mask) all)) ≡ true = ap (λ (xs : List ℕ). p xs (sum xs)) (filter_marked (holds mask) all) ∙ at_each (λ ms. p (marked ms all) (sum (marked ms all))) (map (holds mask) all) n in
+    let t : p (filter (holds mask) all) (sum (filter (holds mask) all)) ≡ true = ap (λ (xs : List ℕ). p xs (sum xs)) (filter_marked (holds mask) all) ∙ passes_at_marks (λ ms. p (marked ms all) (sum (marked ms all))) (map (holds mask) all) n in
     ap (p (filter (holds mask) all)) h ∙ t
 
 -- the mask n stands for the numbers ys, of those that are allowed
@@ -102,10 +102,10 @@ abbrev same_tests : List ℕ → (ℕ → Bool) → (List ℕ → Bool) → Bool
 same_tests all p q = at_marks (length all) (λ ms. same_mark (p (sum (marked ms all))) (q (marked ms all)))
 
 same_test : (all : List ℕ) (p : ℕ → Bool) (q : List ℕ → Bool) → same_tests all p q ≡ true → (mask : ℕ) → mask ≡ sum (filter (holds mask) all) → p mask ≡ q (filter (holds mask) all)
-same_test all p q e mask h = same_mark_is _ _ (at_mask all (λ xs n. same_mark (p n) (q xs)) e mask h)
+same_test all p q e mask h = same_mark_true _ _ (at_mask all (λ xs n. same_mark (p n) (q xs)) e mask h)
 
-pub scalars_told : (mask : ℕ) → mask ≡ sum (filter (holds mask) (lane_counts false)) → (mask == 1) ≡ is_scalar (filter (holds mask) (lane_counts false))
-scalars_told = same_test (lane_counts false) (λ n. n == 1) is_scalar refl
+pub scalars_told : (mask : ℕ) → mask ≡ sum (filter (holds mask) (lane_counts false)) → (mask == 1) ≡ is_one_lane (filter (holds mask) (lane_counts false))
+scalars_told = same_test (lane_counts false) (λ n. n == 1) is_one_lane refl
 
 pub can_halve_told : (m : Masks) → AreMasks m → ((bit_and m.ints 8 == 0) && (bit_and m.floats 16 == 0)) ≡ can_halve (sets_in m)
 can_halve_told m h =
@@ -197,7 +197,7 @@ truthy_image m ints h s = record {
 
 pub vector_ints : (m : Masks) → AreMasks m → (m.lanes == 1) ≡ false → StandsFor (widths IntKind) (bit_or m.ints m.floats) (truthy_ints (sets_in m))
 vector_ints m h e =
-    let t : is_scalar (sets_in m).lanes ≡ false = sym (scalars_told m.lanes h.lanes) ∙ e in
+    let t : is_one_lane (sets_in m).lanes ≡ false = sym (scalars_told m.lanes h.lanes) ∙ e in
     let s = all_widths m.ints m.floats h.ints h.floats in
     record { set = s.set ∙ ap (λ b. if b then 8 ∷ [] else filter (λ w. is_among (sets_in m).ints w || is_among (sets_in m).floats w) (widths IntKind)) (sym t); mask = s.mask }
 

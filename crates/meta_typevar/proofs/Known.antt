@@ -7,44 +7,13 @@ use Rattle.std.proofs.lemmas.List.{length-set}
 use Rattle.meta_lists.proofs.Places.{get_set_here, get_set_other}
 use Rattle.meta_lists.proofs.Pushed.{get_pushed_below, get_kept, get_end}
 use Rattle.meta_types.specs.declared.derived_func.DerivedFunc.{DerivedFunc}
-use Rattle.meta_types.specs.declared.derived_func.DerivedFunc.TheVariants.{LaneOf, AsTruthy, HalfWidth, DoubleWidth, SplitLanes, MergeLanes, DynamicToVector, Narrower, Wider}
-use Rattle.meta_typevar.specs.Registry.{IsPlaced, IsDerivation, IsRegistry}
+use Rattle.meta_types.specs.declared.derived_func.DerivedFunc.TheVariants.{LaneOf}
+use Rattle.meta_types.proofs.Functions.{func_cases}
+use Rattle.meta_typevar.specs.Registry.{IsRootOrDerived, IsDerivation, IsRegistry}
 use Rattle.meta_typevar.specs.Children.{child_of, no_children, IsChild, AreKnown}
 use Rattle.meta_typevar.specs.declared.children.Children.{Children}
 use Rattle.meta_typevar.specs.declared.content.TypeVarContent.{TypeVarContent}
 use Rattle.meta_typevar.specs.declared.content.TypeVarParent.{TypeVarParent}
-
--- functions are told apart by their places
-abbrev place : DerivedFunc → ℕ
-place LaneOf = 0
-place AsTruthy = 1
-place HalfWidth = 2
-place DoubleWidth = 3
-place SplitLanes = 4
-place MergeLanes = 5
-place DynamicToVector = 6
-place Narrower = 7
-place Wider = 8
-
-abbrev at_place : ℕ → DerivedFunc
-at_place n = elim (eqb n 0) [ true ↦ LaneOf | false ↦ elim (eqb n 1) [ true ↦ AsTruthy | false ↦ elim (eqb n 2) [ true ↦ HalfWidth | false ↦ elim (eqb n 3) [ true ↦ DoubleWidth | false ↦ elim (eqb n 4) [ true ↦ SplitLanes | false ↦ elim (eqb n 5) [ true ↦ MergeLanes | false ↦ elim (eqb n 6) [ true ↦ DynamicToVector | false ↦ elim (eqb n 7) [ true ↦ Narrower | false ↦ Wider ] ] ] ] ] ] ] ]
-
-back : (f : DerivedFunc) → at_place (place f) ≡ f
-back LaneOf = refl
-back AsTruthy = refl
-back HalfWidth = refl
-back DoubleWidth = refl
-back SplitLanes = refl
-back MergeLanes = refl
-back DynamicToVector = refl
-back Narrower = refl
-back Wider = refl
-
-pub function_cases : (f g : DerivedFunc) → (f ≡ g) ⊎ (f ≢ g)
-function_cases f g = elim (eqb (place f) (place g)) as (λ b. eqb (place f) (place g) ≡ b → (f ≡ g) ⊎ (f ≢ g)) [
-  | true ↦ λ e. inl (sym (back f) ∙ ap at_place (eqb-true _ _ e) ∙ back g)
-  | false ↦ λ e. inr (λ h. eqb-false _ _ e (ap place h))
-] refl
 
 number_cases : (n m : ℕ) → (n ≡ m) ⊎ (n ≢ m)
 number_cases n m = elim (eqb n m) as (λ b. eqb n m ≡ b → (n ≡ m) ⊎ (n ≢ m)) [
@@ -52,16 +21,10 @@ number_cases n m = elim (eqb n m) as (λ b. eqb n m ≡ b → (n ≡ m) ⊎ (n �
   | false ↦ λ e. inr (eqb-false _ _ e)
 ] refl
 
+-- nothing is noted at first
 no_child : (f : DerivedFunc) → child_of no_children f ≡ None
 no_child LaneOf = refl
-no_child AsTruthy = refl
-no_child HalfWidth = refl
-no_child DoubleWidth = refl
-no_child SplitLanes = refl
-no_child MergeLanes = refl
-no_child DynamicToVector = refl
-no_child Narrower = refl
-no_child Wider = refl
+no_child f = refl
 
 none_noted : (c : Children) (f : DerivedFunc) (m : ℕ) → no_children ≡ c → child_of c f ≡ Some m → ⊥
 none_noted c f m e h =
@@ -82,7 +45,7 @@ child_more : (vars : List TypeVarContent) (d : TypeVarContent) (n : ℕ) (f : De
 child_more vars d n f m h = record { content = h.content; kept = get_kept vars d m h.content h.kept; derived = h.derived }
 
 -- a child stands after its parent
-parent_earlier : (vars : List TypeVarContent) (n m : ℕ) (c : TypeVarContent) (p : TypeVarParent) (b : Option TypeVarParent) → b ≡ Some p → IsPlaced vars m c b → p.type_var < m
+parent_earlier : (vars : List TypeVarContent) (n m : ℕ) (c : TypeVarContent) (p : TypeVarParent) (b : Option TypeVarParent) → b ≡ Some p → IsRootOrDerived vars m c b → p.type_var < m
 parent_earlier vars n m c p None e h = (cc)
 parent_earlier vars n m c p (Some q) e h =
     let same : q ≡ p = (cc) in
@@ -152,7 +115,7 @@ module _ (vars : List TypeVarContent) (children : List Children) (d : TypeVarCon
     new_child = record { content = d; kept = get_end vars d; derived = base }
 
     sound_here : (m : ℕ) (f : DerivedFunc) → child_of noted f ≡ Some m → IsChild (vars ++ d ∷ []) n0 f m
-    sound_here m f h = elim (function_cases f f0) [
+    sound_here m f h = elim (func_cases f f0) [
       | inl e ↦
           let is : Some m ≡ Some (length vars) = sym h ∙ ap (child_of noted) e ∙ this in
           let at : m ≡ length vars = (cc) in
@@ -167,7 +130,7 @@ module _ (vars : List TypeVarContent) (children : List Children) (d : TypeVarCon
     ]
 
     complete_here : (m : ℕ) (f : DerivedFunc) → IsChild vars n0 f m → child_of noted f ≡ Some m
-    complete_here m f h = elim (function_cases f f0) [
+    complete_here m f h = elim (func_cases f f0) [
       | inl e ↦ absurd (new m (subst (λ (g : DerivedFunc). IsChild vars n0 g m) e h))
       | inr e ↦ others f e ∙ complete_old n0 m c0 f old h
     ]

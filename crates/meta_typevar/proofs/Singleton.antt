@@ -1,7 +1,7 @@
 -- The masks of a variable that stands for one type, by trying all types.
 use Rattle.std.proofs.Common.{◌≡◌, ℕ, ◌&&◌, Bool, true, false, [], ◌∷◌, sum, refl, sym, ◌∙◌, subst}
 use Rattle.std.proofs.lemmas.Bool.{and_parts}
-use Rattle.meta_types.specs.TypeParts.{Kind, IntKind, FloatKind, TypeParts, IsType, widths, lane_counts}
+use Rattle.meta_types.specs.TypeParts.{NumberKind, IntKind, FloatKind, TypeParts, IsType, widths, lane_counts}
 use Rattle.meta_types.proofs.AllTypes.{at_all_types}
 use Rattle.meta_typevar.specs.MaskSets.{sets_in, AreMasks}
 use Rattle.meta_typevar.specs.Derivation.{singleton_sets, vector_lanes, int_width_of, float_width_of}
@@ -36,7 +36,7 @@ stands_for_type t h =
     }
 
 -- the masks that are made of the parts of a type
-pub singleton_made : (t : TypeParts) (kind : Kind) (width lanes dynamic ints floats : ℕ) → IsType t → kind ≡ t.kind → width ≡ t.width → lanes ≡ t.lanes → dynamic ≡ sum (vector_lanes lanes) → ints ≡ sum (int_width_of kind width) → floats ≡ sum (float_width_of kind width) → StandsForType t (masks_of lanes dynamic ints floats)
+pub singleton_made : (t : TypeParts) (kind : NumberKind) (width lanes dynamic ints floats : ℕ) → IsType t → kind ≡ t.kind → width ≡ t.width → lanes ≡ t.lanes → dynamic ≡ sum (vector_lanes lanes) → ints ≡ sum (int_width_of kind width) → floats ≡ sum (float_width_of kind width) → StandsForType t (masks_of lanes dynamic ints floats)
 singleton_made t kind width lanes dynamic ints floats h k w l d a b =
     let is : masks_of lanes dynamic ints floats ≡ type_masks t = λ i. masks_of (l i) ((d ∙ λ j. sum (vector_lanes (l j))) i) ((a ∙ λ j. sum (int_width_of (k j) (w j))) i) ((b ∙ λ j. sum (float_width_of (k j) (w j))) i) in
     subst (StandsForType t) (sym is) (stands_for_type t h)

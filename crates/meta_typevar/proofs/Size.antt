@@ -1,7 +1,7 @@
 -- A set has one member exactly where its size is 1.
 use Rattle.std.proofs.Common.{◌≡◌, ℕ, ◌+◌, ◌*◌, ◌⊎◌, inl, inr, ⊎_elim, ◌↔◌, Bool, true, false, not, List, [], ◌∷◌, length, eqb, ap, ◌∙◌, sym, subst, refl, zero, suc, arith, Contains}
 use Rattle.std.proofs.lemmas.Bool.{false≢true, eq-eqb}
-use Rattle.meta_types.specs.TypeParts.{Kind, IntKind, FloatKind, TypeParts, widths, lane_counts}
+use Rattle.meta_types.specs.TypeParts.{NumberKind, IntKind, FloatKind, TypeParts, widths, lane_counts}
 use Rattle.meta_types.proofs.Among.{Among, among, contains}
 use Rattle.meta_typevar.specs.TypeSetParts.{TypeSetParts, widths_in, lanes_in, IsMember, HasOne, IsPart, IsTypeSet}
 use Rattle.meta_typevar.proofs.Finite.{among_filter}
@@ -63,7 +63,7 @@ single_length K f s a b apart cases d e [] (y ∷ z ∷ ys) p q = absurd (two_in
 single_length K f s a b apart cases d e (x ∷ []) (y ∷ ys) p q = absurd (apart (two_keys K f s a b x y [] ys p q))
 single_length K f s a b apart cases d e (x ∷ y ∷ xs) ys p q = absurd (two_in K f s a x y xs p d)
 
-kind_cases : (k : Kind) → (k ≡ IntKind) ⊎ (k ≡ FloatKind)
+kind_cases : (k : NumberKind) → (k ≡ IntKind) ⊎ (k ≡ FloatKind)
 kind_cases IntKind = inl refl
 kind_cases FloatKind = inr refl
 
@@ -79,7 +79,7 @@ product_one zero y e = absurd (omega arith)
 product_one (suc x) zero e = absurd (omega arith)
 product_one (suc x) (suc y) e = (omega arith, omega arith)
 
-pub widths_part : (s : TypeSetParts) → IsTypeSet s → (k : Kind) → IsPart (widths_in s k) (widths k)
+pub widths_part : (s : TypeSetParts) → IsTypeSet s → (k : NumberKind) → IsPart (widths_in s k) (widths k)
 widths_part s h IntKind = h.ints
 widths_part s h FloatKind = h.floats
 
@@ -93,7 +93,7 @@ part_contains xs all h x a = contains all x (among_filter h.test all x (subst (�
 part_differs : (xs all : List ℕ) → keeps all ≡ true → IsPart xs all → differ xs ≡ true
 part_differs xs all e h = ap differ h.is ∙ filter_differ all e h.test
 
-has_one : (s : TypeSetParts) → IsTypeSet s → Single Kind (widths_in s) → Single Bool (lanes_in s) → HasOne s
+has_one : (s : TypeSetParts) → IsTypeSet s → Single NumberKind (widths_in s) → Single Bool (lanes_in s) → HasOne s
 has_one s h w l = record {
   one = record { kind = w.key; width = w.number; lanes = l.number; is_dynamic = l.key };
   member = record {
@@ -110,7 +110,7 @@ has_one s h w l = record {
       λ i. record { kind = a.0 i; width = a.1 i; lanes = b.1 i; is_dynamic = b.0 i };
 }
 
-one_width : (s : TypeSetParts) → IsTypeSet s → HasOne s → Single Kind (widths_in s)
+one_width : (s : TypeSetParts) → IsTypeSet s → HasOne s → Single NumberKind (widths_in s)
 one_width s h o = record {
   key = o.one.kind;
   number = o.one.width;
@@ -139,10 +139,10 @@ size_one s h = (
   λ e.
       let p = product_one _ _ e in
       has_one s h
-      (single Kind (widths_in s) IntKind FloatKind kind_cases s.ints s.floats refl refl p.1)
+      (single NumberKind (widths_in s) IntKind FloatKind kind_cases s.ints s.floats refl refl p.1)
       (single Bool (lanes_in s) false true mark_cases s.lanes s.dynamic_lanes refl refl p.0),
   λ o.
-      let w = single_length Kind (widths_in s) (one_width s h o) IntKind FloatKind kinds_differ kind_cases (part_differs _ _ ints_keep h.ints) (part_differs _ _ floats_keep h.floats) s.ints s.floats refl refl in
+      let w = single_length NumberKind (widths_in s) (one_width s h o) IntKind FloatKind kinds_differ kind_cases (part_differs _ _ ints_keep h.ints) (part_differs _ _ floats_keep h.floats) s.ints s.floats refl refl in
       let l = single_length Bool (lanes_in s) (one_lanes s h o) false true false≢true mark_cases (part_differs _ _ lanes_keep h.lanes) (part_differs _ _ dynamic_lanes_keep h.dynamic_lanes) s.lanes s.dynamic_lanes refl refl in
       λ i. l i * w i,
 )

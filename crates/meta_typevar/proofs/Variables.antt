@@ -5,51 +5,24 @@ use Rattle.std.specs.Prelude.{slice_get, Result, Ok, Err, IsErr, IfOk, OnOk, OnE
 use Rattle.std.proofs.lemmas.Bool.{false≢true}
 use Rattle.std.proofs.lemmas.Option.{slice_get_within, same_Some}
 use Rattle.meta_lists.proofs.Pushed.{get_end, not_empty}
-use Rattle.meta_types.specs.Function.{Function, LaneOf, AsTruthy, HalfWidth, DoubleWidth, SplitLanes, MergeLanes, DynamicToVector, Narrower, Wider}
+use Rattle.meta_types.specs.Function.{Function}
 use Rattle.meta_types.specs.DerivedFunc.{function_of}
 use Rattle.meta_types.specs.declared.derived_func.DerivedFunc.{DerivedFunc}
-use Rattle.meta_types.specs.declared.derived_func.DerivedFunc.TheVariants.{LaneOf as LaneOfFunc, AsTruthy as AsTruthyFunc, HalfWidth as HalfWidthFunc, DoubleWidth as DoubleWidthFunc, SplitLanes as SplitLanesFunc, MergeLanes as MergeLanesFunc, DynamicToVector as DynamicToVectorFunc, Narrower as NarrowerFunc, Wider as WiderFunc}
+use Rattle.meta_types.proofs.Functions.{same_func}
 use Rattle.meta_typevar.specs.TypeSetParts.{TypeSetParts}
 use Rattle.meta_typevar.specs.Image.{image_of}
 use Rattle.meta_typevar.specs.Variable.{Variable, underived, longer}
-use Rattle.meta_typevar.specs.Registry.{set_of, set_at, sets_of, variable_of, variable_at, coded_along, coded_of, coded_at, coded_set, last_image, IsKept, IsRoot, IsDerivedFrom, IsPlaced, IsDerivation, derived_content, IsRegistry}
+use Rattle.meta_typevar.specs.Registry.{set_of, set_at, sets_of, variable_from, variable_at, coded_along, coded_of, coded_at, coded_set, last_image, IsKept, IsRoot, IsDerivedFrom, IsRootOrDerived, IsDerivation, derived_content, IsRegistry}
 use Rattle.meta_typevar.specs.Children.{IsChild}
 use Rattle.meta_typevar.specs.Derivation.{Derives, GrowsByOne}
 use Rattle.meta_typevar.specs.declared.content.TypeVarContent.{TypeVarContent}
 use Rattle.meta_typevar.specs.declared.content.TypeVarParent.{TypeVarParent}
 
--- what is derived from what function
-func_of : Function → DerivedFunc
-func_of LaneOf = LaneOfFunc
-func_of AsTruthy = AsTruthyFunc
-func_of HalfWidth = HalfWidthFunc
-func_of DoubleWidth = DoubleWidthFunc
-func_of SplitLanes = SplitLanesFunc
-func_of MergeLanes = MergeLanesFunc
-func_of DynamicToVector = DynamicToVectorFunc
-func_of Narrower = NarrowerFunc
-func_of Wider = WiderFunc
-
-back : (f : DerivedFunc) → func_of (function_of f) ≡ f
-unfolding func_of
-back LaneOfFunc = refl
-back AsTruthyFunc = refl
-back HalfWidthFunc = refl
-back DoubleWidthFunc = refl
-back SplitLanesFunc = refl
-back MergeLanesFunc = refl
-back DynamicToVectorFunc = refl
-back NarrowerFunc = refl
-back WiderFunc = refl
-
-pub same_func : (f g : DerivedFunc) → function_of f ≡ function_of g → f ≡ g
-same_func f g e = sym (back f) ∙ ap func_of e ∙ back g
-
 same_kept : (vars : List TypeVarContent) (n : ℕ) (c d : TypeVarContent) → IsKept vars n c → IsKept vars n d → c ≡ d
 same_kept vars n c d k l = let e : Some c ≡ Some d = sym k ∙ l in (cc)
 
 pub kept_variable : (vars : List TypeVarContent) (n : ℕ) (c : TypeVarContent) → IsKept vars n c → variable_at vars n ≡ record { root = c.root; chain = c.chain }
-kept_variable vars n c k = ap (variable_of n) k
+kept_variable vars n c k = ap (variable_from n) k
 
 -- something is kept of each number below the count
 pub kept_at : (vars : List TypeVarContent) (n : ℕ) → n < length vars → (c : TypeVarContent) × IsKept vars n c
@@ -63,7 +36,7 @@ coded_last [] f s = refl
 coded_last (g ∷ fs) f s = coded_last fs f (image_of g s)
 
 -- the coded image, by what is kept
-coded_by : (vars : List TypeVarContent) (n : ℕ) (c : TypeVarContent) (b : Option TypeVarParent) → IsKept vars n c → IsPlaced vars n c b → last_image c.type_set b ≡ coded_along c.chain (sets_of vars c.root)
+coded_by : (vars : List TypeVarContent) (n : ℕ) (c : TypeVarContent) (b : Option TypeVarParent) → IsKept vars n c → IsRootOrDerived vars n c b → last_image c.type_set b ≡ coded_along c.chain (sets_of vars c.root)
 coded_by vars n c None k (at, none) =
     let here : set_of c ≡ sets_of vars c.root = sym (ap set_at k) ∙ ap (sets_of vars) (sym at) in
     here ∙ ap (λ (fs : List Function). coded_along fs (sets_of vars c.root)) (sym none)
@@ -79,7 +52,7 @@ pub root_below : (vars : List TypeVarContent) (n : ℕ) (c : TypeVarContent) →
 root_below vars n c r k = let h = (r.variables n c k).root in slice_get_within vars c.root h.content h.kept
 
 -- what has no parent is a root itself, with no chain
-underived_by : (vars : List TypeVarContent) (n : ℕ) (c : TypeVarContent) (b : Option TypeVarParent) → IsPlaced vars n c b → b ≡ None → (c.root ≡ n) × (c.chain ≡ [])
+underived_by : (vars : List TypeVarContent) (n : ℕ) (c : TypeVarContent) (b : Option TypeVarParent) → IsRootOrDerived vars n c b → b ≡ None → (c.root ≡ n) × (c.chain ≡ [])
 underived_by vars n c None h e = h
 underived_by vars n c (Some p) h e = (cc)
 
@@ -89,7 +62,7 @@ root_is vars n r h =
     kept_variable vars n h.content h.kept ∙ λ i. record { root = p.0 i; chain = p.1 i }
 
 -- and what has no chain has no parent
-pub base_of : (vars : List TypeVarContent) (n : ℕ) (c : TypeVarContent) (b : Option TypeVarParent) → IsPlaced vars n c b → c.chain ≡ [] → b ≡ None
+pub base_of : (vars : List TypeVarContent) (n : ℕ) (c : TypeVarContent) (b : Option TypeVarParent) → IsRootOrDerived vars n c b → c.chain ≡ [] → b ≡ None
 base_of vars n c None h e = refl
 base_of vars n c (Some p) h e = absurd (not_empty h.parent_content.chain _ (sym h.chain ∙ e))
 
@@ -117,7 +90,7 @@ same_step vars r k ih n m c d l a b e f = go c.base d.base refl refl (r.variable
     earlier : (v : ℕ) → v < n → v < k
     earlier v h = omega (arith, h, l)
 
-    go : (x y : Option TypeVarParent) → c.base ≡ x → d.base ≡ y → IsPlaced vars n c x → IsPlaced vars m d y → n ≡ m
+    go : (x y : Option TypeVarParent) → c.base ≡ x → d.base ≡ y → IsRootOrDerived vars n c x → IsRootOrDerived vars m d y → n ≡ m
     go None None s t (p, _) (q, _) = sym p ∙ e ∙ q
     go None (Some y) s t (_, none) h = absurd (not_empty h.parent_content.chain _ (sym h.chain ∙ sym f ∙ none))
     go (Some x) None s t h (_, none) = absurd (not_empty h.parent_content.chain _ (sym h.chain ∙ f ∙ none))
@@ -145,7 +118,7 @@ one_variable vars r n m l j e =
 
 -- ---- derived variables
 
-child_by : (vars : List TypeVarContent) (n m : ℕ) (f : DerivedFunc) (d : TypeVarContent) (b : Option TypeVarParent) → b ≡ Some (record { type_var = n; derived_func = f }) → IsPlaced vars m d b → ◌≡◌ {A = Variable} (record { root = d.root; chain = d.chain }) (longer (variable_at vars n) (function_of f))
+child_by : (vars : List TypeVarContent) (n m : ℕ) (f : DerivedFunc) (d : TypeVarContent) (b : Option TypeVarParent) → b ≡ Some (record { type_var = n; derived_func = f }) → IsRootOrDerived vars m d b → ◌≡◌ {A = Variable} (record { root = d.root; chain = d.chain }) (longer (variable_at vars n) (function_of f))
 child_by vars n m f d None e h = (cc)
 child_by vars n m f d (Some q) e h =
     let p : TypeVarParent = record { type_var = n; derived_func = f } in
@@ -166,7 +139,7 @@ variable_child vars n m f r l j e =
     let same : ◌≡◌ {A = Variable} (record { root = d.root; chain = d.chain }) (record { root = c.root; chain = c.chain ++ (function_of f ∷ []) }) = sym (kept_variable vars m d h) ∙ e ∙ ap (λ (v : Variable). longer v (function_of f)) (kept_variable vars n c k) in
     go c d k h (ap (λ (v : Variable). v.root) same) (ap (λ (v : Variable). v.chain) same) d.base refl (r.variables m d h).placed
   where
-    go : (c d : TypeVarContent) → IsKept vars n c → IsKept vars m d → d.root ≡ c.root → d.chain ≡ c.chain ++ (function_of f ∷ []) → (b : Option TypeVarParent) → d.base ≡ b → IsPlaced vars m d b → IsChild vars n f m
+    go : (c d : TypeVarContent) → IsKept vars n c → IsKept vars m d → d.root ≡ c.root → d.chain ≡ c.chain ++ (function_of f ∷ []) → (b : Option TypeVarParent) → d.base ≡ b → IsRootOrDerived vars m d b → IsChild vars n f m
     go c d k h root chain None s (_, none) = absurd (not_empty c.chain (function_of f) (sym chain ∙ none))
     go c d k h root chain (Some q) s p =
         let chains = same_from_push p.parent_content.chain c.chain _ _ (sym p.chain ∙ chain) in
@@ -205,7 +178,7 @@ derives_added {E} vars new n f d (Ok v) r l none made number added err =
     record {
       known = λ m j is. absurd (none m (variable_child vars n m f r l j is));
       added = λ free c kept. added ∙ ap (λ (x : TypeVarContent). vars ++ x ∷ []) (made.is ∙ ap (λ (x : TypeVarContent). derived_content vars n x f) (same_kept vars n made.parent c made.kept kept));
-      answer = (slice_get_within new v d there, ap (variable_of v) there ∙ longest);
+      answer = (slice_get_within new v d there, ap (variable_from v) there ∙ longest);
       err = tt;
     }
 derives_added {E} vars new n f d (Err e) r l none made number added err = record {

@@ -3,7 +3,7 @@
 --     Derives old n f result new      the registry gains what is derived by f from the variable n, unless it was there
 --     GrowsByOne old new              the registry gains at most one variable
 use Rattle.std.specs.Prelude.{◌≡◌, ◌≢◌, ℕ, ◌<◌, ◌≤◌, ◌==◌, List, [], ◌∷◌, ◌++◌, length, Result, Ok, IfOk, OnOk, OnErr, if◌then◌else◌}
-use Rattle.meta_types.specs.TypeParts.{Kind, IntKind, FloatKind, TypeParts}
+use Rattle.meta_types.specs.TypeParts.{NumberKind, IntKind, FloatKind, TypeParts}
 use Rattle.meta_types.specs.DerivedFunc.{function_of}
 use Rattle.meta_types.specs.declared.derived_func.DerivedFunc.{DerivedFunc}
 use Rattle.meta_typevar.specs.TypeSetParts.{TypeSetParts}
@@ -12,11 +12,11 @@ use Rattle.meta_typevar.specs.Registry.{variable_at, derived_content, IsKept}
 use Rattle.meta_typevar.specs.declared.content.TypeVarContent.{TypeVarContent}
 
 -- one number, where it is of this kind
-abbrev pub int_width_of : Kind → ℕ → List ℕ
+abbrev pub int_width_of : NumberKind → ℕ → List ℕ
 int_width_of IntKind width = width ∷ []
 int_width_of FloatKind width = []
 
-abbrev pub float_width_of : Kind → ℕ → List ℕ
+abbrev pub float_width_of : NumberKind → ℕ → List ℕ
 float_width_of IntKind width = []
 float_width_of FloatKind width = width ∷ []
 

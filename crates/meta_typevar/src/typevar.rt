@@ -1,6 +1,6 @@
 ghost use Rattle.std.specs.Prelude.{◌≡◌, ◌+◌, ◌-◌, ◌^◌, ◌<◌, ◌↔◌, [], ◌∷◌, ◌++◌, length, IsTrue, IfOk, IsOkAnd, OnOk, OnErr, IfSome, IfNone};
 ghost use Rattle.meta_types.specs.TypeParts.{name_of};
-ghost use Rattle.meta_types.specs.TypeText.{doc_of};
+ghost use Rattle.meta_types.specs.TypeText.{type_doc};
 ghost use Rattle.meta_types.specs.Function.{LaneOf, AsTruthy, HalfWidth, DoubleWidth, SplitLanes, MergeLanes, DynamicToVector, Narrower, Wider};
 ghost use Rattle.meta_types.specs.DerivedFunc.{function_of};
 ghost use Rattle.meta_types.specs.ValueTypes.{type_parts_of};
@@ -69,7 +69,7 @@ impl TypeVar {
     pub fn new_singleton(vars: &mut TypeVars, value_type: ValueType) -> Result<TypeVar, AllocError>
         requires { length vars.old < 2 ^ 32 - 1 }
         ensures number { IfOk result (λ v. v ≡ length vars.old) }
-        ensures added { let t = type_parts_of value_type in OnOk result (vars.new ≡ vars.old ++ root_content (name_of t) (doc_of t) (singleton_sets t) (length vars.old) ∷ []) }
+        ensures added { let t = type_parts_of value_type in OnOk result (vars.new ≡ vars.old ++ root_content (name_of t) (type_doc t) (singleton_sets t) (length vars.old) ∷ []) }
         ensures err { OnErr result (vars.new ≡ vars.old) }
     {
         let alloc = vars.allocator();

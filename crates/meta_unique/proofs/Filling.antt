@@ -7,7 +7,7 @@ use Rattle.std.proofs.lemmas.Option.{slice_get_within, slice_get-map, get_or_fro
 use Rattle.std.proofs.lemmas.List.{length-set, length-map, length-replicate, take_more, take_all}
 use Rattle.meta_lists.proofs.Places.{get_set_here, get_set_other, get_there}
 use Rattle.meta_lists.proofs.Pushed.{get_pushed_below}
-use Rattle.meta_unique.specs.Probing.{slot_at, Holds, IsVacant, IsTaken}
+use Rattle.meta_unique.specs.Probing.{slot_at, SlotHolds, IsVacant, IsTaken}
 use Rattle.meta_unique.specs.Slots.{IsTableSize, IsFirstFree, IsTakenBefore, IsFilled, IsSlots}
 use Rattle.meta_unique.proofs.Walks.{vacant_taken}
 
@@ -31,7 +31,7 @@ taken_put (None ∷ slots) (suc slot) x v = taken_put slots slot x v
 taken_put (Some y ∷ slots) zero x v = let e : Some (Some y) ≡ Some None = v in (cc)
 taken_put (Some y ∷ slots) (suc slot) x v = ap (λ n. n + 1) (taken_put slots slot x v)
 
-none_held : {X : Type 0} (slots : List (Option X)) (slot : ℕ) (x : X) → taken slots ≡ 0 → Holds slots slot x → ⊥
+none_held : {X : Type 0} (slots : List (Option X)) (slot : ℕ) (x : X) → taken slots ≡ 0 → SlotHolds slots slot x → ⊥
 unfolding taken
 none_held [] slot x t h = (cc)
 none_held (None ∷ slots) zero x t h = let e : Some None ≡ Some (Some x) = h in (cc)
@@ -79,19 +79,19 @@ same_free size size' h slot slot' T T' e f to back r = record {
 away : {X : Type 0} (hashes : X → ℕ → Type 0) (xs : List X) (slots : List (Option X)) (slot i : ℕ) (f : IsFilled hashes xs slots) → IsVacant slots slot → i < length xs → f.place i ≢ slot
 away hashes xs slots slot i f v h e =
     let x = get_there xs i h in
-    vacant_taken slots slot v (x.0, subst (λ s. Holds slots s x.0) e (f.holds i x.0 x.1))
+    vacant_taken slots slot v (x.0, subst (λ s. SlotHolds slots s x.0) e (f.holds i x.0 x.1))
 
 -- an item is put into the first vacant slot of its probe
 put_holds : {X : Type 0} (hashes : X → ℕ → Type 0) (xs : List X) (slots : List (Option X)) (x : X) (slot : ℕ) (f : IsFilled hashes xs slots) → IsVacant slots slot → (i : ℕ) (y : X) → slice_get (xs ++ x ∷ []) i ≡ Some y
-    → Holds (slice_set slots slot (Some x)) (placed (length xs) slot f.place i) y
+    → SlotHolds (slice_set slots slot (Some x)) (placed (length xs) slot f.place i) y
 put_holds hashes xs slots x slot f v i y e = elim (get_pushed_below xs x i y e) [
-  | inl old ↦ subst (λ s. Holds (slice_set slots slot (Some x)) s y) (sym (placed_old (length xs) slot f.place i old.0))
+  | inl old ↦ subst (λ s. SlotHolds (slice_set slots slot (Some x)) s y) (sym (placed_old (length xs) slot f.place i old.0))
       (get_set_other slots slot (f.place i) (Some x) (away hashes xs slots slot i f v old.0) ∙ f.holds i y old.1)
-  | inr new ↦ subst (λ s. Holds (slice_set slots slot (Some x)) s y) (sym (ap (placed (length xs) slot f.place) new.0 ∙ placed_new (length xs) slot f.place))
+  | inr new ↦ subst (λ s. SlotHolds (slice_set slots slot (Some x)) s y) (sym (ap (placed (length xs) slot f.place) new.0 ∙ placed_new (length xs) slot f.place))
       (get_set_here slots slot (Some x) (slice_get_within slots slot None v) ∙ ap (λ w. Some (Some w)) new.1)
 ]
 
-put_only : {X : Type 0} (hashes : X → ℕ → Type 0) (xs : List X) (slots : List (Option X)) (x : X) (slot : ℕ) (f : IsFilled hashes xs slots) (s : ℕ) (y : X) → Holds (slice_set slots slot (Some x)) s y
+put_only : {X : Type 0} (hashes : X → ℕ → Type 0) (xs : List X) (slots : List (Option X)) (x : X) (slot : ℕ) (f : IsFilled hashes xs slots) (s : ℕ) (y : X) → SlotHolds (slice_set slots slot (Some x)) s y
     → (i : ℕ) × (i < length (xs ++ x ∷ [])) × (placed (length xs) slot f.place i ≡ s)
 put_only {X} hashes xs slots x slot f s y h = elim (cases_order s slot) [
   | inl same ↦ (length xs, omega (arith, length-append {A = X}), placed_new (length xs) slot f.place ∙ sym same)

@@ -5,7 +5,7 @@ use Rattle.std.proofs.lemmas.Option.{slice_get_within, slice_get-get_or, same_So
 use Rattle.std.specs.Borrow.{Bor}
 use Rattle.meta_unique.specs.Interning.{pointed_to}
 use Rattle.meta_unique.specs.Slots.{IsSlots}
-use Rattle.meta_unique.specs.SimpleHash.{hash_of}
+use Rattle.meta_unique.specs.SimpleHash.{simple_hash_of}
 use Rattle.meta_unique.specs.NameSlots.{HashesTo, numbers_from}
 
 numbers_next : (first count : ℕ) → numbers_from first (suc count) ≡ numbers_from first count ++ (first + count) ∷ []
@@ -25,15 +25,15 @@ number_at first zero place l = absurd (omega arith)
 number_at first (suc count) zero l = ap Some (omega arith)
 number_at first (suc count) (suc place) l = number_at (first + 1) count place (omega arith) ∙ ap Some (omega arith)
 
-pub number_found : (first count place number : ℕ) → slice_get (numbers_from first count) place ≡ Some number → (place < count) × (number ≡ first + place)
-number_found first count place number e =
+pub place_numbered : (first count place number : ℕ) → slice_get (numbers_from first count) place ≡ Some number → (place < count) × (number ≡ first + place)
+place_numbered first count place number e =
     let l : place < count = subst (λ n. place < n) (count_of_numbers first count) (slice_get_within (numbers_from first count) place number e) in
     (l, same_Some number (first + place) (sym e ∙ number_at first count place l))
 
 -- numbers that stand among them are in their range
 pub number_inside : (numbers : List ℕ) (first count number : ℕ) → numbers ≡ numbers_from first count → Contains numbers number → (first ≤ number) × (number < first + count)
 number_inside numbers first count number e c =
-    let f = number_found first count c.0 number (sym (ap (λ w. slice_get w c.0) e) ∙ slice_get-get_or numbers c.0 number c.1 ∙ ap Some c.2) in
+    let f = place_numbered first count c.0 number (sym (ap (λ w. slice_get w c.0) e) ∙ slice_get-get_or numbers c.0 number c.1 ∙ ap Some c.2) in
     (omega (arith, f.0, f.1), omega (arith, f.0, f.1))
 
 -- slots by one hash are slots by another, if it says so of the items
@@ -58,7 +58,7 @@ name_pointed (x ∷ names) zero r e = let same : x ≡ r = same_Some x r e in ap
 name_pointed (x ∷ names) (suc k) r e = name_pointed names k r e
 
 -- the hash of the name that is read at a place
-pub hashes_at : (first : ℕ) (names : List (Bor (List ℕ))) (number h k : ℕ) (d : Bor (List ℕ)) → number ≡ first + k → k < length names → h ≡ hash_of (get_or names k d).now → HashesTo first (pointed_to names) number h
+pub hashes_at : (first : ℕ) (names : List (Bor (List ℕ))) (number h k : ℕ) (d : Bor (List ℕ)) → number ≡ first + k → k < length names → h ≡ simple_hash_of (get_or names k d).now → HashesTo first (pointed_to names) number h
 hashes_at first names number h k d is inside hash = record {
   name = (get_or names k d).now;
   is_number = record { place = k; number_is = is; there = name_pointed names k (get_or names k d) (slice_get-get_or names k d inside) };

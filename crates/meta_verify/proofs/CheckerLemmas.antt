@@ -1,5 +1,5 @@
 -- Why a line is wrong, by tables.
-use Rattle.std.proofs.Common.{◌≡◌, ◌↔◌, ℕ, nat_eq, Bool, true, false, cond, List, [], ◌∷◌, map, get_or, All, Option, Some, None, IfSome, IfNone, is_some, Result, Ok, Err, OnErr, IsTrue, refl, sym, ap, ap₂, ◌∙◌, subst}
+use Rattle.std.proofs.Common.{◌≡◌, ◌↔◌, ℕ, nat_eq, Bool, true, false, cond, List, [], ◌∷◌, map, get_or, All, Option, Some, None, IfSome, IfNone, is_some, IsTrue, refl, sym, ap, ap₂, ◌∙◌, subst}
 use Rattle.std.specs.Option.{option_map}
 use Rattle.std.specs.Ordering.{nat_cmp}
 use Rattle.std.specs.BTreeMap.{get, is_at}
@@ -13,21 +13,22 @@ use Rattle.meta_types.specs.TypeParts.{TypeParts, IsType, number_of}
 use Rattle.meta_meaning.specs.Tables.{TableContents, at_opcode, Allows}
 use Rattle.meta_opcode_tables.specs.Contents.{IsOpcodeNamed}
 use Rattle.meta_types.specs.TypeNumber.{type_with, IsTypeNumber}
+use Rattle.meta_words.proofs.TypeListLemmas.{numbers_back}
 use Rattle.meta_answers.specs.Answer.{AllowsAsked, AllowedReply}
 use Rattle.meta_verify.specs.Statement.{TypedValue, Statement, OfParameter, OfApplication}
 use Rattle.meta_verify.specs.Environment.{Environment, nothing_defined, with_values, first_undefined, first_redefined, HaveTypes, HasNamedTypes}
-use Rattle.meta_verify.specs.Numbers.{typed, applied, IsTypedNumber, HasNumbers}
-use Rattle.meta_verify.specs.Defined.{number_at, environment_of, AreTypeNumbers, Entries, entries_of, definitions}
-use Rattle.meta_verify.specs.Wrong.{Replies, question_of, IsMistake, IsFaultless, Answers, Feeds}
+use Rattle.meta_verify.specs.Numbers.{typed_value_of, applied, IsTypedNumber, HasNumbers}
+use Rattle.meta_verify.specs.Defined.{known_number, environment_of, AreTypeNumbers, Entries, entries_of, definitions}
+use Rattle.meta_verify.specs.Wrong.{Replies, question_of, IsMistake, IsFaultless, AnswersLine, Feeds}
 use Rattle.meta_verify.specs.declared.known.KnownTypes.{KnownTypes}
 use Rattle.meta_verify.specs.declared.reason.Reason.{Reason}
 use Rattle.meta_verify.specs.declared.reason.Reason.TheVariants.{Undefined, Redefined, Refused}
 use Rattle.meta_verify.specs.declared.statement.TypedNumber.{TypedNumber}
 use Rattle.meta_verify.specs.declared.statement.Application.{Application}
-use Rattle.meta_verify.proofs.EnvironmentLemmas.{number_back, numbers_back, defined_is, redefined_here, redefined_later}
+use Rattle.meta_verify.proofs.EnvironmentLemmas.{number_back, redefined_here, redefined_later}
 
 -- the numbers of the results' types are those that are held
-pub result_numbers : (rs : List TypedNumber) → All IsTypedNumber rs → map number_of (map (λ (r : TypedValue). r.type) (map typed rs)) ≡ map (λ (r : TypedNumber). r.number) rs
+pub result_numbers : (rs : List TypedNumber) → All IsTypedNumber rs → map number_of (map (λ (r : TypedValue). r.type) (map typed_value_of rs)) ≡ map (λ (r : TypedNumber). r.number) rs
 result_numbers [] h = refl
 result_numbers (r ∷ rs) h = ap₂ ◌∷◌ (All-head IsTypedNumber r rs h).number.numbered (result_numbers rs (All-tail IsTypedNumber r rs h))
 
@@ -83,7 +84,7 @@ type_there None t known e = absurd (cc)
 type_there (Some n) t known e = subst IsType (same_Some (type_with n) t e) known.is_type
 
 pub named_seen : (m : KnownTypes) (l : Entries) → entries_of m ≡ l → AreTypeNumbers m → HasNamedTypes (definitions l)
-named_seen m l e known = subst HasNamedTypes (seen m l e) (λ v t is. type_there (number_at m v) t (known v) is)
+named_seen m l e known = subst HasNamedTypes (seen m l e) (λ v t is. type_there (known_number m v) t (known v) is)
 
 -- a map that defines the same, and one that defines more
 pub seen_same : (m n : KnownTypes) (l k : Entries) → entries_of m ≡ l → entries_of n ≡ k → ((v : ℕ) → environment_of n v ≡ environment_of m v) → definitions k ≡ definitions l
@@ -97,7 +98,7 @@ pub fresh_there : (m : KnownTypes) (l : Entries) (rs : List TypedValue) → entr
 fresh_there m l rs e h = ap (λ (env : Environment). first_redefined env rs) (seen m l e) ∙ h
 
 -- nothing is defined where no value has a number
-pub nothing_seen : (m : KnownTypes) (l : Entries) → entries_of m ≡ l → ((v : ℕ) → number_at m v ≡ None) → definitions l ≡ nothing_defined
+pub nothing_seen : (m : KnownTypes) (l : Entries) → entries_of m ≡ l → ((v : ℕ) → known_number m v ≡ None) → definitions l ≡ nothing_defined
 nothing_seen m l e none = sym (seen m l e) ∙ (λ i v. option_map type_with (none v i))
 
 -- what is said by what is held is said by what a contract sees
@@ -113,35 +114,26 @@ module _ (tables : TableContents) (m : KnownTypes) (l : Entries) (s : Statement)
       (subst (λ o. IfNone o (IsFaultless (AllowedReply tables) (environment_of m) s)) is h)
 
 -- a parameter that is defined before, and one that isn't
-pub parameter_redefined : (env : Environment) (r : TypedNumber) (R : Replies) → is_some (env r.value) ≡ true → IsMistake R env (OfParameter (typed r)) (Redefined r.value)
-parameter_redefined env r R there = ((λ lacks. lacks), refl, redefined_here env (typed r) [] there)
+pub parameter_redefined : (env : Environment) (r : TypedNumber) (R : Replies) → is_some (env r.value) ≡ true → IsMistake R env (OfParameter (typed_value_of r)) (Redefined r.value)
+parameter_redefined env r R there = ((λ lacks. lacks), refl, redefined_here env (typed_value_of r) [] there)
 
-pub parameter_right : (env : Environment) (r : TypedNumber) (R : Replies) → is_some (env r.value) ≡ false → IsFaultless R env (OfParameter (typed r))
-parameter_right env r R absent = record { named = λ lacks. lacks; defined = refl; fresh = redefined_later env (typed r) [] absent; accepted = tt }
+pub parameter_right : (env : Environment) (r : TypedNumber) (R : Replies) → is_some (env r.value) ≡ false → IsFaultless R env (OfParameter (typed_value_of r))
+parameter_right env r R absent = record { named = λ lacks. lacks; defined = refl; fresh = redefined_later env (typed_value_of r) [] absent; accepted = tt }
 
 -- the answer to a parameter
-pub parameter_mistake : (env : Environment) (r : TypedNumber) (R : Replies) (o : Option Reason) → o ≡ cond (is_some (env r.value)) (Some (Redefined r.value)) None → IfSome o (λ reason. IsMistake R env (OfParameter (typed r)) reason)
-parameter_mistake env r R o e = subst (λ o. IfSome o (λ reason. IsMistake R env (OfParameter (typed r)) reason)) (sym e) (by_test (is_some (env r.value)) refl)
+pub parameter_mistake : (env : Environment) (r : TypedNumber) (R : Replies) (o : Option Reason) → o ≡ cond (is_some (env r.value)) (Some (Redefined r.value)) None → IfSome o (λ reason. IsMistake R env (OfParameter (typed_value_of r)) reason)
+parameter_mistake env r R o e = subst (λ o. IfSome o (λ reason. IsMistake R env (OfParameter (typed_value_of r)) reason)) (sym e) (by_test (is_some (env r.value)) refl)
   where
-    by_test : (b : Bool) → is_some (env r.value) ≡ b → IfSome (cond b (Some (Redefined r.value)) None) (λ reason. IsMistake R env (OfParameter (typed r)) reason)
+    by_test : (b : Bool) → is_some (env r.value) ≡ b → IfSome (cond b (Some (Redefined r.value)) None) (λ reason. IsMistake R env (OfParameter (typed_value_of r)) reason)
     by_test true is = parameter_redefined env r R is
     by_test false is = tt
 
-pub parameter_faultless : (env : Environment) (r : TypedNumber) (R : Replies) (o : Option Reason) → o ≡ cond (is_some (env r.value)) (Some (Redefined r.value)) None → IfNone o (IsFaultless R env (OfParameter (typed r)))
-parameter_faultless env r R o e = subst (λ o. IfNone o (IsFaultless R env (OfParameter (typed r)))) (sym e) (by_test (is_some (env r.value)) refl)
+pub parameter_faultless : (env : Environment) (r : TypedNumber) (R : Replies) (o : Option Reason) → o ≡ cond (is_some (env r.value)) (Some (Redefined r.value)) None → IfNone o (IsFaultless R env (OfParameter (typed_value_of r)))
+parameter_faultless env r R o e = subst (λ o. IfNone o (IsFaultless R env (OfParameter (typed_value_of r)))) (sym e) (by_test (is_some (env r.value)) refl)
   where
-    by_test : (b : Bool) → is_some (env r.value) ≡ b → IfNone (cond b (Some (Redefined r.value)) None) (IsFaultless R env (OfParameter (typed r)))
+    by_test : (b : Bool) → is_some (env r.value) ≡ b → IfNone (cond b (Some (Redefined r.value)) None) (IsFaultless R env (OfParameter (typed_value_of r)))
     by_test true is = tt
     by_test false is = parameter_right env r R is
-
--- what holds where an error is answered
-pub on_err_weaker : {T E P Q : Type 0} (r : Result T E) → (P → Q) → OnErr r P → OnErr r Q
-on_err_weaker (Ok x) f h = tt
-on_err_weaker (Err e) f h = f h
-
-pub on_err_there : {T E P : Type 0} (r : Result T E) → P → OnErr r P
-on_err_there (Ok x) h = tt
-on_err_there (Err e) h = h
 
 -- what is decided so, and is said not to be
 pub says_no : (b : Bool) (P : Type 0) → (IsTrue b ↔ P) → b ≡ false → P → ⊥
@@ -152,15 +144,15 @@ module _ (tables : TableContents) (env : Environment) (a : Application) (h : Has
   pub is_undefined : (v : ℕ) → Some v ≡ first_undefined env a.values.items → IsMistake (AllowedReply tables) env (OfApplication (applied a)) (Undefined v)
   is_undefined v e = (known_name tables a.name.now op found, sym e)
 
-  pub is_redefined : (v : ℕ) → None ≡ first_undefined env a.values.items → Some v ≡ first_redefined env (map typed a.results.items) → IsMistake (AllowedReply tables) env (OfApplication (applied a)) (Redefined v)
+  pub is_redefined : (v : ℕ) → None ≡ first_undefined env a.values.items → Some v ≡ first_redefined env (map typed_value_of a.results.items) → IsMistake (AllowedReply tables) env (OfApplication (applied a)) (Redefined v)
   is_redefined v u e = (known_name tables a.name.now op found, sym u, sym e)
 
-  pub is_refused : (ns results : List ℕ) → None ≡ first_undefined env a.values.items → None ≡ first_redefined env (map typed a.results.items) → HaveTypes env a.values.items (map type_with ns) → All IsTypeNumber ns
+  pub is_refused : (ns results : List ℕ) → None ≡ first_undefined env a.values.items → None ≡ first_redefined env (map typed_value_of a.results.items) → HaveTypes env a.values.items (map type_with ns) → All IsTypeNumber ns
       → results ≡ map (λ (r : TypedNumber). r.number) a.results.items → (Allows tables op a.control a.second results ns → ⊥) → IsMistake (AllowedReply tables) env (OfApplication (applied a)) Refused
   is_refused ns results u r types known e never =
       (known_name tables a.name.now op found, sym u, sym r, (map type_with ns, types, (op, found, λ asked. never (asked_allows tables op a h ns known results e asked))))
 
-  pub is_faultless : (ns results : List ℕ) → None ≡ first_undefined env a.values.items → None ≡ first_redefined env (map typed a.results.items) → HaveTypes env a.values.items (map type_with ns) → All IsTypeNumber ns
+  pub is_faultless : (ns results : List ℕ) → None ≡ first_undefined env a.values.items → None ≡ first_redefined env (map typed_value_of a.results.items) → HaveTypes env a.values.items (map type_with ns) → All IsTypeNumber ns
       → results ≡ map (λ (r : TypedNumber). r.number) a.results.items → Allows tables op a.control a.second results ns → IsFaultless (AllowedReply tables) env (OfApplication (applied a))
   is_faultless ns results u r types known e allows = record {
     named = known_name tables a.name.now op found;
@@ -172,6 +164,6 @@ module _ (tables : TableContents) (env : Environment) (a : Application) (h : Has
 -- ---- lines
 
 -- an answer to a line that isn't empty
-pub feeds : (R : Replies) (env env' : Environment) (line : List ℕ) (answer : Option Reason) → (line ≡ [] → ⊥) → Answers R env line answer env' → Feeds R env line answer env'
+pub feeds : (R : Replies) (env env' : Environment) (line : List ℕ) (answer : Option Reason) → (line ≡ [] → ⊥) → AnswersLine R env line answer env' → Feeds R env line answer env'
 feeds R env env' [] answer some h = absurd (some refl)
 feeds R env env' (c ∷ cs) answer some h = h

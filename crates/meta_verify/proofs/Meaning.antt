@@ -14,15 +14,16 @@ use Rattle.meta_answers.specs.declared.reply.Reply.TheVariants as reply
 use Rattle.meta_answers.proofs.Meant.{accepted}
 use Rattle.meta_verify.specs.Statement.{TypedValue, Application, Statement, OfParameter, OfApplication, IsTyped, CanApply, CanBeStated, defined_by}
 use Rattle.meta_verify.specs.Environment.{Environment, nothing_defined, with_value, with_values, HaveTypes, HasNamedTypes}
-use Rattle.meta_verify.specs.Wrong.{Replies, question_of, LacksName, IsRepliedTo, IsAccepted, IsMistake, IsFaultless, IsWrong, Answers, Feeds}
+use Rattle.meta_verify.specs.Wrong.{Replies, question_of, LacksName, IsRepliedTo, IsAccepted, IsMistake, IsFaultless, IsWrong, AnswersLine, Feeds}
 use Rattle.meta_verify.specs.Verdict.{LeadTo, IsAnsweredAt, AreRightTo, IsVerdict}
 use Rattle.meta_verify.proofs.OneAnswer.{right_not_wrong}
-use Rattle.meta_verify.proofs.OneReply.{one_accepted}
+use Rattle.meta_answers.proofs.OneReply.{one_accepted}
 use Rattle.meta_verify.proofs.Allowed.{unknown_back, allowed, unknown_forth}
 use Rattle.meta_verify.specs.declared.reason.Reason.{Reason}
 use Rattle.meta_verify.specs.declared.reason.Reason.TheVariants.{Bad, Unknown, Undefined, Redefined, Refused}
 
-types_named : (env : Environment) (values : List ℕ) (types : List TypeParts) → HasNamedTypes env → HaveTypes env values types → All IsType types
+-- the types of values that are defined can be named, where all can
+pub types_named : (env : Environment) (values : List ℕ) (types : List TypeParts) → HasNamedTypes env → HaveTypes env values types → All IsType types
 types_named env [] [] named h = All-nil IsType
 types_named env [] (t ∷ ts) named h = absurd (cc)
 types_named env (v ∷ vs) [] named h = absurd (cc)
@@ -46,7 +47,8 @@ pub results_typed : (s : Statement) → CanBeStated s → All IsTyped (defined_b
 results_typed (OfParameter r) can = All-cons IsTyped r [] can (All-nil IsTyped)
 results_typed (OfApplication a) can = can.results
 
-question_typed : (a : Application) (types : List TypeParts) → CanApply a → All IsType types → HasTypes (question_of a types)
+-- what is asked of an application can be named, where the types of its values can
+pub question_typed : (a : Application) (types : List TypeParts) → CanApply a → All IsType types → HasTypes (question_of a types)
 question_typed a types can h = record {
   control = can.control;
   second = can.second;
@@ -61,7 +63,7 @@ nothing_named v t e = absurd (cc)
 -- ---- behind lines the types can still be named
 
 module _ (R : Replies) where
-  answers_named : (env env' : Environment) (line : List ℕ) (answer : Option Reason) → HasNamedTypes env → Answers R env line answer env' → HasNamedTypes env'
+  answers_named : (env env' : Environment) (line : List ℕ) (answer : Option Reason) → HasNamedTypes env → AnswersLine R env line answer env' → HasNamedTypes env'
   answers_named env env' line None named (s, (states, h), e) = subst HasNamedTypes (sym e) (all_named env (defined_by s) named (results_typed s states.can))
   answers_named env env' line (Some reason) named (h, e) = subst HasNamedTypes (sym e) named
 
@@ -103,7 +105,7 @@ module _ (R S : Replies) (means : (q : Question) → HasTypes q → (r : Reply) 
   wrong env line reason named (inl (s, states, h)) = inl (s, states, mistake env s reason named states.can h)
   wrong env line reason named (inr h) = inr h
 
-  answers : (env env' : Environment) (line : List ℕ) (answer : Option Reason) → HasNamedTypes env → Answers R env line answer env' → Answers S env line answer env'
+  answers : (env env' : Environment) (line : List ℕ) (answer : Option Reason) → HasNamedTypes env → AnswersLine R env line answer env' → AnswersLine S env line answer env'
   answers env env' line None named (s, (states, h), e) = (s, (states, faultless env s named states.can h), e)
   answers env env' line (Some reason) named (h, e) = (wrong env line reason named h, e)
 

@@ -9,7 +9,7 @@ use Rattle.meta_answers.specs.declared.reply.Reply.{Reply}
 use Rattle.meta_answers.specs.declared.reply.Reply.TheVariants as reply
 use Rattle.meta_verify.specs.Statement.{Statement, OfParameter, OfApplication, defined_by}
 use Rattle.meta_verify.specs.Environment.{Environment, nothing_defined, with_values, HaveTypes}
-use Rattle.meta_verify.specs.Wrong.{Replies, question_of, IsAccepted, IsRefused, IsMistake, IsFaultless, IsRight, IsWrong, Answers, Feeds}
+use Rattle.meta_verify.specs.Wrong.{Replies, question_of, IsAccepted, IsRefused, IsMistake, IsFaultless, IsRight, IsWrong, AnswersLine, Feeds}
 use Rattle.meta_verify.specs.Verdict.{LeadTo, IsAnsweredAt, IsFirstWrong, wrong_text, IsVerdict}
 use Rattle.meta_verify.specs.declared.reason.Reason.{Reason}
 use Rattle.meta_verify.specs.declared.reason.Reason.TheVariants.{Bad, Unknown, Undefined, Redefined, Refused}
@@ -25,15 +25,15 @@ same_found (t ∷ ts) (u ∷ us) e =
     let others : map (λ t. Some t) ts ≡ map (λ t. Some t) us = cc in
     ap₂ ◌∷◌ first (same_found ts us others)
 
-same_types : (env : Environment) (values : List ℕ) (ts us : List TypeParts) → HaveTypes env values ts → HaveTypes env values us → ts ≡ us
-same_types env values ts us h g = same_found ts us (sym h ∙ g)
+pub same_found_types : (env : Environment) (values : List ℕ) (ts us : List TypeParts) → HaveTypes env values ts → HaveTypes env values us → ts ≡ us
+same_found_types env values ts us h g = same_found ts us (sym h ∙ g)
 
 module _ (R : Replies) (one : (q : Question) (r s : Reply) → R q r → R q s → r ≡ s) where
   -- what is accepted isn't refused
   not_both : (env : Environment) (s : Statement) → IsAccepted R env s → IsRefused R env s → ⊥
   not_both env (OfParameter r) h g = g
   not_both env (OfApplication a) (types, have, accepts) (others, has, refuses) =
-      let same = same_types env a.values types others have has in
+      let same = same_found_types env a.values types others have has in
       let e : reply.Accept ≡ reply.Refuse = one (question_of a others) reply.Accept reply.Refuse (subst (λ ts. R (question_of a ts) reply.Accept) same accepts) refuses in
       absurd (cc)
 
@@ -78,7 +78,7 @@ module _ (R : Replies) (one : (q : Question) (r s : Reply) → R q r → R q s �
   not_wrong env line s reason (states, h) (inr (bad, none)) = none s states
 
   -- a line has one answer, and leads to one environment
-  one_answer : (env e f : Environment) (line : List ℕ) (a b : Option Reason) → Answers R env line a e → Answers R env line b f → (a ≡ b) × (e ≡ f)
+  one_answer : (env e f : Environment) (line : List ℕ) (a b : Option Reason) → AnswersLine R env line a e → AnswersLine R env line b f → (a ≡ b) × (e ≡ f)
   one_answer env e f line None None (s, (states, h), is) (t, (also, g), too) =
       (refl, is ∙ ap (λ x. with_values env (defined_by x)) (one_statement line s t states also) ∙ sym too)
   one_answer env e f line None (Some b) (s, right, is) (wrong, too) = absurd (not_wrong env line s b right wrong)

@@ -10,11 +10,11 @@ use Rattle.meta_types.proofs.Names.{one_name}
 use Rattle.meta_words.specs.Words.{IsWord, AreWords, pieces_of}
 use Rattle.meta_words.specs.Control.{control_text, IsBehind}
 use Rattle.meta_words.proofs.PieceLemmas.{slice_split_cons, All-slice_split, only_piece, whole_piece, first_piece}
-use Rattle.meta_words.proofs.NameLemmas.{IsDigit, lacks, has_no_comma, has_no_colon}
+use Rattle.meta_words.proofs.NameLemmas.{IsDigit, decimal_lacks, has_no_comma, has_no_colon}
 use Rattle.meta_words.proofs.WordLemmas.{pieces_of-words, words_from}
 use Rattle.meta_words.proofs.ControlLemmas.{same_controls, control_has_bytes}
 use Rattle.meta_verify.specs.Statement.{TypedValue, Application, Statement, OfParameter, OfApplication, IsValue, IsTyped, CanApply, IsStatement, value_text, typed_text, list_text, words_of}
-use Rattle.meta_verify.specs.Numbers.{typed, IsTypedNumber}
+use Rattle.meta_verify.specs.Numbers.{typed_value_of, IsTypedNumber}
 use Rattle.meta_verify.specs.declared.statement.TypedNumber.{TypedNumber}
 use Rattle.meta_verify.proofs.ListLemmas.{same_list, list_has_bytes}
 
@@ -31,13 +31,13 @@ colon h = let high : 58 ≤ 57 = h.high in omega arith
 
 -- the text of a value has no comma, and no colon
 pub value_no_comma : (v : ℕ) → IsValue v → All (λ b. b ≢ 44) (value_text v)
-value_no_comma v h = All-cons (λ b. b ≢ 44) 118 (decimal v) (omega arith) (lacks 44 v (wide v h) comma)
+value_no_comma v h = All-cons (λ b. b ≢ 44) 118 (decimal v) (omega arith) (decimal_lacks 44 v (wide v h) comma)
 
 pub value_no_colon : (v : ℕ) → IsValue v → All (λ b. b ≢ 58) (value_text v)
-value_no_colon v h = All-cons (λ b. b ≢ 58) 118 (decimal v) (omega arith) (lacks 58 v (wide v h) colon)
+value_no_colon v h = All-cons (λ b. b ≢ 58) 118 (decimal v) (omega arith) (decimal_lacks 58 v (wide v h) colon)
 
-pub one_value : (v u : ℕ) → IsValue v → IsValue u → value_text v ≡ value_text u → v ≡ u
-one_value v u h k e =
+pub one_written_value : (v u : ℕ) → IsValue v → IsValue u → value_text v ≡ value_text u → v ≡ u
+one_written_value v u h k e =
     let digits : decimal v ≡ decimal u = cc in
     decimal_injective v u (wide v h) (wide u k) digits
 
@@ -63,7 +63,7 @@ one_typed r s h k e =
     let pieces : value_text r.value ∷ name_of r.type ∷ [] ≡ value_text s.value ∷ name_of s.type ∷ [] = sym (typed_parted r h) ∙ ap (pieces_of 58) e ∙ typed_parted s k in
     let values : value_text r.value ≡ value_text s.value = cc in
     let names : name_of r.type ≡ name_of s.type = cc in
-    let value = one_value r.value s.value h.value k.value values in
+    let value = one_written_value r.value s.value h.value k.value values in
     let type = one_name r.type s.type h.is_type k.is_type names in
     λ i. record { value = value i; type = type i }
 
@@ -103,11 +103,11 @@ is_typed word first rest v t pieces value named =
 -- ---- lines
 
 -- numbers of types are those of typed values that can be named
-pub typed_numbers : (rs : List TypedNumber) → All IsTypedNumber rs → All IsTyped (map typed rs)
+pub typed_numbers : (rs : List TypedNumber) → All IsTypedNumber rs → All IsTyped (map typed_value_of rs)
 typed_numbers [] h = All-nil IsTyped
 typed_numbers (r ∷ rs) h =
     let first = All-head IsTypedNumber r rs h in
-    All-cons IsTyped (typed r) (map typed rs) (record { value = first.value; is_type = first.number.is_type }) (typed_numbers rs (All-tail IsTypedNumber r rs h))
+    All-cons IsTyped (typed_value_of r) (map typed_value_of rs) (record { value = first.value; is_type = first.number.is_type }) (typed_numbers rs (All-tail IsTypedNumber r rs h))
 
 -- the line whose pieces are the words of s states s
 states : (line : List ℕ) (s : Statement) → All (λ w. 0 < length w) (words_of s) → pieces_of 32 line ≡ words_of s → AreWords line (words_of s)
@@ -208,7 +208,7 @@ one_statement line (OfParameter r) (OfParameter q) h k =
     let words : words_of (OfParameter r) ≡ words_of (OfParameter q) = sym (pieces_are line (OfParameter r) h) ∙ pieces_are line (OfParameter q) k in
     let values : value_text r.value ≡ value_text q.value = cc in
     let names : name_of r.type ≡ name_of q.type = cc in
-    let value = one_value r.value q.value h.can.value k.can.value values in
+    let value = one_written_value r.value q.value h.can.value k.can.value values in
     let type = one_name r.type q.type h.can.is_type k.can.is_type names in
     λ i. OfParameter (record { value = value i; type = type i })
 one_statement line (OfParameter r) (OfApplication a) h k =
@@ -225,5 +225,5 @@ one_statement line (OfApplication a) (OfApplication b) h k =
     let values : list_text (map value_text a.values) ≡ list_text (map value_text b.values) = cc in
     let c = same_controls a.control a.second b.control b.second h.can.control h.can.second h.can.behind k.can.control k.can.second k.can.behind controls in
     let r = same_list IsTyped typed_text typed_no_comma typed_no_dash one_typed a.results b.results h.can.results k.can.results results in
-    let v = same_list IsValue value_text value_no_comma value_no_dash one_value a.values b.values h.can.values k.can.values values in
+    let v = same_list IsValue value_text value_no_comma value_no_dash one_written_value a.values b.values h.can.values k.can.values values in
     λ i. OfApplication (record { name = names i; control = c.0 i; second = c.1 i; results = r i; values = v i })

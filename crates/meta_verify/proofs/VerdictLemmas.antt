@@ -11,7 +11,7 @@ use Rattle.meta_verify.specs.Wrong.{Replies, Feeds}
 use Rattle.meta_verify.specs.Verdict.{LeadTo, IsAnsweredAt, AreRightTo, AreRight, IsFirstWrong, wrong_text}
 use Rattle.meta_verify.specs.declared.reason.Reason.{Reason}
 use Rattle.meta_verify.proofs.OneAnswer.{right_not_wrong}
-use Rattle.meta_verify.proofs.OneReply.{one_allowed}
+use Rattle.meta_answers.proofs.OneReply.{one_allowed}
 
 -- one more line leads further
 leads_on : (R : Replies) (env between env' : Environment) (lines : List (List ℕ)) (line : List ℕ) (answer : Option Reason) → LeadTo R env lines between → Feeds R between line answer env' → LeadTo R env (lines ++ line ∷ []) env'
@@ -19,7 +19,7 @@ leads_on R env between env' [] line answer h fed = (answer, env', subst (λ e. F
 leads_on R env between env' (l ∷ lines) line answer (first, e, fed_first, rest) fed = (first, e, fed_first, leads_on R e between env' lines line answer rest fed)
 
 -- where the lines from this one on begin with this line
-at_front : (lines : List (List ℕ)) (n : ℕ) (line : List ℕ) (rest : List (List ℕ)) → drop n lines ≡ line ∷ rest → slice_get lines n ≡ Some line
+pub at_front : (lines : List (List ℕ)) (n : ℕ) (line : List ℕ) (rest : List (List ℕ)) → drop n lines ≡ line ∷ rest → slice_get lines n ≡ Some line
 at_front [] zero line rest e = absurd (cc)
 at_front [] (suc n) line rest e = absurd (cc)
 at_front (l ∷ lines) zero line rest e = let same : l ≡ line = cc in ap (λ x. Some x) same

@@ -64,8 +64,8 @@ refused_second word first rest dash pieces none (Some t) (Some u) h m b e =
     none u m (only_piece 47 rest (name_of u) second)
 
 -- a word of one piece is the name of that type
-pub one_control : (word first : List ℕ) (t : TypeParts) → pieces_of 47 word ≡ first ∷ [] → name_of t ≡ first → control_text (Some t) None ≡ word
-one_control word first t pieces named = named ∙ only_piece 47 word first pieces
+pub one_part_control : (word first : List ℕ) (t : TypeParts) → pieces_of 47 word ≡ first ∷ [] → name_of t ≡ first → control_text (Some t) None ≡ word
+one_part_control word first t pieces named = named ∙ only_piece 47 word first pieces
 
 -- and one of two parts is the names of both
 pub two_controls : (word first rest : List ℕ) (t u : TypeParts) → pieces_of 47 word ≡ first ∷ pieces_of 47 rest → name_of t ≡ first → name_of u ≡ rest → control_text (Some t) (Some u) ≡ word
@@ -80,6 +80,6 @@ control_has_bytes None d = omega arith
 control_has_bytes (Some t) None = omega arith
 control_has_bytes (Some t) (Some u) = omega arith
 
-pub control_type : (c : Option ℕ) → IfSome c IsTypeNumber → IfSome (option_map type_with c) IsType
-control_type None h = tt
-control_type (Some n) h = h.is_type
+pub control_is_type : (c : Option ℕ) → IfSome c IsTypeNumber → IfSome (option_map type_with c) IsType
+control_is_type None h = tt
+control_is_type (Some n) h = h.is_type

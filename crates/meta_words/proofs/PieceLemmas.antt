@@ -81,5 +81,5 @@ pub no_place : (byte : ℕ) (text : List ℕ) (end : ℕ) → end ≡ position_o
 no_place byte text end is whole = slice_split_none (λ b. b == byte) text (λ k d l. fails_before_first (λ b. b == byte) text k d (omega (arith, l, is, whole)))
 
 -- and elsewhere the first piece ends there
-pub at_place : (byte : ℕ) (text : List ℕ) (end : ℕ) → end ≡ position_or_len (λ b. b == byte) text → (end ≡ length text → ⊥) → end < length text
-at_place byte text end is other = let most = prefix_len-le-length (λ b. not (b == byte)) text in omega (arith, most, is, other)
+pub ends_within : (byte : ℕ) (text : List ℕ) (end : ℕ) → end ≡ position_or_len (λ b. b == byte) text → (end ≡ length text → ⊥) → end < length text
+ends_within byte text end is other = let most = prefix_len-le-length (λ b. not (b == byte)) text in omega (arith, most, is, other)

@@ -30,14 +30,14 @@ are_words line words pieces some = record {
 }
 
 -- the first word of a line and the words of what stands behind it are those of the line
-pub more_words : (line word rest : List ℕ) (words : List (List ℕ)) → pieces_of 32 line ≡ word ∷ pieces_of 32 rest → 0 < length word → AreWords rest words → 0 < length words → AreWords line (word ∷ words)
-more_words line word rest words pieces has h some =
+pub words_from_parts : (line word rest : List ℕ) (words : List (List ℕ)) → pieces_of 32 line ≡ word ∷ pieces_of 32 rest → 0 < length word → AreWords rest words → 0 < length words → AreWords line (word ∷ words)
+words_from_parts line word rest words pieces has h some =
     are_words line (word ∷ words) (ap (λ ws. word ∷ ws) (sym (words_pieces rest words h some)) ∙ sym pieces)
     (All-cons (λ w. 0 < length w) word words has (All-weaker IsWord (λ w. 0 < length w) (λ w is. is.has_bytes) words h.each))
 
 -- and back
-pub words_behind : (line word rest : List ℕ) (words : List (List ℕ)) → pieces_of 32 line ≡ word ∷ pieces_of 32 rest → AreWords line (word ∷ words) → AreWords rest words
-words_behind line word rest words pieces h =
+pub words_from_behind : (line word rest : List ℕ) (words : List (List ℕ)) → pieces_of 32 line ≡ word ∷ pieces_of 32 rest → AreWords line (word ∷ words) → AreWords rest words
+words_from_behind line word rest words pieces h =
     let same : word ∷ pieces_of 32 rest ≡ word ∷ words = sym pieces ∙ pieces_of-words line word words h in
     let others : words ≡ pieces_of 32 rest = cc in
     are_words rest words others (All-weaker IsWord (λ w. 0 < length w) (λ w is. is.has_bytes) words (All-tail IsWord word words h.each))

@@ -7,10 +7,10 @@ use Rattle.meta_verify.specs.Environment.{Environment}
 use Rattle.meta_verify.specs.Defined.{definitions}
 use Rattle.meta_verify.specs.Wrong.{Feeds}
 use Rattle.meta_verify.specs.declared.reason.Reason.{Reason}
-use Rattle.meta_verify.proofs.VerdictLemmas.{left_next, few_so_far, AreRightSoFar, none_so_far, one_right, first_wrong}
+use Rattle.meta_verify.proofs.VerdictLemmas.{at_front, left_next, few_so_far, AreRightSoFar, none_so_far, one_right, first_wrong}
 use Rattle.meta_short.specs.Manners.{IsMannerIn}
 use Rattle.meta_asm.specs.Listing.{IsShortened}
-use Rattle.meta_asm.proofs.ListingLemmas.{none_written, one_written, at_front, all_written}
+use Rattle.meta_asm.proofs.ListingLemmas.{none_written, one_written, all_written}
 use Rattle.meta_asm.proofs.listing.shortened.Goals as goal
 
 pub loop-line-init : goal.loop-line-init

@@ -4,10 +4,10 @@ use Rattle.meta_words.specs.Lines.{lines_of}
 use Rattle.meta_words.proofs.LineLemmas.{few_lines}
 use Rattle.meta_answers.specs.Answer.{AllowedReply}
 use Rattle.meta_verify.specs.Defined.{definitions}
-use Rattle.meta_verify.proofs.VerdictLemmas.{left_next, few_so_far}
+use Rattle.meta_verify.proofs.VerdictLemmas.{at_front, left_next, few_so_far}
 use Rattle.meta_short.specs.Manners.{IsMannerIn}
 use Rattle.meta_asm.specs.Listing.{IsSpelled}
-use Rattle.meta_asm.proofs.ListingLemmas.{none_read, one_read, at_front, all_read, first_unread}
+use Rattle.meta_asm.proofs.ListingLemmas.{none_read, one_read, all_read, first_unread}
 use Rattle.meta_asm.proofs.listing.spelled.Goals as goal
 
 pub loop-line-init : goal.loop-line-init

@@ -35,4 +35,4 @@ returns c = λ m a h out w.
     let l = c.in_ok-value.ensures.lookup.3 in
     let read : slice_get c.deref.result.now c.in_ok-place.place ≡ Some c.in_ok-value.value.now = slice_get_read c.deref.result.now _ c.in_ok-place.place c.in_ok-value.value.now refl l.0 (l.1 _) in
     let at : slice_get a.values c.in_ok-place.place ≡ Some c.in_ok-value.value.now = ap (λ (xs : List ℕ). slice_get xs c.in_ok-place.place) (sym (c.deref.ensures.value ∙ w.values)) ∙ read in
-    c.type_of.ensures ∙ value_controls c.args.tables.now.opcodes (definitions c.args.checker.now) c.args.named.opcode (entry_of c.args.named.entry) m a h c.in_ok-place.place there c.in_ok-value.value.now at
+    c.type_of.ensures.value ∙ value_controls c.args.tables.now.opcodes (definitions c.args.checker.now) c.args.named.opcode (entry_of c.args.named.entry) m a h c.in_ok-place.place there c.in_ok-value.value.now at

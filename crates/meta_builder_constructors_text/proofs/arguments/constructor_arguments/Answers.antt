@@ -1,6 +1,6 @@
 use Rattle.std.proofs.Common.{[], ◌++◌, ap, ◌∙◌, codes, string_bytes}
+use Rattle.meta_lists.proofs.Joined.{four}
 use Rattle.meta_builder_constructors_text.specs.Arguments.{numbered_arguments, field_arguments, value_arguments, constructor_arguments}
-use Rattle.meta_rust_lines.proofs.Pieces.{four}
 use Rattle.meta_builder_constructors_text.proofs.arguments.constructor_arguments.Goals as goal
 
 pub returns : goal.returns

@@ -1,8 +1,8 @@
 use Rattle.std.proofs.Common.{◌≡◌, ℕ, List, ◌++◌, ◌-◌, suc, ap, ◌∙◌, codes, string_bytes, arith}
 use Rattle.std.specs.Fmt.{decimal}
 use Rattle.std.specs.List.{flat_map, range_with_len}
+use Rattle.meta_lists.proofs.Joined.{two}
 use Rattle.meta_builder_constructors_text.specs.Arguments.{numbered_names}
-use Rattle.meta_rust_lines.proofs.Pieces.{two}
 use Rattle.meta_builder_constructors_text.proofs.Pieces.{next_number, no_number, names_from_first}
 use Rattle.meta_builder_constructors_text.proofs.arguments.numbered_names.Goals as goal
 

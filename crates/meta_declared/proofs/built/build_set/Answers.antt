@@ -3,8 +3,9 @@ use Rattle.std.proofs.lemmas.Result.{IfOk-from_err}
 use Rattle.meta_types.specs.declared.fault.DefinitionError.TheVariants.{TooManyTypeSets}
 use Rattle.meta_inst.specs.Faults.{IsFirstFault}
 use Rattle.meta_typevar.specs.TypeSetParts.{TypeSetParts}
+use Rattle.meta_inst.proofs.OnlyMemory.{only_memory}
 use Rattle.meta_declared.proofs.FirstFault.{first_of_type_sets, valid}
-use Rattle.meta_declared.proofs.Refusals.{no_fault, handed_on}
+use Rattle.meta_declared.proofs.Refusals.{handed_on}
 use Rattle.meta_declared.proofs.built.build_set.Goals as goal
 
 pub built_instructions-requires : goal.built_instructions-requires
@@ -77,4 +78,4 @@ pub returns-in_err-formats-clause-refused : goal.returns-in_err-formats-clause-r
 returns-in_err-formats-clause-refused c = handed_on _ c.from_residual-in_err-formats.result (IsFirstFault c.args.set.now) c.from_residual-in_err-formats.ensures.1 c.in_err-formats.ensures.refused
 
 pub returns-in_err-type_sets-clause-refused : goal.returns-in_err-type_sets-clause-refused
-returns-in_err-type_sets-clause-refused c = no_fault c.from_residual-in_err-type_sets.result _ c.from_residual-in_err-type_sets.ensures.1
+returns-in_err-type_sets-clause-refused c = only_memory c.from_residual-in_err-type_sets.result _ c.from_residual-in_err-type_sets.ensures.1

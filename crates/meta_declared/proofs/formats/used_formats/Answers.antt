@@ -1,10 +1,11 @@
 use Rattle.std.proofs.Common.{◌≡◌, length, ℕ, ◌+◌, ◌<◌, ◌∙◌, sym, subst, arith}
 use Rattle.std.proofs.lemmas.Result.{IfOk-from_err}
 use Rattle.meta_inst.specs.Faults.{FormatNameRule, OfFormat, IsFirstFault}
+use Rattle.meta_inst.proofs.OnlyMemory.{only_memory}
 use Rattle.meta_declared.specs.FormatsUsed.{AreUsedBefore, AreApart, AreOfTable, IsAmong, IsNotAmong, ClashesWithNone}
 use Rattle.meta_declared.specs.Searched.{IsCleanBefore}
 use Rattle.meta_declared.proofs.FirstFault.{passed_formats}
-use Rattle.meta_declared.proofs.Refusals.{no_fault, handed_on}
+use Rattle.meta_declared.proofs.Refusals.{handed_on}
 use Rattle.meta_declared.proofs.FormatSearch.{declared, of_here, used_again, clean_again, used_new, apart_more}
 use Rattle.meta_declared.proofs.formats.used_formats.Goals as goal
 
@@ -73,10 +74,10 @@ pub add-requires-clause-apart : goal.add-requires-clause-apart
 add-requires-clause-apart c = of_here (λ formats f. ClashesWithNone formats c.loop-place.used.used.items f) _ _ _ _ (sym c.loop-place.invariant.table) (sym c.in_ok-format.ensures.id) c.in_ok-format.ensures.apart
 
 pub returns-in_err-add-clause-refused : goal.returns-in_err-add-clause-refused
-returns-in_err-add-clause-refused c = λ vars start. no_fault c.from_residual-in_err-add.result _ c.from_residual-in_err-add.ensures.1
+returns-in_err-add-clause-refused c = λ vars start. only_memory c.from_residual-in_err-add.result _ c.from_residual-in_err-add.ensures.1
 
 pub returns-in_err-used-clause-refused : goal.returns-in_err-used-clause-refused
-returns-in_err-used-clause-refused c = λ vars start. no_fault c.from_residual.result _ c.from_residual.ensures.1
+returns-in_err-used-clause-refused c = λ vars start. only_memory c.from_residual.result _ c.from_residual.ensures.1
 
 pub returns-in_err-used-clause-clean : goal.returns-in_err-used-clause-clean
 returns-in_err-used-clause-clean c = λ vars start. IfOk-from_err c.from_residual.result _ c.from_residual.ensures.0

@@ -5,7 +5,7 @@ use Rattle.meta_inst.specs.Instruction.{Instruction}
 use Rattle.meta_inst.specs.InstructionSet.{root_sets}
 use Rattle.meta_declared.specs.BuiltInstructions.{IsBuiltAt}
 use Rattle.meta_declared.specs.Interned.{AddsNeeded}
-use Rattle.meta_declared.proofs.BuiltOperands.{within_is, variables_are, control_is, control_of_registry, second_is, meaning}
+use Rattle.meta_declared.proofs.BuiltOperands.{within_is, variables_are, built_control_is, controls_are, meaning}
 use Rattle.meta_declared.proofs.Interning.{IsInterned, none_yet, all_interned}
 use Rattle.meta_declared.proofs.Needing.{instruction_more}
 use Rattle.meta_declared.proofs.needed.needed_sets.Goals as goal
@@ -25,13 +25,10 @@ pub intern_instruction-requires-clause-variables : goal.intern_instruction-requi
 intern_instruction-requires-clause-variables c = let h = read c in rw c.vars.ensures.vars (variables_are c.args.set.now h.builder _ h.is (c.requires.fits c.loop-place.place h.builder h.at))
 
 pub intern_instruction-requires-clause-control : goal.intern_instruction-requires-clause-control
-intern_instruction-requires-clause-control c = let h = read c in rw c.vars.ensures.vars (control_is c.args.set.now h.builder _ h.is)
+intern_instruction-requires-clause-control c = let h = read c in rw c.vars.ensures.vars (built_control_is c.args.set.now h.builder _ h.is)
 
-pub intern_instruction-requires-clause-of_registry : goal.intern_instruction-requires-clause-of_registry
-intern_instruction-requires-clause-of_registry c = let h = read c in rw c.vars.ensures.vars (control_of_registry c.args.set.now h.builder _ h.is)
-
-pub intern_instruction-requires-clause-second : goal.intern_instruction-requires-clause-second
-intern_instruction-requires-clause-second c = let h = read c in rw c.vars.ensures.vars (second_is c.args.set.now h.builder _ h.is (c.requires.fits c.loop-place.place h.builder h.at))
+pub intern_instruction-requires-clause-controls : goal.intern_instruction-requires-clause-controls
+intern_instruction-requires-clause-controls c = let h = read c in rw c.vars.ensures.vars (controls_are c.args.set.now h.builder _ h.is (c.requires.fits c.loop-place.place h.builder h.at))
 
 pub loop-place-preserved : goal.loop-place-preserved
 loop-place-preserved c =

@@ -1,5 +1,5 @@
 use Rattle.std.proofs.Common.{refl}
-use Rattle.meta_inst.proofs.Writing.{written_all}
+use Rattle.meta_types.proofs.Writing.{written_all}
 use Rattle.meta_inst.proofs.content.write_inputs.Goals as goal
 
 pub returns : goal.returns

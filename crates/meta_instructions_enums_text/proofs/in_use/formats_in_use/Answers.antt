@@ -1,7 +1,7 @@
 use Rattle.std.proofs.Common.{◌≡◌, ◌<◌, length, slice_get, Some, refl, sym, ap, ◌∙◌, subst, List, ℕ, drop, ◌∷◌, ◌+◌}
 use Rattle.std.proofs.lemmas.Option.{slice_get_read}
 use Rattle.meta_operands.specs.declared.format.InstructionFormat.{InstructionFormat}
-use Rattle.meta_inst.specs.InstructionSet.{Fits}
+use Rattle.meta_inst.specs.InstructionSet.{AreOfRegistries}
 use Rattle.meta_declared.specs.AllDeclared.{Declared}
 use Rattle.meta_instructions_enums_text.proofs.InTable.{used_within, left_there, one_found}
 use Rattle.meta_instructions_enums_text.proofs.in_use.formats_in_use.Goals as goal
@@ -11,7 +11,7 @@ get-requires c =
     let d = c.args.built.now.declared.set in
     let ids = c.args.built.now.formats in
     let declared = c.declarations-declarations.ensures.declarations in
-    let fits : Fits d.vars d.formats d.instructions = subst (λ (e : Declared). Fits e.set.vars e.set.formats e.set.instructions) declared c.instructions-instructions.ensures.fits in
+    let fits : AreOfRegistries d.vars d.formats d.instructions = subst (λ (e : Declared). AreOfRegistries e.set.vars e.set.formats e.set.instructions) declared c.instructions-instructions.ensures.fits in
     let table : c.formats-table.result.now ≡ d.formats = c.formats-table.ensures.formats ∙ ap (λ (e : Declared). e.set.formats) declared in
     let at : slice_get ids c.loop-id.id-index ≡ Some c.id-item.result =
     ap (λ (xs : List ℕ). slice_get xs c.loop-id.id-index) (sym c.formats-id-items.ensures.formats) ∙ slice_get_read c.formats-id-items.result.now _ c.loop-id.id-index c.id-item.result refl c.loop-id-test.true c.id-item.is in

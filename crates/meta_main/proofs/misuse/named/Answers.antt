@@ -6,9 +6,12 @@ use Rattle.meta_main.proofs.misuse.named.Goals as goal
 
 pub returns-then-is_text-clause-some : goal.returns-then-is_text-clause-some
 returns-then-is_text-clause-some c = record {
-  place = c.loop-command.command-index;
-  at = slice_get-get_or c.args.commands.now c.loop-command.command-index _ c.loop-command-test.true;
-  name_is = sym (c.is_text.ensures.0 c.if-is_text.true);
+  named = record {
+    place = c.loop-command.command-index;
+    at = slice_get-get_or c.args.commands.now c.loop-command.command-index _ c.loop-command-test.true;
+    name_is = sym (c.is_text.ensures.0 c.if-is_text.true);
+  };
+  first = c.loop-command.invariant;
 }
 
 pub loop-command-preserved : goal.loop-command-preserved

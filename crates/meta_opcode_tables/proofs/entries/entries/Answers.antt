@@ -2,7 +2,7 @@ use Rattle.std.proofs.Common.{ℕ, ◌<◌, ◌≤◌, ◌+◌, ◌*◌, ◌≡�
 use Rattle.std.proofs.lemmas.Option.{slice_get_read, slice_get_within}
 use Rattle.std.proofs.lemmas.Result.{IfOk-from_err}
 use Rattle.meta_lists.proofs.Pushed.{one_longer}
-use Rattle.meta_inst.specs.Built.{Built}
+use Rattle.meta_inst.specs.Built.{BuiltInstruction}
 use Rattle.meta_inst.specs.Instruction.{Instruction}
 use Rattle.meta_inst.specs.InstructionSet.{instruction_in_set}
 use Rattle.meta_declared.specs.BuiltInstructions.{IsBuiltAt}
@@ -23,7 +23,7 @@ next_room few more k grown room = omega arith
 read : (c : After-constraints-in-loop-k-1) → IsBuiltAt c.args.built.now.declared.set c.loop-k.k c.index-instructions-k.result
 read c =
     c.instructions-instructions.ensures.built.each c.loop-k.k c.index-instructions-k.result
-    (ap (λ (xs : List Built). slice_get xs c.loop-k.k) (sym c.instructions-instructions.ensures.instructions) ∙ slice_get_read c.instructions-instructions.result.now _ _ _ refl c.loop-k-test.true c.index-instructions-k.is)
+    (ap (λ (xs : List BuiltInstruction). slice_get xs c.loop-k.k) (sym c.instructions-instructions.ensures.instructions) ∙ slice_get_read c.instructions-instructions.result.now _ _ _ refl c.loop-k-test.true c.index-instructions-k.is)
 
 pub loop-k-init : goal.loop-k-init
 loop-k-init c =
@@ -41,7 +41,7 @@ entry_of-requires-clause-room c =
     let room = c.loop-k.invariant.room in
     let few = few_opcodes c.args.built.now.declared.set c.requires.valid in
     let count = c.instructions-instructions.ensures.built.count in
-    let same = ap (length {A = Built}) c.instructions-instructions.ensures.instructions in
+    let same = ap (length {A = BuiltInstruction}) c.instructions-instructions.ensures.instructions in
     let inside = c.loop-k-test.true in
     omega arith
 
@@ -58,7 +58,7 @@ loop-k-preserved c =
     let d = c.args.built.now.declared.set in
     let sets = c.args.built.now.type_sets in
     let x = c.index-instructions-k.result in
-    let at_built : slice_get c.args.built.now.instructions c.loop-k.k ≡ Some x = ap (λ (xs : List Built). slice_get xs c.loop-k.k) (sym c.instructions-instructions.ensures.instructions) ∙ slice_get_read c.instructions-instructions.result.now _ _ _ refl c.loop-k-test.true c.index-instructions-k.is in
+    let at_built : slice_get c.args.built.now.instructions c.loop-k.k ≡ Some x = ap (λ (xs : List BuiltInstruction). slice_get xs c.loop-k.k) (sym c.instructions-instructions.ensures.instructions) ∙ slice_get_read c.instructions-instructions.result.now _ _ _ refl c.loop-k-test.true c.index-instructions-k.is in
     let h : IsBuiltAt d c.loop-k.k x = c.instructions-instructions.ensures.built.each c.loop-k.k x at_built in
     let pushed = c.in_ok-push.ensures.items in
     let count = c.loop-k.invariant.count in
@@ -77,7 +77,7 @@ returns-clause-holds c =
     let d = c.args.built.now.declared.set in
     let past = c.loop-k-test.false in
     let built = c.instructions-instructions.ensures.built.count in
-    let same = ap (length {A = Built}) c.instructions-instructions.ensures.instructions in
+    let same = ap (length {A = BuiltInstruction}) c.instructions-instructions.ensures.instructions in
     rw c.in_ok-constraints-2.ensures (λ k b at. let inside = slice_get_within d.instructions k b at in c.loop-k.invariant.holds k b (omega arith) at)
 
 pub returns-clause-added : goal.returns-clause-added
@@ -89,7 +89,7 @@ returns-clause-count c =
     let most = c.loop-k.auto.k-end in
     let count = c.loop-k.invariant.count in
     let built = c.instructions-instructions.ensures.built.count in
-    let same = ap (length {A = Built}) c.instructions-instructions.ensures.instructions in
+    let same = ap (length {A = BuiltInstruction}) c.instructions-instructions.ensures.instructions in
     omega arith
 
 pub returns-in_err-constraints-clause-count : goal.returns-in_err-constraints-clause-count

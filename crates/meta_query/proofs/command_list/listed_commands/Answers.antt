@@ -6,14 +6,14 @@ use Rattle.meta_query.proofs.command_list.listed_commands.Goals as goal
 pub returns-clause-listed : goal.returns-clause-listed
 returns-clause-listed c =
     listed _ (elim [
-      | Query ↦ record { place = 0; entry = _; at = refl; name = refl; numbers = refl }
-      | Recheck ↦ record { place = 1; entry = _; at = refl; name = refl; numbers = refl }
-      | Tables ↦ record { place = 2; entry = _; at = refl; name = refl; numbers = refl }
-      | Types ↦ record { place = 3; entry = _; at = refl; name = refl; numbers = refl }
-      | Settings ↦ record { place = 4; entry = _; at = refl; name = refl; numbers = refl }
-      | Instructions ↦ record { place = 5; entry = _; at = refl; name = refl; numbers = refl }
-      | Builder ↦ record { place = 6; entry = _; at = refl; name = refl; numbers = refl }
-      | (Synth n) ↦ record { place = 7; entry = _; at = refl; name = refl; numbers = refl }
+      | Query ↦ record { place = 0; entry = _; at = refl; name = refl; numbers = refl; first = refl }
+      | Recheck ↦ record { place = 1; entry = _; at = refl; name = refl; numbers = refl; first = refl }
+      | Tables ↦ record { place = 2; entry = _; at = refl; name = refl; numbers = refl; first = refl }
+      | Types ↦ record { place = 3; entry = _; at = refl; name = refl; numbers = refl; first = refl }
+      | Settings ↦ record { place = 4; entry = _; at = refl; name = refl; numbers = refl; first = refl }
+      | Instructions ↦ record { place = 5; entry = _; at = refl; name = refl; numbers = refl; first = refl }
+      | Builder ↦ record { place = 6; entry = _; at = refl; name = refl; numbers = refl; first = refl }
+      | (Synth n) ↦ record { place = 7; entry = _; at = refl; name = refl; numbers = refl; first = refl }
     ])
 
 pub returns-clause-commands : goal.returns-clause-commands

@@ -19,5 +19,5 @@ returns-clause-complete g c =
 
 pub returns-clause-rejected : goal.returns-clause-rejected
 returns-clause-rejected g c = λ e.
-    lemma.at g.S.Source.left g.S.Source.faults g.K.Sink.taken g.K.Sink.faults _ _ _ _ _ (g.A.Answerer.texts c.args.answerer.now) (g.A.Answerer.reads c.args.answerer.now)
+    lemma.at_ending g.S.Source.left g.S.Source.faults g.K.Sink.taken g.K.Sink.faults _ _ _ _ _ (g.A.Answerer.texts c.args.answerer.now) (g.A.Answerer.reads c.args.answerer.now)
     _ Rejected e c.attempt.ensures.did

@@ -1,10 +1,10 @@
 use Rattle.std.proofs.Common.{◌≡◌, ◌∙◌, ◌<◌, ℕ, List, length, slice_get, get_or, Some, refl, sym, arith}
 use Rattle.std.proofs.lemmas.Bool.{false≢true}
 use Rattle.std.proofs.lemmas.Option.{slice_get_read, slice_get_within}
+use Rattle.meta_lists.proofs.Everywhere.{one_place_more}
 use Rattle.meta_setting_tables.specs.declared.descriptor.Descriptor.{Descriptor}
 use Rattle.meta_setting_tables.specs.WellFormed.{IsPlaced}
 use Rattle.meta_setting_tables.proofs.Counted.{place_counted}
-use Rattle.meta_setting_tables.proofs.Everywhere.{one_place_more}
 use Rattle.meta_setting_tables.proofs.entries.are_placed.Goals as goal
 
 -- the entry that was read

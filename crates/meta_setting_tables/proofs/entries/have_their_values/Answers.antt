@@ -1,9 +1,9 @@
 use Rattle.std.proofs.Common.{length, refl, sym, ◌∙◌, arith}
 use Rattle.std.proofs.lemmas.Bool.{false≢true}
 use Rattle.std.proofs.lemmas.Option.{slice_get_read, slice_get_within}
+use Rattle.meta_lists.proofs.Everywhere.{everywhere, at_place, one_place_more}
 use Rattle.meta_setting_tables.specs.declared.descriptor.Descriptor.{Descriptor}
 use Rattle.meta_setting_tables.specs.WellFormed.{HasItsValues}
-use Rattle.meta_setting_tables.proofs.Everywhere.{everywhere, at_place, one_place_more}
 use Rattle.meta_setting_tables.proofs.entries.have_their_values.Goals as goal
 
 pub loop-entry-init : goal.loop-entry-init

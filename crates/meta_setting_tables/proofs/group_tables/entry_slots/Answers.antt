@@ -3,12 +3,12 @@ use Rattle.std.specs.Prelude.{slice_get}
 use Rattle.std.specs.Result.{IfOk}
 use Rattle.std.proofs.lemmas.List.{length-map, length-take, map-append, take_all}
 use Rattle.std.proofs.lemmas.Option.{slice_get-get_or}
+use Rattle.std.proofs.lemmas.Result.{IfOk-from_err}
 use Rattle.meta_lists.proofs.Places.{take_next}
 use Rattle.meta_unique.specs.Interning.{pointed_to}
 use Rattle.meta_unique.specs.NameSlots.{AreNameSlots}
 use Rattle.meta_setting_tables.specs.declared.descriptor.Descriptor.{Descriptor}
 use Rattle.meta_setting_tables.specs.GroupTables.{names_in}
-use Rattle.meta_setting_tables.proofs.Failed.{none_given}
 use Rattle.meta_setting_tables.proofs.group_tables.entry_slots.Goals as goal
 
 pub loop-descriptor-init : goal.loop-descriptor-init
@@ -41,13 +41,13 @@ pub returns-clause-vacant : goal.returns-clause-vacant
 returns-clause-vacant c = c.name_slots.ensures.vacant
 
 pub returns-in_err-names-clause-slots : goal.returns-in_err-names-clause-slots
-returns-in_err-names-clause-slots c = none_given c.from_residual.result _ c.from_residual.ensures.0
+returns-in_err-names-clause-slots c = IfOk-from_err c.from_residual.result _ c.from_residual.ensures.0
 
 pub returns-in_err-names-clause-vacant : goal.returns-in_err-names-clause-vacant
-returns-in_err-names-clause-vacant c = none_given c.from_residual.result _ c.from_residual.ensures.0
+returns-in_err-names-clause-vacant c = IfOk-from_err c.from_residual.result _ c.from_residual.ensures.0
 
 pub returns-in_err-push-clause-slots : goal.returns-in_err-push-clause-slots
-returns-in_err-push-clause-slots c = none_given c.from_residual-in_err-push.result _ c.from_residual-in_err-push.ensures.0
+returns-in_err-push-clause-slots c = IfOk-from_err c.from_residual-in_err-push.result _ c.from_residual-in_err-push.ensures.0
 
 pub returns-in_err-push-clause-vacant : goal.returns-in_err-push-clause-vacant
-returns-in_err-push-clause-vacant c = none_given c.from_residual-in_err-push.result _ c.from_residual-in_err-push.ensures.0
+returns-in_err-push-clause-vacant c = IfOk-from_err c.from_residual-in_err-push.result _ c.from_residual-in_err-push.ensures.0

@@ -1,8 +1,8 @@
 use Rattle.std.proofs.Common.{◌++◌, List, ℕ, length, map, slice_get, refl, sym, ap, ◌∙◌, arith}
 use Rattle.std.proofs.lemmas.Option.{slice_get_read}
+use Rattle.std.proofs.lemmas.Result.{IfOk-from_err}
 use Rattle.meta_settings.specs.Layout.{BuiltPreset}
 use Rattle.meta_setting_tables.proofs.Masking.{masks_none, masks_more, masks_all}
-use Rattle.meta_setting_tables.proofs.Failed.{none_given}
 use Rattle.meta_setting_tables.proofs.preset_masks.preset_masks.Goals as goal
 
 pub loop-preset-preserved : goal.loop-preset-preserved
@@ -24,10 +24,10 @@ pub loop-preset-init : goal.loop-preset-init
 loop-preset-init c = masks_none c.args.group.now c.new-masks.result.items c.new-masks.ensures.items
 
 pub returns-in_err-layout : goal.returns-in_err-layout
-returns-in_err-layout c = none_given c.from_residual.result _ c.from_residual.ensures.0
+returns-in_err-layout c = IfOk-from_err c.from_residual.result _ c.from_residual.ensures.0
 
 pub returns-in_err-add_masks : goal.returns-in_err-add_masks
-returns-in_err-add_masks c = none_given c.from_residual-in_err-add_masks.result _ c.from_residual-in_err-add_masks.ensures.0
+returns-in_err-add_masks c = IfOk-from_err c.from_residual-in_err-add_masks.result _ c.from_residual-in_err-add_masks.ensures.0
 
 pub layout-requires : goal.layout-requires
 layout-requires c =

@@ -1,9 +1,9 @@
 use Rattle.std.proofs.Common.{◌∙◌, ◌<◌, ◌%◌, refl, sym, arith}
 use Rattle.std.proofs.lemmas.Bool.{false≢true}
 use Rattle.std.proofs.lemmas.Option.{slice_get-get_or, slice_get_within}
+use Rattle.meta_lists.proofs.Everywhere.{one_place_more}
 use Rattle.meta_setting_tables.specs.WellFormed.{HoldsBooleansAlone}
 use Rattle.meta_setting_tables.proofs.Counted.{mask_part, mask_whole}
-use Rattle.meta_setting_tables.proofs.Everywhere.{one_place_more}
 use Rattle.meta_setting_tables.proofs.setting_bytes.are_boolean_masks.Goals as goal
 
 pub returns-then-not-holds_booleans_alone : goal.returns-then-not-holds_booleans_alone

@@ -1,7 +1,7 @@
 use Rattle.std.proofs.Common.{sym, subst, ◌∙◌}
 use Rattle.std.proofs.lemmas.Bool.{false≢true}
 use Rattle.meta_settings.specs.GroupFaults.{IsMet}
-use Rattle.meta_settings.proofs.Everywhere.{so_far_none, so_far_more, so_far_all, not_of_all}
+use Rattle.meta_lists.proofs.Everywhere.{so_far_none, so_far_more, so_far_all, not_of_all}
 use Rattle.meta_settings.proofs.fault.are_met.Goals as goal
 
 pub loop-arg-init : goal.loop-arg-init

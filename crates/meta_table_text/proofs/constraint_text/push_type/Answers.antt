@@ -1,9 +1,9 @@
 use Rattle.std.proofs.Common.{◌++◌, sym, ap, ◌∙◌, string_bytes}
 use Rattle.std.proofs.lemmas.Result.{on_ok_weaker}
+use Rattle.meta_lists.proofs.Joined.{where_ok}
 use Rattle.meta_types.specs.ValueTypes.{type_parts_of}
 use Rattle.meta_types.proofs.Typed.{typed}
 use Rattle.meta_table_text.specs.ConstraintText.{type_numbered, rust_name_or_nothing, type_text}
-use Rattle.meta_table_text.proofs.Chains.{where_ok}
 use Rattle.meta_table_text.proofs.constraint_text.push_type.Goals as goal
 
 pub returns : goal.returns

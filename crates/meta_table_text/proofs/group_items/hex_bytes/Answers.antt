@@ -1,6 +1,6 @@
 use Rattle.std.proofs.Common.{◌++◌, ◌-◌, take, drop, get_or, length, flat_map, refl, sym, ap, ◌∙◌, codes, string_bytes}
+use Rattle.meta_lists.proofs.Joined.{two}
 use Rattle.meta_table_text.specs.GroupItems.{hex_text}
-use Rattle.meta_table_text.proofs.Chains.{two}
 use Rattle.meta_table_text.proofs.GroupLists.{none_left, all_is}
 use Rattle.meta_table_text.proofs.Bytes.{comma_hex, no_bytes, bytes_written, byte_more}
 use Rattle.meta_table_text.proofs.group_items.hex_bytes.Goals as goal

@@ -1,9 +1,9 @@
 use Rattle.std.proofs.Common.{◌++◌, ap, ◌∙◌, codes, string_bytes}
 use Rattle.std.proofs.lemmas.Result.{on_ok_weaker}
+use Rattle.meta_lists.proofs.Joined.{four}
 use Rattle.meta_opcode_tables.specs.Constraint.{entry_of}
 use Rattle.meta_table_text.specs.ConstraintText.{constraints_comment}
 use Rattle.meta_table_text.specs.OpcodeText.{camel_at, flags_comment, constraints_of, control_comment, second_comment, entry_comments}
-use Rattle.meta_table_text.proofs.Chains.{four}
 use Rattle.meta_table_text.proofs.opcode_block.push_comments.Goals as goal
 
 pub returns : goal.returns

@@ -1,7 +1,7 @@
 use Rattle.std.proofs.Common.{codes, string_bytes}
 use Rattle.std.proofs.lemmas.Result.{on_ok_weaker}
+use Rattle.meta_lists.proofs.Joined.{three, where_ok}
 use Rattle.meta_table_text.specs.OpcodeText.{hex_byte, flags_lines}
-use Rattle.meta_table_text.proofs.Chains.{three, where_ok}
 use Rattle.meta_table_text.proofs.opcode_block.push_flags.Goals as goal
 
 pub returns : goal.returns

@@ -1,8 +1,8 @@
 use Rattle.std.proofs.Common.{codes, string_bytes}
 use Rattle.std.proofs.lemmas.Result.{on_ok_weaker}
 use Rattle.std.specs.Option.{option_map}
+use Rattle.meta_lists.proofs.Joined.{four, where_ok}
 use Rattle.meta_table_text.specs.TypeSetText.{set_or_nothing, set_comment}
-use Rattle.meta_table_text.proofs.Chains.{four, where_ok}
 use Rattle.meta_table_text.proofs.type_set_text.push_set_comment.Goals as goal
 
 pub returns : goal.returns

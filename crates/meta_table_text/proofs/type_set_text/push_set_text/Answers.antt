@@ -1,11 +1,12 @@
 use Rattle.std.proofs.Common.{◌++◌, ap, ◌∙◌, codes, string_bytes}
 use Rattle.std.proofs.lemmas.Result.{on_ok_weaker}
-use Rattle.meta_table_text.specs.TypeSetText.{members, part_of, set_text}
-use Rattle.meta_table_text.proofs.Chains.{six, where_ok}
+use Rattle.meta_lists.proofs.Joined.{where_ok}
+use Rattle.meta_table_text.specs.TypeSetText.{members, part_of, masks_text}
+use Rattle.meta_table_text.proofs.Chains.{six}
 use Rattle.meta_table_text.proofs.type_set_text.push_set_text.Goals as goal
 
 pub returns : goal.returns
-unfolding set_text
+unfolding masks_text
 returns c =
     let m = c.args.masks.now in
     let ints = c.in_ok-push_part.ensures ∙ ap (λ n. string_bytes c.push_str-2.new.self ++ part_of (codes ", ints={") n) c.from.ensures in

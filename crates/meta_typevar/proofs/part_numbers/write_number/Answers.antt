@@ -1,5 +1,5 @@
 use Rattle.std.proofs.Common.{refl}
-use Rattle.meta_typevar.proofs.Writing.{written_both}
+use Rattle.meta_types.proofs.Writing.{written_both}
 use Rattle.meta_typevar.proofs.part_numbers.write_number.Goals as goal
 use Rattle.meta_typevar.proofs.part_numbers.write_number.Goals.{then-follows+in_ok-write_str, else-follows}
 

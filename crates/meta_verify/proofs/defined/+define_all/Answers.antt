@@ -1,6 +1,6 @@
 use Rattle.std.proofs.Common.{rules}
-use Rattle.std.proofs.lemmas.Result.{on_ok_weaker}
-use Rattle.meta_verify.proofs.CheckerLemmas.{on_err_weaker, on_err_there}
+use Rattle.std.proofs.lemmas.Result.{on_ok_weaker, on_err_weaker}
+use Rattle.meta_lists.proofs.Results.{on_err}
 use Rattle.meta_verify.proofs.DefineLemmas.{first_numbered, all_defined, between_known, others_known, others_fresh, first_taken_back, less_known, same_environment, same_known}
 use Rattle.meta_verify.proofs.defined.+define_all.Goals as goal
 
@@ -17,7 +17,7 @@ define_all-defined-requires n c = (
 )
 
 pub returns-in_err-insert-clause-kept : goal.returns-in_err-insert-clause-kept
-returns-in_err-insert-clause-kept n c = on_err_there c.from_residual.result (same_environment c.args.types.now c.insert.new.self c.in_err-insert.ensures.kept)
+returns-in_err-insert-clause-kept n c = on_err c.from_residual.result (same_environment c.args.types.now c.insert.new.self c.in_err-insert.ensures.kept)
 
 pub returns-in_err-insert-clause-known : goal.returns-in_err-insert-clause-known
 returns-in_err-insert-clause-known n c = same_known c.args.types.now c.insert.new.self c.in_err-insert.ensures.kept

@@ -2,7 +2,7 @@ use Rattle.std.proofs.Common.{◌≡◌, false, true, map, sym, ap, ◌∙◌, s
 use Rattle.meta_types.specs.TypeNumber.{type_with}
 use Rattle.meta_meaning.specs.Tables.{Allows}
 use Rattle.meta_verify.specs.Environment.{first_undefined, first_redefined, HaveTypes}
-use Rattle.meta_verify.specs.Numbers.{typed}
+use Rattle.meta_verify.specs.Numbers.{typed_value_of}
 use Rattle.meta_verify.specs.Defined.{environment_of}
 use Rattle.meta_verify.specs.declared.statement.TypedNumber.{TypedNumber}
 use Rattle.meta_verify.proofs.CheckerLemmas.{is_undefined, is_redefined, is_refused, is_faultless, says_no}
@@ -19,7 +19,7 @@ returns-in-Some-3-clause-mistake c =
     let env = environment_of c.args.types.now in
     is_redefined c.args.tables.now.opcodes env c.args.application.now c.requires.numbers c.in-Some.opcode c.in-Some.ensures.found c.in-Some-3.value
     (sym c.in_default-2.is ∙ c.in_ok-value.ensures.undefined ∙ ap (first_undefined env) c.deref.ensures.value)
-    (sym c.in-Some-3.is ∙ c.in_ok-value-2.ensures ∙ ap (λ rs. first_redefined env (map typed rs)) c.deref-2.ensures.value)
+    (sym c.in-Some-3.is ∙ c.in_ok-value-2.ensures ∙ ap (λ rs. first_redefined env (map typed_value_of rs)) c.deref-2.ensures.value)
 
 pub returns-then-not-accepts2-clause-mistake : goal.returns-then-not-accepts2-clause-mistake
 returns-then-not-accepts2-clause-mistake c =
@@ -27,7 +27,7 @@ returns-then-not-accepts2-clause-mistake c =
     let off : c.accepts2.result ≡ false = search rules in
     is_refused c.args.tables.now.opcodes env c.args.application.now c.requires.numbers c.in-Some.opcode c.in-Some.ensures.found c.look_up.new.numbers.items c.put_numbers.new.numbers.items
     (sym c.in_default-2.is ∙ c.in_ok-value.ensures.undefined ∙ ap (first_undefined env) c.deref.ensures.value)
-    (sym c.in_default-3.is ∙ c.in_ok-value-2.ensures ∙ ap (λ rs. first_redefined env (map typed rs)) c.deref-2.ensures.value)
+    (sym c.in_default-3.is ∙ c.in_ok-value-2.ensures ∙ ap (λ rs. first_redefined env (map typed_value_of rs)) c.deref-2.ensures.value)
     (subst (λ vs. HaveTypes env vs (map type_with c.look_up.new.numbers.items)) c.deref.ensures.value (c.in_ok-value.ensures.types c.in_default-2.is))
     c.in_ok-value.ensures.known
     (c.in_ok-put_numbers.ensures ∙ ap (map (λ (r : TypedNumber). r.number)) c.deref-3.ensures.value)
@@ -40,7 +40,7 @@ returns-clause-none c =
     let on : c.accepts2.result ≡ true = search rules in
     is_faultless c.args.tables.now.opcodes env c.args.application.now c.requires.numbers c.in-Some.opcode c.in-Some.ensures.found c.look_up.new.numbers.items c.put_numbers.new.numbers.items
     (sym c.in_default-2.is ∙ c.in_ok-value.ensures.undefined ∙ ap (first_undefined env) c.deref.ensures.value)
-    (sym c.in_default-3.is ∙ c.in_ok-value-2.ensures ∙ ap (λ rs. first_redefined env (map typed rs)) c.deref-2.ensures.value)
+    (sym c.in_default-3.is ∙ c.in_ok-value-2.ensures ∙ ap (λ rs. first_redefined env (map typed_value_of rs)) c.deref-2.ensures.value)
     (subst (λ vs. HaveTypes env vs (map type_with c.look_up.new.numbers.items)) c.deref.ensures.value (c.in_ok-value.ensures.types c.in_default-2.is))
     c.in_ok-value.ensures.known
     (c.in_ok-put_numbers.ensures ∙ ap (map (λ (r : TypedNumber). r.number)) c.deref-3.ensures.value)

@@ -1,6 +1,6 @@
 use Rattle.std.proofs.Common.{sym, ◌∙◌}
 use Rattle.std.proofs.lemmas.Bool.{false≢true}
-use Rattle.meta_opcode_tables.specs.Demand.{which_of}
+use Rattle.meta_inst.specs.Controls.{which_of}
 use Rattle.meta_audit.proofs.Typed.{fitting_typed}
 use Rattle.meta_audit.proofs.Crossing.{ignores_unread, one_number}
 use Rattle.meta_audit.proofs.places.Places.same_under.Goals as goal

@@ -1,7 +1,7 @@
 use Rattle.std.proofs.Common.{◌≡◌, ◌↔◌, ℕ, Option, None, Some, IsTrue, sym, ◌∙◌, arith}
 use Rattle.std.proofs.lemmas.Bool.{false≢true}
 use Rattle.meta_meaning.specs.Tables.{ControlNumberFits}
-use Rattle.meta_opcode_tables.specs.Demand.{which_of}
+use Rattle.meta_inst.specs.Controls.{which_of}
 use Rattle.meta_audit.specs.Comparison.{SameNumbers, paired}
 use Rattle.meta_audit.proofs.Typed.{fitting_typed}
 use Rattle.meta_audit.proofs.Deciding.{refused, granted, one_more, only_none, all_fitting}

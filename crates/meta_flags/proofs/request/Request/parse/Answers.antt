@@ -1,6 +1,10 @@
 use Rattle.std.proofs.Common.{sym, ◌∙◌}
-use Rattle.meta_flags.proofs.RequestLemmas.{no_command, no_request, no_more, asks}
+use Rattle.meta_flags.proofs.RequestLemmas.{no_first_word, no_command, no_request, no_more, asks}
 use Rattle.meta_flags.proofs.request.Request.parse.Goals as goal
+
+pub returns-in_err-word-clause-none : goal.returns-in_err-word-clause-none
+returns-in_err-word-clause-none c =
+    rw c.from_residual.ensures (no_first_word c.args.line.now (λ word rest bytes e. c.in_err-word.ensures.none word rest bytes (c.new-words.ensures ∙ e)))
 
 pub returns-in_err-command-clause-none : goal.returns-in_err-command-clause-none
 returns-in_err-command-clause-none c = rw c.from_residual-in_err-command.ensures (no_command c.args.line.now _ _ (sym c.new-words.ensures ∙ c.in_ok-word.ensures.taken) c.in_err-command.ensures.none)

@@ -1,6 +1,6 @@
 use Rattle.std.proofs.Common.{refl, ap}
 use Rattle.meta_inst.specs.Content.{instruction_text}
-use Rattle.meta_inst.proofs.Writing.{written_all}
+use Rattle.meta_types.proofs.Writing.{written_all}
 use Rattle.meta_inst.proofs.content.InstructionContentDisplay.fmt.Goals as goal
 
 pub returns-clause-writes : goal.returns-clause-writes

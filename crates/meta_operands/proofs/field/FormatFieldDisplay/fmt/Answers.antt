@@ -1,5 +1,5 @@
 use Rattle.std.proofs.Common.{refl}
-use Rattle.meta_operands.proofs.Writing.{written_all}
+use Rattle.meta_types.proofs.Writing.{written_all}
 use Rattle.meta_operands.proofs.field.FormatFieldDisplay.fmt.Goals as goal
 
 pub returns-clause-writes : goal.returns-clause-writes

@@ -1,6 +1,6 @@
 use Rattle.std.proofs.Common.{refl, sym, ap, ◌∙◌}
 use Rattle.meta_operands.specs.FormatText.{fields_text}
-use Rattle.meta_operands.proofs.Writing.{written_both}
+use Rattle.meta_types.proofs.Writing.{written_both}
 use Rattle.meta_operands.proofs.field.FormatFieldsDisplay.fmt.Goals as goal
 
 pub returns-clause-writes : goal.returns-clause-writes

@@ -1,6 +1,6 @@
 use Rattle.std.proofs.Common.{refl, sym}
 use Rattle.meta_typevar.proofs.SetText.{part_shown}
-use Rattle.meta_typevar.proofs.Writing.{written_both}
+use Rattle.meta_types.proofs.Writing.{written_both}
 use Rattle.meta_typevar.proofs.part_numbers.PartTextDisplay.fmt.Goals as goal
 use Rattle.meta_typevar.proofs.part_numbers.PartTextDisplay.fmt.Goals.{then-self+in_ok-write_str, else-self}
 
