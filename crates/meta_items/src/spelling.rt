@@ -1,7 +1,8 @@
 ghost use Rattle.std.specs.Prelude.{◌≡◌, ◌++◌, ◌∷◌, [], OnOk, IfOk};
 ghost use Rattle.meta_tokens.specs.Laid.{laid};
 ghost use Rattle.meta_tokens.specs.declared.token.Token.TheVariants.{Key};
-ghost use Rattle.meta_items.specs.Spelling.{docs, name, comment, truth, number, more_names, name_list, bool_item, num_item, enum_item, preset_item, spelled, spelled_all};
+ghost use Rattle.meta_items.specs.Spelling.{docs, name, comment, truth, number, more_names, name_list, bool_item, num_item, enum_item};
+ghost use Rattle.meta_items.specs.Spelling.{preset_item, spelled, spelled_all};
 
 use super::items::{BoolItem, EnumItem, Item, NumItem, PresetItem};
 use super::name::Name;

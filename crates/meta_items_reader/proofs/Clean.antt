@@ -17,7 +17,8 @@ use Rattle.meta_items.specs.declared.name.Name.{Name}
 use Rattle.meta_items.specs.declared.name.Name.TheVariants as names
 use Rattle.meta_items.specs.declared.items.Item.{Item}
 use Rattle.meta_items.specs.declared.items.Item.TheVariants as item
-use Rattle.meta_items.specs.Spelling.{docs, name, comment, truth, number, more_names, name_list, bool_item, num_item, enum_item, preset_item, spelled, spelled_all}
+use Rattle.meta_items.specs.Spelling.{docs, name, comment, truth, number, more_names, name_list, bool_item, num_item, enum_item}
+use Rattle.meta_items.specs.Spelling.{preset_item, spelled, spelled_all}
 
 abbrev is_clean : Token → Bool
 is_clean (Key k) = true
@@ -70,7 +71,8 @@ of_spelled (item.Group n) = rw (of_name n) refl
 of_spelled (item.Bool i) = of_item i.docs key.Bool (bool_item i) (rw (of_name i.name, of_truth i.default) (of_comment i.comment))
 of_spelled (item.Num i) = of_item i.docs key.Num (num_item i) (rw (of_name i.name) (of_comment i.comment))
 of_spelled (item.Enum i) =
-    of_item i.docs key.Enum (enum_item i) (rw (of_name i.name) (clean_append (name_list i.values) (comment i.comment) (of_list i.values) (of_comment i.comment)))
+    of_item i.docs key.Enum (enum_item i)
+    (rw (of_name i.name) (clean_append (name_list i.values) (comment i.comment) (of_list i.values) (of_comment i.comment)))
 of_spelled (item.Preset i) = of_item i.docs key.Preset (preset_item i) (rw (of_name i.name) (of_list i.args))
 
 of_all : (is : List Item) → clean (spelled_all is) ≡ true
@@ -101,9 +103,11 @@ flaw_behind : (ts : List Token) (f : Flaw) → clean (ts ++ Stray f ∷ []) ≡ 
 flaw_behind [] f h = absurd cc
 flaw_behind (t ∷ ts) f h = flaw_behind ts f (and_parts (is_clean t) (clean (ts ++ Stray f ∷ [])) h).1
 
-utf8_by : (text : List ℕ) (b : Bool) → is_utf8 text ≡ b → clean (squeezed (cond b (tokens_in text) (tokens_in (lines_before text) ++ Stray NotUtf8 ∷ []))) ≡ true → IsUtf8 text
+utf8_by : (text : List ℕ) (b : Bool) → is_utf8 text ≡ b
+    → clean (squeezed (cond b (tokens_in text) (tokens_in (lines_before text) ++ Stray NotUtf8 ∷ []))) ≡ true → IsUtf8 text
 utf8_by text true e h = IsUtf8-from_is_utf8 text e
-utf8_by text false e h = absurd (flaw_behind (tokens_in (lines_before text)) NotUtf8 (of_squeezed (tokens_in (lines_before text) ++ Stray NotUtf8 ∷ []) h))
+utf8_by text false e h =
+    absurd (flaw_behind (tokens_in (lines_before text)) NotUtf8 (of_squeezed (tokens_in (lines_before text) ++ Stray NotUtf8 ∷ []) h))
 
 pub spelled_is_utf8 : (text : List ℕ) (is : List Item) → read_in text ≡ spelled_all is → IsUtf8 text
 spelled_is_utf8 text is e = utf8_by text (is_utf8 text) refl (ap clean e ∙ of_all is)

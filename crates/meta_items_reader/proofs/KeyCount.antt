@@ -8,7 +8,8 @@ use Rattle.meta_items.specs.declared.name.Name.{Name}
 use Rattle.meta_items.specs.declared.name.Name.TheVariants as names
 use Rattle.meta_items.specs.declared.items.Item.{Item}
 use Rattle.meta_items.specs.declared.items.Item.TheVariants as item
-use Rattle.meta_items.specs.Spelling.{docs, name, comment, truth, number, more_names, name_list, bool_item, num_item, enum_item, preset_item, spelled, spelled_all}
+use Rattle.meta_items.specs.Spelling.{docs, name, comment, truth, number, more_names, name_list, bool_item, num_item, enum_item}
+use Rattle.meta_items.specs.Spelling.{preset_item, spelled, spelled_all}
 use Rattle.meta_items_reader.specs.ItemLines.{key_lines, key_lines_from}
 
 abbrev one_key : Token → ℕ
@@ -67,10 +68,12 @@ of_item ds k body e = let h = of_docs ds in let all = keys_append (docs ds) (Key
 
 of_spelled : (i : Item) → keys (spelled i) ≡ 1
 of_spelled (item.Group n) = let k = of_name n in omega arith
-of_spelled (item.Bool i) = of_item i.docs key.Bool (bool_item i) (let n = of_name i.name in let t = of_truth i.default in let c = of_comment i.comment in omega arith)
+of_spelled (item.Bool i) = of_item i.docs key.Bool (bool_item i) (let n = of_name i.name in
+    let t = of_truth i.default in let c = of_comment i.comment in omega arith)
 of_spelled (item.Num i) = of_item i.docs key.Num (num_item i) (let n = of_name i.name in let c = of_comment i.comment in omega arith)
 of_spelled (item.Enum i) =
-    of_item i.docs key.Enum (enum_item i) (let n = of_name i.name in let v = of_list i.values in let c = of_comment i.comment in let all = keys_append (name_list i.values) (comment i.comment) in omega arith)
+    of_item i.docs key.Enum (enum_item i) (let n = of_name i.name in let v = of_list i.values in
+    let c = of_comment i.comment in let all = keys_append (name_list i.values) (comment i.comment) in omega arith)
 of_spelled (item.Preset i) = of_item i.docs key.Preset (preset_item i) (let n = of_name i.name in let v = of_list i.args in omega arith)
 
 of_all : (is : List Item) → keys (spelled_all is) ≡ length is

@@ -11,7 +11,8 @@ use Rattle.meta_items.specs.declared.name.Name.{Name}
 use Rattle.meta_items.specs.declared.name.Name.TheVariants as names
 use Rattle.meta_items.specs.declared.items.Item.{Item}
 use Rattle.meta_items.specs.declared.items.Item.TheVariants as item
-use Rattle.meta_items.specs.Spelling.{docs, name, comment, truth, number, more_names, name_list, bool_item, num_item, enum_item, preset_item, spelled, spelled_all}
+use Rattle.meta_items.specs.Spelling.{docs, name, comment, truth, number, more_names, name_list, bool_item, num_item, enum_item}
+use Rattle.meta_items.specs.Spelling.{preset_item, spelled, spelled_all}
 
 name_stays : (n : Name) (rest : List Token) → squeezed (name n ∷ rest) ≡ name n ∷ squeezed rest
 name_stays (names.Plain w) rest = refl
@@ -45,14 +46,16 @@ list_stays (n ∷ ns) rest = name_stays n (more_names ns ++ rest) ∙ ap (λ (r 
 under : (ds : List (List ℕ)) (k : Keyword) (body rest : List Token) → squeezed (body ++ rest) ≡ body ++ squeezed rest
     → squeezed ((docs ds ++ Key k ∷ body) ++ rest) ≡ (docs ds ++ Key k ∷ body) ++ squeezed rest
 under ds k body rest h =
-    ap squeezed (append_assoc (docs ds) (Key k ∷ body) rest) ∙ docs_stay ds (Key k ∷ (body ++ rest)) ∙ ap (λ (r : List Token). docs ds ++ Key k ∷ r) h
+    ap squeezed (append_assoc (docs ds) (Key k ∷ body) rest) ∙ docs_stay ds (Key k ∷ (body ++ rest))
+    ∙ ap (λ (r : List Token). docs ds ++ Key k ∷ r) h
     ∙ sym (append_assoc (docs ds) (Key k ∷ body) (squeezed rest))
 
 item_stays : (i : Item) (rest : List Token) → squeezed (spelled i ++ rest) ≡ spelled i ++ squeezed rest
 item_stays (item.Group n) rest = ap (λ (r : List Token). Key key.Group ∷ r) (name_stays n rest)
 item_stays (item.Bool i) rest =
     under i.docs key.Bool (bool_item i) rest (name_stays i.name (Sign 61 ∷ (truth i.default ∷ (comment i.comment ++ rest)))
-    ∙ ap (λ (r : List Token). name i.name ∷ (Sign 61 ∷ r)) (truth_stays i.default (comment i.comment ++ rest) ∙ ap (λ (r : List Token). truth i.default ∷ r) (comment_stays i.comment rest)))
+    ∙ ap (λ (r : List Token). name i.name ∷ (Sign 61 ∷ r)) (truth_stays i.default (comment i.comment ++ rest)
+    ∙ ap (λ (r : List Token). truth i.default ∷ r) (comment_stays i.comment rest)))
 item_stays (item.Num i) rest =
     under i.docs key.Num (num_item i) rest (name_stays i.name (Sign 61 ∷ (number i.default ∷ (comment i.comment ++ rest)))
     ∙ ap (λ (r : List Token). name i.name ∷ (Sign 61 ∷ (number i.default ∷ r))) (comment_stays i.comment rest))
@@ -60,7 +63,8 @@ item_stays (item.Enum i) rest =
     under i.docs key.Enum (enum_item i) rest (name_stays i.name (Sign 40 ∷ ((name_list i.values ++ comment i.comment) ++ rest))
     ∙ ap (λ (r : List Token). name i.name ∷ (Sign 40 ∷ r))
     (ap squeezed (append_assoc (name_list i.values) (comment i.comment) rest) ∙ list_stays i.values (comment i.comment ++ rest)
-    ∙ ap (λ (r : List Token). name_list i.values ++ r) (comment_stays i.comment rest) ∙ sym (append_assoc (name_list i.values) (comment i.comment) (squeezed rest))))
+    ∙ ap (λ (r : List Token). name_list i.values ++ r) (comment_stays i.comment rest)
+    ∙ sym (append_assoc (name_list i.values) (comment i.comment) (squeezed rest))))
 item_stays (item.Preset i) rest =
     under i.docs key.Preset (preset_item i) rest (name_stays i.name (Sign 40 ∷ (name_list i.args ++ rest))
     ∙ ap (λ (r : List Token). name i.name ∷ (Sign 40 ∷ r)) (list_stays i.args rest))

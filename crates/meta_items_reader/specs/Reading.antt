@@ -1,5 +1,6 @@
 -- Reading items off tokens, with the first thing that isn't there.
-use Rattle.std.specs.Prelude.{◌≡◌, ℕ, zero, suc, ◌==◌, Bool, true, false, List, [], ◌∷◌, length, drop, Option, Some, None, Result, Ok, Err, ◌++◌, codes, if◌then◌else◌}
+use Rattle.std.specs.Prelude.{◌≡◌, ℕ, zero, suc, ◌==◌, Bool, true, false, List, [], ◌∷◌, length, drop, Option, Some, None, Result, Ok, Err}
+use Rattle.std.specs.Prelude.{◌++◌, codes, if◌then◌else◌}
 use Rattle.std.specs.Cmp.Lexicographic.{pointwise}
 use Rattle.std.specs.Fmt.{decimal}
 use Rattle.meta_tokens.specs.declared.token.Token.{Token}
@@ -151,7 +152,8 @@ abbrev pub with_front : List Name → Result (List Name × List Token) Fault →
 with_front front read = read >>= λ x. Ok (front ++ x.0, x.1)
 
 -- a function that adds the names to a list adds those that reading gives, unless memory ran out
-abbrev pub GivesMore : {X : Type 0} → (X → List Token) → List Name → List Name → Result X PartError → Result (List Name × List Token) Fault → Type 0
+abbrev pub GivesMore : {X : Type 0} → (X → List Token) → List Name → List Name → Result X PartError
+    → Result (List Name × List Token) Fault → Type 0
 GivesMore view old new (Ok x) read = with_front old read ≡ Ok (new, view x)
 GivesMore view old new (Err e) read = Fails e read
 
@@ -167,7 +169,8 @@ closes_first (Stray f ∷ ts) = false
 
 -- the names behind `(`, up to `)`
 unfoldable pub names_at : Wanted → List Token → Result (List Name × List Token) Fault
-names_at w ts = if closes_first ts then Ok ([], drop 1 ts) else (name_at w ts >>= λ n. with_front (n.0 ∷ []) (more_names_at w (length n.1) n.1))
+names_at w ts = if closes_first ts then Ok ([], drop 1 ts) else
+    (name_at w ts >>= λ n. with_front (n.0 ∷ []) (more_names_at w (length n.1) n.1))
 
 -- ---- items, behind their keywords
 
@@ -207,7 +210,8 @@ wanted_item docs = if length docs == 0 then wanted.Item else wanted.Documented
 
 -- a group has no documentation
 abbrev pub group_at : List (List ℕ) → List Token → Result (Item × List Token) Fault
-group_at docs ts = if length docs == 0 then (name_at wanted.GroupName ts >>= λ n. Ok (item.Group n.0, n.1)) else wants wanted.Documented (Key key.Group ∷ ts)
+group_at docs ts = if length docs == 0 then (name_at wanted.GroupName ts >>= λ n. Ok (item.Group n.0, n.1)) else wants
+    wanted.Documented (Key key.Group ∷ ts)
 
 abbrev pub item_by : List (List ℕ) → Keyword → List Token → Result (Item × List Token) Fault
 item_by docs key.Type ts = wants (wanted_item docs) (Key key.Type ∷ ts)

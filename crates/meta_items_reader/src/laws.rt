@@ -9,7 +9,8 @@ use meta_tokens::what_is_laid_is_read;
 
 /// A text reads as one list of items at most.
 pub fn one_list_of_items()
-    ensures { (text : List ℕ) (is js : List Item) → AllFit is → AllFit js → read_in text ≡ spelled_all is → read_in text ≡ spelled_all js → is ≡ js }
+    ensures { (text : List ℕ) (is js : List Item) → AllFit is → AllFit js → read_in text ≡ spelled_all is
+        → read_in text ≡ spelled_all js → is ≡ js }
 {}
 
 /// The text that `write_items` makes of items is spelled as these items, and reads as them, where each of their tokens can be written and

@@ -2,7 +2,8 @@
 ghost use Rattle.std.specs.Prelude.{◌≡◌, ◌+◌, ◌<◌, ◌^◌, [], IfOk, OnOk, length, map, take, drop};
 ghost use Rattle.meta_settings.specs.GroupDeclaration.{entry_count};
 ghost use Rattle.meta_settings.specs.Declaring.{with_setting};
-ghost use Rattle.meta_shared_core.specs.Settings.{texts_of, choice_values, setting_of, setting_name, setting_names, with_settings, HasSharedSettings, IsSharedGroup};
+ghost use Rattle.meta_shared_core.specs.Settings.{texts_of, choice_values, setting_of, setting_name, setting_names, with_settings};
+ghost use Rattle.meta_shared_core.specs.Settings.{HasSharedSettings, IsSharedGroup};
 
 use meta_settings::SettingGroupBuilder;
 use meta_types::Text;

@@ -1,6 +1,9 @@
 ghost use Rattle.meta_shared_core.specs.Rows.{IsTable, rows_in};
-ghost use Rattle.meta_shared_core.specs.CoreNames.{core_names, control_flow_names, calls_names, lanes_names, vector_integers_names, memory_names, vector_loads_names, addresses_names, constants_names, selection_names};
-ghost use Rattle.meta_shared_core.specs.CoreFormats.{core_formats, control_flow_formats, calls_formats, lanes_formats, vector_integers_formats, memory_formats, vector_loads_formats, addresses_formats, constants_formats, selection_formats};
+ghost use Rattle.meta_shared_core.specs.CoreNames.{core_names, control_flow_names, calls_names, lanes_names, vector_integers_names};
+ghost use Rattle.meta_shared_core.specs.CoreNames.{memory_names, vector_loads_names, addresses_names, constants_names, selection_names};
+ghost use Rattle.meta_shared_core.specs.CoreFormats.{core_formats, control_flow_formats, calls_formats, lanes_formats};
+ghost use Rattle.meta_shared_core.specs.CoreFormats.{vector_integers_formats, memory_formats, vector_loads_formats, addresses_formats};
+ghost use Rattle.meta_shared_core.specs.CoreFormats.{constants_formats, selection_formats};
 
 use super::row::Row;
 use super::rows;

@@ -1,7 +1,11 @@
 ghost use Rattle.std.specs.Prelude.{take, drop};
 ghost use Rattle.meta_shared_core.specs.Rows.{IsTable, rows_in};
-ghost use Rattle.meta_shared_ops.specs.OpsNames.{ops_names, arithmetic_names, division_names, overflow_names, bitwise_names, bit_counts_names, floats_names, rounding_names, casts_names, lane_widths_names, extension_names, number_casts_names, last_rows_names};
-ghost use Rattle.meta_shared_ops.specs.OpsFormats.{ops_formats, arithmetic_formats, division_formats, overflow_formats, bitwise_formats, bit_counts_formats, floats_formats, rounding_formats, casts_formats, lane_widths_formats, extension_formats, number_casts_formats, last_rows_formats};
+ghost use Rattle.meta_shared_ops.specs.OpsNames.{ops_names, arithmetic_names, division_names, overflow_names, bitwise_names};
+ghost use Rattle.meta_shared_ops.specs.OpsNames.{bit_counts_names, floats_names, rounding_names, casts_names, lane_widths_names};
+ghost use Rattle.meta_shared_ops.specs.OpsNames.{extension_names, number_casts_names, last_rows_names};
+ghost use Rattle.meta_shared_ops.specs.OpsFormats.{ops_formats, arithmetic_formats, division_formats, overflow_formats, bitwise_formats};
+ghost use Rattle.meta_shared_ops.specs.OpsFormats.{bit_counts_formats, floats_formats, rounding_formats, casts_formats};
+ghost use Rattle.meta_shared_ops.specs.OpsFormats.{lane_widths_formats, extension_formats, number_casts_formats, last_rows_formats};
 
 use meta_shared_core::{Row, rows};
 

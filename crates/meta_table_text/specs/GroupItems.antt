@@ -34,7 +34,8 @@ enumerator_text name = text_of (at 1 (codes "\"" ∷ (name ∷ (codes "\"," ∷ 
 -- what an entry is
 abbrev pub detail_text : Detail → List ℕ
 detail_text (ABool bit) = codes "detail::Detail::Bool { bit: " ++ (decimal bit ++ codes " }")
-detail_text (AnEnum last enumerators) = codes "detail::Detail::Enum { last: " ++ (decimal last ++ (codes ", enumerators: " ++ (decimal enumerators ++ codes " }")))
+detail_text (AnEnum last enumerators) = codes "detail::Detail::Enum { last: "
+    ++ (decimal last ++ (codes ", enumerators: " ++ (decimal enumerators ++ codes " }")))
 detail_text ANum = codes "detail::Detail::Num"
 detail_text Preset = codes "detail::Detail::Preset"
 

@@ -3,7 +3,8 @@
 --     format_line t op       the line of the opcode's format
 --     slot_line t slot       the line of a slot of the names
 --     opcode_block v t op e  the block of the opcode with this entry
-use Rattle.std.specs.Prelude.{ℕ, zero, suc, ◌+◌, ◌/◌, ◌%◌, ◌==◌, Bool, false, List, [], ◌∷◌, ◌++◌, take, drop, slice_get, Option, None, Some, if◌then◌else◌, codes}
+use Rattle.std.specs.Prelude.{ℕ, zero, suc, ◌+◌, ◌/◌, ◌%◌, ◌==◌, Bool, false, List, [], ◌∷◌, ◌++◌, take, drop, slice_get, Option, None}
+use Rattle.std.specs.Prelude.{Some, if◌then◌else◌, codes}
 use Rattle.std.specs.Fmt.{decimal, digit_glyph}
 use Rattle.meta_types.specs.CamelCase.{camel_case_of}
 use Rattle.meta_meaning.specs.Tables.{TableContents, OpcodeNumbers, NumberConstraint, at_opcode, no_type_set, result_count, value_count}
@@ -53,7 +54,8 @@ hex_byte n = digit_glyph false (n / 16) ∷ (digit_glyph false (n % 16) ∷ [])
 
 -- the first lines of a block, and the flags
 unfoldable pub flags_lines : ℕ → List ℕ
-flags_lines flags = text_of (at 1 (codes "OpcodeConstraints {" ∷ []) ∷ (at 2 (codes "flags: 0x" ∷ (hex_byte flags ∷ (codes "," ∷ []))) ∷ []))
+flags_lines flags = text_of (at 1 (codes "OpcodeConstraints {" ∷ [])
+    ∷ (at 2 (codes "flags: 0x" ∷ (hex_byte flags ∷ (codes "," ∷ []))) ∷ []))
 
 -- the line of a field that is a place: `typeset_offset: 0,`
 unfoldable pub place_line : List ℕ → ℕ → List ℕ
@@ -109,7 +111,8 @@ second_comment Three t e = control_comment t (codes "Second control over ") e.se
 unfoldable pub entry_comments : Version → TableContents → ℕ → OpcodeNumbers → List ℕ
 entry_comments v t op e =
     flags_comment (camel_at t op) e.flags
-    ++ (constraints_comment (constraints_of t e) ++ (control_comment t (codes "Polymorphic over ") e.typeset_offset ++ second_comment v t e))
+    ++ (constraints_comment (constraints_of t e)
+    ++ (control_comment t (codes "Polymorphic over ") e.typeset_offset ++ second_comment v t e))
 
 -- the block of an opcode with this entry: its fields, and then the comments
 unfoldable pub entry_block : Version → TableContents → ℕ → OpcodeNumbers → List ℕ

@@ -34,7 +34,8 @@ part_of before mask = if mask == 0 then [] else (before ++ (members mask ++ code
 
 -- the set: its lane counts, and its widths of ints and of floats where there are such. Those of dynamic vectors aren't written.
 unfoldable pub masks_text : Masks → List ℕ
-masks_text m = codes "TypeSet(lanes={" ++ (members m.lanes ++ (codes "}" ++ (part_of (codes ", ints={") m.ints ++ (part_of (codes ", floats={") m.floats ++ codes ")"))))
+masks_text m = codes "TypeSet(lanes={"
+    ++ (members m.lanes ++ (codes "}" ++ (part_of (codes ", ints={") m.ints ++ (part_of (codes ", floats={") m.floats ++ codes ")"))))
 
 -- the text of a set, and nothing of none
 abbrev pub set_or_nothing : Option Masks → List ℕ

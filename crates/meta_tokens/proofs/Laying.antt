@@ -1,12 +1,14 @@
 -- What is written is read.
-use Rattle.std.proofs.Common.{◌≡◌, ◌∙◌, ℕ, suc, ◌-◌, length, get_or, arith, length-append, Bool, true, false, cond, List, [], ◌∷◌, ◌++◌, None, refl, sym, ap, subst, append_assoc, codes, inl, inr}
+use Rattle.std.proofs.Common.{◌≡◌, ◌∙◌, ℕ, suc, ◌-◌, length, get_or, arith, length-append, Bool, true, false, cond, List, [], ◌∷◌, ◌++◌}
+use Rattle.std.proofs.Common.{None, refl, sym, ap, subst, append_assoc, codes, inl, inr}
 use Rattle.std.specs.Prelude.{◌==◌, ◌||◌}
 use Rattle.std.proofs.lemmas.Bool.{eqb-true}
 use Rattle.std.proofs.lemmas.List.{append-nil}
 use Rattle.std.proofs.Math.Seq.{take-append_seam}
 use Rattle.meta_tokens.specs.Scan.{is_word_byte, scanned, tokens_in, next, ended_by, ended, class_of, word_token}
 use Rattle.std.specs.Str.Lines.{strip_carriage_return}
-use Rattle.meta_tokens.specs.Laid.{escaped, escaped_byte, cr_more, doc_line, AreWordBytes, AreLineBytes, CanWrite, CanWriteAll, written, behind, laid, separator, starts, is_doc, closes, opens, IsWord, IsSignByte}
+use Rattle.meta_tokens.specs.Laid.{escaped, escaped_byte, cr_more, doc_line, AreWordBytes, AreLineBytes, CanWrite, CanWriteAll, written}
+use Rattle.meta_tokens.specs.Laid.{behind, laid, separator, starts, is_doc, closes, opens, IsWord, IsSignByte}
 use Rattle.meta_tokens.specs.Keywords.{keyword_of, keyword_text}
 use Rattle.meta_tokens.specs.declared.keyword.Keyword.{Keyword}
 use Rattle.meta_tokens.specs.declared.keyword.Keyword.TheVariants as key
@@ -35,7 +37,8 @@ word_goes_on v (c ∷ cs) rest h =
     one ∙ word_goes_on (v ++ c ∷ []) cs rest h.1 ∙ ap (λ (x : List ℕ). scanned InWord x rest) (append_assoc v (c ∷ []) cs)
 
 -- a text goes on up to its quote
-plain : (t : List ℕ) (c : ℕ) (rest : List ℕ) → (c == 10) ≡ false → (c == 34) ≡ false → (c == 92) ≡ false → scanned InText t (c ∷ rest) ≡ scanned InText (t ++ c ∷ []) rest
+plain : (t : List ℕ) (c : ℕ) (rest : List ℕ) → (c == 10) ≡ false → (c == 34) ≡ false → (c == 92) ≡ false
+    → scanned InText t (c ∷ rest) ≡ scanned InText (t ++ c ∷ []) rest
 unfolding next ended_by
 plain t c rest a b d = rw (a, b, d) refl
 
@@ -175,14 +178,18 @@ abbrev free_mode : Bool → Mode
 free_mode true = Start
 free_mode false = Between
 
-word_opens : (front : Bool) (c : ℕ) (cs rest : List ℕ) → AreWordBytes (c ∷ cs) → scanned (free_mode front) [] ((c ∷ cs) ++ rest) ≡ scanned InWord (c ∷ cs) rest
+word_opens : (front : Bool) (c : ℕ) (cs rest : List ℕ) → AreWordBytes (c ∷ cs)
+    → scanned (free_mode front) [] ((c ∷ cs) ++ rest) ≡ scanned InWord (c ∷ cs) rest
 unfolding next ended_by class_of
 word_opens true c cs rest h = let here : is_word_byte c ≡ true = h.0 in let lf = word_is_no_lf c here in
-    let one : scanned Start [] (c ∷ (cs ++ rest)) ≡ scanned InWord (c ∷ []) (cs ++ rest) = rw (lf, here) refl in one ∙ word_goes_on (c ∷ []) cs rest h.1
+    let one : scanned Start [] (c ∷ (cs ++ rest)) ≡ scanned InWord (c ∷ []) (cs ++ rest) = rw (lf, here) refl in
+    one ∙ word_goes_on (c ∷ []) cs rest h.1
 word_opens false c cs rest h = let here : is_word_byte c ≡ true = h.0 in let lf = word_is_no_lf c here in
-    let one : scanned Between [] (c ∷ (cs ++ rest)) ≡ scanned InWord (c ∷ []) (cs ++ rest) = rw (lf, here) refl in one ∙ word_goes_on (c ∷ []) cs rest h.1
+    let one : scanned Between [] (c ∷ (cs ++ rest)) ≡ scanned InWord (c ∷ []) (cs ++ rest) = rw (lf, here) refl in
+    one ∙ word_goes_on (c ∷ []) cs rest h.1
 
-key_opens : (front : Bool) (k : Keyword) (rest : List ℕ) → scanned (free_mode front) [] (keyword_text k ++ rest) ≡ scanned InWord (keyword_text k) rest
+key_opens : (front : Bool) (k : Keyword) (rest : List ℕ)
+    → scanned (free_mode front) [] (keyword_text k ++ rest) ≡ scanned InWord (keyword_text k) rest
 key_opens front key.Type rest = word_opens front _ _ rest (key_bytes key.Type)
 key_opens front key.Kind rest = word_opens front _ _ rest (key_bytes key.Kind)
 key_opens front key.Format rest = word_opens front _ _ rest (key_bytes key.Format)
@@ -205,30 +212,40 @@ by_sign P a b d e f g h i j k c (inr (inr (inr (inr (inr (inr (inr (inl x)))))))
 by_sign P a b d e f g h i j k c (inr (inr (inr (inr (inr (inr (inr (inr (inl x))))))))) = subst P (sym x) j
 by_sign P a b d e f g h i j k c (inr (inr (inr (inr (inr (inr (inr (inr (inr x))))))))) = subst P (sym x) k
 
-sign_opens : (front : Bool) (c : ℕ) (rest : List ℕ) → IsSignByte c → scanned (free_mode front) [] (c ∷ rest) ≡ Sign c ∷ scanned Between [] rest
+sign_opens : (front : Bool) (c : ℕ) (rest : List ℕ) → IsSignByte c
+    → scanned (free_mode front) [] (c ∷ rest) ≡ Sign c ∷ scanned Between [] rest
 unfolding next ended_by class_of
-sign_opens true c rest h = by_sign (λ n. scanned Start [] (n ∷ rest) ≡ Sign n ∷ scanned Between [] rest) refl refl refl refl refl refl refl refl refl refl c h
-sign_opens false c rest h = by_sign (λ n. scanned Between [] (n ∷ rest) ≡ Sign n ∷ scanned Between [] rest) refl refl refl refl refl refl refl refl refl refl c h
+sign_opens true c rest h =
+    by_sign (λ n. scanned Start [] (n ∷ rest) ≡ Sign n ∷ scanned Between [] rest) refl refl refl refl refl refl refl refl refl refl c h
+sign_opens false c rest h =
+    by_sign (λ n. scanned Between [] (n ∷ rest) ≡ Sign n ∷ scanned Between [] rest) refl refl refl refl refl refl refl refl refl refl c h
 
-sign_ends_word : (w : List ℕ) (t : Token) (c : ℕ) (rest : List ℕ) → word_token w ≡ t → IsSignByte c → scanned InWord w (c ∷ rest) ≡ t ∷ (Sign c ∷ scanned Between [] rest)
+sign_ends_word : (w : List ℕ) (t : Token) (c : ℕ) (rest : List ℕ) → word_token w ≡ t → IsSignByte c
+    → scanned InWord w (c ∷ rest) ≡ t ∷ (Sign c ∷ scanned Between [] rest)
 unfolding next ended_by class_of
-sign_ends_word w t c rest e h = by_sign (λ n. scanned InWord w (n ∷ rest) ≡ t ∷ (Sign n ∷ scanned Between [] rest)) (rw e refl) (rw e refl) (rw e refl) (rw e refl) (rw e refl) (rw e refl) (rw e refl) (rw e refl) (rw e refl) (rw e refl) c h
+sign_ends_word w t c rest e h = by_sign (λ n. scanned InWord w (n ∷ rest) ≡ t ∷ (Sign n ∷ scanned Between [] rest))
+    (rw e refl) (rw e refl) (rw e refl) (rw e refl) (rw e refl) (rw e refl) (rw e refl) (rw e refl) (rw e refl) (rw e refl) c h
 
-text_opens : (front : Bool) (u rest : List ℕ) → scanned (free_mode front) [] ((34 ∷ (escaped u ++ 34 ∷ [])) ++ rest) ≡ Quoted u ∷ scanned Between [] rest
+text_opens : (front : Bool) (u rest : List ℕ) → scanned (free_mode front) [] ((34 ∷ (escaped u ++ 34 ∷ [])) ++ rest)
+    ≡ Quoted u ∷ scanned Between [] rest
 unfolding next ended_by class_of
 text_opens true u rest = rw (append_assoc (escaped u) (34 ∷ []) rest) (text_goes_on [] u (34 ∷ rest))
 text_opens false u rest = rw (append_assoc (escaped u) (34 ∷ []) rest) (text_goes_on [] u (34 ∷ rest))
 
 -- a line of documentation, at the front of a line
-doc_opens : (d rest : List ℕ) → AreLineBytes d → scanned Start [] (written (Doc d) ++ rest) ≡ scanned (mode_after (Doc d)) (bytes_after (Doc d)) rest
+doc_opens : (d rest : List ℕ) → AreLineBytes d → scanned Start [] (written (Doc d) ++ rest)
+    ≡ scanned (mode_after (Doc d)) (bytes_after (Doc d)) rest
 unfolding next ended_by class_of
 doc_opens [] rest h = refl
-doc_opens (c ∷ cs) rest h = doc_goes_on [] ((c ∷ cs) ++ cr_more (c ∷ cs)) rest (line_append (c ∷ cs) (cr_more (c ∷ cs)) h (cr_is_line (c ∷ cs)))
+doc_opens (c ∷ cs) rest h = doc_goes_on [] ((c ∷ cs) ++ cr_more (c ∷ cs)) rest
+    (line_append (c ∷ cs) (cr_more (c ∷ cs)) h (cr_is_line (c ∷ cs)))
 
 -- a token where nothing began: documentation only at the front of a line
-opened : (front : Bool) (t : Token) (rest : List ℕ) → CanWrite t → (is_doc t ≡ true → front ≡ true) → scanned (free_mode front) [] (written t ++ rest) ≡ emitted t ++ scanned (mode_after t) (bytes_after t) rest
+opened : (front : Bool) (t : Token) (rest : List ℕ) → CanWrite t → (is_doc t ≡ true → front ≡ true)
+    → scanned (free_mode front) [] (written t ++ rest) ≡ emitted t ++ scanned (mode_after t) (bytes_after t) rest
 opened front (Key k) rest h g = key_opens front k rest
-opened front (Word w) rest h g = subst (λ (v : List ℕ). scanned (free_mode front) [] (v ++ rest) ≡ scanned InWord v rest) (sym h.is) (word_opens front h.first h.more rest h.bytes)
+opened front (Word w) rest h g = subst (λ (v : List ℕ). scanned (free_mode front) [] (v ++ rest)
+    ≡ scanned InWord v rest) (sym h.is) (word_opens front h.first h.more rest h.bytes)
 opened front (Quoted t) rest h g = text_opens front t rest
 opened front (Sign c) rest h g = sign_opens front c rest h
 opened true (Doc d) rest h g = doc_opens d rest h.0
@@ -248,7 +265,8 @@ word_is : (w : List ℕ) → IsWord w → word_token w ≡ Word w
 word_is w h = rw h.free refl
 
 -- behind a token: the end of a line, a blank, or a token that stands close
-line_ends : (u : Token) (rest : List ℕ) → CanWrite u → scanned (mode_after u) (bytes_after u) (10 ∷ rest) ≡ pending u ++ scanned Start [] rest
+line_ends : (u : Token) (rest : List ℕ) → CanWrite u
+    → scanned (mode_after u) (bytes_after u) (10 ∷ rest) ≡ pending u ++ scanned Start [] rest
 unfolding ended
 line_ends (Key k) rest h = rw (word_token_of_key k) refl
 line_ends (Word w) rest h = rw (word_is w h) refl
@@ -258,7 +276,8 @@ line_ends (Doc []) rest h = refl
 line_ends (Doc (c ∷ cs)) rest h = ap (λ (x : List ℕ). Doc x ∷ scanned Start [] rest) (strip_more (c ∷ cs))
 line_ends (Stray f) rest h = absurd h
 
-blank_stands : (u : Token) (rest : List ℕ) → CanWrite u → is_doc u ≡ false → scanned (mode_after u) (bytes_after u) (32 ∷ rest) ≡ pending u ++ scanned Between [] rest
+blank_stands : (u : Token) (rest : List ℕ) → CanWrite u → is_doc u ≡ false
+    → scanned (mode_after u) (bytes_after u) (32 ∷ rest) ≡ pending u ++ scanned Between [] rest
 unfolding next ended_by class_of
 blank_stands (Key k) rest h undoc = rw (word_token_of_key k) refl
 blank_stands (Word w) rest h undoc = rw (word_is w h) refl
@@ -297,20 +316,26 @@ neither false true e = absurd cc
 neither true b e = absurd cc
 
 separated : (u t : Token) (rest : List ℕ) (p q : Bool) → CanWrite u → CanWrite t → (is_doc u || starts t) ≡ p → (closes t || opens u) ≡ q
-    → scanned (mode_after u) (bytes_after u) (cond p (10 ∷ []) (cond q [] (32 ∷ [])) ++ (written t ++ rest)) ≡ pending u ++ (emitted t ++ scanned (mode_after t) (bytes_after t) rest)
-separated u t rest true q h g l e = line_ends u (written t ++ rest) h ∙ ap (λ (x : List Token). pending u ++ x) (opened true t rest g (λ d. refl))
+    → scanned (mode_after u) (bytes_after u) (cond p (10 ∷ []) (cond q [] (32 ∷ [])) ++ (written t ++ rest))
+    ≡ pending u ++ (emitted t ++ scanned (mode_after t) (bytes_after t) rest)
+separated u t rest true q h g l e = line_ends u (written t ++ rest) h
+    ∙ ap (λ (x : List Token). pending u ++ x) (opened true t rest g (λ d. refl))
 separated u t rest false true h g l e = let n = neither (is_doc u) (starts t) l in touches u t rest h g n.0 n.1 e
 separated u t rest false false h g l e =
     let n = neither (is_doc u) (starts t) l in
     blank_stands u (written t ++ rest) h n.0 ∙ ap (λ (x : List Token). pending u ++ x) (opened false t rest g (no_doc t n.1))
 
-laid_behind : (u : Token) (ts : List Token) → CanWrite u → CanWriteAll ts → scanned (mode_after u) (bytes_after u) (behind u ts) ≡ pending u ++ ts
+laid_behind : (u : Token) (ts : List Token) → CanWrite u → CanWriteAll ts
+    → scanned (mode_after u) (bytes_after u) (behind u ts) ≡ pending u ++ ts
 unfolding behind ended
 laid_behind u [] h all = line_ends u [] h
 laid_behind u (t ∷ ts) h all =
-    separated u t (behind t ts) _ _ h all.0 refl refl ∙ ap (λ (x : List Token). pending u ++ (emitted t ++ x)) (laid_behind t ts all.0 all.1) ∙ ap (λ (x : List Token). pending u ++ x) (emitted-pending t ts all.0)
+    separated u t (behind t ts) _ _ h all.0 refl refl
+    ∙ ap (λ (x : List Token). pending u ++ (emitted t ++ x)) (laid_behind t ts all.0 all.1)
+    ∙ ap (λ (x : List Token). pending u ++ x) (emitted-pending t ts all.0)
 
 pub laid_reads : (ts : List Token) → CanWriteAll ts → tokens_in (laid ts) ≡ ts
 unfolding laid ended
 laid_reads [] all = refl
-laid_reads (t ∷ ts) all = opened true t (behind t ts) all.0 (λ d. refl) ∙ ap (λ (x : List Token). emitted t ++ x) (laid_behind t ts all.0 all.1) ∙ emitted-pending t ts all.0
+laid_reads (t ∷ ts) all = opened true t (behind t ts) all.0 (λ d. refl)
+    ∙ ap (λ (x : List Token). emitted t ++ x) (laid_behind t ts all.0 all.1) ∙ emitted-pending t ts all.0

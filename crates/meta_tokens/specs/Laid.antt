@@ -1,5 +1,6 @@
 -- The canonical text of tokens: documentation and keywords begin a line, and a blank stands between two others, but for signs that stand close.
-use Rattle.std.specs.Prelude.{◌≡◌, ◌⊎◌, ℕ, ◌-◌, ◌==◌, length, slice_index, ◌||◌, Bool, true, false, List, [], ◌∷◌, ◌++◌, Option, None, codes, if◌then◌else◌}
+use Rattle.std.specs.Prelude.{◌≡◌, ◌⊎◌, ℕ, ◌-◌, ◌==◌, length, slice_index, ◌||◌, Bool, true, false, List, [], ◌∷◌, ◌++◌, Option, None}
+use Rattle.std.specs.Prelude.{codes, if◌then◌else◌}
 use Rattle.std.specs.Str.{IsUtf8}
 use Rattle.meta_tokens.specs.Scan.{is_word_byte}
 use Rattle.meta_tokens.specs.Keywords.{keyword_of, keyword_text}

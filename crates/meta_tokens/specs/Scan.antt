@@ -9,7 +9,8 @@ use Rattle.meta_tokens.specs.declared.keyword.Keyword.{Keyword}
 use Rattle.meta_tokens.specs.declared.scanner.Class.{Class}
 use Rattle.meta_tokens.specs.declared.scanner.Class.TheVariants.{WordByte, Blank, Quote, SlashByte, SignByte, NoClass}
 use Rattle.meta_tokens.specs.declared.scanner.Mode.{Mode}
-use Rattle.meta_tokens.specs.declared.scanner.Mode.TheVariants.{Start, Between, InWord, InText, Escape, Slash, StartSlash, TwoSlashes, ThreeSlashes, InDoc, Comment, Lost}
+use Rattle.meta_tokens.specs.declared.scanner.Mode.TheVariants.{Start, Between, InWord, InText, Escape, Slash, StartSlash, TwoSlashes}
+use Rattle.meta_tokens.specs.declared.scanner.Mode.TheVariants.{ThreeSlashes, InDoc, Comment, Lost}
 
 -- a letter, a digit or `_`
 abbrev pub is_word_byte : ℕ → Bool
@@ -21,7 +22,8 @@ is_blank c = (c == 32) || ((c == 9) || (c == 13))
 
 -- one of = : , ( ) [ ] - > .
 abbrev pub is_sign : ℕ → Bool
-is_sign c = (c == 61) || ((c == 58) || ((c == 44) || ((c == 40) || ((c == 41) || ((c == 91) || ((c == 93) || ((c == 45) || ((c == 62) || (c == 46)))))))))
+is_sign c = (c == 61) ||
+    ((c == 58) || ((c == 44) || ((c == 40) || ((c == 41) || ((c == 91) || ((c == 93) || ((c == 45) || ((c == 62) || (c == 46)))))))))
 
 -- what is being read, and the bytes of it so far
 pub record State : Type 0 where
@@ -75,7 +77,8 @@ next Start bytes c = begun true (class_of c) c
 next Between bytes c = begun false (class_of c) c
 next InWord bytes c = if is_word_byte c then in_mode InWord (bytes ++ c ∷ []) else begun false (class_of c) c
 next InText bytes c = if c == 34 then in_mode Between [] else (if c == 92 then in_mode Escape bytes else in_mode InText (bytes ++ c ∷ []))
-next Escape bytes c = if c == 110 then in_mode InText (bytes ++ 10 ∷ []) else (if (c == 34) || (c == 92) then in_mode InText (bytes ++ c ∷ []) else in_mode Lost [])
+next Escape bytes c = if c == 110 then in_mode InText (bytes ++ 10 ∷ []) else
+    (if (c == 34) || (c == 92) then in_mode InText (bytes ++ c ∷ []) else in_mode Lost [])
 next Slash bytes c = if c == 47 then in_mode Comment [] else in_mode Lost []
 next StartSlash bytes c = if c == 47 then in_mode TwoSlashes [] else in_mode Lost []
 next TwoSlashes bytes c = if c == 47 then in_mode ThreeSlashes [] else in_mode Comment []

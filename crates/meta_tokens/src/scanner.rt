@@ -2,7 +2,8 @@ ghost use Rattle.std.specs.Prelude.{◌≡◌, ◌==◌, ◌+◌, ◌^◌, ◌<�
 ghost use Rattle.std.specs.Str.Lines.{strip_carriage_return};
 ghost use Rattle.meta_tokens.specs.declared.token.Token.TheVariants.{Word, Quoted, Sign, Doc, Stray};
 ghost use Rattle.meta_tokens.specs.declared.scanner.Mode.{Mode};
-ghost use Rattle.meta_tokens.specs.Scan.{in_mode, word_token, is_word_byte, is_blank, is_sign, class_of, begun, told, next, ended_by, ended, after, given, tokens_in};
+ghost use Rattle.meta_tokens.specs.Scan.{in_mode, word_token, is_word_byte, is_blank, is_sign, class_of, begun, told, next, ended_by};
+ghost use Rattle.meta_tokens.specs.Scan.{ended, after, given, tokens_in};
 ghost use Rattle.meta_tokens.specs.TokenLines.{line_behind, lines_in, last_line_in};
 
 use super::bytes::Bytes;
@@ -277,7 +278,8 @@ impl Scanner {
     #[tactic(auto, unfolding(crate::specs::Scan::next, crate::specs::Scan::ended_by))]
     fn go_on_behind_three_slashes(&mut self, byte: u8) -> Result<(), AllocError>
         ensures state { OnOk result (in_mode self.new.mode self.new.bytes.items ≡ next Mode.ThreeSlashes self.old.bytes.items byte) }
-        ensures tokens { OnOk result (self.new.tokens.items ≡ self.old.tokens.items ++ ended_by Mode.ThreeSlashes self.old.bytes.items byte) }
+        ensures tokens { OnOk result (self.new.tokens.items ≡ self.old.tokens.items
+            ++ ended_by Mode.ThreeSlashes self.old.bytes.items byte) }
     {
         match byte {
             b'/' => {

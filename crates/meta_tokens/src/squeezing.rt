@@ -43,8 +43,10 @@ fn keep(
     line: usize,
     rest: &VecDeque<Token>,
 ) -> Result<(), AllocError>
-    ensures tokens { OnOk result (kept.new.tokens.items ≡ kept.old.tokens.items ++ (if is_comma token && ends_first rest.now.items then [] else token ∷ [])) }
-    ensures lines { OnOk result (kept.new.lines.items ≡ kept.old.lines.items ++ (if is_comma token && ends_first rest.now.items then [] else line ∷ [])) }
+    ensures tokens { OnOk result (kept.new.tokens.items ≡ kept.old.tokens.items
+        ++ (if is_comma token && ends_first rest.now.items then [] else token ∷ [])) }
+    ensures lines { OnOk result (kept.new.lines.items ≡ kept.old.lines.items
+        ++ (if is_comma token && ends_first rest.now.items then [] else line ∷ [])) }
     ensures last { kept.new.last_line ≡ kept.old.last_line }
 {
     if is_comma(&token) && ends_first(rest) {

@@ -1,5 +1,6 @@
 ghost use Rattle.std.specs.Prelude.{◌≡◌, ◌++◌, OnOk, IfOk};
-ghost use Rattle.meta_tokens.specs.Laid.{escaped_byte, escaped, cr_more, doc_line, written, is_doc, starts, closes, opens, separator, behind, laid};
+ghost use Rattle.meta_tokens.specs.Laid.{escaped_byte, escaped, cr_more, doc_line, written, is_doc, starts, closes, opens, separator};
+ghost use Rattle.meta_tokens.specs.Laid.{behind, laid};
 
 use super::token::Token;
 use std::alloc::{AllocError, Global};

@@ -8,4 +8,5 @@ pub returns-clause-spelled : goal.returns-clause-spelled
 returns-clause-spelled c = λ is can. all_reads is (c.what_is_laid_is_read.ensures (spelled_all is) can)
 
 pub returns-clause-read : goal.returns-clause-read
-returns-clause-read c = λ is fit can. again (laid (spelled_all is)) is fit (all_reads is (c.what_is_laid_is_read.ensures (spelled_all is) can))
+returns-clause-read c = λ is fit can. again (laid (spelled_all is)) is fit
+    (all_reads is (c.what_is_laid_is_read.ensures (spelled_all is) can))

@@ -14,7 +14,8 @@ returns-in-End c = ends_here _ _ _ c.loop.counter _ _ _ c.loop-test.true (rw c.i
 
 pub loop-preserved : goal.loop-preserved
 loop-preserved c =
-    rw c.in_ok-push-in-More.ensures.items (goes_on _ _ _ c.loop.counter _ _ _ _ c.loop-test.true (rw c.in-More.is at c.in_ok-next.ensures) c.loop.invariant)
+    rw c.in_ok-push-in-More.ensures.items (goes_on _ _ _ c.loop.counter _ _ _ _ c.loop-test.true
+    (rw c.in-More.is at c.in_ok-next.ensures) c.loop.invariant)
 
 pub returns : goal.returns
 unfolding more_names_at

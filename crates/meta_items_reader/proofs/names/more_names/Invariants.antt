@@ -4,4 +4,5 @@ use Rattle.meta_items_reader.proofs.names.more_names.Given as goal
 
 -- the names so far, and those that are still read, are all
 abbrev pub invariant-loop : goal.invariant-loop
-invariant-loop l = with_front l.names.items (more_names_at l.wanted (length l.tokens - l.counter) l.rest) ≡ with_front l.fn.names.items (more_names_at l.wanted (length l.tokens) l.tokens)
+invariant-loop l = with_front l.names.items (more_names_at l.wanted (length l.tokens - l.counter) l.rest)
+    ≡ with_front l.fn.names.items (more_names_at l.wanted (length l.tokens) l.tokens)

@@ -6,7 +6,8 @@ use Rattle.meta_tokens.proofs.squeezing.squeeze.Given as goal
 abbrev pub invariant-loop-line : goal.invariant-loop-line
 invariant-loop-line l = record {
   tokens : l.kept.tokens.items ++ squeezed l.rest.items ≡ squeezed l.fn.whole.tokens.items;
-  lines : l.kept.lines.items ++ squeezed_lines l.rest.items (drop l.line-index l.line-items) ≡ squeezed_lines l.fn.whole.tokens.items l.line-items;
+  lines : l.kept.lines.items ++ squeezed_lines l.rest.items (drop l.line-index l.line-items)
+      ≡ squeezed_lines l.fn.whole.tokens.items l.line-items;
   left : length l.rest.items + l.line-index ≡ length l.line-items;
   each : length l.kept.lines.items ≡ length l.kept.tokens.items;
   same : l.line-items ≡ l.fn.whole.lines.items;
