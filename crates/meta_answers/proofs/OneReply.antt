@@ -9,7 +9,8 @@ use Rattle.meta_inst.specs.Faults.{IsAt, names_of, IsValid}
 use Rattle.meta_meaning.specs.Tables.{TableContents}
 use Rattle.meta_declared.proofs.DifferentNames.{different_names}
 use Rattle.meta_answers.specs.Question.{Question}
-use Rattle.meta_answers.specs.Answer.{AllowsAsked, AllowedReply, AcceptsAsked, IsAskedFor, AcceptedReply, reply_line, IsWrittenAnswer, AreWrittenAnswers}
+use Rattle.meta_answers.specs.Answer.{AllowsAsked, AllowedReply, AcceptsAsked, IsAskedFor, AcceptedReply, reply_line, IsWrittenAnswer}
+use Rattle.meta_answers.specs.Answer.{AreWrittenAnswers}
 use Rattle.meta_answers.specs.declared.reply.Reply.{Reply}
 use Rattle.meta_answers.specs.declared.reply.Reply.TheVariants.{Accept, Refuse, Unknown, Bad, Results, Setting}
 
@@ -17,9 +18,11 @@ use Rattle.meta_answers.specs.declared.reply.Reply.TheVariants.{Accept, Refuse, 
 
 pub one_allowed : (tables : TableContents) (q : Question) (r s : Reply) → AllowedReply tables q r → AllowedReply tables q s → r ≡ s
 one_allowed tables q Accept Accept h g = refl
-one_allowed tables q Accept Refuse (op, named, allows) (other, also, never) = absurd (never (subst (λ o. AllowsAsked tables o q) (one_first _ op other named also) allows))
+one_allowed tables q Accept Refuse (op, named, allows) (other, also, never) =
+    absurd (never (subst (λ o. AllowsAsked tables o q) (one_first _ op other named also) allows))
 one_allowed tables q Accept Unknown (op, named, allows) none = absurd (none op named.holds)
-one_allowed tables q Refuse Accept (other, also, never) (op, named, allows) = absurd (never (subst (λ o. AllowsAsked tables o q) (one_first _ op other named also) allows))
+one_allowed tables q Refuse Accept (other, also, never) (op, named, allows) =
+    absurd (never (subst (λ o. AllowsAsked tables o q) (one_first _ op other named also) allows))
 one_allowed tables q Refuse Refuse h g = refl
 one_allowed tables q Refuse Unknown (op, named, never) none = absurd (none op named.holds)
 one_allowed tables q Unknown Accept none (op, named, allows) = absurd (none op named.holds)
@@ -40,11 +43,13 @@ module _ (d : InstructionSet) (valid : IsValid d) where
 
   pub one_asked : (name : List ℕ) (b c : Builder) → IsAskedFor d name b → IsAskedFor d name c → b ≡ c
   one_asked name b c h g =
-      let place : h.place ≡ g.place = different_names d valid h.place g.place c.name (declared_name_at h.place b h.at ∙ ap (λ n. Some n) (h.named ∙ sym g.named)) (declared_name_at g.place c g.at) in
+      let place : h.place ≡ g.place = different_names d valid h.place g.place c.name (declared_name_at h.place b h.at
+      ∙ ap (λ n. Some n) (h.named ∙ sym g.named)) (declared_name_at g.place c g.at) in
       same_Some b c (sym h.at ∙ ap (slice_get d.instructions) place ∙ g.at)
 
   -- what the instruction accepts isn't refused
-  not_both : (q : Question) (b c : Builder) → IsAskedFor d q.name b → IsAskedFor d q.name c → AcceptsAsked d b q → (AcceptsAsked d c q → ⊥) → ⊥
+  not_both : (q : Question) (b c : Builder) → IsAskedFor d q.name b → IsAskedFor d q.name c → AcceptsAsked d b q
+      → (AcceptsAsked d c q → ⊥) → ⊥
   not_both q b c h g accepts refuses = refuses (subst (λ b. AcceptsAsked d b q) (one_asked q.name b c h g) accepts)
 
   -- a declared name isn't unknown
@@ -77,4 +82,5 @@ module _ (Replies : List ℕ → Reply → Type 0) (one_reply : (line : List ℕ
 
   pub one_list : (lines : List (List ℕ)) (a b : List ℕ) → AreWrittenAnswers Replies lines a → AreWrittenAnswers Replies lines b → a ≡ b
   one_list [] a b h g = h ∙ sym g
-  one_list (line ∷ lines) a b (first, rest, h, hs, is) (other, others, g, gs, too) = is ∙ ap₂ ◌++◌ (one_answer line first other h g) (one_list lines rest others hs gs) ∙ sym too
+  one_list (line ∷ lines) a b (first, rest, h, hs, is) (other, others, g, gs, too) = is
+      ∙ ap₂ ◌++◌ (one_answer line first other h g) (one_list lines rest others hs gs) ∙ sym too

@@ -7,7 +7,8 @@ use Rattle.meta_answers.specs.Inference.{inference_words}
 use Rattle.meta_answers.specs.Query.{setting_words}
 use Rattle.meta_answers.specs.Question.{question_words}
 use Rattle.meta_answers.specs.declared.form.QueryWord.{QueryWord}
-use Rattle.meta_answers.specs.declared.form.QueryWord.TheVariants.{Accept as AcceptCommand, Infer as InferCommand, Setting as SettingCommand}
+use Rattle.meta_answers.specs.declared.form.QueryWord.TheVariants.{Accept as AcceptCommand, Infer as InferCommand}
+use Rattle.meta_answers.specs.declared.form.QueryWord.TheVariants.{Setting as SettingCommand}
 use Rattle.meta_answers.specs.declared.form.QueryForm.{QueryForm}
 use Rattle.meta_answers.specs.declared.form.QueryForm.TheVariants.{Accept, Infer, Setting}
 

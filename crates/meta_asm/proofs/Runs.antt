@@ -23,32 +23,44 @@ one_form Short Explicit e f = let same : codes "short" ∷ [] ≡ codes "explici
 one_form Explicit Short e f = let same : codes "explicit" ∷ [] ≡ codes "short" ∷ [] = sym e ∙ f in absurd (cc)
 one_form Explicit Explicit e f = refl
 
-module _ {S K : Type 0} {left : S → Option (List ℕ)} {reads : S → ℕ} {taken : K → Option (List ℕ)} {writes : K → ℕ} {d : Declared} {s s' : S} {k k' : K} {words : List (List ℕ)} {ending : Ending} (run : IsRun left reads taken writes d s s' k k' (λ (form : Form). words ≡ words_for form) (λ _. true) written_in ending) (no_fault : (e : DefinitionError) → AreValid d → ShowsFirst d e → ⊥) where
+module _ {S K : Type 0} {left : S → Option (List ℕ)} {reads : S → ℕ} {taken : K → Option (List ℕ)} {writes : K
+    → ℕ} {d : Declared} {s s' : S} {k k' : K} {words : List (List ℕ)} {ending : Ending}
+    (run : IsRun left reads taken writes d s s' k k' (λ (form : Form). words ≡ words_for form) (λ _. true) written_in ending)
+    (no_fault : (e : DefinitionError) → AreValid d → ShowsFirst d e → ⊥) where
   -- the text that was written, where nothing fails
-  said : (form : Form) → words ≡ words_for form → AreValid d → (input before : List ℕ) → NothingFails left reads taken writes d s s' k k' input before ending
-      → (is_rejection : Bool) × (text : List ℕ) × written_in form d input is_rejection text × (ending ≡ written_as is_rejection) × (taken k' ≡ Some (before ++ text))
-  said form asks valid input before (memory, given, taken_is, no_write) = lemma.answers run one_form no_fault form asks valid memory input before given taken_is no_write
+  said : (form : Form) → words ≡ words_for form → AreValid d → (input before : List ℕ)
+      → NothingFails left reads taken writes d s s' k k' input before ending
+      → (is_rejection : Bool) × (text : List ℕ) × written_in form d input is_rejection text × (ending ≡ written_as is_rejection)
+      × (taken k' ≡ Some (before ++ text))
+  said form asks valid input before (memory, given, taken_is, no_write) =
+      lemma.answers run one_form no_fault form asks valid memory input before given taken_is no_write
 
   pub shortens : ShortensList left reads taken writes d s s' k k' words ending
   shortens asks valid input before given = by (said Short asks valid input before given)
     where
-      by : ((is_rejection : Bool) × (text : List ℕ) × written_in Short d input is_rejection text × (ending ≡ written_as is_rejection) × (taken k' ≡ Some (before ++ text))) → WritesShortForms left reads taken writes d s s' k k' input before ending ⊎ SaysWrong left reads taken writes d s s' k k' input before ending
+      by : ((is_rejection : Bool) × (text : List ℕ) × written_in Short d input is_rejection text × (ending ≡ written_as is_rejection)
+          × (taken k' ≡ Some (before ++ text))) → WritesShortForms left reads taken writes d s s' k k' input before ending
+          ⊎ SaysWrong left reads taken writes d s s' k k' input before ending
       by (false, text, (texts, short, is), e, took) = inl (e, texts, short, subst (λ t. taken k' ≡ Some (before ++ t)) is took)
       by (true, text, (n, reason, first, is), e, took) = inr (e, n, reason, first, subst (λ t. taken k' ≡ Some (before ++ t)) is took)
 
   pub spells : SpellsList left reads taken writes d s s' k k' words ending
   spells asks valid input before given = by (said Explicit asks valid input before given)
     where
-      by : ((is_rejection : Bool) × (text : List ℕ) × written_in Explicit d input is_rejection text × (ending ≡ written_as is_rejection) × (taken k' ≡ Some (before ++ text))) → WritesLines left reads taken writes d s s' k k' input before ending ⊎ SaysUnread left reads taken writes d s s' k k' input before ending
+      by : ((is_rejection : Bool) × (text : List ℕ) × written_in Explicit d input is_rejection text × (ending ≡ written_as is_rejection)
+          × (taken k' ≡ Some (before ++ text))) → WritesLines left reads taken writes d s s' k k' input before ending
+          ⊎ SaysUnread left reads taken writes d s s' k k' input before ending
       by (false, text, (lines, reads, is), e, took) = inl (e, lines, reads, subst (λ t. taken k' ≡ Some (before ++ t)) is took)
       by (true, text, (n, first, is), e, took) = inr (e, n, first, subst (λ t. taken k' ≡ Some (before ++ t)) is took)
 
   pub writes_back : WritesBack left reads taken writes d s s' k k' words ending
   writes_back asks valid list input before short given = by (said Explicit asks valid input before given)
     where
-      back : (is_rejection : Bool) (text : List ℕ) → written_in Explicit d input is_rejection text → (is_rejection ≡ false) × (text ≡ text_of_lines (filled (lines_of list)))
+      back : (is_rejection : Bool) (text : List ℕ) → written_in Explicit d input is_rejection text
+          → (is_rejection ≡ false) × (text ≡ text_of_lines (filled (lines_of list)))
       back is_rejection text = (back_by_declarations d.set valid.set list input short is_rejection text).0
 
-      by : ((is_rejection : Bool) × (text : List ℕ) × written_in Explicit d input is_rejection text × (ending ≡ written_as is_rejection) × (taken k' ≡ Some (before ++ text))) → (ending ≡ Done) × (taken k' ≡ Some (before ++ text_of_lines (filled (lines_of list))))
+      by : ((is_rejection : Bool) × (text : List ℕ) × written_in Explicit d input is_rejection text × (ending ≡ written_as is_rejection)
+          × (taken k' ≡ Some (before ++ text))) → (ending ≡ Done) × (taken k' ≡ Some (before ++ text_of_lines (filled (lines_of list))))
       by (false, text, spelled, e, took) = (e, subst (λ t. taken k' ≡ Some (before ++ t)) (back false text spelled).1 took)
       by (true, text, spelled, e, took) = (let no : true ≡ false = (back true text spelled).0 in absurd (cc))

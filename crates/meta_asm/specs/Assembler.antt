@@ -22,10 +22,12 @@ abbrev pub AskForm : List (List ℕ) → Type 0
 AskForm words = (form : Form) × (words ≡ words_for form)
 
 -- a source and a sink, by what they tell, before and after a run over declarations
-module _ {S K : Type 0} (left : S → Option (List ℕ)) (reads : S → ℕ) (taken : K → Option (List ℕ)) (writes : K → ℕ) (d : Declared) (s s' : S) (k k' : K) where
+module _ {S K : Type 0} (left : S → Option (List ℕ)) (reads : S → ℕ) (taken : K → Option (List ℕ)) (writes : K → ℕ)
+    (d : Declared) (s s' : S) (k k' : K) where
   -- for a form that the words ask for, the input was written in it whole, as an answer or, where the mark is true, as a rejection
   abbrev pub IsWrittenWhole : List (List ℕ) → Bool → Type 0
-  IsWrittenWhole words is_rejection = (form : Form) × (words ≡ words_for form) × IsAnsweredWhole left reads taken writes d s s' k k' true (written_in form) is_rejection
+  IsWrittenWhole words is_rejection = (form : Form) × (words ≡ words_for form)
+      × IsAnsweredWhole left reads taken writes d s s' k k' true (written_in form) is_rejection
 
   -- the same, and the sink took a part of what was to be written, and not all
   abbrev pub IsWrittenInPart : List (List ℕ) → Type 0
@@ -34,22 +36,28 @@ module _ {S K : Type 0} (left : S → Option (List ℕ)) (reads : S → ℕ) (ta
   -- Nothing fails: memory didn't run out, the source told what it had left, which is at most the limit, the sink told what it had taken,
   -- and no count rose.
   abbrev pub NothingFails : List ℕ → List ℕ → Ending → Type 0
-  NothingFails input before ending = (ending ≢ OutOfMemory) × IsGiven left reads taken writes d s s' k k' true input × (taken k ≡ Some before) × (Rose (writes k) (writes k') → ⊥)
+  NothingFails input before ending = (ending ≢ OutOfMemory) × IsGiven left reads taken writes d s s' k k' true input
+      × (taken k ≡ Some before) × (Rose (writes k) (writes k') → ⊥)
 
   -- the run is done, no line of the input is wrong, and the sink took exactly the short form of each, with LF
   abbrev pub WritesShortForms : List ℕ → List ℕ → Ending → Type 0
   WritesShortForms input before ending =
-      (ending ≡ Done) × (texts : List (List ℕ)) × AreShortForms (AcceptedReply d.set) (IsMannerDeclared d.set) (filled (lines_of input)) texts × (taken k' ≡ Some (before ++ text_of_lines texts))
+      (ending ≡ Done) × (texts : List (List ℕ))
+      × AreShortForms (AcceptedReply d.set) (IsMannerDeclared d.set) (filled (lines_of input)) texts
+      × (taken k' ≡ Some (before ++ text_of_lines texts))
 
   -- the run is done, and the sink took exactly the line that each text of the input reads as, with LF
   abbrev pub WritesLines : List ℕ → List ℕ → Ending → Type 0
   WritesLines input before ending =
-      (ending ≡ Done) × (lines : List (List ℕ)) × AreShortForms (AcceptedReply d.set) (IsMannerDeclared d.set) lines (filled (lines_of input)) × (taken k' ≡ Some (before ++ text_of_lines lines))
+      (ending ≡ Done) × (lines : List (List ℕ))
+      × AreShortForms (AcceptedReply d.set) (IsMannerDeclared d.set) lines (filled (lines_of input))
+      × (taken k' ≡ Some (before ++ text_of_lines lines))
 
   -- the input is rejected, and the sink took exactly which text is the first that reads as no line
   abbrev pub SaysUnread : List ℕ → List ℕ → Ending → Type 0
   SaysUnread input before ending =
-      (ending ≡ Rejected) × (n : ℕ) × IsFirstUnread (AcceptedReply d.set) (IsMannerDeclared d.set) (lines_of input) n × (taken k' ≡ Some (before ++ wrong_text (n + 1) Bad))
+      (ending ≡ Rejected) × (n : ℕ) × IsFirstUnread (AcceptedReply d.set) (IsMannerDeclared d.set) (lines_of input) n
+      × (taken k' ≡ Some (before ++ wrong_text (n + 1) Bad))
 
   -- Where the word is `short`, the declarations are valid, and nothing failed, the short forms are written of what was left, or which
   -- line of it is the first wrong one, and why.
@@ -61,11 +69,13 @@ module _ {S K : Type 0} (left : S → Option (List ℕ)) (reads : S → ℕ) (ta
   -- Where the word is `explicit`, the lines are written that it reads as, or which text is the first that reads as none.
   abbrev pub SpellsList : List (List ℕ) → Ending → Type 0
   SpellsList words ending =
-      words ≡ words_for Explicit → AreValid d → (input before : List ℕ) → NothingFails input before ending → WritesLines input before ending ⊎ SaysUnread input before ending
+      words ≡ words_for Explicit → AreValid d → (input before : List ℕ) → NothingFails input before ending
+      → WritesLines input before ending ⊎ SaysUnread input before ending
 
   -- Where the word is `explicit`, the declarations are valid, nothing failed, and the input is what `short` writes of a list that has no
   -- wrong line: the run is done, and the sink took exactly the list itself, its lines but the empty ones, each with LF.
   abbrev pub WritesBack : List (List ℕ) → Ending → Type 0
   WritesBack words ending =
-      words ≡ words_for Explicit → AreValid d → (list input before : List ℕ) → IsShortened (AcceptedReply d.set) (IsMannerDeclared d.set) list false input → NothingFails input before ending
+      words ≡ words_for Explicit → AreValid d → (list input before : List ℕ)
+      → IsShortened (AcceptedReply d.set) (IsMannerDeclared d.set) list false input → NothingFails input before ending
       → (ending ≡ Done) × (taken k' ≡ Some (before ++ text_of_lines (filled (lines_of list))))

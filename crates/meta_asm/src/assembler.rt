@@ -75,24 +75,32 @@ pub fn asm<S: Source, K: Sink>(
 ) -> Ending
     // Over valid declarations `short` writes the short form of each line, exactly where no line is wrong, and `explicit` the line that
     // each text reads as, exactly where each reads as one; else the first other one is told. Other declarations are refused.
-    ensures shortens { ShortensList S.left S.faults K.taken K.faults declarations.now source.old source.new sink.old sink.new words.now result }
+    ensures shortens { ShortensList S.left S.faults K.taken K.faults declarations.now source.old source.new sink.old
+        sink.new words.now result }
     ensures spells { SpellsList S.left S.faults K.taken K.faults declarations.now source.old source.new sink.old sink.new words.now result }
-    ensures refuses { AskForm words.now → RefusesDeclarations S.left S.faults K.taken K.faults declarations.now source.old source.new sink.old sink.new result }
-    ensures complete { AskForm words.now → Completes S.left S.faults K.taken K.faults declarations.now source.old source.new sink.old sink.new true result }
+    ensures refuses { AskForm words.now → RefusesDeclarations S.left S.faults K.taken K.faults declarations.now
+        source.old source.new sink.old sink.new result }
+    ensures complete { AskForm words.now → Completes S.left S.faults K.taken K.faults declarations.now source.old
+        source.new sink.old sink.new true result }
 
     // So `explicit` writes a list back of what `short` wrote of it: it is done, and the list is the same, but for empty lines and CRs.
-    ensures writes_back { WritesBack S.left S.faults K.taken K.faults declarations.now source.old source.new sink.old sink.new words.now result }
+    ensures writes_back { WritesBack S.left S.faults K.taken K.faults declarations.now source.old source.new sink.old
+        sink.new words.now result }
 
     // The words decide whether it is a usage error, and then nothing was read or written.
     ensures usage { (result ≡ Ending.Usage) ↔ (AskForm words.now → ⊥) }
 
-    ensures done { result ≡ Ending.Done → IsWrittenWhole S.left S.faults K.taken K.faults declarations.now source.old source.new sink.old sink.new words.now false }
-    ensures rejected { result ≡ Ending.Rejected → IsWrittenWhole S.left S.faults K.taken K.faults declarations.now source.old source.new sink.old sink.new words.now true }
+    ensures done { result ≡ Ending.Done
+        → IsWrittenWhole S.left S.faults K.taken K.faults declarations.now source.old source.new sink.old sink.new words.now false }
+    ensures rejected { result ≡ Ending.Rejected
+        → IsWrittenWhole S.left S.faults K.taken K.faults declarations.now source.old source.new sink.old sink.new words.now true }
     ensures refused { result ≡ Ending.Refused → IsRefusedWhole declarations.now (K.taken sink.old) (K.taken sink.new) }
     ensures read_fault { result ≡ Ending.ReadFault → AreValid declarations.now × Rose (S.faults source.old) (S.faults source.new) }
     ensures write_fault { result ≡ Ending.WriteFault → Rose (K.faults sink.old) (K.faults sink.new) }
-    ensures written_in_part { result ≡ Ending.WriteFault → IsWrittenInPart S.left S.faults K.taken K.faults declarations.now source.old source.new sink.old sink.new words.now }
-    ensures too_long { result ≡ Ending.TooLong → AreValid declarations.now × GaveMore longest_input (S.left source.old) (S.left source.new) }
+    ensures written_in_part { result ≡ Ending.WriteFault
+        → IsWrittenInPart S.left S.faults K.taken K.faults declarations.now source.old source.new sink.old sink.new words.now }
+    ensures too_long { result ≡ Ending.TooLong → AreValid declarations.now
+        × GaveMore longest_input (S.left source.old) (S.left source.new) }
     ensures else_within { result ≢ Ending.TooLong → GaveAtMost longest_input (S.left source.old) (S.left source.new) }
 
     ensures untouched { WritesNothing result → sink.new ≡ sink.old }

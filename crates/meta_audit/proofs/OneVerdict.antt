@@ -25,7 +25,8 @@ module _ (d : Declared) (t : WholeTables) where
   one_verdict Opcodes (Group g) a b = absurd (a b.count)
   one_verdict (Opcode m) Yes a b = absurd (none_differs b.opcodes a.place a.first.holds)
   one_verdict (Opcode m) Opcodes a b = absurd (b a.count)
-  one_verdict (Opcode m) (Opcode n) a b = ap Opcode (a.number ∙ ap (λ k. k + 1) (one_first (Differs d.set t.opcodes) a.place b.place a.first b.first) ∙ sym b.number)
+  one_verdict (Opcode m) (Opcode n) a b =
+      ap Opcode (a.number ∙ ap (λ k. k + 1) (one_first (Differs d.set t.opcodes) a.place b.place a.first b.first) ∙ sym b.number)
   one_verdict (Opcode m) (Group g) a b = absurd (none_differs b.opcodes a.place a.first.holds)
   one_verdict (Group g) Yes a b = absurd (a.first.holds (b.groups g))
   one_verdict (Group g) Opcodes a b = absurd (b a.count)
@@ -33,10 +34,12 @@ module _ (d : Declared) (t : WholeTables) where
   one_verdict (Group g) (Group h) a b = ap Group (one_first (DiffersAt d t) g h a.first b.first)
 
 -- a text has one line
-pub one_line : ((text : List ℕ) (t u : WholeTables) → Reads text t → Reads text u → t ≡ u) → (d : Declared) (text one other : List ℕ) → IsAuditLine d text one → IsAuditLine d text other → one ≡ other
+pub one_line : ((text : List ℕ) (t u : WholeTables) → Reads text t → Reads text u → t ≡ u) → (d : Declared) (text one other : List ℕ)
+    → IsAuditLine d text one → IsAuditLine d text other → one ≡ other
 one_line one_reading d text one other (inl a) (inl b) =
     let same : a.tables ≡ b.tables = one_reading text a.tables b.tables a.reads b.reads in
-    let verdict : a.verdict ≡ b.verdict = one_verdict d b.tables a.verdict b.verdict (subst (λ t. IsVerdict d t a.verdict) same a.is_verdict) b.is_verdict in
+    let verdict : a.verdict ≡ b.verdict =
+    one_verdict d b.tables a.verdict b.verdict (subst (λ t. IsVerdict d t a.verdict) same a.is_verdict) b.is_verdict in
     a.is ∙ ap (λ v. verdict_text v ++ 10 ∷ []) verdict ∙ sym b.is
 one_line one_reading d text one other (inl a) (inr b) = absurd (b.reads_none a.tables a.reads)
 one_line one_reading d text one other (inr a) (inl b) = absurd (a.reads_none b.tables b.reads)

@@ -2,7 +2,8 @@ ghost use Rattle.std.specs.Prelude.{◌≡◌, ◌++◌, IfOk, OnOk, slice_get, 
 ghost use Rattle.std.specs.List.{flat_map};
 ghost use Rattle.meta_inst.specs.InstructionSet.{AreOfRegistries};
 ghost use Rattle.meta_rust_lines.specs.Ends.{gap_text, item_end};
-ghost use Rattle.meta_builder_text.specs.BuilderText.{HasVariablesOf, HaveVariablesOf, method_text, imm_methods_text, methods_text, constructor_at, constructors_text, trait_head, builder_text};
+ghost use Rattle.meta_builder_text.specs.BuilderText.{HasVariablesOf, HaveVariablesOf, method_text, imm_methods_text, methods_text};
+ghost use Rattle.meta_builder_text.specs.BuilderText.{constructor_at, constructors_text, trait_head, builder_text};
 
 use super::inst_builder::push_inst_builder;
 use meta_builder_constructors_text::{push_constructor, push_imm_builders};

@@ -1,4 +1,5 @@
-ghost use Rattle.std.specs.Prelude.{◌≡◌, ◌<◌, ◌^◌, ◌/◌, ◌%◌, ◌+◌, ◌*◌, ℕ, List, [], ◌∷◌, ◌++◌, IsTrue, IfOk, All, false, length, map, drop, slice_index};
+ghost use Rattle.std.specs.Prelude.{◌≡◌, ◌<◌, ◌^◌, ◌/◌, ◌%◌, ◌+◌, ◌*◌, ℕ, List, [], ◌∷◌, ◌++◌, IsTrue, IfOk, All, false, length, map, drop};
+ghost use Rattle.std.specs.Prelude.{slice_index};
 ghost use Rattle.std.specs.Char.{is_ascii_digit};
 ghost use Rattle.std.specs.Fmt.{decimal, digit_glyph};
 ghost use Rattle.std.specs.List.{flat_map};
@@ -58,7 +59,8 @@ impl<'t> Cursor<'t> {
 
     /// Reads what stands up to the next byte `stop`, which stays, behind as many bytes as the text has.
     pub fn until(&mut self, before: &str, stop: u8) -> &'t [u8]
-        ensures item { (item rest : List ℕ) → IsTrue (lacks stop item) → IsTrue (begins_with stop rest) → self.old ≡ before.now ++ (item ++ rest) → (result.now ≡ item) × (self.new ≡ rest) }
+        ensures item { (item rest : List ℕ) → IsTrue (lacks stop item) → IsTrue (begins_with stop rest)
+            → self.old ≡ before.now ++ (item ++ rest) → (result.now ≡ item) × (self.new ≡ rest) }
         ensures left { self.new ≡ from_byte stop (drop (length before.now) self.old) }
     {
         self.pass(before);
@@ -113,7 +115,8 @@ impl<'t> Cursor<'t> {
 
     /// Reads the number up to the next byte `stop`, which isn't a digit and stays, behind as many bytes as the text has.
     pub fn number(&mut self, before: &str, stop: u8) -> usize
-        ensures item { (n : ℕ) (rest : List ℕ) → n < 2 ^ 64 → is_ascii_digit stop ≡ false → IsTrue (begins_with stop rest) → self.old ≡ before.now ++ (decimal n ++ rest) → (result ≡ n) × (self.new ≡ rest) }
+        ensures item { (n : ℕ) (rest : List ℕ) → n < 2 ^ 64 → is_ascii_digit stop ≡ false → IsTrue (begins_with stop rest)
+            → self.old ≡ before.now ++ (decimal n ++ rest) → (result ≡ n) × (self.new ≡ rest) }
         ensures left { self.new ≡ from_byte stop (drop (length before.now) self.old) }
     {
         number_of(self.until(before, stop))
@@ -121,7 +124,8 @@ impl<'t> Cursor<'t> {
 
     /// As `number`, where the number has 8 bits.
     pub fn number_u8(&mut self, before: &str, stop: u8) -> u8
-        ensures item { (n : ℕ) (rest : List ℕ) → n < 2 ^ 8 → is_ascii_digit stop ≡ false → IsTrue (begins_with stop rest) → self.old ≡ before.now ++ (decimal n ++ rest) → (result ≡ n) × (self.new ≡ rest) }
+        ensures item { (n : ℕ) (rest : List ℕ) → n < 2 ^ 8 → is_ascii_digit stop ≡ false → IsTrue (begins_with stop rest)
+            → self.old ≡ before.now ++ (decimal n ++ rest) → (result ≡ n) × (self.new ≡ rest) }
         ensures left { self.new ≡ from_byte stop (drop (length before.now) self.old) }
     {
         u8::try_from(self.number(before, stop)).unwrap_or(0)
@@ -129,7 +133,8 @@ impl<'t> Cursor<'t> {
 
     /// As `number`, where the number has 16 bits.
     pub fn number_u16(&mut self, before: &str, stop: u8) -> u16
-        ensures item { (n : ℕ) (rest : List ℕ) → n < 2 ^ 16 → is_ascii_digit stop ≡ false → IsTrue (begins_with stop rest) → self.old ≡ before.now ++ (decimal n ++ rest) → (result ≡ n) × (self.new ≡ rest) }
+        ensures item { (n : ℕ) (rest : List ℕ) → n < 2 ^ 16 → is_ascii_digit stop ≡ false → IsTrue (begins_with stop rest)
+            → self.old ≡ before.now ++ (decimal n ++ rest) → (result ≡ n) × (self.new ≡ rest) }
         ensures left { self.new ≡ from_byte stop (drop (length before.now) self.old) }
     {
         u16::try_from(self.number(before, stop)).unwrap_or(0)
@@ -137,7 +142,8 @@ impl<'t> Cursor<'t> {
 
     /// As `number`, where the number has 32 bits.
     pub fn number_u32(&mut self, before: &str, stop: u8) -> u32
-        ensures item { (n : ℕ) (rest : List ℕ) → n < 2 ^ 32 → is_ascii_digit stop ≡ false → IsTrue (begins_with stop rest) → self.old ≡ before.now ++ (decimal n ++ rest) → (result ≡ n) × (self.new ≡ rest) }
+        ensures item { (n : ℕ) (rest : List ℕ) → n < 2 ^ 32 → is_ascii_digit stop ≡ false → IsTrue (begins_with stop rest)
+            → self.old ≡ before.now ++ (decimal n ++ rest) → (result ≡ n) × (self.new ≡ rest) }
         ensures left { self.new ≡ from_byte stop (drop (length before.now) self.old) }
     {
         u32::try_from(self.number(before, stop)).unwrap_or(0)
@@ -145,7 +151,8 @@ impl<'t> Cursor<'t> {
 
     /// Reads the text up to the next byte `stop`, which stays, behind as many bytes as the text before has.
     pub fn text(&mut self, alloc: Global, before: &str, stop: u8) -> Result<Text, AllocError>
-        ensures item { IfOk result (λ t. (item rest : List ℕ) → IsAscii item → IsTrue (lacks stop item) → IsTrue (begins_with stop rest) → self.old ≡ before.now ++ (item ++ rest) → (t ≡ item) × (self.new ≡ rest)) }
+        ensures item { IfOk result (λ t. (item rest : List ℕ) → IsAscii item → IsTrue (lacks stop item) → IsTrue (begins_with stop rest)
+            → self.old ≡ before.now ++ (item ++ rest) → (t ≡ item) × (self.new ≡ rest)) }
         ensures left { self.new ≡ from_byte stop (drop (length before.now) self.old) }
     {
         text_of(alloc, self.until(before, stop))
@@ -164,7 +171,8 @@ impl<'t> Cursor<'t> {
 
     /// Reads a byte of two hexadecimal digits, behind as many bytes as the text has.
     pub fn hex(&mut self, before: &str) -> u8
-        ensures item { (n : ℕ) (rest : List ℕ) → n < 256 → self.old ≡ before.now ++ digit_glyph false (n / 16) ∷ (digit_glyph false (n % 16) ∷ rest) → (result ≡ n) × (self.new ≡ rest) }
+        ensures item { (n : ℕ) (rest : List ℕ) → n < 256
+            → self.old ≡ before.now ++ digit_glyph false (n / 16) ∷ digit_glyph false (n % 16) ∷ rest → (result ≡ n) × (self.new ≡ rest) }
         ensures left { self.new ≡ drop 2 (drop (length before.now) self.old) }
     {
         self.pass(before);
@@ -184,7 +192,9 @@ impl<'t> Cursor<'t> {
 
     /// Reads four binary digits.
     fn four_bits(&mut self) -> u8
-        ensures value { (a b c d : ℕ) (rest : List ℕ) → a < 2 → b < 2 → c < 2 → d < 2 → self.old ≡ digit_glyph false a ∷ (digit_glyph false b ∷ (digit_glyph false c ∷ (digit_glyph false d ∷ rest))) → (result ≡ 8 * a + 4 * b + 2 * c + d) × (self.new ≡ rest) }
+        ensures value { (a b c d : ℕ) (rest : List ℕ) → a < 2 → b < 2 → c < 2 → d < 2
+            → self.old ≡ digit_glyph false a ∷ digit_glyph false b ∷ digit_glyph false c ∷ digit_glyph false d ∷ rest
+            → (result ≡ 8 * a + 4 * b + 2 * c + d) × (self.new ≡ rest) }
         ensures left { self.new ≡ drop 4 self.old }
         ensures small { result < 16 }
     {
@@ -197,7 +207,9 @@ impl<'t> Cursor<'t> {
 
     /// Reads a byte of eight binary digits, behind as many bytes as the text has.
     pub fn binary(&mut self, before: &str) -> u8
-        ensures item { (n : ℕ) (rest : List ℕ) → n < 256 → self.old ≡ before.now ++ (map (λ place. digit_glyph false (n / place % 2)) (128 ∷ (64 ∷ (32 ∷ (16 ∷ (8 ∷ (4 ∷ (2 ∷ (1 ∷ [])))))))) ++ rest) → (result ≡ n) × (self.new ≡ rest) }
+        ensures item { (n : ℕ) (rest : List ℕ) → n < 256
+            → self.old ≡ before.now ++ (map (λ place. digit_glyph false (n / place % 2)) (128 ∷ 64 ∷ 32 ∷ 16 ∷ 8 ∷ 4 ∷ 2 ∷ 1 ∷ []) ++ rest)
+            → (result ≡ n) × (self.new ≡ rest) }
         ensures left { self.new ≡ drop 8 (drop (length before.now) self.old) }
     {
         self.pass(before);
@@ -218,7 +230,8 @@ impl<'t> Cursor<'t> {
 
     /// Skips so many lines, with their ends, or all where fewer are left.
     pub fn skip_lines(&mut self, count: usize)
-        ensures item { (lines : List (List ℕ)) (rest : List ℕ) → All (λ line. IsTrue (is_line line)) lines → count ≡ length lines → self.old ≡ flat_map (λ line. line) lines ++ rest → self.new ≡ rest }
+        ensures item { (lines : List (List ℕ)) (rest : List ℕ) → All (λ line. IsTrue (is_line line)) lines → count ≡ length lines
+            → self.old ≡ flat_map (λ line. line) lines ++ rest → self.new ≡ rest }
         ensures left { self.new ≡ behind_lines count self.old }
     {
         for _ in 0..self.len().min(count) {

@@ -1,5 +1,6 @@
 -- What one instruction needs, by the numbers of its variables.
-use Rattle.std.proofs.Common.{◌≡◌, ◌≢◌, ◌≤◌, ◌+◌, ◌↔◌, IsTrue, Bool, true, false, ℕ, zero, suc, List, [], length, Option, None, Some, IfSome, IfNone, slice_get, refl, sym, ap, ◌∙◌, subst, add-one, arith}
+use Rattle.std.proofs.Common.{◌≡◌, ◌≢◌, ◌≤◌, ◌+◌, ◌↔◌, IsTrue, Bool, true, false, ℕ, zero, suc, List, [], length, Option, None, Some}
+use Rattle.std.proofs.Common.{IfSome, IfNone, slice_get, refl, sym, ap, ◌∙◌, subst, add-one, arith}
 use Rattle.std.specs.Prelude.{is_some, option_map}
 use Rattle.std.proofs.lemmas.Bool.{false≢true}
 use Rattle.std.proofs.lemmas.Option.{same_Some, slice_get_within}
@@ -26,9 +27,12 @@ use Rattle.meta_inst.proofs.Meaning.{operand_at, operand_from}
 use Rattle.meta_inst.proofs.OneControl.{same_control}
 use Rattle.meta_declared.specs.Needed.{NeedsUnder, NeedsAtPlace, NeedsInOrder}
 use Rattle.meta_declared.specs.Interned.{Adds, AddsSome, AddsEach, AddsNeeded, IsControlSetOf, IsFreeSetOf, IsFreeSetAt}
-use Rattle.meta_declared.proofs.Interning.{adds_none, adds_one_set, adds_like, each_like, each_behind, IsInterned, needs_more, next_instruction}
+use Rattle.meta_declared.proofs.Interning.{adds_none, adds_one_set, adds_like, each_like, each_behind, IsInterned, needs_more}
+use Rattle.meta_declared.proofs.Interning.{next_instruction}
 
-module _ (vars : List TypeVarContent) (o : OperandList) (within : o.result_count ≤ length o.variables) (c : Option ℕ) (is_control : IsControl (sets_of vars) (instruction_of_operands vars o) (option_map (variable_at vars) c)) (registry : IsRegistry vars) (are : AreOf vars o.variables) (of : AreControlsOf vars (both c o.second)) where
+module _ (vars : List TypeVarContent) (o : OperandList) (within : o.result_count ≤ length o.variables) (c : Option ℕ)
+    (is_control : IsControl (sets_of vars) (instruction_of_operands vars o) (option_map (variable_at vars) c)) (registry : IsRegistry vars)
+    (are : AreOf vars o.variables) (of : AreControlsOf vars (both c o.second)) where
   abbrev i : Instruction
   i = instruction_of_operands vars o
 
@@ -40,7 +44,12 @@ module _ (vars : List TypeVarContent) (o : OperandList) (within : o.result_count
   control = option_map (variable_at vars) c
 
   control_to : (a : Which) (s : TypeSetParts) → IsControlSetOf vars controls a s → IsControlSet (sets_of vars) (controls_of i control) a s
-  control_to a s h = record { variable = variable_at vars h.variable; controls_is = control_is vars controls a h.variable h.controls_is; set = h.set }
+  control_to a s h = record {
+    variable = variable_at vars h.variable;
+    controls_is =
+        control_is vars controls a h.variable h.controls_is;
+    set = h.set;
+  }
 
   from_first : (s : TypeSetParts) → IsControlSetOf vars controls First s → NeedsAtPlace (sets_of vars) i 0 s
   from_first s h = record { control = control; is_control = is_control; needs = control_to First s h }
@@ -87,7 +96,8 @@ module _ (vars : List TypeVarContent) (o : OperandList) (within : o.result_count
 
   -- a need under the control that was found
   under : (k : ℕ) (s : TypeSetParts) → NeedsAtPlace (sets_of vars) i k s → NeedsUnder (sets_of vars) i control k s
-  under k s n = subst (λ (v : Option Variable). NeedsUnder (sets_of vars) i v k s) (same_control (sets_of vars) i n.control control n.is_control is_control) n.needs
+  under k s n = subst (λ (v : Option Variable). NeedsUnder (sets_of vars) i v k s)
+      (same_control (sets_of vars) i n.control control n.is_control is_control) n.needs
 
   first_back : (s : TypeSetParts) → NeedsAtPlace (sets_of vars) i 0 s → IsControlSetOf vars controls First s
   first_back s n = control_back First s (under 0 s n)
@@ -107,14 +117,17 @@ module _ (vars : List TypeVarContent) (o : OperandList) (within : o.result_count
       omega (arith, l, inside)
 
   -- the set of the control, that of the second control, and then those of the operands
-  pub adds_needed : (a b x d : List TypeSetParts) → AddsSome (IsControlSetOf vars controls First) a b → AddsSome (IsControlSetOf vars controls Second) b x → AddsEach (IsFreeSetAt vars controls o.variables) (length o.variables) x d → AddsNeeded (sets_of vars) i a d
+  pub adds_needed : (a b x d : List TypeSetParts) → AddsSome (IsControlSetOf vars controls First) a b
+      → AddsSome (IsControlSetOf vars controls Second) b x → AddsEach (IsFreeSetAt vars controls o.variables) (length o.variables) x d
+      → AddsNeeded (sets_of vars) i a d
   adds_needed a b x d first next rest = record {
     end = suc (suc (length o.variables));
     each = each_behind (NeedsAtPlace (sets_of vars) i) (suc (length o.variables)) a b d
         (adds_like (IsControlSetOf vars controls First) (NeedsAtPlace (sets_of vars) i 0) a b from_first first_back first)
         (each_behind (λ k. NeedsAtPlace (sets_of vars) i (suc k)) (length o.variables) b x d
         (adds_like (IsControlSetOf vars controls Second) (NeedsAtPlace (sets_of vars) i 1) b x from_second second_back next)
-        (each_like (IsFreeSetAt vars controls o.variables) (λ k. NeedsAtPlace (sets_of vars) i (suc (suc k))) (length o.variables) x d from_free behind_back rest));
+        (each_like (IsFreeSetAt vars controls o.variables) (λ k. NeedsAtPlace (sets_of vars) i (suc (suc k)))
+        (length o.variables) x d from_free behind_back rest));
     no_more = no_more;
   }
 
@@ -128,10 +141,12 @@ module _ (d : InstructionSet) (k : ℕ) (b : Builder) (at : IsAt d k b) where
       let same : n.user ≡ b = same_Some n.user b (sym n.at ∙ at) in
       subst (λ (u : Builder). NeedsAtPlace (root_sets d) (instruction_in_set d u) p s) same n.needs
 
-  pub instruction_more : (x y : List TypeSetParts) → HoldTypeSets d.vars → IsInterned d k 0 x → AddsNeeded (root_sets d) (instruction_in_set d b) x y → IsInterned d (k + 1) 0 y
+  pub instruction_more : (x y : List TypeSetParts) → HoldTypeSets d.vars → IsInterned d k 0 x
+      → AddsNeeded (root_sets d) (instruction_in_set d b) x y → IsInterned d (k + 1) 0 y
   instruction_more x y types h a =
       next_instruction d k a.end y
-      (needs_more d types k a.end x y h (each_like (NeedsAtPlace (root_sets d) (instruction_in_set d b)) (NeedsInOrder d k) a.end x y in_order at_place a.each))
+      (needs_more d types k a.end x y h (each_like (NeedsAtPlace (root_sets d) (instruction_in_set d b))
+      (NeedsInOrder d k) a.end x y in_order at_place a.each))
       (λ p s l n. a.no_more p s l (at_place p s n))
 
 -- what is kept of a root as its set is its coded image
@@ -139,28 +154,34 @@ pub root_raw : (vars : List TypeVarContent) (r : ℕ) → variable_at vars r ≡
 root_raw vars r e = sym (ap (coded_of vars) e)
 
 -- the set that is read of a root is that of the variable's root
-pub set_is : (vars : List TypeVarContent) (n r : ℕ) (x : TypeSetParts) → r ≡ (variable_at vars n).root → variable_at vars r ≡ underived r → x ≡ coded_at vars r → x ≡ sets_of vars (variable_at vars n).root
+pub set_is : (vars : List TypeVarContent) (n r : ℕ) (x : TypeSetParts) → r ≡ (variable_at vars n).root → variable_at vars r ≡ underived r
+    → x ≡ coded_at vars r → x ≡ sets_of vars (variable_at vars n).root
 set_is vars n r x at e is = is ∙ sym (root_raw vars r e) ∙ ap (sets_of vars) at
 
 same_variable : (c : Option ℕ) (v w : ℕ) → c ≡ Some v → c ≡ Some w → v ≡ w
 same_variable c v w e f = same_Some v w (sym e ∙ f)
 
 -- the set of a control
-pub adds_control : (vars : List TypeVarContent) (controls : Which → Option ℕ) (w : Which) (v : ℕ) (a b : List TypeSetParts) → controls w ≡ Some v → Adds (sets_of vars (variable_at vars v).root) a b → AddsSome (IsControlSetOf vars controls w) a b
+pub adds_control : (vars : List TypeVarContent) (controls : Which → Option ℕ) (w : Which) (v : ℕ) (a b : List TypeSetParts)
+    → controls w ≡ Some v → Adds (sets_of vars (variable_at vars v).root) a b → AddsSome (IsControlSetOf vars controls w) a b
 adds_control vars controls w v a b is = adds_one_set (IsControlSetOf vars controls w) (sets_of vars (variable_at vars v).root) a b
     (record { variable = v; controls_is = is; set = refl })
     (λ s h. h.set ∙ ap (λ n. sets_of vars (variable_at vars n).root) (same_variable (controls w) h.variable v h.controls_is is))
 
 -- the control isn't there
-pub adds_no_control : (vars : List TypeVarContent) (controls : Which → Option ℕ) (w : Which) (sets : List TypeSetParts) → controls w ≡ None → AddsSome (IsControlSetOf vars controls w) sets sets
-adds_no_control vars controls w sets is = adds_none (IsControlSetOf vars controls w) sets (λ s h. let no : None ≡ Some h.variable = sym is ∙ h.controls_is in absurd (cc))
+pub adds_no_control : (vars : List TypeVarContent) (controls : Which → Option ℕ) (w : Which) (sets : List TypeSetParts) → controls w ≡ None
+    → AddsSome (IsControlSetOf vars controls w) sets sets
+adds_no_control vars controls w sets is = adds_none (IsControlSetOf vars controls w) sets (λ s h. let no : None ≡ Some h.variable = sym is
+    ∙ h.controls_is in absurd (cc))
 
 -- the variable controls
-pub adds_controlling : (vars : List TypeVarContent) (controls : Which → Option ℕ) (n : ℕ) (sets : List TypeSetParts) → IsOneOf controls n → AddsSome (IsFreeSetOf vars controls n) sets sets
+pub adds_controlling : (vars : List TypeVarContent) (controls : Which → Option ℕ) (n : ℕ) (sets : List TypeSetParts) → IsOneOf controls n
+    → AddsSome (IsFreeSetOf vars controls n) sets sets
 adds_controlling vars controls n sets is = adds_none (IsFreeSetOf vars controls n) sets (λ s h. h.other is)
 
 -- the variable is derived
-pub adds_derived : (vars : List TypeVarContent) (controls : Which → Option ℕ) (n : ℕ) (d : TypeVarContent) (sets : List TypeSetParts) (r : Bool) → IsRegistry vars → IsKept vars n d → r ≡ is_some d.base → r ≡ true → AddsSome (IsFreeSetOf vars controls n) sets sets
+pub adds_derived : (vars : List TypeVarContent) (controls : Which → Option ℕ) (n : ℕ) (d : TypeVarContent) (sets : List TypeSetParts)
+    (r : Bool) → IsRegistry vars → IsKept vars n d → r ≡ is_some d.base → r ≡ true → AddsSome (IsFreeSetOf vars controls n) sets sets
 adds_derived vars controls n d sets r registry kept is some = adds_none (IsFreeSetOf vars controls n) sets
     (λ s h. let none = (underived_told vars n d registry kept).1 h.underived in false≢true (sym (ap is_some none) ∙ sym is ∙ some))
 
@@ -169,10 +190,14 @@ nothing_there : {X : Type 0} (o : Option X) → is_some o ≡ false → o ≡ No
 nothing_there None e = refl
 nothing_there (Some x) e = absurd (cc)
 
-pub underived_by : (vars : List TypeVarContent) (n : ℕ) (d : TypeVarContent) (r : Bool) → IsRegistry vars → IsKept vars n d → r ≡ is_some d.base → r ≡ false → (variable_at vars n).chain ≡ []
+pub underived_by : (vars : List TypeVarContent) (n : ℕ) (d : TypeVarContent) (r : Bool) → IsRegistry vars → IsKept vars n d
+    → r ≡ is_some d.base → r ≡ false → (variable_at vars n).chain ≡ []
 underived_by vars n d r registry kept is none = (underived_told vars n d registry kept).0 (nothing_there d.base (sym is ∙ none))
 
-module _ (vars : List TypeVarContent) (controls : Which → Option ℕ) (n : ℕ) (o : Option ValueType) (r : Bool) (found : IfSome o (λ t. IsFixed (sets_of vars (variable_at vars n).root) (variable_at vars n).chain (type_parts_of t))) (nowhere : IfNone o (IsOpen (sets_of vars) (variable_at vars n))) (is : r ≡ is_some o) (underived : (variable_at vars n).chain ≡ []) where
+module _ (vars : List TypeVarContent) (controls : Which → Option ℕ) (n : ℕ) (o : Option ValueType) (r : Bool)
+    (found : IfSome o (λ t. IsFixed (sets_of vars (variable_at vars n).root) (variable_at vars n).chain (type_parts_of t)))
+    (nowhere : IfNone o (IsOpen (sets_of vars) (variable_at vars n))) (is : r ≡ is_some o) (underived : (variable_at vars n).chain
+    ≡ []) where
   abbrev own_set : TypeSetParts
   own_set = sets_of vars (variable_at vars n).root
 
@@ -184,10 +209,12 @@ module _ (vars : List TypeVarContent) (controls : Which → Option ℕ) (n : ℕ
 
   -- a type is fixed for the variable
   pub adds_fixed : (sets : List TypeSetParts) → r ≡ true → AddsSome (IsFreeSetOf vars controls n) sets sets
-  adds_fixed sets fixed = adds_none (IsFreeSetOf vars controls n) sets (λ s h. h.several (subst HasOne (sym h.set) (one_of.0 (sym is ∙ fixed))))
+  adds_fixed sets fixed =
+      adds_none (IsFreeSetOf vars controls n) sets (λ s h. h.several (subst HasOne (sym h.set) (one_of.0 (sym is ∙ fixed))))
 
   -- none is, and it is none of the controls
-  pub adds_open : (a b : List TypeSetParts) (is_one : Bool) → r ≡ false → (IsTrue is_one ↔ IsOneOf controls n) → is_one ≡ false → Adds own_set a b → AddsSome (IsFreeSetOf vars controls n) a b
+  pub adds_open : (a b : List TypeSetParts) (is_one : Bool) → r ≡ false → (IsTrue is_one ↔ IsOneOf controls n) → is_one ≡ false
+      → Adds own_set a b → AddsSome (IsFreeSetOf vars controls n) a b
   adds_open a b is_one open_set told other = adds_one_set (IsFreeSetOf vars controls n) own_set a b
       (record {
         other = λ one. false≢true (sym other ∙ told.1 one);
@@ -198,7 +225,9 @@ module _ (vars : List TypeVarContent) (controls : Which → Option ℕ) (n : ℕ
       (λ s h. h.set)
 
 -- one variable more
-pub one_variable_more : (vars : List TypeVarContent) (controls : Which → Option ℕ) (numbers : List ℕ) (k n : ℕ) (a b d : List TypeSetParts) → slice_get numbers k ≡ Some n → AddsEach (IsFreeSetAt vars controls numbers) k a b → AddsSome (IsFreeSetOf vars controls n) b d → AddsEach (IsFreeSetAt vars controls numbers) (k + 1) a d
+pub one_variable_more : (vars : List TypeVarContent) (controls : Which → Option ℕ) (numbers : List ℕ) (k n : ℕ) (a b d : List TypeSetParts)
+    → slice_get numbers k ≡ Some n → AddsEach (IsFreeSetAt vars controls numbers) k a b → AddsSome (IsFreeSetOf vars controls n) b d
+    → AddsEach (IsFreeSetAt vars controls numbers) (k + 1) a d
 one_variable_more vars controls numbers k n a b d at h g =
     subst (λ m. AddsEach (IsFreeSetAt vars controls numbers) m a d) (sym (add-one k)) (
       b,

@@ -16,11 +16,13 @@ use Rattle.meta_declared.specs.Needed.{NeedsAtPlace}
 
 -- an equal set stands there and the list stays as it is, or none does and s is added at the end
 abbrev pub Adds : TypeSetParts → List TypeSetParts → List TypeSetParts → Type 0
-Adds s before after = ((i : ℕ) × IsIndexOf are_equal before s i × (after ≡ before)) ⊎ (IsNew are_equal before s × (after ≡ before ++ s ∷ []))
+Adds s before after = ((i : ℕ) × IsIndexOf are_equal before s i × (after ≡ before))
+    ⊎ (IsNew are_equal before s × (after ≡ before ++ s ∷ []))
 
 -- P speaks of no set and the list stays as it is, or P speaks of one set and that is added
 abbrev pub AddsSome : (TypeSetParts → Type 0) → List TypeSetParts → List TypeSetParts → Type 0
-AddsSome P before after = (((s : TypeSetParts) → P s → ⊥) × (after ≡ before)) ⊎ ((s : TypeSetParts) × P s × ((t : TypeSetParts) → P t → t ≡ s) × Adds s before after)
+AddsSome P before after = (((s : TypeSetParts) → P s → ⊥) × (after ≡ before))
+    ⊎ ((s : TypeSetParts) × P s × ((t : TypeSetParts) → P t → t ≡ s) × Adds s before after)
 
 -- the sets of which F speaks at each number below n are added in order
 abbrev pub AddsEach : (ℕ → TypeSetParts → Type 0) → ℕ → List TypeSetParts → List TypeSetParts → Type 0
@@ -45,7 +47,8 @@ pub record IsFreeSetOf (vars : List TypeVarContent) (controls : Which → Option
   pub several : HasOne s → ⊥
 
 -- s is such a set of the variable at this place
-pub record IsFreeSetAt (vars : List TypeVarContent) (controls : Which → Option ℕ) (numbers : List ℕ) (place : ℕ) (s : TypeSetParts) : Type 0 where
+pub record IsFreeSetAt (vars : List TypeVarContent) (controls : Which → Option ℕ) (numbers : List ℕ) (place : ℕ)
+    (s : TypeSetParts) : Type 0 where
   pub variable : ℕ
   pub at : slice_get numbers place ≡ Some variable
   pub free : IsFreeSetOf vars controls variable s

@@ -94,9 +94,11 @@ fn intern_instruction<'d>(
     requires variables { AreOf vars.now instruction.now.value_operands.variables }
     requires within { instruction.now.value_operands.result_count ≤ length instruction.now.value_operands.variables }
     requires registry { IsRegistry vars.now }
-    requires control { IsControl (sets_of vars.now) (instruction_of_operands vars.now instruction.now.value_operands) (controls_at vars.now (control_numbers instruction.now) First) }
+    requires control { IsControl (sets_of vars.now) (instruction_of_operands vars.now instruction.now.value_operands)
+        (controls_at vars.now (control_numbers instruction.now) First) }
     requires controls { AreControlsOf vars.now (control_numbers instruction.now) }
-    ensures { OnOk result (AddsNeeded (sets_of vars.now) (instruction_of_operands vars.now instruction.now.value_operands) type_sets.old type_sets.new) }
+    ensures { OnOk result (AddsNeeded (sets_of vars.now)
+        (instruction_of_operands vars.now instruction.now.value_operands) type_sets.old type_sets.new) }
 {
     let controls = instruction.controls();
     intern_control(type_sets, vars, &controls, Which::First)?;

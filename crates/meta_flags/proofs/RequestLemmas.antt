@@ -60,23 +60,33 @@ request_pieces line r h = words_pieces line (request_words r) h (some r)
 
 module _ (words : List (List ℕ)) where
   -- `set` asks where two words stand behind it
-  pub asks_set : (r : Request) → All HasBytes (request_words r) → codes "set" ∷ words ≡ request_words r → (name value : List ℕ) × HasBytes name × HasBytes value × (words ≡ name ∷ value ∷ [])
+  pub asks_set : (r : Request) → All HasBytes (request_words r) → codes "set" ∷ words ≡ request_words r
+      → (name value : List ℕ) × HasBytes name × HasBytes value × (words ≡ name ∷ value ∷ [])
   asks_set (Set name value) some e =
       let behind = All-tail HasBytes (codes "set") (name ∷ value ∷ []) some in
-      let same : words ≡ name ∷ value ∷ [] = cc in
-      (name, value, All-head HasBytes name (value ∷ []) behind, All-head HasBytes value [] (All-tail HasBytes name (value ∷ []) behind), same)
+      let same : words ≡ name ∷ value ∷ [] = cc in (
+        name,
+        value,
+        All-head HasBytes name (value ∷ []) behind,
+        All-head HasBytes value [] (All-tail HasBytes name (value ∷ []) behind),
+        same,
+      )
   asks_set (Enable name) some e = absurd (omega (arith, ap letter e))
   asks_set (Get name) some e = absurd (omega (arith, ap letter e))
   asks_set Toml some e = absurd (omega (arith, ap letter e))
 
-  pub asks_enable : (r : Request) → All HasBytes (request_words r) → codes "enable" ∷ words ≡ request_words r → (name : List ℕ) × HasBytes name × (words ≡ name ∷ [])
-  asks_enable (Enable name) some e = let same : words ≡ name ∷ [] = cc in (name, All-head HasBytes name [] (All-tail HasBytes (codes "enable") (name ∷ []) some), same)
+  pub asks_enable : (r : Request) → All HasBytes (request_words r) → codes "enable" ∷ words ≡ request_words r
+      → (name : List ℕ) × HasBytes name × (words ≡ name ∷ [])
+  asks_enable (Enable name) some e =
+      let same : words ≡ name ∷ [] = cc in (name, All-head HasBytes name [] (All-tail HasBytes (codes "enable") (name ∷ []) some), same)
   asks_enable (Set name value) some e = absurd (omega (arith, ap letter e))
   asks_enable (Get name) some e = absurd (omega (arith, ap letter e))
   asks_enable Toml some e = absurd (omega (arith, ap letter e))
 
-  pub asks_get : (r : Request) → All HasBytes (request_words r) → codes "get" ∷ words ≡ request_words r → (name : List ℕ) × HasBytes name × (words ≡ name ∷ [])
-  asks_get (Get name) some e = let same : words ≡ name ∷ [] = cc in (name, All-head HasBytes name [] (All-tail HasBytes (codes "get") (name ∷ []) some), same)
+  pub asks_get : (r : Request) → All HasBytes (request_words r) → codes "get" ∷ words ≡ request_words r
+      → (name : List ℕ) × HasBytes name × (words ≡ name ∷ [])
+  asks_get (Get name) some e =
+      let same : words ≡ name ∷ [] = cc in (name, All-head HasBytes name [] (All-tail HasBytes (codes "get") (name ∷ []) some), same)
   asks_get (Set name value) some e = absurd (omega (arith, ap letter e))
   asks_get (Enable name) some e = absurd (omega (arith, ap letter e))
   asks_get Toml some e = absurd (omega (arith, ap letter e))
@@ -123,8 +133,10 @@ same_request Toml Toml e = refl
 
 module _ (line : List ℕ) where
   -- a line without a first word asks nothing
-  pub no_first_word : ((word : List ℕ) (rest : List (List ℕ)) → 0 < length word → pieces_of 32 line ≢ word ∷ rest) → (r : Request) → Requests line r → ⊥
-  no_first_word none r h = none (command_word (command_in r)) (behind_in r) (command_has_bytes (command_in r)) (request_pieces line r h ∙ first_word r)
+  pub no_first_word : ((word : List ℕ) (rest : List (List ℕ)) → 0 < length word → pieces_of 32 line ≢ word ∷ rest)
+      → (r : Request) → Requests line r → ⊥
+  no_first_word none r h = none (command_word (command_in r)) (behind_in r) (command_has_bytes (command_in r))
+      (request_pieces line r h ∙ first_word r)
 
   module _ (word : List ℕ) (rest : List (List ℕ)) (pieces : pieces_of 32 line ≡ word ∷ rest) where
     -- nor does one whose first word is no command
@@ -139,13 +151,15 @@ module _ (line : List ℕ) where
       own = pieces ∙ ap (λ w. w ∷ rest) is
 
       -- nor one behind whose command other words stand
-      pub no_request : ((r : Request) → All HasBytes (request_words r) → command_word c ∷ rest ≢ request_words r) → (r : Request) → Requests line r → ⊥
+      pub no_request : ((r : Request) → All HasBytes (request_words r) → command_word c ∷ rest ≢ request_words r)
+          → (r : Request) → Requests line r → ⊥
       no_request none r h = none r (words_have_bytes line r h) (sym own ∙ request_pieces line r h)
 
       module _ (q : Request) (left : List (List ℕ)) (taken : command_word c ∷ rest ≡ request_words q ++ left) where
         -- nor one with more words
         pub no_more : (more : List ℕ) (others : List (List ℕ)) → left ≡ more ∷ others → (r : Request) → Requests line r → ⊥
-        no_more more others e r h = no_longer q r more others (ap (λ ws. request_words q ++ ws) (sym e) ∙ sym taken ∙ sym own ∙ request_pieces line r h)
+        no_more more others e r h = no_longer q r more others (ap (λ ws. request_words q ++ ws) (sym e) ∙ sym taken
+            ∙ sym own ∙ request_pieces line r h)
 
         -- and one with these words asks
         pub asks : All HasBytes (request_words q) → left ≡ [] → Requests line q
@@ -160,7 +174,8 @@ module _ (line : List ℕ) where
 -- ---- the words of requests have bytes
 
 pub set_words : (name value : List ℕ) → HasBytes name → HasBytes value → All HasBytes (request_words (Set name value))
-set_words name value n v = All-cons HasBytes (codes "set") (name ∷ value ∷ []) (omega arith) (All-cons HasBytes name (value ∷ []) n (All-cons HasBytes value [] v (All-nil HasBytes)))
+set_words name value n v = All-cons HasBytes (codes "set") (name ∷ value ∷ []) (omega arith)
+    (All-cons HasBytes name (value ∷ []) n (All-cons HasBytes value [] v (All-nil HasBytes)))
 
 pub enable_words : (name : List ℕ) → HasBytes name → All HasBytes (request_words (Enable name))
 enable_words name n = All-cons HasBytes (codes "enable") (name ∷ []) (omega arith) (All-cons HasBytes name [] n (All-nil HasBytes))

@@ -1,8 +1,10 @@
 -- What a service does to its values, and what it answers.
 --     Sets, Enables, Gets
-use Rattle.std.specs.Prelude.{◌≡◌, ◌≢◌, ◌⊎◌, ℕ, ◌<◌, Bool, true, false, List, [], ◌∷◌, slice_get, slice_set, Contains, Some, Result, Ok, Err, codes, if◌then◌else◌}
+use Rattle.std.specs.Prelude.{◌≡◌, ◌≢◌, ◌⊎◌, ℕ, ◌<◌, Bool, true, false, List, [], ◌∷◌, slice_get, slice_set, Contains, Some, Result, Ok}
+use Rattle.std.specs.Prelude.{Err, codes, if◌then◌else◌}
 use Rattle.std.specs.Fmt.{decimal}
-use Rattle.meta_flags.specs.Served.{SettingValue, BoolValue, NumValue, EnumValue, EntryKind, BoolKind, NumKind, EnumKind, PresetKind, ServedEntry, Served, State}
+use Rattle.meta_flags.specs.Served.{SettingValue, BoolValue, NumValue, EnumValue, EntryKind, BoolKind, NumKind, EnumKind, PresetKind}
+use Rattle.meta_flags.specs.Served.{ServedEntry, Served, State}
 use Rattle.meta_flags.specs.declared.flag_error.FlagError.{FlagError}
 use Rattle.meta_flags.specs.declared.flag_error.FlagError.TheVariants.{Unknown, Kind, Value}
 

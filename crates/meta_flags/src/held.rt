@@ -105,7 +105,8 @@ impl<'t> Flags<'t> {
 
     /// Makes each boolean true that the preset with this number among the entries turns on.
     fn turn_on_by(&mut self, preset: u16)
-        ensures on { (d : Descriptor) → IsPresetIn self.old.group.descriptors preset d → self.new.state ≡ with_marked_true (marks_in self.old.group d.offset) self.old.state }
+        ensures on { (d : Descriptor) → IsPresetIn self.old.group.descriptors preset d
+            → self.new.state ≡ with_marked_true (marks_in self.old.group d.offset) self.old.state }
         ensures group { self.new.group ≡ self.old.group }
     {
         let Some(masks) = self.group.masks_of(preset) else {

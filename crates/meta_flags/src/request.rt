@@ -51,7 +51,8 @@ fn command_of(word: &[u8]) -> Option<RequestWord>
 fn request_in<'l>(command: RequestWord, words: &mut Pieces<'l>) -> Option<Request<'l>>
     ensures taken { IfSome result (λ r. command_word command ∷ words.old ≡ request_words (request_of r) ++ words.new) }
     ensures some { IfSome result (λ r. All (λ word. 0 < length word) (request_words (request_of r))) }
-    ensures none { IfNone result ((r : spec.Request) → All (λ word. 0 < length word) (request_words r) → command_word command ∷ words.old ≢ request_words r) }
+    ensures none { IfNone result ((r : spec.Request) → All (λ word. 0 < length word) (request_words r)
+        → command_word command ∷ words.old ≢ request_words r) }
 {
     match command {
         RequestWord::Set => {

@@ -93,7 +93,8 @@ pub(crate) fn value_in<'t>(
 /// Makes those of the values true whose entries are booleans that are on in the setting bytes.
 pub(crate) fn turn_on(values: &mut [FlagValue<'_>], entries: &[Descriptor], bytes: &[u8])
     requires { length values.old ≡ length entries.now }
-    ensures { map value_of values.new ≡ with_marked_true (map (λ d. is_on bytes.now d.offset d.detail) entries.now) (map value_of values.old) }
+    ensures { map value_of values.new ≡ with_marked_true (map (λ d. is_on bytes.now d.offset d.detail) entries.now)
+        (map value_of values.old) }
 {
     for k in 0..values.len() {
         if entries[k].is_on(bytes) {

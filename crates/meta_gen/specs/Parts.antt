@@ -15,5 +15,6 @@ pub record HaveGroupParts (parts : List GroupParts) (groups : List GroupContents
 
 -- the tables have these parts
 pub record HasParts (parts : TableParts) (t : WholeTables) : Type 0 where
-  pub opcodes : HaveParts t.opcodes parts.names.items parts.formats.items parts.type_sets.items parts.operand_constraints.items parts.constraints.items
+  pub opcodes : HaveParts t.opcodes parts.names.items parts.formats.items parts.type_sets.items parts.operand_constraints.items
+      parts.constraints.items
   pub groups : HaveGroupParts parts.groups.items t.groups

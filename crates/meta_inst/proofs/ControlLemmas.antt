@@ -23,7 +23,8 @@ each_control P f s Second = s
 
 -- ---- what the tests tell
 
-pub neither : (controls : Which → Option ℕ) (n : ℕ) → (controls First ≡ Some n → ⊥) → (controls Second ≡ Some n → ⊥) → IsOneOf controls n → ⊥
+pub neither : (controls : Which → Option ℕ) (n : ℕ) → (controls First ≡ Some n → ⊥) → (controls Second ≡ Some n → ⊥) → IsOneOf controls n
+    → ⊥
 neither controls n f s (First, e) = f e
 neither controls n f s (Second, e) = s e
 
@@ -31,7 +32,8 @@ pub the_other : (controls : Which → Option ℕ) (n : ℕ) → (controls First 
 the_other controls n f (First, e) = absurd (f e)
 the_other controls n f (Second, e) = e
 
-pub found_one : (controls : Which → Option ℕ) (n : ℕ) (o : Option WhichType) (b : Bool) → IfSome o (λ a. controls (which_of a) ≡ Some n) → IfNone o (IsOneOf controls n → ⊥) → b ≡ is_some o → IsTrue b ↔ IsOneOf controls n
+pub found_one : (controls : Which → Option ℕ) (n : ℕ) (o : Option WhichType) (b : Bool) → IfSome o (λ a. controls (which_of a) ≡ Some n)
+    → IfNone o (IsOneOf controls n → ⊥) → b ≡ is_some o → IsTrue b ↔ IsOneOf controls n
 found_one controls n (Some a) b found none is = (λ t. (which_of a, found), λ h. is)
 found_one controls n None b found none is = (λ t. absurd (false≢true (sym is ∙ t)), λ h. absurd (none h))
 
@@ -43,18 +45,21 @@ module _ (vars : List TypeVarContent) (controls : Which → Option ℕ) where
   control_is First n e = ap (option_map (variable_at vars)) e
   control_is Second n e = ap (option_map (variable_at vars)) e
 
-  pub control_numbered : (a : Which) (w : Variable) → controls_at vars controls a ≡ Some w → (m : ℕ) × (controls a ≡ Some m) × (variable_at vars m ≡ w)
+  pub control_numbered : (a : Which) (w : Variable) → controls_at vars controls a ≡ Some w
+      → (m : ℕ) × (controls a ≡ Some m) × (variable_at vars m ≡ w)
   control_numbered First w e = mapped (variable_at vars) (controls First) w e
   control_numbered Second w e = mapped (variable_at vars) (controls Second) w e
 
   -- a variable that is a control has its number
-  pub control_from : IsRegistry vars → AreControlsOf vars controls → (a : Which) (n : ℕ) → n < length vars → controls_at vars controls a ≡ Some (variable_at vars n) → controls a ≡ Some n
+  pub control_from : IsRegistry vars → AreControlsOf vars controls → (a : Which) (n : ℕ) → n < length vars
+      → controls_at vars controls a ≡ Some (variable_at vars n) → controls a ≡ Some n
   control_from registry of a n l e =
       let (m, is, same) = control_numbered a (variable_at vars n) e in
       is ∙ ap Some (one_variable vars registry m n (of a m is) l same)
 
 -- both are of the registry where each is
-pub both_are_of : (vars : List TypeVarContent) (first second : Option ℕ) → ((v : ℕ) → first ≡ Some v → v < length vars) → SecondIsOf vars second → AreControlsOf vars (both first second)
+pub both_are_of : (vars : List TypeVarContent) (first second : Option ℕ) → ((v : ℕ) → first ≡ Some v → v < length vars)
+    → SecondIsOf vars second → AreControlsOf vars (both first second)
 both_are_of vars first second f s First = f
 both_are_of vars first second f s Second = s
 

@@ -2,7 +2,8 @@
 --     operand_list formats b                         the value operands of the declared instruction b
 --     content_of formats b info                      what is built of it
 --     IsPolymorphicInfoOf vars formats b info        info is what is kept of its control
-use Rattle.std.specs.Prelude.{◌≡◌, ◌↔◌, ◌<◌, ℕ, Bool, List, [], ◌∷◌, ◌++◌, length, slice_get, Option, None, Some, option_map, codes, flat_map, if◌then◌else◌, IsTrue}
+use Rattle.std.specs.Prelude.{◌≡◌, ◌↔◌, ◌<◌, ℕ, Bool, List, [], ◌∷◌, ◌++◌, length, slice_get, Option, None, Some, option_map, codes}
+use Rattle.std.specs.Prelude.{flat_map, if◌then◌else◌, IsTrue}
 use Rattle.std.specs.List.{filter_map, enumerate_from}
 use Rattle.meta_types.specs.CamelCase.{camel_case_of}
 use Rattle.meta_typevar.specs.Variable.{Variable}
@@ -43,12 +44,15 @@ abbrev pub control_numbers : BuiltInstruction → Which → Option ℕ
 control_numbers c = both (ctrl_number c.polymorphic_info) c.value_operands.second
 
 -- what is kept of an instruction's control: it is that of the declaration, or none where the instruction isn't polymorphic;
--- its variable is of the registry; the second control is that which was named; and the mark says whether it is the designated operand's variable
-pub record IsPolymorphicInfoOf (vars : List TypeVarContent) (formats : List InstructionFormat) (b : Builder) (info : Option PolymorphicInfo) : Type 0 where
+-- its variable is of the registry; the second control is that which was named; and the mark says whether it is the designated operand's
+-- variable
+pub record IsPolymorphicInfoOf (vars : List TypeVarContent) (formats : List InstructionFormat) (b : Builder)
+    (info : Option PolymorphicInfo) : Type 0 where
   pub control : IsControl (sets_of vars) (instruction_of_builder vars formats b) (control_kept vars info)
   pub of_registry : (p : PolymorphicInfo) → info ≡ Some p → p.ctrl_typevar < length vars
   pub second : (p : PolymorphicInfo) → info ≡ Some p → p.second_typevar ≡ b.second
-  pub designated : (p : PolymorphicInfo) → info ≡ Some p → (IsTrue p.use_typevar_operand ↔ IsDesignated (instruction_of_builder vars formats b) (variable_at vars p.ctrl_typevar))
+  pub designated : (p : PolymorphicInfo) → info ≡ Some p
+      → (IsTrue p.use_typevar_operand ↔ IsDesignated (instruction_of_builder vars formats b) (variable_at vars p.ctrl_typevar))
 
 -- the value operands of a declared instruction: the variables of its results and then of its values, how many are results, the
 -- place that its format designates, and whether its first output is a value

@@ -35,13 +35,15 @@ abbrev pub MayNot : List TypeVarContent → Option ℕ → List ℕ → ℕ → 
 MayNot vars second numbers from candidate = (v : ℕ) → candidate ≡ Some v → CanControl vars second numbers from v → ⊥
 
 -- the variable v may control, and it is the designated one, or that may not and it is the first
-pub record IsChosen (vars : List TypeVarContent) (second : Option ℕ) (numbers : List ℕ) (from : ℕ) (designated first : Option ℕ) (v : ℕ) : Type 0 where
+pub record IsChosen (vars : List TypeVarContent) (second : Option ℕ) (numbers : List ℕ) (from : ℕ) (designated first : Option ℕ) (v : ℕ) :
+    Type 0 where
   pub several : HasSeveralTypes vars numbers
   pub may : CanControl vars second numbers from v
   pub chosen : (designated ≡ Some v) ⊎ (MayNot vars second numbers from designated × (first ≡ Some v))
 
 -- there are several types, and neither the designated variable nor the first may control
-pub record IsMissing (vars : List TypeVarContent) (second : Option ℕ) (numbers : List ℕ) (from : ℕ) (designated first : Option ℕ) : Type 0 where
+pub record IsMissing (vars : List TypeVarContent) (second : Option ℕ) (numbers : List ℕ) (from : ℕ) (designated first : Option ℕ) :
+    Type 0 where
   pub several : HasSeveralTypes vars numbers
   pub designated_may_not : MayNot vars second numbers from designated
   pub first_may_not : MayNot vars second numbers from first

@@ -1,5 +1,6 @@
 -- The value operands of an instruction, as the checks of its declaration see them.
-use Rattle.std.specs.Prelude.{◌≡◌, ◌≢◌, ◌<◌, ◌≤◌, ◌⊎◌, ℕ, Bool, List, [], length, ◌==◌, count_by, unwrap_or, map, take, drop, Option, slice_get, None, Some, option_map, option_and_then, if◌then◌else◌}
+use Rattle.std.specs.Prelude.{◌≡◌, ◌≢◌, ◌<◌, ◌≤◌, ◌⊎◌, ℕ, Bool, List, [], length, ◌==◌, count_by, unwrap_or, map, take, drop, Option}
+use Rattle.std.specs.Prelude.{slice_get, None, Some, option_map, option_and_then, if◌then◌else◌}
 use Rattle.meta_typevar.specs.Variable.{Variable}
 use Rattle.meta_typevar.specs.Registry.{variable_at, sets_of}
 use Rattle.meta_typevar.specs.TypeSetParts.{HasOne}
@@ -74,7 +75,8 @@ pub record IsLone (vars : List TypeVarContent) (numbers : List ℕ) (from place 
 
 -- the variable n at this place lets these be the controls: one of them is its root, its root has one type, or it is a lone input
 abbrev pub LetsControl : List TypeVarContent → (Which → Option ℕ) → List ℕ → ℕ → ℕ → ℕ → Type 0
-LetsControl vars controls numbers from place n = IsOneOf controls (variable_at vars n).root ⊎ HasOneType vars n ⊎ IsLone vars numbers from place n
+LetsControl vars controls numbers from place n = IsOneOf controls (variable_at vars n).root ⊎ HasOneType vars n
+    ⊎ IsLone vars numbers from place n
 
 -- v is underived and isn't the second control, and each variable lets it control beside that
 pub record CanControl (vars : List TypeVarContent) (second : Option ℕ) (numbers : List ℕ) (from v : ℕ) : Type 0 where

@@ -3,7 +3,8 @@ ghost use Rattle.std.specs.Option.{option_copied};
 ghost use Rattle.std.specs.Fmt.{DisplaysOnOk};
 ghost use Rattle.meta_operands.specs.Operand.{is_immediate_or_entityref_operand};
 ghost use Rattle.meta_inst.specs.FormatMatch.{is_value_operand};
-ghost use Rattle.meta_inst.specs.Content.{ctrl_number, control_numbers, places_where, snake_name_of, names_text, more_names_text, outputs_text, inputs_text};
+ghost use Rattle.meta_inst.specs.Content.{ctrl_number, control_numbers, places_where, snake_name_of, names_text, more_names_text};
+ghost use Rattle.meta_inst.specs.Content.{outputs_text, inputs_text};
 
 use super::controls::Controls;
 use super::marks::Marks;
@@ -41,7 +42,20 @@ impl Model for InstructionContent {
 
     ghost Value = { BuiltInstruction };
 
-    ghost view = { λ c. record { name = c.name; camel_name = c.camel_name; doc = c.doc; operands_in = c.operands_in.items; operands_out = c.operands_out.items; format = c.format; polymorphic_info = c.polymorphic_info; value_opnums = c.value_opnums.items; imm_opnums = c.imm_opnums.items; value_results = c.value_results.items; marks = c.marks; value_operands = c.value_operands } };
+    ghost view = { λ c. record {
+      name = c.name;
+      camel_name = c.camel_name;
+      doc = c.doc;
+      operands_in = c.operands_in.items;
+      operands_out = c.operands_out.items;
+      format = c.format;
+      polymorphic_info = c.polymorphic_info;
+      value_opnums = c.value_opnums.items;
+      imm_opnums = c.imm_opnums.items;
+      value_results = c.value_results.items;
+      marks = c.marks;
+      value_operands = c.value_operands;
+    } };
 }
 
 /// Adds the place, where the test holds.

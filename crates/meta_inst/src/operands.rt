@@ -1,4 +1,5 @@
-ghost use Rattle.std.specs.Prelude.{◌≡◌, ◌↔◌, ◌⊎◌, ◌≤◌, List, ◌++◌, ◌∷◌, [], ◌<◌, ℕ, IsTrue, MatchBool, OnOk, IfOk, IfSome, IfNone, length, slice_get, take, Some};
+ghost use Rattle.std.specs.Prelude.{◌≡◌, ◌↔◌, ◌⊎◌, ◌≤◌, List, ◌++◌, ◌∷◌, [], ◌<◌, ℕ, IsTrue, MatchBool, OnOk, IfOk, IfSome, IfNone, length};
+ghost use Rattle.std.specs.Prelude.{slice_get, take, Some};
 ghost use Rattle.meta_typevar.specs.declared.content.TypeVarContent.{TypeVarContent};
 ghost use Rattle.meta_typevar.specs.Registry.{sets_of, variable_at, IsRegistry};
 ghost use Rattle.meta_operands.specs.Operand.{variables_of};
@@ -12,7 +13,9 @@ ghost use Rattle.meta_inst.specs.Controls.{AreControlsOf, controls_at};
 ghost use Rattle.meta_inst.specs.FoundControl.{IsFoundIn, MayNot, control_number, control_in, IsBadAt, IsFirstBadAt, IsOf};
 ghost use Rattle.std.specs.Ordering.{nat_cmp};
 ghost use Rattle.std.specs.BTreeMap.{get};
-ghost use Rattle.meta_inst.specs.Operands.{AreInputCounts, AreOf, SecondIsOf, IsAlone, HasOneType, LetsControl, CanControl, Uses, UsesNowhere, IsNoSecond, HasSeveralTypes, AllHaveOneType, instruction_of_operands, designated_number, first_number};
+ghost use Rattle.meta_inst.specs.Operands.{AreInputCounts, AreOf, SecondIsOf, IsAlone, HasOneType, LetsControl, CanControl, Uses};
+ghost use Rattle.meta_inst.specs.Operands.{UsesNowhere, IsNoSecond, HasSeveralTypes, AllHaveOneType, instruction_of_operands};
+ghost use Rattle.meta_inst.specs.Operands.{designated_number, first_number};
 
 use super::builder::InstructionBuilder;
 use super::checks::MAX_OPERANDS;
@@ -101,7 +104,8 @@ fn counted_inputs(alloc: Global, inputs: &[TypeVar]) -> Result<Option<InputCount
 fn lets_control(vars: &TypeVars, operands: &Operands, controls: &Controls, place: usize) -> bool
     requires variables { AreOf vars.now operands.now.variables }
     requires within { place < length operands.now.variables }
-    ensures { (n : ℕ) → slice_get operands.now.variables place ≡ Some n → (IsTrue result ↔ LetsControl vars.now controls.now operands.now.variables operands.now.result_count place n) }
+    ensures { (n : ℕ) → slice_get operands.now.variables place ≡ Some n
+        → (IsTrue result ↔ LetsControl vars.now controls.now operands.now.variables operands.now.result_count place n) }
 {
     let tv = operands.variables()[place];
     if controls.is_control(tv.root(vars)) {
@@ -181,7 +185,8 @@ fn is_no_second(vars: &TypeVars, variables: &[TypeVar], s: TypeVar) -> bool
 fn eligible(vars: &TypeVars, operands: &Operands, candidate: Option<TypeVar>) -> Option<TypeVar>
     requires variables { AreOf vars.now operands.now.variables }
     requires of { IfSome candidate (λ v. v < length vars.now) }
-    ensures some { IfSome result (λ v. (candidate ≡ Some v) × CanControl vars.now operands.now.second operands.now.variables operands.now.result_count v) }
+    ensures some { IfSome result (λ v. (candidate ≡ Some v)
+        × CanControl vars.now operands.now.second operands.now.variables operands.now.result_count v) }
     ensures none { IfNone result (MayNot vars.now operands.now.second operands.now.variables operands.now.result_count candidate) }
 {
     let v = candidate?;
@@ -300,9 +305,16 @@ impl Model for Operands {
 
     ghost Value = { OperandList };
 
-    ghost view = { λ o. record { variables = o.variables.items; result_count = o.result_count; designated = o.designated; begins_with_value = o.begins_with_value; second = o.second } };
+    ghost view = { λ o. record {
+      variables = o.variables.items;
+      result_count = o.result_count;
+      designated = o.designated;
+      begins_with_value = o.begins_with_value;
+      second = o.second;
+    } };
 
-    ghost invariant = { λ o. (o.result_count ≤ length o.variables.items) × IfSome o.input_counts (λ c. AreInputCounts (drop o.result_count o.variables.items) (get nat_cmp c.counts)) };
+    ghost invariant = { λ o. (o.result_count ≤ length o.variables.items)
+        × IfSome o.input_counts (λ c. AreInputCounts (drop o.result_count o.variables.items) (get nat_cmp c.counts)) };
 }
 
 impl Operands {
@@ -319,7 +331,8 @@ impl Operands {
     ) -> Result<Operands, AllocError>
         requires { builder.now.format < length formats.now }
         ensures operands { IfOk result (λ o. o ≡ operand_list formats.now builder.now) }
-        ensures meaning { IfOk result (λ o. (vars : List TypeVarContent) → instruction_of_operands vars o ≡ instruction_of_builder vars formats.now builder.now) }
+        ensures meaning { IfOk result (λ o. (vars : List TypeVarContent)
+            → instruction_of_operands vars o ≡ instruction_of_builder vars formats.now builder.now) }
         ensures fits { IfOk result (λ o. (vars : List TypeVarContent) → FitsBuilder vars formats.now builder.now → AreOf vars o.variables) }
         ensures variables { IfOk result (λ o. o.variables ≡ variables_of (outputs_of builder.now) ++ variables_of (inputs_of builder.now)) }
         ensures result_count { IfOk result (λ o. o.result_count ≡ length (variables_of (outputs_of builder.now))) }
@@ -451,8 +464,10 @@ impl Operands {
         requires variables { AreOf vars.now self.now.variables }
         requires control { IsOf vars.now control.now }
         requires second { SecondIsOf vars.now self.now.second }
-        ensures found { IfSome result (IsFirstBadDerivation (sets_of vars.now) (instruction_of_operands vars.now self.now) (control_in vars.now control.now)) }
-        ensures none { IfNone result ((k : ℕ) → HasBadDerivation (sets_of vars.now) (instruction_of_operands vars.now self.now) (control_in vars.now control.now) k → ⊥) }
+        ensures found { IfSome result (IsFirstBadDerivation (sets_of vars.now)
+            (instruction_of_operands vars.now self.now) (control_in vars.now control.now)) }
+        ensures none { IfNone result ((k : ℕ) → HasBadDerivation (sets_of vars.now)
+            (instruction_of_operands vars.now self.now) (control_in vars.now control.now) k → ⊥) }
     {
         self.holds_with(vars);
         let controls = self.controls(control.variable());
@@ -478,7 +493,8 @@ impl Operands {
         ensures kept { control_kept vars.now result ≡ control_in vars.now control.now }
         ensures of_registry { IfSome result (λ p. p.ctrl_typevar < length vars.now) }
         ensures second { IfSome result (λ p. p.second_typevar ≡ self.now.second) }
-        ensures designated { IfSome result (λ p. IsTrue p.use_typevar_operand ↔ IsDesignated (instruction_of_operands vars.now self.now) (variable_at vars.now p.ctrl_typevar)) }
+        ensures designated { IfSome result (λ p. IsTrue p.use_typevar_operand
+            ↔ IsDesignated (instruction_of_operands vars.now self.now) (variable_at vars.now p.ctrl_typevar)) }
     {
         self.holds_with(vars);
         match control {

@@ -7,7 +7,9 @@ use Rattle.meta_text.specs.Lines.{at, empty_line, text_of}
 use Rattle.meta_inst.specs.declared.marks.Marks.{Marks}
 use Rattle.meta_inst.specs.Built.{BuiltInstruction}
 use Rattle.meta_instructions_enums_text.specs.declared.accessors.Mark.{Mark}
-use Rattle.meta_instructions_enums_text.specs.declared.accessors.Mark.TheVariants.{IsTerminator, IsBranch, IsCall, IsReturn, CanLoad, CanStore, CanTrap, OtherSideEffects, SideEffectsIdempotent}
+use Rattle.meta_instructions_enums_text.specs.declared.accessors.Mark.TheVariants.{IsTerminator, IsBranch, IsCall, IsReturn, CanLoad}
+use Rattle.meta_instructions_enums_text.specs.declared.accessors.Mark.TheVariants.{CanStore, CanTrap, OtherSideEffects}
+use Rattle.meta_instructions_enums_text.specs.declared.accessors.Mark.TheVariants.{SideEffectsIdempotent}
 
 -- the marks that are told, in order
 abbrev pub told_marks : List Mark

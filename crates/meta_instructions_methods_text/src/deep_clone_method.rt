@@ -2,7 +2,8 @@ ghost use Rattle.std.specs.Prelude.{◌≡◌, ◌++◌, OnOk, IfOk, string_byte
 ghost use Rattle.std.specs.List.{flat_map};
 ghost use Rattle.meta_instructions_methods_text.specs.Held.{values_of, blocks_of, has_raw_block};
 ghost use Rattle.meta_instructions_methods_text.specs.Rebuilt.{kept};
-ghost use Rattle.meta_instructions_methods_text.specs.DeepCloneMethod.{clone_head, list_mark, clone_pattern, cloned_values, cloned_blocks, cloned_raw_block, clone_arm};
+ghost use Rattle.meta_instructions_methods_text.specs.DeepCloneMethod.{clone_head, list_mark, clone_pattern, cloned_values, cloned_blocks};
+ghost use Rattle.meta_instructions_methods_text.specs.DeepCloneMethod.{cloned_raw_block, clone_arm};
 
 use super::held::{Blocks, Values, blocks_of, has_raw_block, raw_block_member, values_of};
 use super::members::{push_further, push_further_fields};

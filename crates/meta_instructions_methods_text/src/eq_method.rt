@@ -2,7 +2,8 @@ ghost use Rattle.std.specs.Prelude.{◌≡◌, ◌++◌, OnOk, IfOk, codes, stri
 ghost use Rattle.std.specs.List.{flat_map};
 ghost use Rattle.std.specs.Option.{option_copied};
 ghost use Rattle.meta_instructions_methods_text.specs.Held.{values_of, blocks_of, has_raw_block};
-ghost use Rattle.meta_instructions_methods_text.specs.EqMethod.{marked_member, marked_fields, eq_pattern, eq_arm_head, equal_member, equal_values, equal_blocks, equal_raw_block, eq_arm, eq_head, eq_last_arm};
+ghost use Rattle.meta_instructions_methods_text.specs.EqMethod.{marked_member, marked_fields, eq_pattern, eq_arm_head, equal_member};
+ghost use Rattle.meta_instructions_methods_text.specs.EqMethod.{equal_values, equal_blocks, equal_raw_block, eq_arm, eq_head, eq_last_arm};
 
 use super::held::{Blocks, Values, blocks_of, has_raw_block, raw_block_member, values_of};
 use super::method_lines::push_arm_end;

@@ -1,7 +1,9 @@
 ghost use Rattle.std.specs.Prelude.{◌≡◌, ◌++◌, OnOk, IfOk, string_bytes};
 ghost use Rattle.std.specs.List.{flat_map};
 ghost use Rattle.meta_instructions_methods_text.specs.Held.{values_of, blocks_of, has_raw_block};
-ghost use Rattle.meta_instructions_methods_text.specs.HashMethod.{hash_head, hash_pattern, hash_arm_head, hashed, hashed_each_value, hashed_values, hashed_each_block, hashed_blocks, hashed_raw_block, hash_arm};
+ghost use Rattle.meta_instructions_methods_text.specs.HashMethod.{hash_head, hash_pattern, hash_arm_head, hashed, hashed_each_value};
+ghost use Rattle.meta_instructions_methods_text.specs.HashMethod.{hashed_values, hashed_each_block, hashed_blocks, hashed_raw_block};
+ghost use Rattle.meta_instructions_methods_text.specs.HashMethod.{hash_arm};
 
 use super::held::{Blocks, Values, blocks_of, has_raw_block, raw_block_member, values_of};
 use super::members::{push_further, push_further_fields};

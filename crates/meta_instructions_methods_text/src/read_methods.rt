@@ -1,6 +1,8 @@
 ghost use Rattle.std.specs.Prelude.{◌≡◌, ◌++◌, OnOk, string_bytes};
 ghost use Rattle.meta_instructions_methods_text.specs.Held.{values_of};
-ghost use Rattle.meta_instructions_methods_text.specs.ReadMethods.{arguments_mut_head, arguments_head, typevar_operand_head, opcode_head, opcode_arm, typevar_arm, reference_mark, one_as_slice, list_as_slice, values_arm, arguments_arm};
+ghost use Rattle.meta_instructions_methods_text.specs.ReadMethods.{arguments_mut_head, arguments_head, typevar_operand_head, opcode_head};
+ghost use Rattle.meta_instructions_methods_text.specs.ReadMethods.{opcode_arm, typevar_arm, reference_mark, one_as_slice, list_as_slice};
+ghost use Rattle.meta_instructions_methods_text.specs.ReadMethods.{values_arm, arguments_arm};
 
 use super::held::{Values, values_of};
 use meta_operands::InstructionFormat;

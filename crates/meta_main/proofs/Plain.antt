@@ -1,5 +1,7 @@
 -- Bytes that are plain: of a word, of its escapes, and of the texts of a line.
-use Rattle.std.proofs.Common.{◌≡◌, ℕ, zero, suc, ◌+◌, ◌/◌, ◌%◌, ◌<◌, ◌≤◌, ◌&&◌, Bool, true, false, cond, ⊎_elim, List, [], ◌∷◌, ◌++◌, length, get_or, slice_get, Some, flat_map, encode_utf8, encode_utf8_all, refl, sym, subst, ap, ◌∙◌, append_assoc, append-nil, arith}
+use Rattle.std.proofs.Common.{◌≡◌, ℕ, zero, suc, ◌+◌, ◌/◌, ◌%◌, ◌<◌, ◌≤◌, ◌&&◌, Bool, true, false, cond, ⊎_elim, List, [], ◌∷◌, ◌++◌}
+use Rattle.std.proofs.Common.{length, get_or, slice_get, Some, flat_map, encode_utf8, encode_utf8_all, refl, sym, subst, ap, ◌∙◌}
+use Rattle.std.proofs.Common.{append_assoc, append-nil, arith}
 use Rattle.std.specs.Prelude.{nat_le, nat_lt, ◌==◌}
 use Rattle.std.specs.Char.{digit_char}
 use Rattle.std.specs.Char.Escape.{escape_ascii, short_escape, hex_digit_at}
@@ -16,18 +18,21 @@ IsPlainByte byte = (32 ≤ byte) × (byte < 127)
 
 -- a byte of a plain word is
 pub plain_at : (bytes word : List ℕ) (k : ℕ) → bytes ≡ word → IsPlain word → k < length bytes → IsPlainByte (get_or bytes k 0)
-plain_at bytes word k same plain within = plain k (get_or bytes k 0) (subst (λ (xs : List ℕ). slice_get xs k ≡ Some (get_or bytes k 0)) same (slice_get-get_or bytes k 0 within))
+plain_at bytes word k same plain within =
+    plain k (get_or bytes k 0) (subst (λ (xs : List ℕ). slice_get xs k ≡ Some (get_or bytes k 0)) same (slice_get-get_or bytes k 0 within))
 
 -- each byte before this place is
 abbrev pub IsPlainTo : ℕ → List ℕ → Type 0
 IsPlainTo place word = (k byte : ℕ) → k < place → slice_get word k ≡ Some byte → IsPlainByte byte
 
-pub plain_more : (bytes word : List ℕ) (k : ℕ) → bytes ≡ word → k < length bytes → IsPlainByte (get_or bytes k 0) → IsPlainTo k word → IsPlainTo (k + 1) word
+pub plain_more : (bytes word : List ℕ) (k : ℕ) → bytes ≡ word → k < length bytes → IsPlainByte (get_or bytes k 0) → IsPlainTo k word
+    → IsPlainTo (k + 1) word
 plain_more bytes word k same within here before j byte below at = ⊎_elim
     (λ l. before j byte l at)
     (λ l.
     let place : j ≡ k = omega (arith, l, below) in
-    let stands : slice_get word k ≡ Some (get_or bytes k 0) = subst (λ (xs : List ℕ). slice_get xs k ≡ Some (get_or bytes k 0)) same (slice_get-get_or bytes k 0 within) in
+    let stands : slice_get word k ≡ Some (get_or bytes k 0) =
+    subst (λ (xs : List ℕ). slice_get xs k ≡ Some (get_or bytes k 0)) same (slice_get-get_or bytes k 0 within) in
     let is : get_or bytes k 0 ≡ byte = same_Some _ _ (sym stands ∙ subst (λ n. slice_get word n ≡ Some byte) place at) in
     subst IsPlainByte is here)
     (cases_lt j k)
@@ -57,7 +62,8 @@ pub plain_append : (xs ys : List ℕ) → IsPlain xs → IsPlain ys → IsPlain 
 plain_append [] ys front back = back
 plain_append (x ∷ xs) ys front back = plain_cons x (xs ++ ys) (plain_first x xs front) (plain_append xs ys (plain_tail x xs front) back)
 
-pub plain_flat_map : {A : Type 0} (f : A → List ℕ) (xs : List A) → ((k : ℕ) (x : A) → slice_get xs k ≡ Some x → IsPlain (f x)) → IsPlain (flat_map f xs)
+pub plain_flat_map : {A : Type 0} (f : A → List ℕ) (xs : List A) → ((k : ℕ) (x : A) → slice_get xs k ≡ Some x → IsPlain (f x))
+    → IsPlain (flat_map f xs)
 plain_flat_map f [] each = plain_nil
 plain_flat_map f (x ∷ xs) each = plain_append (f x) (flat_map f xs) (each 0 x refl) (plain_flat_map f xs (λ k y at. each (suc k) y at))
 
@@ -79,7 +85,8 @@ pub encoded_plain : (xs : List ℕ) → IsPlain xs → encode_utf8_all xs ≡ xs
 encoded_plain [] all = refl
 encoded_plain (x ∷ xs) all =
     let here = plain_first x xs all in
-    ap (λ (front : List ℕ). front ++ encode_utf8_all xs) (encode_ascii x (omega (arith, here.1))) ∙ ap (λ (back : List ℕ). x ∷ back) (encoded_plain xs (plain_tail x xs all))
+    ap (λ (front : List ℕ). front ++ encode_utf8_all xs) (encode_ascii x (omega (arith, here.1)))
+    ∙ ap (λ (back : List ℕ). x ∷ back) (encoded_plain xs (plain_tail x xs all))
 
 -- ---- escapes
 
@@ -118,7 +125,8 @@ coded_plain : (b : ℕ) → IsPlain (coded b)
 coded_plain b =
     plain_cons 92 (120 ∷ hex_digit_at 0x10 b ∷ hex_digit_at 1 b ∷ []) (omega arith, omega arith)
     (plain_cons 120 (hex_digit_at 0x10 b ∷ hex_digit_at 1 b ∷ []) (omega arith, omega arith)
-    (two_plain (hex_digit_at 0x10 b) (hex_digit_at 1 b) (digit_plain (b / 0x10 % 16) (omega arith)) (digit_plain (b / 1 % 16) (omega arith))))
+    (two_plain (hex_digit_at 0x10 b) (hex_digit_at 1 b) (digit_plain (b / 0x10 % 16) (omega arith))
+    (digit_plain (b / 1 % 16) (omega arith))))
 
 -- what tests have told
 positive : (n : ℕ) → nat_lt 0 n ≡ true → 0 < n
@@ -144,7 +152,8 @@ escape_plain b =
 -- ---- letters of an escape, one after the other
 
 -- one more is written
-pub one_more_letter : (now more : List ℕ) (ch letter : ℕ) (left rest whole : List ℕ) → ch ≡ letter → more ≡ now ++ encode_utf8 ch → left ≡ letter ∷ rest → now ++ encode_utf8_all left ≡ whole → more ++ encode_utf8_all rest ≡ whole
+pub one_more_letter : (now more : List ℕ) (ch letter : ℕ) (left rest whole : List ℕ) → ch ≡ letter → more ≡ now ++ encode_utf8 ch
+    → left ≡ letter ∷ rest → now ++ encode_utf8_all left ≡ whole → more ++ encode_utf8_all rest ≡ whole
 one_more_letter now more ch letter left rest whole same pushed step e =
     ap (λ (l : List ℕ). l ++ encode_utf8_all rest) pushed
     ∙ append_assoc now (encode_utf8 ch) (encode_utf8_all rest)
@@ -153,7 +162,8 @@ one_more_letter now more ch letter left rest whole same pushed step e =
     ∙ e
 
 -- where none is left, all are
-pub all_escaped : (now old left : List ℕ) (b : ℕ) → left ≡ [] → now ++ encode_utf8_all left ≡ old ++ encode_utf8_all (escape_ascii b) → now ≡ old ++ escape_ascii b
+pub all_escaped : (now old left : List ℕ) (b : ℕ) → left ≡ [] → now ++ encode_utf8_all left ≡ old ++ encode_utf8_all (escape_ascii b)
+    → now ≡ old ++ escape_ascii b
 all_escaped now old left b none e =
     sym (append-nil now)
     ∙ ap (λ (l : List ℕ). now ++ encode_utf8_all l) (sym none)

@@ -2,7 +2,8 @@
 use Rattle.std.proofs.Common.{◌≡◌, ◌≢◌, ◌∙◌, ℕ, ◌+◌, ◌<◌, ◌≤◌, ⊎_elim, List, [], ◌∷◌, length, slice_get, Some, refl, sym, ap, subst, arith}
 use Rattle.std.proofs.lemmas.Bool.{cases_lt}
 use Rattle.std.proofs.lemmas.Option.{same_Some, slice_get_within}
-use Rattle.meta_main.specs.Misuse.{AreNumbersTo, AreNumbersIn, NamesNone, NamesNoneBefore, IsNamed, IsFirstNamed, AreCommandWords, AreTaken, IsMisuseBehind, IsMisuseOf, IsMisuse}
+use Rattle.meta_main.specs.Misuse.{AreNumbersTo, AreNumbersIn, NamesNone, NamesNoneBefore, IsNamed, IsFirstNamed, AreCommandWords, AreTaken}
+use Rattle.meta_main.specs.Misuse.{IsMisuseBehind, IsMisuseOf, IsMisuse}
 use Rattle.meta_main.specs.declared.manual.CommandForm.{CommandForm}
 use Rattle.meta_main.specs.declared.manual.Range.{Range}
 use Rattle.meta_main.specs.declared.misuse.Misuse.{Misuse}
@@ -18,7 +19,8 @@ tail_of [] = []
 tail_of (x ∷ xs) = xs
 
 -- the first command of a name is one
-one_first : (commands : List CommandForm) (name : List ℕ) (c d : CommandForm) → IsFirstNamed commands name c → IsFirstNamed commands name d → c ≡ d
+one_first : (commands : List CommandForm) (name : List ℕ) (c d : CommandForm) → IsFirstNamed commands name c
+    → IsFirstNamed commands name d → c ≡ d
 one_first commands name c d h k = ⊎_elim
     (λ below. absurd (k.first h.named.place c below h.named.at h.named.name_is))
     (λ least. ⊎_elim
@@ -30,7 +32,8 @@ one_first commands name c d h k = ⊎_elim
     (cases_lt h.named.place k.named.place)
 
 -- words that write the numbers have no misuse behind the name
-no_misuse_behind : (ranges : List Range) (words : List (List ℕ)) (m : Misuse) → AreNumbersIn ranges words → IsMisuseBehind ranges words m → ⊥
+no_misuse_behind : (ranges : List Range) (words : List (List ℕ)) (m : Misuse) → AreNumbersIn ranges words
+    → IsMisuseBehind ranges words m → ⊥
 no_misuse_behind ranges words NoWord are h = h
 no_misuse_behind ranges words NoCommand are h = h
 no_misuse_behind ranges words (NoNumber k) are h = h.5 (are.numbers k h.1 h.2 (slice_get_within ranges k h.1 h.3) h.3 h.4)
@@ -53,11 +56,16 @@ of_command commands words m t h =
     let first : IsFirstNamed commands mine t.are.command = record { named = t.are.named; first = t.first } in
     let other : IsFirstNamed commands mine h.command = subst (λ (n : List ℕ). IsFirstNamed commands n h.command) (sym name) h.named in
     let command : t.are.command ≡ h.command = one_first commands mine t.are.command h.command first other in
-    let numbers : AreNumbersIn h.command.numbers.now h.behind = subst (λ (c : CommandForm). AreNumbersIn c.numbers.now h.behind) command (subst (AreNumbersIn t.are.command.numbers.now) behind t.are.numbers) in
+    let numbers : AreNumbersIn h.command.numbers.now h.behind =
+    subst (λ (c : CommandForm). AreNumbersIn c.numbers.now h.behind) command
+    (subst (AreNumbersIn t.are.command.numbers.now) behind t.are.numbers) in
     no_misuse_behind h.command.numbers.now h.behind m numbers h.misuse
 
-pub never_both : (commands : List CommandForm) (words : List (List ℕ)) (m : Misuse) → AreTaken commands words → IsMisuse commands words m → ⊥
-never_both commands words NoWord t h = let clash : t.are.command.name.now ∷ t.are.behind ≡ [] = sym t.are.are ∙ h in absurd (let count = ap length clash in omega (arith, count))
+pub never_both : (commands : List CommandForm) (words : List (List ℕ)) (m : Misuse) → AreTaken commands words
+    → IsMisuse commands words m → ⊥
+never_both commands words NoWord t h =
+    let clash : t.are.command.name.now ∷ t.are.behind ≡ [] = sym t.are.are ∙ h in
+    absurd (let count = ap length clash in omega (arith, count))
 never_both commands words NoCommand t h =
     let same : t.are.command.name.now ∷ t.are.behind ≡ h.0 ∷ h.1 = sym t.are.are ∙ h.2 in
     h.3 t.are.named.place t.are.command t.are.named.at (ap (head_of []) same)

@@ -18,7 +18,8 @@ pub record IsNumberIn (range : Range) (word : List ℕ) : Type 0 where
 
 -- the first so many words write numbers of the first so many ranges, each of its own, as far as there are both
 abbrev pub AreNumbersTo : ℕ → List Range → List (List ℕ) → Type 0
-AreNumbersTo count ranges words = (k : ℕ) (range : Range) (word : List ℕ) → k < count → slice_get ranges k ≡ Some range → slice_get words k ≡ Some word → IsNumberIn range word
+AreNumbersTo count ranges words = (k : ℕ) (range : Range) (word : List ℕ) → k < count
+    → slice_get ranges k ≡ Some range → slice_get words k ≡ Some word → IsNumberIn range word
 
 -- the words write numbers of the ranges, one each
 pub record AreNumbersIn (ranges : List Range) (words : List (List ℕ)) : Type 0 where
@@ -33,7 +34,8 @@ pub record IsNamed (commands : List CommandForm) (name : List ℕ) (command : Co
 
 -- none of the commands before this place has this name
 abbrev pub NamesNoneBefore : ℕ → List CommandForm → List ℕ → Type 0
-NamesNoneBefore place commands name = (k : ℕ) (command : CommandForm) → k < place → slice_get commands k ≡ Some command → command.name.now ≢ name
+NamesNoneBefore place commands name = (k : ℕ) (command : CommandForm) → k < place
+    → slice_get commands k ≡ Some command → command.name.now ≢ name
 
 -- the command is the first of these with this name
 pub record IsFirstNamed (commands : List CommandForm) (name : List ℕ) (command : CommandForm) : Type 0 where
@@ -61,7 +63,8 @@ pub record AreTaken (commands : List CommandForm) (words : List (List ℕ)) : Ty
 abbrev pub IsMisuseBehind : List Range → List (List ℕ) → Misuse → Type 0
 IsMisuseBehind ranges words NoWord = ⊥
 IsMisuseBehind ranges words NoCommand = ⊥
-IsMisuseBehind ranges words (NoNumber k) = AreNumbersTo k ranges words × (range : Range) × (word : List ℕ) × (slice_get ranges k ≡ Some range) × (slice_get words k ≡ Some word) × (IsNumberIn range word → ⊥)
+IsMisuseBehind ranges words (NoNumber k) = AreNumbersTo k ranges words × (range : Range) × (word : List ℕ)
+    × (slice_get ranges k ≡ Some range) × (slice_get words k ≡ Some word) × (IsNumberIn range word → ⊥)
 IsMisuseBehind ranges words (WordTooMany k) = AreNumbersTo k ranges words × (k ≡ length ranges) × (k < length words)
 IsMisuseBehind ranges words NumberMissing = AreNumbersTo (length words) ranges words × (length words < length ranges)
 

@@ -1,7 +1,8 @@
 ghost use Rattle.std.specs.Prelude.{◌≡◌, ◌↔◌, ◌<◌, ◌≤◌, ◌++◌, IfOk, IsTrue, OnOk, string_bytes};
 ghost use Rattle.std.specs.Char.Escape.{escape_ascii};
 ghost use Rattle.meta_main.specs.Misuse.{AreTaken};
-ghost use Rattle.meta_main.specs.Usage.{IsPlain, escaped, IsShown, IsShownAt, ArePlainlyNamed, IsWrongBehind, TellsWrong, command_names_text, commands_text, IsUsageLine};
+ghost use Rattle.meta_main.specs.Usage.{IsPlain, escaped, IsShown, IsShownAt, ArePlainlyNamed, IsWrongBehind, TellsWrong};
+ghost use Rattle.meta_main.specs.Usage.{command_names_text, commands_text, IsUsageLine};
 
 use super::manual::{CommandForm, Manual};
 use super::misuse::Misuse;
@@ -133,7 +134,8 @@ fn wrong(alloc: Global, words: &[Text], misuse: Misuse) -> Result<String, AllocE
 /// as anything but ASCII that prints.
 pub fn usage_line(alloc: Global, manual: &Manual, words: &[Text]) -> Result<String, AllocError>
     ensures plain { ArePlainlyNamed manual.now.commands.now → IfOk result (λ line. IsPlain (string_bytes line)) }
-    ensures line { (AreTaken manual.now.commands.now words.now → ⊥) → IfOk result (λ line. IsUsageLine manual.now.commands.now words.now (string_bytes line)) }
+    ensures line { (AreTaken manual.now.commands.now words.now → ⊥)
+        → IfOk result (λ line. IsUsageLine manual.now.commands.now words.now (string_bytes line)) }
 {
     let Some(misuse) = Misuse::of(manual.commands, words) else {
         return String::from_str(alloc, "no command");

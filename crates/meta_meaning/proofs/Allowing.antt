@@ -12,25 +12,32 @@ use Rattle.meta_inst.specs.Instruction.{Instruction, IsOperand, operands, contro
 use Rattle.meta_inst.specs.Control.{IsControl, HasBadSecond}
 use Rattle.meta_meaning.specs.Acceptance.{AcceptsNumbers, IsNumberOf, AreNumbersOf}
 use Rattle.meta_meaning.specs.Constraint.{TypeConstraint, IsConstraint, PassesOwn, ControlFits, Admits}
-use Rattle.meta_meaning.specs.Tables.{TableContents, OpcodeNumbers, PassesAt, ControlNumberFits, Allows, at_opcode, result_count, value_count}
+use Rattle.meta_meaning.specs.Tables.{TableContents, OpcodeNumbers, PassesAt, ControlNumberFits, Allows, at_opcode, result_count}
+use Rattle.meta_meaning.specs.Tables.{value_count}
 use Rattle.meta_meaning.proofs.ControlFamily.{as_long, accepts_from_admits, admits_from_accepts}
 use Rattle.meta_meaning.proofs.Listed.{types_of_numbers, AreNumbersOf-append, AreNumbersOf-length, number_of_type_at, type_at}
 
 -- The counts are those of the instruction; a controlling number fits exactly where it is that of a type that fits; and, where both fit,
 -- what passes at an operand's place is the number of a type, of one that passes what is asked of the operand, and no other.
-pub record TellsOperands (sets : Sets) (i : Instruction) (control : Option Variable) (tables : TableContents) (entry : OpcodeNumbers) (c d : Option ℕ) : Type 0 where
+pub record TellsOperands (sets : Sets) (i : Instruction) (control : Option Variable) (tables : TableContents) (entry : OpcodeNumbers)
+    (c d : Option ℕ) : Type 0 where
   pub results : result_count entry.flags ≡ length i.results
   pub values : value_count entry.flags ≡ length i.values
   pub control_from : ControlNumberFits tables entry.typeset_offset c → (e : Option TypeParts) × IsNumberOf e c × ControlFits sets control e
   pub control_to : (e : Option TypeParts) → IsNumberOf e c → ControlFits sets control e → ControlNumberFits tables entry.typeset_offset c
   pub second_from : ControlNumberFits tables entry.second_offset d → (g : Option TypeParts) × IsNumberOf g d × ControlFits sets i.second g
   pub second_to : (g : Option TypeParts) → IsNumberOf g d → ControlFits sets i.second g → ControlNumberFits tables entry.second_offset d
-  pub typed : ControlNumberFits tables entry.typeset_offset c → ControlNumberFits tables entry.second_offset d → (k n : ℕ) (w : Variable) → IsOperand i k w → PassesAt tables (both c d) (entry.constraint_offset + k) n → IsTypeNumber n
-  pub passes : (k : ℕ) (w : Variable) (e g : Option TypeParts) (t : TypeParts) → IsOperand i k w → IsNumberOf e c → IsNumberOf g d → ControlFits sets control e → ControlFits sets i.second g → IsType t
+  pub typed : ControlNumberFits tables entry.typeset_offset c → ControlNumberFits tables entry.second_offset d → (k n : ℕ) (w : Variable)
+      → IsOperand i k w → PassesAt tables (both c d) (entry.constraint_offset + k) n → IsTypeNumber n
+  pub passes : (k : ℕ) (w : Variable) (e g : Option TypeParts) (t : TypeParts) → IsOperand i k w → IsNumberOf e c → IsNumberOf g d
+      → ControlFits sets control e → ControlFits sets i.second g → IsType t
       → (PassesAt tables (both c d) (entry.constraint_offset + k) (number_of t) ↔ PassesOwn sets (controls_of i control) (both e g) w t)
 
-module _ (sets : Sets) (i : Instruction) (control : Option Variable) (tables : TableContents) (entry : OpcodeNumbers) (h : IsControl sets i control) (good : HasBadSecond sets i → ⊥) (some : (k : ℕ) (w : Variable) → IsOperand i k w → (x : TypeConstraint) × IsConstraint sets (controls_of i control) w x) where
-  module _ (c d : Option ℕ) (tells : TellsOperands sets i control tables entry c d) (op : ℕ) (at_op : at_opcode tables.entries op ≡ Some entry) (rs vs : List ℕ) where
+module _ (sets : Sets) (i : Instruction) (control : Option Variable) (tables : TableContents) (entry : OpcodeNumbers)
+    (h : IsControl sets i control) (good : HasBadSecond sets i → ⊥) (some : (k : ℕ) (w : Variable) → IsOperand i k w
+    → (x : TypeConstraint) × IsConstraint sets (controls_of i control) w x) where
+  module _ (c d : Option ℕ) (tells : TellsOperands sets i control tables entry c d) (op : ℕ) (at_op : at_opcode tables.entries op
+      ≡ Some entry) (rs vs : List ℕ) where
     -- What the tables allow, the instruction accepts.
     accepts_allowed : Allows tables op c d rs vs → AcceptsNumbers sets i control c d rs vs
     accepts_allowed a =
@@ -75,10 +82,12 @@ module _ (sets : Sets) (i : Instruction) (control : Option Variable) (tables : T
 
         -- each number is that of a type
         typed : (k n : ℕ) → slice_get (rs ++ vs) k ≡ Some n → IsTypeNumber n
-        typed k n at = let (w, w_at) = get_beside (rs ++ vs) (operands i) k n counted at in tells.typed first second k n w w_at (passes k n at)
+        typed k n at = let (w, w_at) = get_beside (rs ++ vs) (operands i) k n counted at
+            in tells.typed first second k n w w_at (passes k n at)
 
         -- types with these numbers pass one test an operand
-        admits : (e g : Option TypeParts) (ts us : List TypeParts) → IsNumberOf e c → IsNumberOf g d → ControlFits sets control e → ControlFits sets i.second g → AreNumbersOf ts rs → AreNumbersOf us vs → Admits sets i control e g ts us
+        admits : (e g : Option TypeParts) (ts us : List TypeParts) → IsNumberOf e c → IsNumberOf g d → ControlFits sets control e
+            → ControlFits sets i.second g → AreNumbersOf ts rs → AreNumbersOf us vs → Admits sets i control e g ts us
         admits e g ts us e_number g_number e_fits g_fits are_rs are_vs = record {
           results = sym (AreNumbersOf-length ts rs are_rs) ∙ results;
           values = sym (AreNumbersOf-length us vs are_vs) ∙ values;
@@ -90,8 +99,10 @@ module _ (sets : Sets) (i : Instruction) (control : Option Variable) (tables : T
             joined : AreNumbersOf (ts ++ us) (rs ++ vs)
             joined = AreNumbersOf-append ts us rs vs are_rs are_vs
 
-            own : (k : ℕ) (w : Variable) (t : TypeParts) → IsOperand i k w → slice_get (ts ++ us) k ≡ Some t → PassesOwn sets (controls_of i control) (both e g) w t
-            own k w t at t_at = (tells.passes k w e g t at e_number g_number e_fits g_fits (joined.types k t t_at)).0 (passes k (number_of t) (number_of_type_at (ts ++ us) (rs ++ vs) k t joined t_at))
+            own : (k : ℕ) (w : Variable) (t : TypeParts) → IsOperand i k w → slice_get (ts ++ us) k ≡ Some t
+                → PassesOwn sets (controls_of i control) (both e g) w t
+            own k w t at t_at = (tells.passes k w e g t at e_number g_number e_fits g_fits (joined.types k t t_at)).0
+                (passes k (number_of t) (number_of_type_at (ts ++ us) (rs ++ vs) k t joined t_at))
 
     -- What the instruction accepts, the tables allow.
     allows_accepted : AcceptsNumbers sets i control c d rs vs → Allows tables op c d rs vs
@@ -122,7 +133,8 @@ module _ (sets : Sets) (i : Instruction) (control : Option Variable) (tables : T
         passes k n n_at =
             let (t, t_at, number) = type_at (a.result_types ++ a.value_types) (rs ++ vs) k n joined n_at in
             let (w, at) = get_beside (a.result_types ++ a.value_types) (operands i) k t long t_at in
-            let told = tells.passes k w a.control_type a.second_type t at a.control_number a.second_number admits.control_fits admits.second_fits (joined.types k t t_at) in
+            let told = tells.passes k w a.control_type a.second_type t at a.control_number a.second_number admits.control_fits
+            admits.second_fits (joined.types k t t_at) in
             subst (λ m. PassesAt tables (both c d) (entry.constraint_offset + k) m) number (told.1 (admits.passes k w t at t_at))
 
     pub allows_exactly : Allows tables op c d rs vs ↔ AcceptsNumbers sets i control c d rs vs

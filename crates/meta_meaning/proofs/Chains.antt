@@ -5,7 +5,8 @@ use Rattle.meta_types.specs.Function.{Function, StepsTypes}
 use Rattle.meta_typevar.specs.Chain.{Agrees}
 
 -- the last function of a chain leads on from where the rest leads to
-pub agrees_to_end : (fs : List Function) (f : Function) (r t : TypeParts) → Agrees (fs ++ f ∷ []) r t → (u : TypeParts) × Agrees fs r u × StepsTypes f u t
+pub agrees_to_end : (fs : List Function) (f : Function) (r t : TypeParts) → Agrees (fs ++ f ∷ []) r t
+    → (u : TypeParts) × Agrees fs r u × StepsTypes f u t
 agrees_to_end [] f r t (u, s, e) = (r, refl, subst (λ x. StepsTypes f r x) (sym e) s)
 agrees_to_end (g ∷ fs) f r t (u, s, h) = let (v, a, b) = agrees_to_end fs f u t h in (v, (u, s, a), b)
 

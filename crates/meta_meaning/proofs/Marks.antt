@@ -1,7 +1,8 @@
 -- Sets of powers of two as masks: the sum of a part of a short list holds a power of two exactly where the part contains it.
 -- Of the lists of widths and lane counts alone.
 --     holds_what_it_contains      a mask of a part of a tested list holds what the part contains, and nothing else
-use Rattle.std.proofs.Common.{◌≡◌, ℕ, suc, ◌==◌, ◌↔◌, ◌⊎◌, Bool, true, false, ◌||◌, List, [], ◌∷◌, length, map, Contains, bit_and, sum, refl, sym, ap, ◌∙◌, subst, suc-le-suc, zero-lt-suc, inl, inr, arith}
+use Rattle.std.proofs.Common.{◌≡◌, ℕ, suc, ◌==◌, ◌↔◌, ◌⊎◌, Bool, true, false, ◌||◌, List, [], ◌∷◌, length, map, Contains, bit_and, sum}
+use Rattle.std.proofs.Common.{refl, sym, ap, ◌∙◌, subst, suc-le-suc, zero-lt-suc, inl, inr, arith}
 use Rattle.std.proofs.lemmas.Bool.{or_cases, or_left, or_right, eqb-true, eq-eqb}
 use Rattle.std.proofs.lemmas.List.{length-map}
 use Rattle.meta_lists.proofs.Contained.{contains_cases}
@@ -62,11 +63,13 @@ mask_answers : (all xs : List ℕ) (n : ℕ) → all_tell all ≡ true → IsPar
 mask_answers all xs n tested part c =
     let kept : xs ≡ marked (map part.test all) all = part.is ∙ filter_marked part.test all in
     let told = passes_at_marks (tells all) (map part.test all) (ap (λ n. at_marks n (tells all)) (length-map all part.test) ∙ tested) in
-    let here = same_mark_true _ _ (at_each_contained (λ x. same_mark (bit_and (sum (marked (map part.test all) all)) x == x) (is_among (marked (map part.test all) all) x)) all n told c) in
+    let here = same_mark_true _ _ (at_each_contained (λ x. same_mark (bit_and (sum (marked (map part.test all) all)) x == x)
+    (is_among (marked (map part.test all) all) x)) all n told c) in
     subst (λ ys. (bit_and (sum ys) n == n) ≡ is_among ys n) (sym kept) here
 
 -- The mask of a part of a tested list holds what the part contains, and of the list nothing else.
-pub holds_what_it_contains : (all xs : List ℕ) (n : ℕ) → all_tell all ≡ true → IsPart xs all → Contains all n → (Holds (sum xs) n ↔ Contains xs n)
+pub holds_what_it_contains : (all xs : List ℕ) (n : ℕ) → all_tell all ≡ true → IsPart xs all → Contains all n
+    → (Holds (sum xs) n ↔ Contains xs n)
 holds_what_it_contains all xs n tested part c =
     let e = mask_answers all xs n tested part c in
     ((λ h. has_true xs n (sym e ∙ eq-eqb (bit_and (sum xs) n) n h)), (λ h. eqb-true (bit_and (sum xs) n) n (e ∙ true_has xs n h)))

@@ -41,8 +41,11 @@ module _ (sets : Sets) (i : Instruction) (controls : Which → Option Variable) 
   same_under (ByType a f) (FreeType s) h k = absurd (not_empty h.variable.chain f (sym h.derived.chain ∙ k.underived))
   same_under (ByType a f) (SameType b) h k = absurd (no_step b a f k.controls_is h)
   same_under (ByType a f) (ByType b g) h k =
-      ap₂ ByType (ruling.one a b h.variable k.variable h.controls_is k.controls_is (sym h.derived.root ∙ k.derived.root)) (same_from_push h.variable.chain k.variable.chain f g (sym h.derived.chain ∙ k.derived.chain)).1
+      ap₂ ByType (ruling.one a b h.variable k.variable h.controls_is k.controls_is (sym h.derived.root ∙ k.derived.root))
+      (same_from_push h.variable.chain k.variable.chain f g (sym h.derived.chain ∙ k.derived.chain)).1
 
 -- An operand has at most one constraint.
-pub only_constraint : (sets : Sets) (i : Instruction) (control : Option Variable) → IsControl sets i control → (HasBadSecond sets i → ⊥) → (w : Variable) (x y : TypeConstraint) → IsConstraint sets (controls_of i control) w x → IsConstraint sets (controls_of i control) w y → x ≡ y
+pub only_constraint : (sets : Sets) (i : Instruction) (control : Option Variable) → IsControl sets i control → (HasBadSecond sets i → ⊥)
+    → (w : Variable) (x y : TypeConstraint) → IsConstraint sets (controls_of i control) w x → IsConstraint sets (controls_of i control) w y
+    → x ≡ y
 only_constraint sets i control h good w x y = same_under sets i (controls_of i control) (ruling_of sets i control h good) w x y

@@ -14,7 +14,8 @@ IsChosenControl choice (Some v) c = c ≡ Some (choice v.root)
 -- The instruction with this control accepts the controlling type c, the second controlling type d, the results rs and the
 -- values vs: there is one choice of a type for every root at once, each a member of its root's set, that gives the controlling
 -- types, and from which the chain of each operand leads to that operand's type.
-pub record Accepts (sets : Sets) (i : Instruction) (control : Option Variable) (c d : Option TypeParts) (rs vs : List TypeParts) : Type 0 where
+pub record Accepts (sets : Sets) (i : Instruction) (control : Option Variable) (c d : Option TypeParts)
+    (rs vs : List TypeParts) : Type 0 where
   pub results : length rs ≡ length i.results
   pub values : length vs ≡ length i.values
   pub choice : ℕ → TypeParts

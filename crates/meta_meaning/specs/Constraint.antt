@@ -60,9 +60,11 @@ PassesOwn sets controls c w t = (x : TypeConstraint) × IsConstraint sets contro
 
 -- One test an operand: the lists are as long as declared, the two controlling types fit, and the type of each operand passes
 -- that operand's constraint.
-pub record Admits (sets : Sets) (i : Instruction) (control : Option Variable) (c d : Option TypeParts) (rs vs : List TypeParts) : Type 0 where
+pub record Admits (sets : Sets) (i : Instruction) (control : Option Variable) (c d : Option TypeParts) (rs vs : List TypeParts) :
+    Type 0 where
   pub results : length rs ≡ length i.results
   pub values : length vs ≡ length i.values
   pub control_fits : ControlFits sets control c
   pub second_fits : ControlFits sets i.second d
-  pub passes : (k : ℕ) (w : Variable) (t : TypeParts) → IsOperand i k w → slice_get (rs ++ vs) k ≡ Some t → PassesOwn sets (controls_of i control) (both c d) w t
+  pub passes : (k : ℕ) (w : Variable) (t : TypeParts) → IsOperand i k w → slice_get (rs ++ vs) k ≡ Some t
+      → PassesOwn sets (controls_of i control) (both c d) w t

@@ -32,7 +32,8 @@ IsControlAlone sets i None = HasOneEverywhere sets i
 IsControlAlone sets i (Some v) = IsControlledAlone sets i v
 
 -- the instruction with this control accepts the controlling type c, the results rs and the values vs
-pub record AcceptsAlone (sets : Sets) (i : Instruction) (control : Option Variable) (c : Option TypeParts) (rs vs : List TypeParts) : Type 0 where
+pub record AcceptsAlone (sets : Sets) (i : Instruction) (control : Option Variable) (c : Option TypeParts)
+    (rs vs : List TypeParts) : Type 0 where
   pub results : length rs ≡ length i.results
   pub values : length vs ≡ length i.values
   pub choice : ℕ → TypeParts

@@ -1,7 +1,8 @@
 -- Tables, as contracts see them, and how they are read.
 --     Allows tables op c d rs vs            the decoding: the tables accept these numbers for the opcode
 --     AreOpcodeNumbersOf sets i control tables entry   the tables hold the instruction as this entry
-use Rattle.std.specs.Prelude.{◌≡◌, ℕ, ◌+◌, ◌/◌, ◌%◌, ◌<◌, ◌==◌, ◌↔◌, ◌≢◌, List, ◌++◌, length, slice_get, Option, None, Some, MatchBool, zero, suc}
+use Rattle.std.specs.Prelude.{◌≡◌, ℕ, ◌+◌, ◌/◌, ◌%◌, ◌<◌, ◌==◌, ◌↔◌, ◌≢◌, List, ◌++◌, length, slice_get, Option, None, Some, MatchBool}
+use Rattle.std.specs.Prelude.{zero, suc}
 use Rattle.meta_types.specs.TypeParts.{number_of}
 use Rattle.meta_types.specs.Function.{Function, StepsNumbers}
 use Rattle.meta_typevar.specs.TypeSetParts.{TypeSetParts}
@@ -138,8 +139,10 @@ pub record Constrains (sets : Sets) (controls : Which → Option Variable) (tabl
   pub placed : slice_get tables.operand_constraints place ≡ Some number_constraint
 
 -- the entry holds the instruction with this control: flags, type sets and constraints are those of its declaration
-pub record AreOpcodeNumbersOf (sets : Sets) (i : Instruction) (control : Option Variable) (tables : TableContents) (entry : OpcodeNumbers) : Type 0 where
+pub record AreOpcodeNumbersOf (sets : Sets) (i : Instruction) (control : Option Variable) (tables : TableContents)
+    (entry : OpcodeNumbers) : Type 0 where
   pub flags : AreFlagsOf i control entry.flags
   pub type_set : IsTypeSetOffset sets control tables entry.typeset_offset
   pub second_set : IsTypeSetOffset sets i.second tables entry.second_offset
-  pub constraints : (k : ℕ) (w : Variable) → IsOperand i k w → Constrains sets (controls_of i control) tables (entry.constraint_offset + k) w
+  pub constraints : (k : ℕ) (w : Variable) → IsOperand i k w
+      → Constrains sets (controls_of i control) tables (entry.constraint_offset + k) w

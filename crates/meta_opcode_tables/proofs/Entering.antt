@@ -29,7 +29,8 @@ few_values b small =
     let few : 7 < length (variables_of (inputs_of b)) → ⊥ = λ l. small (length (variables_of (inputs_of b))) (inr (results, l, refl)) in
     omega arith
 
-module _ (d : InstructionSet) (valid : IsValid d) (fits : AreOfRegistries d.vars d.formats d.instructions) (sets : List TypeSetParts) (needed : AreSetsByNeed d sets) (k : ℕ) (c : BuiltInstruction) (h : IsBuiltAt d k c) where
+module _ (d : InstructionSet) (valid : IsValid d) (fits : AreOfRegistries d.vars d.formats d.instructions) (sets : List TypeSetParts)
+    (needed : AreSetsByNeed d sets) (k : ℕ) (c : BuiltInstruction) (h : IsBuiltAt d k c) where
   small : (count : ℕ) → HasTooManyOperands h.builder count → ⊥
   small count many = valid (OfInstruction k CountRule) _ (inl (record { builder = h.builder; at = h.at; breaks = (count, refl, many) }))
 
@@ -37,8 +38,11 @@ module _ (d : InstructionSet) (valid : IsValid d) (fits : AreOfRegistries d.vars
   can_enter =
       let list = operands_are d h.builder c h.is in
       let means = meaning d h.builder c h.is in
-      let count : c.value_operands.result_count ≡ length (variables_of (outputs_of h.builder)) = ap (λ (o : OperandList). o.result_count) list in
-      let all : length c.value_operands.variables ≡ length (variables_of (outputs_of h.builder)) + length (variables_of (inputs_of h.builder)) = ap (λ (o : OperandList). length o.variables) list ∙ length-append (variables_of (outputs_of h.builder)) (variables_of (inputs_of h.builder)) in
+      let count : c.value_operands.result_count ≡ length (variables_of (outputs_of h.builder)) =
+      ap (λ (o : OperandList). o.result_count) list in
+      let all : length c.value_operands.variables ≡ length (variables_of (outputs_of h.builder))
+      + length (variables_of (inputs_of h.builder)) = ap (λ (o : OperandList). length o.variables) list
+      ∙ length-append (variables_of (outputs_of h.builder)) (variables_of (inputs_of h.builder)) in
       let results = few_results h.builder small in
       let values = few_values h.builder small in
       record {
@@ -46,9 +50,11 @@ module _ (d : InstructionSet) (valid : IsValid d) (fits : AreOfRegistries d.vars
         is_control = built_control_is d h.builder c h.is;
         controls = controls_are d h.builder c h.is (fits k h.builder h.at);
         good = subst (λ (i : Instruction). HasBadSecond (root_sets d) i → ⊥) (sym means) (good_second d valid k h.builder h.at);
-        derived = subst (λ (i : Instruction). (place : ℕ) → DerivesBadly (root_sets d) i place → ⊥) (sym means) (well_derived d valid k h.builder h.at);
+        derived = subst (λ (i : Instruction). (place : ℕ) → DerivesBadly (root_sets d) i place
+            → ⊥) (sym means) (well_derived d valid k h.builder h.at);
         results = omega arith;
         values = omega arith;
         within = within_is d h.builder c h.is;
-        held = subst (λ (i : Instruction). HoldNeeded sets (root_sets d) i) (sym means) (needed_held d sets needed.are_needed k h.builder h.at);
+        held = subst (λ (i : Instruction). HoldNeeded sets (root_sets d) i) (sym means)
+            (needed_held d sets needed.are_needed k h.builder h.at);
       }

@@ -1,5 +1,6 @@
 -- Which numbers are masks of widths, and of lane counts, by trying all of them.
-use Rattle.std.proofs.Common.{◌≡◌, ◌<◌, ◌≤◌, ◌%◌, ◌==◌, ◌&&◌, ◌||◌, not, cond, ⊎_elim, ℕ, zero, suc, Bool, true, false, List, [], ◌∷◌, sum, refl, sym, subst, arith}
+use Rattle.std.proofs.Common.{◌≡◌, ◌<◌, ◌≤◌, ◌%◌, ◌==◌, ◌&&◌, ◌||◌, not, cond, ⊎_elim, ℕ, zero, suc, Bool, true, false, List, [], ◌∷◌, sum}
+use Rattle.std.proofs.Common.{refl, sym, subst, arith}
 use Rattle.std.specs.List.{filter}
 use Rattle.std.proofs.lemmas.List.Sums.{sum_by-cons}
 use Rattle.std.proofs.lemmas.Bool.{cases_eq, and_parts, eqb-true, eq-eqb}
@@ -42,7 +43,8 @@ abbrev is_held : List ℕ → ℕ → Bool
 is_held all n = n == sum (filter (holds n) all)
 
 -- where a test and its converse pass below a bound, it tells there which numbers are masks
-module _ (all : List ℕ) (bound : ℕ) (test : ℕ → Bool) (to : passes_below bound (λ n. not (test n) || is_held all n) ≡ true) (back : passes_below bound (λ n. not (is_held all n) || test n) ≡ true) (n : ℕ) (below : n < bound) where
+module _ (all : List ℕ) (bound : ℕ) (test : ℕ → Bool) (to : passes_below bound (λ n. not (test n) || is_held all n)
+    ≡ true) (back : passes_below bound (λ n. not (is_held all n) || test n) ≡ true) (n : ℕ) (below : n < bound) where
   held_by : test n ≡ true → n ≡ sum (filter (holds n) all)
   held_by e = eqb-true _ _ (implies (test n) (is_held all n) (passes_at bound (λ n. not (test n) || is_held all n) to n below) e)
 
@@ -62,7 +64,8 @@ pub dynamic_few : (n : ℕ) → IsMaskOf (lane_counts true) n → n ≤ 510
 dynamic_few n e = let h = sum_some (holds n) (lane_counts true) in omega (arith, e, h)
 
 pub dynamic_even : (n : ℕ) → IsMaskOf (lane_counts true) n → n % 2 ≡ 0
-dynamic_even n e = eqb-true _ _ (told_by (lane_counts true) 511 (λ n. n % 2 == 0) refl refl n (let l = dynamic_few n e in omega (arith, l)) e)
+dynamic_even n e = eqb-true _ _ (told_by (lane_counts true) 511 (λ n. n % 2 == 0) refl refl n
+    (let l = dynamic_few n e in omega (arith, l)) e)
 
 pub ints_held : (n : ℕ) → n < 256 → n % 8 ≡ 0 → IsMaskOf (widths IntKind) n
 ints_held n l e = held_by (widths IntKind) 256 (λ n. n % 8 == 0) refl refl n l (eq-eqb _ _ e)

@@ -33,12 +33,14 @@ one_standing sets ms ns a b =
     m_at ∙ ap Some (one_masks s m n is_m is_n) ∙ sym n_at)
 
 pub one_needed : (d : InstructionSet) (ms ns : List Masks) → AreNeededMasks d ms → AreNeededMasks d ns → ms ≡ ns
-one_needed d ms ns a b = one_standing b.sets ms ns (subst (StandForSets ms) (one_sets d a.sets b.sets a.are_needed b.are_needed) a.stand) b.stand
+one_needed d ms ns a b =
+    one_standing b.sets ms ns (subst (StandForSets ms) (one_sets d a.sets b.sets a.are_needed b.are_needed) a.stand) b.stand
 
 -- ---- at two places stand masks of two sets
 
 -- the masks of a set of types stand at one place
-pub one_masked_place : (d : InstructionSet) (masks : List Masks) → HoldTypeSets d.vars → AreNeededMasks d masks → (j k : ℕ) (s : TypeSetParts) (m n : Masks) → IsTypeSet s
+pub one_masked_place : (d : InstructionSet) (masks : List Masks) → HoldTypeSets d.vars → AreNeededMasks d masks
+    → (j k : ℕ) (s : TypeSetParts) (m n : Masks) → IsTypeSet s
     → slice_get masks j ≡ Some m → AreMasksOf s m → slice_get masks k ≡ Some n → AreMasksOf s n → j ≡ k
 one_masked_place d masks typed needed j k s m n is m_at are_m n_at are_n =
     let sets = needed.are_needed.are_needed in

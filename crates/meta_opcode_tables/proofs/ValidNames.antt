@@ -1,5 +1,6 @@
 -- The names of valid declarations, and those of the formats in use.
-use Rattle.std.proofs.Common.{◌≡◌, ◌≢◌, ◌<◌, ◌≤◌, ◌⊎◌, inl, inr, ⊎_elim, ℕ, zero, suc, List, All, length, map, slice_get, Some, refl, sym, ap, ◌∙◌, subst, below_more, arith}
+use Rattle.std.proofs.Common.{◌≡◌, ◌≢◌, ◌<◌, ◌≤◌, ◌⊎◌, inl, inr, ⊎_elim, ℕ, zero, suc, List, All, length, map, slice_get, Some, refl, sym}
+use Rattle.std.proofs.Common.{ap, ◌∙◌, subst, below_more, arith}
 use Rattle.std.proofs.lemmas.Bool.{cases_eq}
 use Rattle.std.proofs.lemmas.Option.{same_Some, slice_get_within}
 use Rattle.meta_lists.proofs.Everywhere.{everywhere, at_place}
@@ -29,13 +30,16 @@ module _ (d : InstructionSet) (valid : IsValid d) where
   pub valid_names : All IsName (names_of d)
   valid_names = everywhere (names_of d) (λ k name at.
       let (b, b_at, is) = get_mapped (λ (x : Builder). x.name) d.instructions k name at in
-      name_so name (λ none. valid (OfInstruction k NameRule) _ (inl (record { builder = b; at = b_at; breaks = (refl, (λ n. none (subst IsName is n))) }))))
+      name_so name (λ none. valid (OfInstruction k NameRule) _
+      (inl (record { builder = b; at = b_at; breaks = (refl, (λ n. none (subst IsName is n))) }))))
 
   pub distinct_names : AreDistinct (names_of d)
-  distinct_names k j shared = valid (OfInstruction k DuplicateRule) _ (inr (record { second = refl; earlier = j; duplicate = shared; tells = refl }))
+  distinct_names k j shared =
+      valid (OfInstruction k DuplicateRule) _ (inr (record { second = refl; earlier = j; duplicate = shared; tells = refl }))
 
   -- the format is used first at some place, or nowhere among so many
-  first_use : (f n : ℕ) → n ≤ length d.instructions → ((j : ℕ) × IsFirstUse d f j) ⊎ ((i : ℕ) (b : Builder) → i < n → IsAt d i b → b.format ≢ f)
+  first_use : (f n : ℕ) → n ≤ length d.instructions → ((j : ℕ) × IsFirstUse d f j)
+      ⊎ ((i : ℕ) (b : Builder) → i < n → IsAt d i b → b.format ≢ f)
   first_use f zero l = inr (λ i b below at. absurd (omega (arith, below)))
   first_use f (suc n) l =
       ⊎_elim
@@ -52,10 +56,12 @@ module _ (d : InstructionSet) (valid : IsValid d) where
       (first_use f n (omega arith))
 
   -- each format in use has a name
-  format_name : (k : ℕ) (b : Builder) (format : InstructionFormat) → IsAt d k b → slice_get d.formats b.format ≡ Some format → IsName format.name
+  format_name : (k : ℕ) (b : Builder) (format : InstructionFormat) → IsAt d k b → slice_get d.formats b.format ≡ Some format
+      → IsName format.name
   format_name k b format at is =
       ⊎_elim
-      (λ used. name_so format.name (λ none. valid (OfFormat used.0 FormatNameRule) _ (record { format = b.format; first_use = used.1; breaks = (refl, (format, is, none)) })))
+      (λ used. name_so format.name (λ none. valid (OfFormat used.0 FormatNameRule) _
+      (record { format = b.format; first_use = used.1; breaks = (refl, (format, is, none)) })))
       (λ unused. absurd (unused k b (slice_get_within d.instructions k b at) at refl))
       (first_use b.format (length d.instructions) (omega arith))
 

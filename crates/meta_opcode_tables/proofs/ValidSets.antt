@@ -21,7 +21,8 @@ held_set : (all : List ℕ) → keeps all ≡ true → (xs : List ℕ) → IsPar
 held_set all e xs part mask is = ap (λ (m : ℕ). filter (holds m) all) (is ∙ ap sum part.is) ∙ holds_sum all e part.test ∙ sym part.is
 
 -- so it is the sum of what it holds of them
-held_alone : (all : List ℕ) → keeps all ≡ true → (xs : List ℕ) → IsPart xs all → (mask : ℕ) → mask ≡ sum xs → mask ≡ sum (filter (holds mask) all)
+held_alone : (all : List ℕ) → keeps all ≡ true → (xs : List ℕ) → IsPart xs all → (mask : ℕ) → mask ≡ sum xs
+    → mask ≡ sum (filter (holds mask) all)
 held_alone all e xs part mask is = is ∙ ap sum (sym (held_set all e xs part mask is))
 
 -- the masks of a set of types stand for it
@@ -55,7 +56,8 @@ module _ (d : InstructionSet) where
   needed_masks typed masks needed = everywhere masks (λ k m at.
       let (s, s_at) = get_beside masks needed.sets k m needed.stand.count at in
       let (n, n_at, are) = needed.stand.each k s s_at in
-      masks_of_set s m (needed_set typed s (needed.are_needed.are_needed.needed k s s_at)) (subst (AreMasksOf s) (same_Some n m (sym n_at ∙ at)) are))
+      masks_of_set s m (needed_set typed s (needed.are_needed.are_needed.needed k s s_at))
+      (subst (AreMasksOf s) (same_Some n m (sym n_at ∙ at)) are))
 
   -- valid declarations need few
   pub few_masks : IsValid d → (masks : List Masks) → AreNeededMasks d masks → length masks ≤ 4095

@@ -1,4 +1,5 @@
-ghost use Rattle.std.specs.Prelude.{◌≡◌, ◌≢◌, ◌↔◌, ◌≤◌, ◌+◌, ◌^◌, ◌<◌, ℕ, List, Option, IsTrue, IsSome, IfSome, IfNone, IfOk, length, map, take, drop, slice_get, Contains, None, Some};
+ghost use Rattle.std.specs.Prelude.{◌≡◌, ◌≢◌, ◌↔◌, ◌≤◌, ◌+◌, ◌^◌, ◌<◌, ℕ, List, Option, IsTrue, IsSome, IfSome, IfNone, IfOk, length, map};
+ghost use Rattle.std.specs.Prelude.{take, drop, slice_get, Contains, None, Some};
 ghost use Rattle.meta_lists.specs.First.{IsFirst};
 ghost use Rattle.meta_types.specs.DerivedFunc.{function_of};
 ghost use Rattle.meta_types.specs.Function.{StepsNumbers};
@@ -50,9 +51,17 @@ impl Model for OpcodeTables {
 
     ghost Value = { TableContents };
 
-    ghost view = { λ t. contents_of (record { names = t.names.items; formats = t.formats.items; slots = t.opcode_slots.items }) t.type_sets.items t.operand_constraints.items t.constraints.items };
+    ghost view = { λ t. contents_of (record {
+      names = t.names.items;
+      formats = t.formats.items;
+      slots = t.opcode_slots.items;
+    }) t.type_sets.items t.operand_constraints.items t.constraints.items };
 
-    ghost invariant = { λ t. AreKept (contents_of (record { names = t.names.items; formats = t.formats.items; slots = t.opcode_slots.items }) t.type_sets.items t.operand_constraints.items t.constraints.items) };
+    ghost invariant = { λ t. AreKept (contents_of (record {
+      names = t.names.items;
+      formats = t.formats.items;
+      slots = t.opcode_slots.items;
+    }) t.type_sets.items t.operand_constraints.items t.constraints.items) };
 }
 
 /// The number of the first opcode.
@@ -88,8 +97,10 @@ impl OpcodeTables {
     pub fn of(alloc: Global, built: &Built<'_>) -> Result<OpcodeTables, AllocError>
         ensures tables { IfOk result (λ t. AreTablesOf built.now.declared.set t) }
         ensures well_formed { IfOk result IsWellFormedOpcodes }
-        ensures acceptance { IfOk result (λ t. (op : ℕ) (c e : Option ℕ) (rs vs : List ℕ) → (Allows t op c e rs vs ↔ AcceptsOpcode built.now.declared.set op c e rs vs)) }
-        ensures inference { IfOk result (λ t. (op : ℕ) (c e : Option ℕ) (numbers : List ℕ) → (GivesResults t op c e numbers ↔ InfersOpcode built.now.declared.set op c e numbers)) }
+        ensures acceptance { IfOk result (λ t. (op : ℕ) (c e : Option ℕ) (rs vs : List ℕ)
+            → (Allows t op c e rs vs ↔ AcceptsOpcode built.now.declared.set op c e rs vs)) }
+        ensures inference { IfOk result (λ t. (op : ℕ) (c e : Option ℕ) (numbers : List ℕ)
+            → (GivesResults t op c e numbers ↔ InfersOpcode built.now.declared.set op c e numbers)) }
     {
         let declarations = built.declarations();
         let instructions = declarations.instructions();
@@ -116,8 +127,11 @@ impl OpcodeTables {
         operand_constraints: Vec<Constraint>,
         constraints: Vec<OpcodeConstraints>,
     ) -> Result<OpcodeTables, AllocError>
-        requires { AreWellFormedParts names.items formats.items type_sets.items (map number_constraint_of operand_constraints.items) (map entry_of constraints.items) }
-        ensures parts { IfOk result (λ t. t ≡ contents_of (record { names = names.items; formats = formats.items; slots = t.opcode_slots }) type_sets.items operand_constraints.items constraints.items) }
+        requires { AreWellFormedParts names.items formats.items type_sets.items
+            (map number_constraint_of operand_constraints.items) (map entry_of constraints.items) }
+        ensures parts { IfOk result (λ t. t ≡ contents_of
+            (record { names = names.items; formats = formats.items; slots = t.opcode_slots }) type_sets.items
+            operand_constraints.items constraints.items) }
         ensures slots { IfOk result (λ t. AreNameSlots 1 names.items t.opcode_slots) }
         ensures well_formed { IfOk result IsWellFormedOpcodes }
     {
@@ -254,7 +268,8 @@ impl OpcodeTables {
         ensures finds { (op : ℕ) → at_opcode self.now.names op ≡ Some name.now → result ≡ Some op }
         ensures none { IfNone result ((k : ℕ) → at_opcode self.now.names k ≢ Some name.now) }
         ensures findings { (d : InstructionSet) → AreTablesOf d self.now → FindsName d name.now result }
-        ensures steps { (last : ℕ) × IsNameLookup 1 self.now.names self.now.opcode_slots name.now result last × (steps.new ≡ steps.old + (last + 1)) }
+        ensures steps { (last : ℕ) × IsNameLookup 1 self.now.names self.now.opcode_slots name.now result last
+            × (steps.new ≡ steps.old + (last + 1)) }
         ensures most { steps.new ≤ steps.old + length self.now.opcode_slots }
     {
         probe_counted(
@@ -270,7 +285,8 @@ impl OpcodeTables {
     /// opcode that there isn't.
     pub fn accepts(&self, opcode: u16, ctrl: Option<u16>, results: &[u16], values: &[u16]) -> bool
         ensures decoding { IsTrue result ↔ Allows self.now opcode ctrl None results.now values.now }
-        ensures meaning { (d : InstructionSet) → HoldTypeSets d.vars → AreTablesOf d self.now → (IsTrue result ↔ AcceptsOpcode d opcode ctrl None results.now values.now) }
+        ensures meaning { (d : InstructionSet) → HoldTypeSets d.vars → AreTablesOf d self.now
+            → (IsTrue result ↔ AcceptsOpcode d opcode ctrl None results.now values.now) }
     {
         self.accepts2(opcode, ctrl, None, results, values)
     }
@@ -285,7 +301,8 @@ impl OpcodeTables {
         values: &[u16],
     ) -> bool
         ensures decoding { IsTrue result ↔ Allows self.now opcode ctrl second results.now values.now }
-        ensures meaning { (d : InstructionSet) → HoldTypeSets d.vars → AreTablesOf d self.now → (IsTrue result ↔ AcceptsOpcode d opcode ctrl second results.now values.now) }
+        ensures meaning { (d : InstructionSet) → HoldTypeSets d.vars → AreTablesOf d self.now
+            → (IsTrue result ↔ AcceptsOpcode d opcode ctrl second results.now values.now) }
     {
         let Some(entry) = self.constraints(opcode) else {
             return false;
@@ -315,7 +332,8 @@ impl OpcodeTables {
     pub fn infer_control(&self, opcode: u16, value: u16) -> Option<u16>
         ensures value { IfSome result (λ n. n ≡ value) }
         ensures some { IsSome result ↔ InfersControl self.now opcode value }
-        ensures meaning { (d : InstructionSet) → HoldTypeSets d.vars → AreTablesOf d self.now → IfSome result (λ n. (c e : Option ℕ) (rs vs : List ℕ) → Allows self.now opcode c e rs vs → HasControlType d opcode c vs) }
+        ensures meaning { (d : InstructionSet) → HoldTypeSets d.vars → AreTablesOf d self.now
+            → IfSome result (λ n. (c e : Option ℕ) (rs vs : List ℕ) → Allows self.now opcode c e rs vs → HasControlType d opcode c vs) }
     {
         let entry = self.constraints(opcode)?;
         if entry.designated_controls() && self.set_contains(entry.typeset_offset, value) {
@@ -332,9 +350,12 @@ impl OpcodeTables {
         ensures rest { IfSome result (λ count. drop count out.new ≡ drop count out.old) }
         ensures none { IfNone result ((numbers : List ℕ) → ¬ GivesResults self.now opcode ctrl None numbers) }
         ensures unchanged { IfNone result (out.new ≡ out.old) }
-        ensures meaning { (d : InstructionSet) → HoldTypeSets d.vars → AreTablesOf d self.now → IfSome result (λ count. InfersOpcode d opcode ctrl None (take count out.new)) }
-        ensures refused { (d : InstructionSet) → HoldTypeSets d.vars → AreTablesOf d self.now → IfNone result ((numbers : List ℕ) → ¬ InfersOpcode d opcode ctrl None numbers) }
-        ensures accepted { IfSome result (λ count. (rs vs : List ℕ) → Allows self.now opcode ctrl None rs vs → (k m n : ℕ) → slice_get (take count out.new) k ≡ Some n → n ≢ 0 → slice_get rs k ≡ Some m → m ≡ n) }
+        ensures meaning { (d : InstructionSet) → HoldTypeSets d.vars → AreTablesOf d self.now
+            → IfSome result (λ count. InfersOpcode d opcode ctrl None (take count out.new)) }
+        ensures refused { (d : InstructionSet) → HoldTypeSets d.vars → AreTablesOf d self.now
+            → IfNone result ((numbers : List ℕ) → ¬ InfersOpcode d opcode ctrl None numbers) }
+        ensures accepted { IfSome result (λ count. (rs vs : List ℕ) → Allows self.now opcode ctrl None rs vs
+            → (k m n : ℕ) → slice_get (take count out.new) k ≡ Some n → n ≢ 0 → slice_get rs k ≡ Some m → m ≡ n) }
         ensures unaccepted { IfNone result ((rs vs : List ℕ) → ¬ Allows self.now opcode ctrl None rs vs) }
     {
         self.infer_results2(opcode, ctrl, None, out)
@@ -355,9 +376,12 @@ impl OpcodeTables {
         ensures rest { IfSome result (λ count. drop count out.new ≡ drop count out.old) }
         ensures none { IfNone result ((numbers : List ℕ) → ¬ GivesResults self.now opcode ctrl second numbers) }
         ensures unchanged { IfNone result (out.new ≡ out.old) }
-        ensures meaning { (d : InstructionSet) → HoldTypeSets d.vars → AreTablesOf d self.now → IfSome result (λ count. InfersOpcode d opcode ctrl second (take count out.new)) }
-        ensures refused { (d : InstructionSet) → HoldTypeSets d.vars → AreTablesOf d self.now → IfNone result ((numbers : List ℕ) → ¬ InfersOpcode d opcode ctrl second numbers) }
-        ensures accepted { IfSome result (λ count. (rs vs : List ℕ) → Allows self.now opcode ctrl second rs vs → (k m n : ℕ) → slice_get (take count out.new) k ≡ Some n → n ≢ 0 → slice_get rs k ≡ Some m → m ≡ n) }
+        ensures meaning { (d : InstructionSet) → HoldTypeSets d.vars → AreTablesOf d self.now
+            → IfSome result (λ count. InfersOpcode d opcode ctrl second (take count out.new)) }
+        ensures refused { (d : InstructionSet) → HoldTypeSets d.vars → AreTablesOf d self.now
+            → IfNone result ((numbers : List ℕ) → ¬ InfersOpcode d opcode ctrl second numbers) }
+        ensures accepted { IfSome result (λ count. (rs vs : List ℕ) → Allows self.now opcode ctrl second rs vs
+            → (k m n : ℕ) → slice_get (take count out.new) k ≡ Some n → n ≢ 0 → slice_get rs k ≡ Some m → m ≡ n) }
         ensures unaccepted { IfNone result ((rs vs : List ℕ) → ¬ Allows self.now opcode ctrl second rs vs) }
     {
         self.infer_into(ControlNumbers { ctrl, second }, opcode, out)

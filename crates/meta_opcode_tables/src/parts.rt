@@ -6,7 +6,8 @@ ghost use Rattle.meta_meaning.specs.Tables.{TableContents, no_type_set, SaysDesi
 ghost use Rattle.meta_opcode_tables.specs.Constraint.{number_constraint_of, entry_of};
 ghost use Rattle.meta_opcode_tables.specs.MaskParts.{IsMaskOf};
 ghost use Rattle.meta_types.specs.TypeNumber.{IsTypeNumber};
-ghost use Rattle.meta_opcode_tables.specs.WellFormed.{IsWellFormedConstraint, IsSetOffset, IsWellFormedEntry, AreWellFormedParts, IsWellFormedOpcodes, HaveParts};
+ghost use Rattle.meta_opcode_tables.specs.WellFormed.{IsWellFormedConstraint, IsSetOffset, IsWellFormedEntry, AreWellFormedParts};
+ghost use Rattle.meta_opcode_tables.specs.WellFormed.{IsWellFormedOpcodes, HaveParts};
 
 use super::constraint::{Constraint, Demand, NO_TYPE_SET, OpcodeConstraints};
 use super::opcode_tables::OpcodeTables;
@@ -173,7 +174,8 @@ fn are_well_formed(
     operand_constraints: &[Constraint],
     constraints: &[OpcodeConstraints],
 ) -> Result<bool, AllocError>
-    ensures { IfOk result (λ b. IsTrue b ↔ AreWellFormedParts names.now formats.now type_sets.now (map number_constraint_of operand_constraints.now) (map entry_of constraints.now)) }
+    ensures { IfOk result (λ b. IsTrue b ↔ AreWellFormedParts names.now formats.now type_sets.now
+        (map number_constraint_of operand_constraints.now) (map entry_of constraints.now)) }
 {
     if !are_few(
         constraints.len(),
@@ -211,9 +213,11 @@ pub fn opcodes_from_parts(
     operand_constraints: Vec<Constraint>,
     constraints: Vec<OpcodeConstraints>,
 ) -> Result<Option<OpcodeTables>, AllocError>
-    ensures some { IfOk result (λ o. IfSome o (λ t. HaveParts t names.items formats.items type_sets.items operand_constraints.items constraints.items)) }
+    ensures some { IfOk result (λ o. IfSome o (λ t. HaveParts t names.items formats.items type_sets.items
+        operand_constraints.items constraints.items)) }
     ensures well_formed { IfOk result (λ o. IfSome o IsWellFormedOpcodes) }
-    ensures none { IfOk result (λ o. IfNone o ((t : TableContents) → IsWellFormedOpcodes t → ¬ HaveParts t names.items formats.items type_sets.items operand_constraints.items constraints.items)) }
+    ensures none { IfOk result (λ o. IfNone o ((t : TableContents) → IsWellFormedOpcodes t
+        → ¬ HaveParts t names.items formats.items type_sets.items operand_constraints.items constraints.items)) }
 {
     if !are_well_formed(
         alloc,

@@ -76,6 +76,7 @@ same_command c d words h g =
     let same : command_words c ≡ command_words d = sym h.are ∙ g.are in
     let name : command_name c ≡ command_name d = cc in
     let behind : number_words c ≡ number_words d = cc in
-    let number : number_of c ≡ number_of d = one_behind (number_words c) (number_words d) (number_of c) (number_of d) behind (behind_of c h.number) (behind_of d g.number) in
+    let number : number_of c ≡ number_of d =
+    one_behind (number_words c) (number_words d) (number_of c) (number_of d) behind (behind_of c h.number) (behind_of d g.number) in
     let found : Some c ≡ Some d = sym (finds c) ∙ ap₂ command_named name number ∙ finds d in
     cc

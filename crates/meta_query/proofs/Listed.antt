@@ -1,5 +1,6 @@
 -- The entries of a manual that list the commands of `run`, and which commands their words are.
-use Rattle.std.proofs.Common.{◌≡◌, ◌≢◌, ◌∙◌, ◌<◌, ◌^◌, ◌⊎◌, inl, inr, ℕ, zero, suc, Bool, true, false, not, List, [], ◌∷◌, length, take, refl, sym, ap, ap₂, subst, arith}
+use Rattle.std.proofs.Common.{◌≡◌, ◌≢◌, ◌∙◌, ◌<◌, ◌^◌, ◌⊎◌, inl, inr, ℕ, zero, suc, Bool, true, false, not, List, [], ◌∷◌, length, take}
+use Rattle.std.proofs.Common.{refl, sym, ap, ap₂, subst, arith}
 use Rattle.std.proofs.lemmas.Bool.{and_parts}
 use Rattle.std.proofs.lemmas.List.{nil_from_length}
 use Rattle.std.specs.Prelude.{codes, slice_get, nat_eq, Option, Some, None}
@@ -81,13 +82,16 @@ other_name name entry e = by_test (pointwise nat_eq entry.name.now name) refl e
     by_test true is e = absurd (cc)
     by_test false is e = other_text entry.name.now name (sym is)
 
-others : (entries : List CommandForm) (place : ℕ) (name : List ℕ) → list_all (is_other name) (take place entries) ≡ true → NamesNoneBefore place entries name
+others : (entries : List CommandForm) (place : ℕ) (name : List ℕ)
+    → list_all (is_other name) (take place entries) ≡ true → NamesNoneBefore place entries name
 others entries zero name e k entry below at = absurd (omega (arith, below))
 others [] (suc place) name e k entry below at = absurd (cc)
 others (x ∷ entries) (suc place) name e zero entry below at =
-    subst (λ (it : CommandForm). it.name.now ≢ name) (some_same x entry at) (other_name name x (and_parts (is_other name x) (list_all (is_other name) (take place entries)) e).0)
+    subst (λ (it : CommandForm). it.name.now ≢ name) (some_same x entry at)
+    (other_name name x (and_parts (is_other name x) (list_all (is_other name) (take place entries)) e).0)
 others (x ∷ entries) (suc place) name e (suc k) entry below at =
-    others entries place name (and_parts (is_other name x) (list_all (is_other name) (take place entries)) e).1 k entry (omega (arith, below)) at
+    others entries place name (and_parts (is_other name x) (list_all (is_other name) (take place entries)) e).1 k
+    entry (omega (arith, below)) at
 
 -- the entries have one of the command, and none before it has its name
 pub record HaveEntry (entries : List CommandForm) (c : Command) : Type 0 where
@@ -98,7 +102,8 @@ pub record HaveEntry (entries : List CommandForm) (c : Command) : Type 0 where
   pub numbers : entry.numbers.now ≡ ranges_of c
   pub first : list_all (is_other (command_name c)) (take place entries) ≡ true
 
-pub listed : (entries : List CommandForm) → ((c : Command) → HaveEntry entries c) → (words : List (List ℕ)) → IsCommand words → AreTaken entries words
+pub listed : (entries : List CommandForm) → ((c : Command) → HaveEntry entries c) → (words : List (List ℕ))
+    → IsCommand words → AreTaken entries words
 listed entries have words h =
     let it = have h.0 in
     record {
@@ -109,20 +114,23 @@ listed entries have words h =
         named = record { place = it.place; at = it.at; name_is = refl };
         numbers = subst (λ r. AreNumbersIn r (number_words h.0)) (sym it.numbers) (numbers_of h.0 h.1.number);
       };
-      first = subst (λ (n : List ℕ). NamesNoneBefore it.place entries n) (sym it.name) (others entries it.place (command_name h.0) it.first);
+      first = subst (λ (n : List ℕ). NamesNoneBefore it.place entries n) (sym it.name)
+          (others entries it.place (command_name h.0) it.first);
     }
 
 -- ---- a command of each entry
 
 -- the entry is that of a command without a number, or of `synth`
 abbrev pub IsEntry : CommandForm → Type 0
-IsEntry entry = ((c : Command) × HasNumber c × (number_words c ≡ []) × (entry.name.now ≡ command_name c) × (entry.numbers.now ≡ [])) ⊎ ((entry.name.now ≡ codes "synth") × (entry.numbers.now ≡ range ∷ []))
+IsEntry entry = ((c : Command) × HasNumber c × (number_words c ≡ []) × (entry.name.now ≡ command_name c)
+    × (entry.numbers.now ≡ [])) ⊎ ((entry.name.now ≡ codes "synth") × (entry.numbers.now ≡ range ∷ []))
 
 abbrev pub AreEntries : List CommandForm → Type 0
 AreEntries [] = Unit
 AreEntries (entry ∷ entries) = IsEntry entry × AreEntries entries
 
-entry_at : (entries : List CommandForm) → AreEntries entries → (k : ℕ) (entry : CommandForm) → slice_get entries k ≡ Some entry → IsEntry entry
+entry_at : (entries : List CommandForm) → AreEntries entries → (k : ℕ) (entry : CommandForm)
+    → slice_get entries k ≡ Some entry → IsEntry entry
 entry_at [] all k entry e = absurd (cc)
 entry_at (x ∷ entries) all zero entry e = subst IsEntry (some_same x entry e) all.0
 entry_at (x ∷ entries) all (suc k) entry e = entry_at entries all.1 k entry e
@@ -135,5 +143,6 @@ of_entry entries words h (inr (name, one)) =
     let it = number_behind h.behind (subst (λ r. AreNumbersIn r h.behind) one h.numbers) in
     (Synth it.0, record { number = it.1; are = h.are ∙ ap₂ (λ n b. n ∷ b) name it.2 })
 
-pub commanded : (entries : List CommandForm) → AreEntries entries → (words : List (List ℕ)) → AreCommandWords entries words → IsCommand words
+pub commanded : (entries : List CommandForm) → AreEntries entries → (words : List (List ℕ))
+    → AreCommandWords entries words → IsCommand words
 commanded entries all words h = of_entry entries words h (entry_at entries all h.named.place h.command h.named.at)

@@ -18,17 +18,26 @@ is_false false never = refl
 pub one_command : {words : List (List ℕ)} (c d : Command) → AreWordsOf c words → AreWordsOf d words → c ≡ d
 one_command {words} c d = same_command c d words
 
-module _ {S K : Type 0} {left : S → Option (List ℕ)} {reads : S → ℕ} {taken : K → Option (List ℕ)} {writes : K → ℕ} {d : Declared} {s s' : S} {k k' : K} {words : List (List ℕ)} {ending : Ending} (run : IsRun left reads taken writes d s s' k k' (λ (command : Command). AreWordsOf command words) has_input (λ command. never_rejecting (IsOutputOf command)) ending) where
+module _ {S K : Type 0} {left : S → Option (List ℕ)} {reads : S → ℕ} {taken : K → Option (List ℕ)} {writes : K
+    → ℕ} {d : Declared} {s s' : S} {k k' : K} {words : List (List ℕ)} {ending : Ending}
+    (run : IsRun left reads taken writes d s s' k k' (λ (command : Command). AreWordsOf command words) has_input
+    (λ command. never_rejecting (IsOutputOf command)) ending) where
   -- a command that writes a text reads nothing
   pub text_unread : (command : Command) → WritesText command → AreWordsOf command words → s' ≡ s
-  text_unread command text is = lemma.unread run (λ c other. is_false (has_input c) (λ h. text (subst HasInput (one_command c command other is) h)))
+  text_unread command text is =
+      lemma.unread run (λ c other. is_false (has_input c) (λ h. text (subst HasInput (one_command c command other is) h)))
 
   module _ (no_fault : (e : DefinitionError) → AreValid d → ShowsFirst d e → ⊥) where
-    written : (command : Command) → AreWordsOf command words → WritesOutput left reads taken writes d s s' k k' (has_input command) (IsOutputOf command) ending
+    written : (command : Command) → AreWordsOf command words
+        → WritesOutput left reads taken writes d s s' k k' (has_input command) (IsOutputOf command) ending
     written command is = lemma.output IsOutputOf run one_command no_fault command is
 
-    pub headline : (command : Command) → HasInput command → AreWordsOf command words → WritesOutput left reads taken writes d s s' k k' true (IsOutputOf command) ending
-    headline command has is = subst (λ b. WritesOutput left reads taken writes d s s' k k' b (IsOutputOf command) ending) has (written command is)
+    pub headline : (command : Command) → HasInput command → AreWordsOf command words
+        → WritesOutput left reads taken writes d s s' k k' true (IsOutputOf command) ending
+    headline command has is = subst (λ b. WritesOutput left reads taken writes d s s' k k' b (IsOutputOf command) ending) has
+        (written command is)
 
-    pub texts : (command : Command) → WritesText command → AreWordsOf command words → WritesOutput left reads taken writes d s s' k k' false (IsOutputOf command) ending
-    texts command text is = subst (λ b. WritesOutput left reads taken writes d s s' k k' b (IsOutputOf command) ending) (is_false (has_input command) text) (written command is)
+    pub texts : (command : Command) → WritesText command → AreWordsOf command words
+        → WritesOutput left reads taken writes d s s' k k' false (IsOutputOf command) ending
+    texts command text is = subst (λ b. WritesOutput left reads taken writes d s s' k k' b (IsOutputOf command) ending)
+        (is_false (has_input command) text) (written command is)

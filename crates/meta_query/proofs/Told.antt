@@ -8,7 +8,8 @@ pub no_truth : false ≡ true → ⊥
 no_truth e = absurd (cc)
 
 -- it is told whether the tables that were read are these, and they answer
-pub told_by : (tables read : WholeTables) (text queries out : List ℕ) (same : Bool) → (IsTrue same ↔ (read ≡ tables)) → Reads text read → IsTold (sameness_line same) read queries out → IsAnswerBy tables text queries out
+pub told_by : (tables read : WholeTables) (text queries out : List ℕ) (same : Bool) → (IsTrue same ↔ (read ≡ tables)) → Reads text read
+    → IsTold (sameness_line same) read queries out → IsAnswerBy tables text queries out
 told_by tables read text queries out true decides reads told =
     inl (subst (Reads text) (decides.0 refl) reads, subst (λ t. IsTold (sameness_line true) t queries out) (decides.0 refl) told)
 told_by tables read text queries out false decides reads told =

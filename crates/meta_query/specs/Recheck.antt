@@ -73,7 +73,8 @@ pub record IsRefused (text out : List ℕ) : Type 0 where
 -- `same` and the answers where the text reads as the tables, `different` and the answers of the tables that were read where it reads
 -- as others, and `refused` alone where it reads as none
 abbrev pub IsAnswerBy : WholeTables → List ℕ → List ℕ → List ℕ → Type 0
-IsAnswerBy tables text queries out = (Reads text tables × IsTold (sameness_line true) tables queries out) ⊎ (AreOthersTold tables text queries out ⊎ IsRefused text out)
+IsAnswerBy tables text queries out = (Reads text tables × IsTold (sameness_line true) tables queries out)
+    ⊎ (AreOthersTold tables text queries out ⊎ IsRefused text out)
 
 -- the output for an input: the answer to its text and its queries
 pub record IsRecheckOf (tables : WholeTables) (input out : List ℕ) : Type 0 where

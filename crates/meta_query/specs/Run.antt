@@ -66,14 +66,17 @@ abbrev pub IsReading : List (List ℕ) → Type 0
 IsReading words = (command : Command) × AreWordsOf command words × HasInput command
 
 -- a source and a sink, by what they tell, before and after a run over declarations
-module _ {S K : Type 0} (left : S → Option (List ℕ)) (reads : S → ℕ) (taken : K → Option (List ℕ)) (writes : K → ℕ) (d : Declared) (s s' : S) (k k' : K) where
+module _ {S K : Type 0} (left : S → Option (List ℕ)) (reads : S → ℕ) (taken : K → Option (List ℕ)) (writes : K → ℕ)
+    (d : Declared) (s s' : S) (k k' : K) where
   -- The words are a command. Its input was read whole, and the sink took its output whole: what it answers as the declarations,
   -- which are valid, mean.
   abbrev pub IsOutputWhole : List (List ℕ) → Type 0
   IsOutputWhole words =
-      (command : Command) × AreWordsOf command words × IsAnsweredWhole left reads taken writes d s s' k k' (has_input command) (never_rejecting (IsOutputOf command)) false
+      (command : Command) × AreWordsOf command words
+      × IsAnsweredWhole left reads taken writes d s s' k k' (has_input command) (never_rejecting (IsOutputOf command)) false
 
   -- the words are a command, and the sink took a part of what was to be written, and not all
   abbrev pub IsOutputCutShort : List (List ℕ) → Type 0
   IsOutputCutShort words =
-      (command : Command) × AreWordsOf command words × IsCutShort left reads taken writes d s s' k k' (has_input command) (never_rejecting (IsOutputOf command))
+      (command : Command) × AreWordsOf command words
+      × IsCutShort left reads taken writes d s s' k k' (has_input command) (never_rejecting (IsOutputOf command))

@@ -49,23 +49,32 @@ pub fn run<S: Source, K: Sink>(
     // Each query over valid declarations is answered as they mean, and each table text is compared with their tables and its queries
     // answered by the tables that it reads as; their texts are written; and others are refused.
     ensures headline { (command : Command) → HasInput command → AreWordsOf command words.now
-        → WritesOutput S.left S.faults K.taken K.faults declarations.now source.old source.new sink.old sink.new true (IsOutputOf command) (ending_of result) }
+        → WritesOutput S.left S.faults K.taken K.faults declarations.now source.old source.new sink.old sink.new true
+        (IsOutputOf command) (ending_of result) }
     ensures texts { (command : Command) → WritesText command → AreWordsOf command words.now
-        → WritesOutput S.left S.faults K.taken K.faults declarations.now source.old source.new sink.old sink.new false (IsOutputOf command) (ending_of result) }
-    ensures refuses { IsCommand words.now → RefusesDeclarations S.left S.faults K.taken K.faults declarations.now source.old source.new sink.old sink.new (ending_of result) }
+        → WritesOutput S.left S.faults K.taken K.faults declarations.now source.old source.new sink.old sink.new false
+        (IsOutputOf command) (ending_of result) }
+    ensures refuses { IsCommand words.now
+        → RefusesDeclarations S.left S.faults K.taken K.faults declarations.now source.old source.new sink.old sink.new (ending_of result) }
     ensures complete { (command : Command) → AreWordsOf command words.now
-        → Completes S.left S.faults K.taken K.faults declarations.now source.old source.new sink.old sink.new (has_input command) (ending_of result) }
+        → Completes S.left S.faults K.taken K.faults declarations.now source.old source.new sink.old sink.new
+        (has_input command) (ending_of result) }
 
     // The words decide whether it is a usage error, and then nothing was read or written.
     ensures usage { result ≡ Status.Usage → ¬ IsCommand words.now }
     ensures no_command { ¬ IsCommand words.now → result ≡ Status.Usage }
 
-    ensures done { result ≡ Status.Done → IsOutputWhole S.left S.faults K.taken K.faults declarations.now source.old source.new sink.old sink.new words.now }
-    ensures refused { result ≡ Status.Refused → IsCommand words.now × IsRefusedWhole declarations.now (K.taken sink.old) (K.taken sink.new) }
-    ensures read_fault { result ≡ Status.ReadFault → IsReading words.now × AreValid declarations.now × Rose (S.faults source.old) (S.faults source.new) }
+    ensures done { result ≡ Status.Done
+        → IsOutputWhole S.left S.faults K.taken K.faults declarations.now source.old source.new sink.old sink.new words.now }
+    ensures refused { result ≡ Status.Refused → IsCommand words.now
+        × IsRefusedWhole declarations.now (K.taken sink.old) (K.taken sink.new) }
+    ensures read_fault { result ≡ Status.ReadFault → IsReading words.now × AreValid declarations.now
+        × Rose (S.faults source.old) (S.faults source.new) }
     ensures write_fault { result ≡ Status.WriteFault → IsCommand words.now × Rose (K.faults sink.old) (K.faults sink.new) }
-    ensures written_in_part { result ≡ Status.WriteFault → IsOutputCutShort S.left S.faults K.taken K.faults declarations.now source.old source.new sink.old sink.new words.now }
-    ensures too_long { result ≡ Status.TooLong → IsReading words.now × AreValid declarations.now × GaveMore longest_input (S.left source.old) (S.left source.new) }
+    ensures written_in_part { result ≡ Status.WriteFault
+        → IsOutputCutShort S.left S.faults K.taken K.faults declarations.now source.old source.new sink.old sink.new words.now }
+    ensures too_long { result ≡ Status.TooLong → IsReading words.now × AreValid declarations.now
+        × GaveMore longest_input (S.left source.old) (S.left source.new) }
     ensures else_within { result ≢ Status.TooLong → GaveAtMost longest_input (S.left source.old) (S.left source.new) }
 
     ensures untouched { WritesNothing (ending_of result) → sink.new ≡ sink.old }

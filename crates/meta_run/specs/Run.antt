@@ -51,7 +51,8 @@ pub record IsRefusedInPart (d : Declared) (taken taken' : Option (List ℕ)) : T
 -- what the refusal of declarations by a fault wrote, by how it ended
 abbrev pub Refuses : {K : Type 0} → (K → Option (List ℕ)) → (K → ℕ) → DefinitionError → K → K → Ending → Type 0
 Refuses taken writes fault k k' Refused = (fault ≢ fault_of.OutOfMemory) × (taken k' ≡ with_more (taken k) (refusal fault))
-Refuses taken writes fault k k' WriteFault = (fault ≢ fault_of.OutOfMemory) × Rose (writes k) (writes k') × TookPart (refusal fault) (taken k) (taken k')
+Refuses taken writes fault k k' WriteFault = (fault ≢ fault_of.OutOfMemory) × Rose (writes k) (writes k')
+    × TookPart (refusal fault) (taken k) (taken k')
 Refuses taken writes fault k k' OutOfMemory = k' ≡ k
 Refuses taken writes fault k k' Done = ⊥
 Refuses taken writes fault k k' Usage = ⊥
@@ -75,7 +76,8 @@ IsInput left false s s' input = (input ≡ []) × (s' ≡ s)
 -- ---- the input is answered
 
 -- a source and a sink, by what they tell, before and after a run over declarations
-module _ {S K : Type 0} (left : S → Option (List ℕ)) (reads : S → ℕ) (taken : K → Option (List ℕ)) (writes : K → ℕ) (d : Declared) (s s' : S) (k k' : K) where
+module _ {S K : Type 0} (left : S → Option (List ℕ)) (reads : S → ℕ) (taken : K → Option (List ℕ)) (writes : K → ℕ)
+    (d : Declared) (s s' : S) (k k' : K) where
   -- the declarations are valid, the input was read, and the sink took a text whole that answers it
   pub record IsAnsweredWhole (has_input : Bool) (texts : Texts) (is_rejection : Bool) : Type 0 where
     pub valid : AreValid d
@@ -144,7 +146,8 @@ module _ {S K : Type 0} (left : S → Option (List ℕ)) (reads : S → ℕ) (ta
   AnswersInput has_input texts ending =
       AreValid d → ending ≢ OutOfMemory → (input before : List ℕ) → IsGiven has_input input → taken k ≡ Some before
       → (Rose (writes k) (writes k') → ⊥)
-      → (is_rejection : Bool) × (text : List ℕ) × texts d input is_rejection text × (ending ≡ written_as is_rejection) × (taken k' ≡ Some (before ++ text))
+      → (is_rejection : Bool) × (text : List ℕ) × texts d input is_rejection text × (ending ≡ written_as is_rejection)
+      × (taken k' ≡ Some (before ++ text))
 
   -- The same of a program that rejects nothing: the run is done, and the sink took exactly a text that answers.
   abbrev pub WritesOutput : Bool → Outputs → Ending → Type 0

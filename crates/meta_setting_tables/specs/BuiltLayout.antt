@@ -47,5 +47,6 @@ pub record IsBuiltLayout (g : Layout) : Type 0 where
   pub distinct : AreDistinct (entry_names g)
   pub bytes : (k : ℕ) (s : PlacedSetting) → k < g.bool_start_byte_offset → slice_get g.settings k ≡ Some s → HasByte s k
   pub bits : (k : ℕ) (s : PlacedSetting) → slice_get (booleans_in g) k ≡ Some s → HasBit s (g.bool_start_byte_offset + k / 8) (k % 8)
-  pub enums : (k : ℕ) (s : PlacedSetting) (values : List (List ℕ)) → slice_get g.settings k ≡ Some s → s.specific ≡ AnEnum values → AreValues values
+  pub enums : (k : ℕ) (s : PlacedSetting) (values : List (List ℕ)) → slice_get g.settings k ≡ Some s → s.specific ≡ AnEnum values
+      → AreValues values
   pub presets : (k : ℕ) (p : BuiltPreset) → slice_get g.presets k ≡ Some p → HasAll g p

@@ -2,7 +2,8 @@
 --     IsWellFormedGroup t      the tables are well-formed
 --     IsPlaced ..              an entry stands where the layout rule puts it
 --     AreKeptOfGroup t         what the type of tables keeps
-use Rattle.std.specs.Prelude.{ℕ, ◌≡◌, ◌+◌, ◌*◌, ◌/◌, ◌%◌, ◌<◌, ◌≤◌, Bool, true, false, List, length, take, drop, filter, slice_get, Some, None, All, Contains, ⊤}
+use Rattle.std.specs.Prelude.{ℕ, ◌≡◌, ◌+◌, ◌*◌, ◌/◌, ◌%◌, ◌<◌, ◌≤◌, Bool, true, false, List, length, take, drop, filter, slice_get, Some}
+use Rattle.std.specs.Prelude.{None, All, Contains, ⊤}
 use Rattle.std.specs.Int.{bit_at}
 use Rattle.meta_types.specs.Name.{IsName}
 use Rattle.meta_types.specs.SharedNames.{AreDistinct}
@@ -105,7 +106,8 @@ IsPlaced own booleans size e offset Preset = StandsAtMasks (own + booleans) size
 
 -- each entry stands where the layout rule puts it
 abbrev pub ArePlaced : List Descriptor → Type 0
-ArePlaced entries = (e : ℕ) (d : Descriptor) → slice_get entries e ≡ Some d → IsPlaced (own_byte_count entries) (described_boolean_count entries) (described_byte_count entries) e d.offset d.detail
+ArePlaced entries = (e : ℕ) (d : Descriptor) → slice_get entries e ≡ Some d
+    → IsPlaced (own_byte_count entries) (described_boolean_count entries) (described_byte_count entries) e d.offset d.detail
 
 -- ---- values of enums
 
@@ -148,12 +150,14 @@ pub record AreGoodDefaults (entries : List Descriptor) (defaults : List ℕ) : T
   pub count : length defaults ≡ described_byte_count entries
   pub bytes : All (λ b. b < 256) defaults
   pub enums : All (λ (d : Descriptor). HasFirstValue defaults d.offset d.detail) entries
-  pub booleans : (byte b : ℕ) → own_byte_count entries ≤ byte → slice_get defaults byte ≡ Some b → HoldsBooleansAlone (own_byte_count entries) (described_boolean_count entries) byte b
+  pub booleans : (byte b : ℕ) → own_byte_count entries ≤ byte → slice_get defaults byte ≡ Some b
+      → HoldsBooleansAlone (own_byte_count entries) (described_boolean_count entries) byte b
 
 -- there is one mask a preset and setting byte, preset after preset, and only bits of booleans are on
 pub record AreGoodMasks (entries : List Descriptor) (masks : List ℕ) : Type 0 where
   pub count : length masks ≡ preset_count entries * described_byte_count entries
-  pub booleans : (k byte m : ℕ) → byte < described_byte_count entries → slice_get masks (k * described_byte_count entries + byte) ≡ Some m → HoldsBooleansAlone (own_byte_count entries) (described_boolean_count entries) byte m
+  pub booleans : (k byte m : ℕ) → byte < described_byte_count entries → slice_get masks (k * described_byte_count entries + byte) ≡ Some m
+      → HoldsBooleansAlone (own_byte_count entries) (described_boolean_count entries) byte m
 
 -- ---- all of them
 

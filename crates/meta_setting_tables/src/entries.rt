@@ -1,6 +1,7 @@
 ghost use Rattle.std.specs.Prelude.{◌≡◌, ◌↔◌, ◌≤◌, ◌<◌, length, IfOk, IsTrue, All};
 ghost use Rattle.meta_setting_tables.specs.declared.descriptor.Descriptor.{Descriptor};
-ghost use Rattle.meta_setting_tables.specs.WellFormed.{StandsInByte, StandsAtBit, StandsAtMasks, IsPlaced, ArePlaced, HasValues, HasItsValues};
+ghost use Rattle.meta_setting_tables.specs.WellFormed.{StandsInByte, StandsAtBit, StandsAtMasks, IsPlaced, ArePlaced, HasValues};
+ghost use Rattle.meta_setting_tables.specs.WellFormed.{HasItsValues};
 ghost use Rattle.meta_setting_tables.specs.Shape.{IsShapeOf, HasSmallCounts};
 
 use super::descriptor::{Descriptor, Detail};

@@ -11,7 +11,8 @@ use Rattle.meta_settings.specs.declared.index.PresetType.{PresetType}
 use Rattle.meta_settings.specs.declared.index.PresetType.TheVariants.{BoolSetting, OtherPreset}
 use Rattle.meta_types.specs.SharedNames.{IsDuplicate, AreDistinct}
 use Rattle.meta_types.specs.FirstFault.{Key, key_at, IsFirstShown, ShowsNone}
-use Rattle.meta_settings.specs.GroupDeclaration.{GroupDeclaration, Entry, entries_of, names_of_entries, entry_count, boolean_count, byte_count}
+use Rattle.meta_settings.specs.GroupDeclaration.{GroupDeclaration, Entry, entries_of, names_of_entries, entry_count, boolean_count}
+use Rattle.meta_settings.specs.GroupDeclaration.{byte_count}
 
 -- a byte that a description may have: one of 0x20 to 0x7e, but no double quote and no backslash
 pub record IsPlainByte (c : ℕ) : Type 0 where

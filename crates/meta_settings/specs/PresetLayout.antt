@@ -1,5 +1,6 @@
 -- What a preset does to the setting bytes of a group.
-use Rattle.std.specs.Prelude.{◌≡◌, ◌↔◌, ℕ, ◌+◌, ◌*◌, ◌<◌, ◌/◌, ◌%◌, ◌^◌, List, [], unwrap_or, option_map, slice_get, slice_set, slice_index_or, Some, length, map, All, Contains}
+use Rattle.std.specs.Prelude.{◌≡◌, ◌↔◌, ℕ, ◌+◌, ◌*◌, ◌<◌, ◌/◌, ◌%◌, ◌^◌, List, [], unwrap_or, option_map, slice_get, slice_set}
+use Rattle.std.specs.Prelude.{slice_index_or, Some, length, map, All, Contains}
 use Rattle.std.specs.Int.{bit_at}
 use Rattle.std.specs.Int.RustNames.{bit_or}
 use Rattle.meta_settings.specs.Layout.{PlacedSetting, BuiltPreset, Layout, booleans_in}
@@ -44,4 +45,5 @@ with_bit m bit = bit_or m (1 * 2 ^ bit % 256)
 
 -- the layout with this bit of this byte turned on, as mask and as value
 abbrev pub with_bit_at : List (ℕ × ℕ) → ℕ → ℕ → List (ℕ × ℕ)
-with_bit_at layout byte bit = let pair = slice_index_or layout byte (0, 0) in slice_set layout byte (with_bit pair.0 bit, with_bit pair.1 bit)
+with_bit_at layout byte bit =
+    let pair = slice_index_or layout byte (0, 0) in slice_set layout byte (with_bit pair.0 bit, with_bit pair.1 bit)

@@ -1,6 +1,8 @@
-ghost use Rattle.std.specs.Prelude.{◌≡◌, ◌↔◌, ◌<◌, ◌+◌, ◌-◌, ℕ, IsTrue, MatchOption, IfOk, IfNone, IfSome, All, length, take, unwrap_or, []};
+ghost use Rattle.std.specs.Prelude.{◌≡◌, ◌↔◌, ◌<◌, ◌+◌, ◌-◌, ℕ, IsTrue, MatchOption, IfOk, IfNone, IfSome, All, length, take, unwrap_or};
+ghost use Rattle.std.specs.Prelude.{[]};
 ghost use Rattle.meta_settings.specs.GroupDeclaration.{boolean_count, byte_count, entry_count, names_of_entries};
-ghost use Rattle.meta_settings.specs.GroupFaults.{IsPlainByte, IsWellNamed, IsGoodEnum, IsMet, AreMet, EntryNameRule, OfEntry, OfCounts, IsFirstGroupFault, IsValidGroup};
+ghost use Rattle.meta_settings.specs.GroupFaults.{IsPlainByte, IsWellNamed, IsGoodEnum, IsMet, AreMet, EntryNameRule, OfEntry, OfCounts};
+ghost use Rattle.meta_settings.specs.GroupFaults.{IsFirstGroupFault, IsValidGroup};
 ghost use Rattle.meta_settings.specs.Searched.{IsGroupCleanBefore};
 
 use super::builder::SettingGroupBuilder;
@@ -112,7 +114,8 @@ fn entry_fault<'b>(
     requires kept { names.old ≡ take place (names_of_entries builder.now) }
     requires clean { IsGroupCleanBefore builder.now (OfEntry place EntryNameRule) }
     ensures kept { IfOk result (λ o. IfNone o (names.new ≡ take (place + 1) (names_of_entries builder.now))) }
-    ensures fault { IfOk result (λ o. MatchOption o (IsGroupCleanBefore builder.now (OfEntry (place + 1) EntryNameRule)) (IsFirstGroupFault builder.now group)) }
+    ensures fault { IfOk result (λ o. MatchOption o (IsGroupCleanBefore builder.now
+        (OfEntry (place + 1) EntryNameRule)) (IsFirstGroupFault builder.now group)) }
 {
     let entry = builder.entry(place);
     let number = place as u64;

@@ -38,7 +38,8 @@ grown_count {n} {old} {new} g =
     let all : length new ≡ length old + length g.more = ap length g.is ∙ length-append old g.more in
     omega arith
 
-pub root_stays : {vars : List TypeVarContent} {v : ℕ} {s : TypeSetParts} (more : List TypeVarContent) → IsRootWith vars v s → IsRootWith (vars ++ more) v s
+pub root_stays : {vars : List TypeVarContent} {v : ℕ} {s : TypeSetParts} (more : List TypeVarContent) → IsRootWith vars v s
+    → IsRootWith (vars ++ more) v s
 root_stays {vars} {v} {s} more r =
     let same : slice_get (vars ++ more) v ≡ slice_get vars v = get_left vars more v r.of in
     let of : v < length vars = r.of in
@@ -55,7 +56,8 @@ meant_grows {new = new} {m = m} g h = record {
   roots = λ root. subst (λ xs. IsRootWith xs (root_of m.roots root) (set_of_root root)) (sym g.is) (root_stays g.more (h.roots root));
 }
 
-value_stays : {vars : List TypeVarContent} {v : Variable} {kind : OperandKind} (more : List TypeVarContent) → IsValueOf vars v kind → IsValueOf (vars ++ more) v kind
+value_stays : {vars : List TypeVarContent} {v : Variable} {kind : OperandKind} (more : List TypeVarContent) → IsValueOf vars v kind
+    → IsValueOf (vars ++ more) v kind
 value_stays {vars} more h =
     let of : h.number < length vars = h.of in
     record {
@@ -68,18 +70,23 @@ value_stays {vars} more h =
       doc = h.doc;
     }
 
-kind_stays : (vars more : List TypeVarContent) (m : Meanings) (word : Word) (kind : OperandKind) → IsKindOfWord vars m word kind → IsKindOfWord (vars ++ more) m word kind
+kind_stays : (vars more : List TypeVarContent) (m : Meanings) (word : Word) (kind : OperandKind) → IsKindOfWord vars m word kind
+    → IsKindOfWord (vars ++ more) m word kind
 kind_stays vars more m (Kind k) kind h = h
 kind_stays vars more m (Root root) kind h = value_stays more h
 kind_stays vars more m (Derived function root) kind h = value_stays more h
 
-operand_stays : (vars more : List TypeVarContent) (m : Meanings) (row : OperandRow) (o : Operand) → IsOperandOf vars m row o → IsOperandOf (vars ++ more) m row o
+operand_stays : (vars more : List TypeVarContent) (m : Meanings) (row : OperandRow) (o : Operand) → IsOperandOf vars m row o
+    → IsOperandOf (vars ++ more) m row o
 operand_stays vars more m row o h = record { name = h.name; doc = h.doc; kind = kind_stays vars more m row.word o.kind h.kind }
 
-operands_stay : (vars more : List TypeVarContent) (m : Meanings) (rows : List OperandRow) (operands : List Operand) → AreOperandsOfRows vars m rows operands → AreOperandsOfRows (vars ++ more) m rows operands
-operands_stay vars more m rows operands h = pairs_imply (IsOperandOf vars m) (IsOperandOf (vars ++ more) m) (operand_stays vars more m) rows operands h
+operands_stay : (vars more : List TypeVarContent) (m : Meanings) (rows : List OperandRow) (operands : List Operand)
+    → AreOperandsOfRows vars m rows operands → AreOperandsOfRows (vars ++ more) m rows operands
+operands_stay vars more m rows operands h =
+    pairs_imply (IsOperandOf vars m) (IsOperandOf (vars ++ more) m) (operand_stays vars more m) rows operands h
 
-builder_stays : (vars more : List TypeVarContent) (m : Meanings) (row : Row) (b : Builder) → IsBuilderOf vars m row b → IsBuilderOf (vars ++ more) m row b
+builder_stays : (vars more : List TypeVarContent) (m : Meanings) (row : Row) (b : Builder) → IsBuilderOf vars m row b
+    → IsBuilderOf (vars ++ more) m row b
 builder_stays vars more m row b h = record {
   name = h.name;
   doc = h.doc;
@@ -90,8 +97,13 @@ builder_stays vars more m row b h = record {
   second = h.second;
 }
 
-pub operands_grow : {n : ℕ} {old new : List TypeVarContent} (m : Meanings) (rows : List OperandRow) (operands : List Operand) → Grows n old new → AreOperandsOfRows old m rows operands → AreOperandsOfRows new m rows operands
-operands_grow {old = old} m rows operands g h = subst (λ vars. AreOperandsOfRows vars m rows operands) (sym g.is) (operands_stay old g.more m rows operands h)
+pub operands_grow : {n : ℕ} {old new : List TypeVarContent} (m : Meanings) (rows : List OperandRow) (operands : List Operand)
+    → Grows n old new → AreOperandsOfRows old m rows operands → AreOperandsOfRows new m rows operands
+operands_grow {old = old} m rows operands g h =
+    subst (λ vars. AreOperandsOfRows vars m rows operands) (sym g.is) (operands_stay old g.more m rows operands h)
 
-pub builders_grow : {n : ℕ} {old new : List TypeVarContent} (m : Meanings) (rows : List Row) (builders : List Builder) → Grows n old new → AreBuildersOf old m rows builders → AreBuildersOf new m rows builders
-builders_grow {old = old} m rows builders g h = subst (λ vars. AreBuildersOf vars m rows builders) (sym g.is) (pairs_imply (IsBuilderOf old m) (IsBuilderOf (old ++ g.more) m) (builder_stays old g.more m) rows builders h)
+pub builders_grow : {n : ℕ} {old new : List TypeVarContent} (m : Meanings) (rows : List Row) (builders : List Builder) → Grows n old new
+    → AreBuildersOf old m rows builders → AreBuildersOf new m rows builders
+builders_grow {old = old} m rows builders g h =
+    subst (λ vars. AreBuildersOf vars m rows builders) (sym g.is)
+    (pairs_imply (IsBuilderOf old m) (IsBuilderOf (old ++ g.more) m) (builder_stays old g.more m) rows builders h)

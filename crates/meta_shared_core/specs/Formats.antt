@@ -4,7 +4,8 @@
 --     name_at w                  its name
 --     format_of imm entities row      the format that a row describes
 --     AreFormatsOf n f           each number is below n
-use Rattle.std.specs.Prelude.{◌≡◌, ℕ, ◌+◌, ◌<◌, ◌^◌, ◌&&◌, nat_lt, Bool, true, false, List, [], ◌∷◌, ◌++◌, Option, None, Some, length, map, take, slice_get, codes, count_by}
+use Rattle.std.specs.Prelude.{◌≡◌, ℕ, ◌+◌, ◌<◌, ◌^◌, ◌&&◌, nat_lt, Bool, true, false, List, [], ◌∷◌, ◌++◌, Option, None, Some, length, map}
+use Rattle.std.specs.Prelude.{take, slice_get, codes, count_by}
 use Rattle.std.specs.List.{list_all}
 use Rattle.meta_operands.specs.Format.{empty_format, with_field, built_format, CanDesignate}
 use Rattle.meta_operands.specs.declared.format.InstructionFormat.{InstructionFormat}
@@ -12,7 +13,12 @@ use Rattle.meta_shared_core.specs.Kinds.{kind_of}
 use Rattle.meta_shared_core.specs.declared.entities.EntityRefs.{EntityRefs}
 use Rattle.meta_shared_core.specs.declared.immediates.Immediates.{Immediates}
 use Rattle.meta_shared_core.specs.declared.format.Format.{Format}
-use Rattle.meta_shared_core.specs.declared.format.Format.TheVariants.{Unary, UnaryImm, UnaryIeee16, UnaryIeee32, UnaryIeee64, UnaryConst, UnaryGlobalValue, Binary, BinaryImm8, Ternary, TernaryImm8, MultiAry, NullAry, Shuffle, IntCompare, FloatCompare, Jump, Brif, BranchTable, Call, CallIndirect, TryCall, TryCallIndirect, FuncAddr, AtomicRmw, AtomicCas, Load, LoadNoOffset, Store, StoreNoOffset, StackAddr, DynamicStackAddr, Trap, CondTrap, IntAddTrap, ExceptionHandlerAddress}
+use Rattle.meta_shared_core.specs.declared.format.Format.TheVariants.{Unary, UnaryImm, UnaryIeee16, UnaryIeee32, UnaryIeee64, UnaryConst}
+use Rattle.meta_shared_core.specs.declared.format.Format.TheVariants.{UnaryGlobalValue, Binary, BinaryImm8, Ternary, TernaryImm8, MultiAry}
+use Rattle.meta_shared_core.specs.declared.format.Format.TheVariants.{NullAry, Shuffle, IntCompare, FloatCompare, Jump, Brif, BranchTable}
+use Rattle.meta_shared_core.specs.declared.format.Format.TheVariants.{Call, CallIndirect, TryCall, TryCallIndirect, FuncAddr, AtomicRmw}
+use Rattle.meta_shared_core.specs.declared.format.Format.TheVariants.{AtomicCas, Load, LoadNoOffset, Store, StoreNoOffset, StackAddr}
+use Rattle.meta_shared_core.specs.declared.format.Format.TheVariants.{DynamicStackAddr, Trap, CondTrap, IntAddTrap, ExceptionHandlerAddress}
 use Rattle.meta_shared_core.specs.declared.formats.Formats.{Formats}
 use Rattle.meta_shared_core.specs.declared.formats.FormatRow.{FormatRow}
 use Rattle.meta_shared_core.specs.declared.formats.FormatPart.{FormatPart}

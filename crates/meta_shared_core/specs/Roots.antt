@@ -9,7 +9,11 @@ use Rattle.meta_typevar.specs.Variable.{underived}
 use Rattle.meta_typevar.specs.Registry.{variable_at, sets_of}
 use Rattle.meta_typevar.specs.declared.content.TypeVarContent.{TypeVarContent}
 use Rattle.meta_shared_core.specs.declared.root.Root.{Root}
-use Rattle.meta_shared_core.specs.declared.root.Root.TheVariants.{ST1, ST2, I32, A1, A2, V1, B1, B2, Int1, Int4, IxN, I8, F16, F32, F64, F128, Int2, NarrowInt, NarrowScalar, IB, Truthy, AtomicMem, IntTo1, IntTo2, Int3, ISwappable, WideInt, V2, Any, Bits, Mem, IExt8, IExt16, I32_64, IExt32, I16x8, I32x4, I64x2, Tx16, I16or32, Float, W, N, FloatScalar, F64x2, F32x4, IntTo3, FloatTo, V3, MemTo}
+use Rattle.meta_shared_core.specs.declared.root.Root.TheVariants.{ST1, ST2, I32, A1, A2, V1, B1, B2, Int1, Int4, IxN, I8, F16, F32, F64}
+use Rattle.meta_shared_core.specs.declared.root.Root.TheVariants.{F128, Int2, NarrowInt, NarrowScalar, IB, Truthy, AtomicMem, IntTo1}
+use Rattle.meta_shared_core.specs.declared.root.Root.TheVariants.{IntTo2, Int3, ISwappable, WideInt, V2, Any, Bits, Mem, IExt8, IExt16}
+use Rattle.meta_shared_core.specs.declared.root.Root.TheVariants.{I32_64, IExt32, I16x8, I32x4, I64x2, Tx16, I16or32, Float, W, N}
+use Rattle.meta_shared_core.specs.declared.root.Root.TheVariants.{FloatScalar, F64x2, F32x4, IntTo3, FloatTo, V3, MemTo}
 use Rattle.meta_shared_core.specs.declared.roots.Roots.{Roots}
 
 -- the place of a root among the 50

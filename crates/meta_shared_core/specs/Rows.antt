@@ -20,7 +20,8 @@ use Rattle.meta_shared_core.specs.Words.{Meanings, IsKindOfWord, is_derived, is_
 use Rattle.meta_shared_core.specs.declared.format.Format.{Format}
 use Rattle.meta_shared_core.specs.declared.formats.Formats.{Formats}
 use Rattle.meta_shared_core.specs.declared.row.Mark.{Mark}
-use Rattle.meta_shared_core.specs.declared.row.Mark.TheVariants.{Branch, Terminator, Call, Return, Load, Store, Trap, OtherEffect, Idempotent, ImmMethod}
+use Rattle.meta_shared_core.specs.declared.row.Mark.TheVariants.{Branch, Terminator, Call, Return, Load, Store, Trap, OtherEffect}
+use Rattle.meta_shared_core.specs.declared.row.Mark.TheVariants.{Idempotent, ImmMethod}
 use Rattle.meta_shared_core.specs.declared.row.OperandRow.{OperandRow}
 use Rattle.meta_shared_core.specs.declared.row.Row.{Row}
 

@@ -1,6 +1,8 @@
 ghost use Rattle.std.specs.Prelude.{◌≡◌, ◌+◌, ◌<◌, ◌≤◌, ◌^◌, ◌++◌, ◌∷◌, [], IfOk, OnOk, OnErr, length, slice_get, Some};
 ghost use Rattle.meta_operands.specs.Format.{HasRoom};
-ghost use Rattle.meta_shared_core.specs.Formats.{format_place, id_of, with_part, parts_added, designating, format_of, AreFormatRows, IsFormatRow, CanAdd, CanPlace, AddsFront, AddsAll, AreNumbered, AreNumberedFrom, AreFormatsOf};
+ghost use Rattle.meta_shared_core.specs.Formats.{format_place, id_of, with_part, parts_added, designating, format_of, AreFormatRows};
+ghost use Rattle.meta_shared_core.specs.Formats.{IsFormatRow, CanAdd, CanPlace, AddsFront, AddsAll, AreNumbered, AreNumberedFrom};
+ghost use Rattle.meta_shared_core.specs.Formats.{AreFormatsOf};
 
 use super::entities::EntityRefs;
 use super::format::Format;

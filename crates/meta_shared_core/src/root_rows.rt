@@ -104,7 +104,8 @@ static ROOTS: [RootRow; 49] = root_rows! {
     I16x8: I16x8(8, none, 16, none) "A SIMD vector with exactly 8 lanes of 16-bit values";
     I32x4: I32x4(4, none, 32, none) "A SIMD vector with exactly 4 lanes of 32-bit values";
     I64x2: I64x2(2, none, 64, none) "A SIMD vector with exactly 2 lanes of 64-bit values";
-    Tx16: Tx16(16, none, 8, none) "A SIMD vector with exactly 16 lanes of 8-bit values; eventually this may support other lane counts and widths";
+    Tx16: Tx16(16, none, 8,
+        none) "A SIMD vector with exactly 16 lanes of 8-bit values; eventually this may support other lane counts and widths";
     I16or32: I16or32([4..8], none, [16..32], none) "A vector integer type with 16- or 32-bit numbers";
     Float: Float([1..256], [2..256], none, all) "A scalar or vector floating point number";
     W: I16or32or64xN([2..8], [2..8], [16..64], none) "A SIMD vector type containing integer lanes 16, 32, or 64 bits wide";

@@ -22,7 +22,8 @@ module _ (d : InstructionSet) (tables : TableContents) (made : AreMade d tables)
   has_manner_back (OfApplication a) m h = manner_back d tables made a.name m h
 
   -- where tables and declarations have the same right statements
-  pub short_means : (env : Environment) → ((s : Statement) → CanBeStated s → (IsFaultless (AllowedReply tables) env s ↔ IsFaultless (AcceptedReply d) env s))
+  pub short_means : (env : Environment) → ((s : Statement) → CanBeStated s
+      → (IsFaultless (AllowedReply tables) env s ↔ IsFaultless (AcceptedReply d) env s))
       → (line text : List ℕ) → (IsShortIn tables env line text ↔ IsShortDeclared d env line text)
   short_means env right line text = (
     λ h. record {

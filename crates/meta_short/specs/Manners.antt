@@ -1,10 +1,12 @@
 -- What is left out of the lines of an instruction: by tables, and by its declaration.
 --     manner_of tables e              the manner of an opcode, by its entry
 --     IsMannerOf sets i control m     that of an instruction, as it is declared
-use Rattle.std.specs.Prelude.{◌≡◌, ◌↔◌, ℕ, ◌+◌, ◌/◌, ◌%◌, ◌==◌, ◌&&◌, Bool, true, false, IsTrue, List, map, take, drop, length, slice_get, Option, Some, None}
+use Rattle.std.specs.Prelude.{◌≡◌, ◌↔◌, ℕ, ◌+◌, ◌/◌, ◌%◌, ◌==◌, ◌&&◌, Bool, true, false, IsTrue, List, map, take, drop, length, slice_get}
+use Rattle.std.specs.Prelude.{Option, Some, None}
 use Rattle.std.specs.List.{list_any}
 use Rattle.meta_lists.specs.First.{IsFirst}
-use Rattle.meta_types.specs.Function.{Function, LaneOf, AsTruthy, HalfWidth, DoubleWidth, SplitLanes, MergeLanes, DynamicToVector, Narrower, Wider}
+use Rattle.meta_types.specs.Function.{Function, LaneOf, AsTruthy, HalfWidth, DoubleWidth, SplitLanes, MergeLanes, DynamicToVector, Narrower}
+use Rattle.meta_types.specs.Function.{Wider}
 use Rattle.meta_typevar.specs.TypeSetParts.{HasOne}
 use Rattle.meta_typevar.specs.Variable.{Variable, Sets}
 use Rattle.meta_inst.specs.Which.{First, Second}
@@ -12,7 +14,8 @@ use Rattle.meta_inst.specs.Instruction.{Instruction}
 use Rattle.meta_inst.specs.Builder.{Builder}
 use Rattle.meta_inst.specs.Control.{IsControl}
 use Rattle.meta_inst.specs.InstructionSet.{InstructionSet, root_sets, instruction_in_set}
-use Rattle.meta_meaning.specs.Tables.{TableContents, OpcodeNumbers, NumberConstraint, ConcreteNumber, FreeOf, SameNumber, ByNumber, at_opcode, result_count, value_count, no_type_set, DesignatedControls}
+use Rattle.meta_meaning.specs.Tables.{TableContents, OpcodeNumbers, NumberConstraint, ConcreteNumber, FreeOf, SameNumber, ByNumber}
+use Rattle.meta_meaning.specs.Tables.{at_opcode, result_count, value_count, no_type_set, DesignatedControls}
 use Rattle.meta_meaning.specs.Inference.{EndsInRelation}
 use Rattle.meta_opcode_tables.specs.Contents.{IsOpcodeNamed}
 use Rattle.meta_answers.specs.Answer.{IsAskedFor}

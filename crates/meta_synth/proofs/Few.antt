@@ -1,5 +1,6 @@
 -- Type sets of root variables that are all different are few.
-use Rattle.std.proofs.Common.{◌≡◌, ◌≢◌, ◌<◌, ◌≤◌, ◌+◌, ◌*◌, ◌%◌, ◌==◌, ◌||◌, ℕ, suc, Bool, true, false, cond, eqb, nat_lt, List, [], ◌∷◌, length, map, slice_get, Some, refl, sym, ap, ◌∙◌, arith}
+use Rattle.std.proofs.Common.{◌≡◌, ◌≢◌, ◌<◌, ◌≤◌, ◌+◌, ◌*◌, ◌%◌, ◌==◌, ◌||◌, ℕ, suc, Bool, true, false, cond, eqb, nat_lt, List, [], ◌∷◌}
+use Rattle.std.proofs.Common.{length, map, slice_get, Some, refl, sym, ap, ◌∙◌, arith}
 use Rattle.std.specs.List.{AllByRecursion, IsDistinct, list_any}
 use Rattle.std.proofs.lemmas.Bool.{false≢true, ne_eqb, eqb-true}
 use Rattle.std.proofs.lemmas.List.{length-map}
@@ -44,7 +45,8 @@ AreKnown sets = (k : ℕ) (s : TypeSetParts) → slice_get sets k ≡ Some s →
 abbrev AreOnce : List TypeSetParts → Type 0
 AreOnce sets = (j k : ℕ) (s : TypeSetParts) → slice_get sets j ≡ Some s → slice_get sets k ≡ Some s → j ≡ k
 
-apart : (s : TypeSetParts) (sets : List TypeSetParts) → ((k : ℕ) (t : TypeSetParts) → slice_get sets k ≡ Some t → mark_of s ≢ mark_of t) → AllByRecursion (λ m. eqb (mark_of s) m ≡ false) (map mark_of sets)
+apart : (s : TypeSetParts) (sets : List TypeSetParts) → ((k : ℕ) (t : TypeSetParts) → slice_get sets k ≡ Some t → mark_of s ≢ mark_of t)
+    → AllByRecursion (λ m. eqb (mark_of s) m ≡ false) (map mark_of sets)
 apart s [] h = tt
 apart s (t ∷ sets) h = (ne_eqb (mark_of s) (mark_of t) (h 0 t refl), apart s sets (λ k u at. h (suc k) u at))
 
@@ -72,5 +74,6 @@ below (s ∷ sets) known q e = here (eqb q (mark_of s)) refl (λ h. below sets (
 
 pub few_sets : (sets : List TypeSetParts) → AreKnown sets → AreOnce sets → length sets ≤ 80
 few_sets sets known once =
-    let few : length (map mark_of sets) ≤ 80 = length-le_from_distinct_below (map mark_of sets) 80 (distinct sets known once) (below sets known) in
+    let few : length (map mark_of sets) ≤ 80 =
+    length-le_from_distinct_below (map mark_of sets) 80 (distinct sets known once) (below sets known) in
     omega (arith, few, length-map sets mark_of)

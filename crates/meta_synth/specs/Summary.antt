@@ -16,7 +16,8 @@ use Rattle.meta_opcode_tables.specs.TablesOf.{AcceptsOpcode}
 -- so many of the numbers 1 to n have the property
 abbrev pub CountsTo : (ℕ → Type 0) → ℕ → ℕ → Type 0
 CountsTo P zero count = count ≡ 0
-CountsTo P (suc n) count = (P (suc n) × ((before : ℕ) × (count ≡ before + 1) × CountsTo P n before)) ⊎ ((P (suc n) → ⊥) × CountsTo P n count)
+CountsTo P (suc n) count = (P (suc n) × ((before : ℕ) × (count ≡ before + 1) × CountsTo P n before))
+    ⊎ ((P (suc n) → ⊥) × CountsTo P n count)
 
 -- the opcode has a name, and is the first that has it
 pub record IsFoundByName (t : TableContents) (op : ℕ) : Type 0 where
@@ -46,12 +47,14 @@ i64_number = number_of (scalar IntKind 64)
 -- the lengths of the tables, as they are written
 unfoldable pub lengths_text : ℕ → ℕ → ℕ → ℕ → List ℕ
 lengths_text opcodes type_sets constraints slots =
-    decimal opcodes ++ (codes " opcodes, " ++ (decimal type_sets ++ (codes " type sets, " ++ (decimal constraints ++ (codes " constraints, " ++ (decimal slots ++ codes " slots"))))))
+    decimal opcodes ++ (codes " opcodes, " ++ (decimal type_sets ++ (codes " type sets, "
+    ++ (decimal constraints ++ (codes " constraints, " ++ (decimal slots ++ codes " slots"))))))
 
 -- the line, by the number of the declarations, the lengths as they are written, how many opcodes are found, and how many accept `i64`
 unfoldable pub summary_line : ℕ → List ℕ → ℕ → ℕ → List ℕ
 summary_line n lengths found accepted =
-    codes "synth " ++ (decimal n ++ (codes ": " ++ (lengths ++ (codes ", " ++ (decimal found ++ (codes " found, " ++ (decimal accepted ++ codes " accepted")))))))
+    codes "synth " ++ (decimal n
+    ++ (codes ": " ++ (lengths ++ (codes ", " ++ (decimal found ++ (codes " found, " ++ (decimal accepted ++ codes " accepted")))))))
 
 -- how many entries, type sets, operand constraints and slots the tables have, as it is written
 abbrev pub lengths_of : TableContents → List ℕ

@@ -6,14 +6,16 @@ use Rattle.meta_table_text.specs.Lists.{title_of, head_of, list_head, list_end, 
 use Rattle.meta_cursor.proofs.Cancel.{cancel_front, cancel_number}
 
 -- what stands before the first element, the elements, and the end, and then the rest
-pub list_grouped : (list : TableList) (n : ℕ) (lines rest : List ℕ) → list_text list n lines ++ rest ≡ list_head list n ++ (lines ++ (list_end ++ rest))
+pub list_grouped : (list : TableList) (n : ℕ) (lines rest : List ℕ)
+    → list_text list n lines ++ rest ≡ list_head list n ++ (lines ++ (list_end ++ rest))
 list_grouped list n lines rest = grouped (list_head list n) lines list_end rest
   where
     grouped : (a b c d : List ℕ) → (a ++ (b ++ c)) ++ d ≡ a ++ (b ++ (c ++ d))
     grouped a b c d = simp append_assoc
 
 -- the title of a list, its name, the count, and what stands behind it, and then the rest
-pub head_grouped : (list : TableList) (n : ℕ) (rest : List ℕ) → list_head list n ++ rest ≡ title_of list ++ (head_of list ++ (decimal n ++ (codes "] = [\n" ++ rest)))
+pub head_grouped : (list : TableList) (n : ℕ) (rest : List ℕ)
+    → list_head list n ++ rest ≡ title_of list ++ (head_of list ++ (decimal n ++ (codes "] = [\n" ++ rest)))
 unfolding list_head
 head_grouped list n rest = grouped (title_of list) (head_of list) (decimal n) (codes "] = [\n") rest
   where
@@ -21,11 +23,14 @@ head_grouped list n rest = grouped (title_of list) (head_of list) (decimal n) (c
     grouped a b c d e = simp append_assoc
 
 -- the text of a list tells how many elements there are, and where they begin
-pub list_told : (list : TableList) (m n : ℕ) (one other r s : List ℕ) → m < 2 ^ 64 → n < 2 ^ 64 → list_text list m one ++ r ≡ list_text list n other ++ s
+pub list_told : (list : TableList) (m n : ℕ) (one other r s : List ℕ) → m < 2 ^ 64 → n < 2 ^ 64
+    → list_text list m one ++ r ≡ list_text list n other ++ s
     → (m ≡ n) × (one ++ (list_end ++ r) ≡ other ++ (list_end ++ s))
 list_told list m n one other r s small_m small_n e =
     let mine : List ℕ = one ++ (list_end ++ r) in
     let its : List ℕ = other ++ (list_end ++ s) in
-    let opened = sym (head_grouped list m mine) ∙ sym (list_grouped list m one r) ∙ e ∙ list_grouped list n other s ∙ head_grouped list n its in
-    let (same, left) = cancel_number 93 m n (codes "] = [\n" ++ mine) (codes "] = [\n" ++ its) refl small_m small_n refl refl (cancel_front (head_of list) _ _ (cancel_front (title_of list) _ _ opened)) in
+    let opened = sym (head_grouped list m mine) ∙ sym (list_grouped list m one r) ∙ e ∙ list_grouped list n other s
+    ∙ head_grouped list n its in
+    let (same, left) = cancel_number 93 m n (codes "] = [\n" ++ mine) (codes "] = [\n" ++ its) refl small_m small_n refl refl
+    (cancel_front (head_of list) _ _ (cancel_front (title_of list) _ _ opened)) in
     (same, cancel_front (codes "] = [\n") mine its left)

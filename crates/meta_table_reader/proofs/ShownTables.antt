@@ -47,7 +47,13 @@ masks_shown m are =
     let d = are.dynamic_lanes in
     let i = are.ints in
     let f = are.floats in
-    record { lanes = omega (arith, lanes, l); dynamic_lanes = omega (arith, dynamic_lanes, d); ints = omega (arith, ints, i); floats = omega (arith, floats, f) }
+    record {
+      lanes = omega (arith, lanes, l);
+      dynamic_lanes = omega (arith, dynamic_lanes, d);
+      ints = omega (arith, ints, i);
+      floats =
+          omega (arith, floats, f);
+    }
 
 -- ---- constraints and entries
 
@@ -57,19 +63,22 @@ constraint_shown sets few (FreeOf j) is = omega (arith, few, is)
 constraint_shown sets few (SameNumber which) is = tt
 constraint_shown sets few (ByNumber which f) is = tt
 
-offset_shown : (v : Version) (t : WholeTables) → Fits v t → length t.opcodes.type_sets ≤ 4095 → (offset : ℕ) → IsSetOffset (length t.opcodes.type_sets) offset → IsShownOffset v offset
+offset_shown : (v : Version) (t : WholeTables) → Fits v t → length t.opcodes.type_sets ≤ 4095 → (offset : ℕ)
+    → IsSetOffset (length t.opcodes.type_sets) offset → IsShownOffset v offset
 offset_shown v t fits few offset (inr none) = inr none
 offset_shown One t fits few offset (inl within) = let small = fits.small.type_sets in inl (omega (arith, within, small))
 offset_shown Two t fits few offset (inl within) = let small = fits.type_sets in inl (omega (arith, within, small))
 offset_shown Three t fits few offset (inl within) = inl (omega (arith, within, few))
 
-second_shown : (v : Version) (t : WholeTables) → Fits v t → length t.opcodes.type_sets ≤ 4095 → (k : ℕ) (e : OpcodeNumbers) → slice_get t.opcodes.entries k ≡ Some e → IsSetOffset (length t.opcodes.type_sets) e.second_offset → IsShownSecond v e.second_offset
+second_shown : (v : Version) (t : WholeTables) → Fits v t → length t.opcodes.type_sets ≤ 4095 → (k : ℕ) (e : OpcodeNumbers)
+    → slice_get t.opcodes.entries k ≡ Some e → IsSetOffset (length t.opcodes.type_sets) e.second_offset → IsShownSecond v e.second_offset
 second_shown One t fits few k e there is = fits.no_set (suc k) e there
 second_shown Two t fits few k e there is = offset_shown Two t fits few e.second_offset is
 second_shown Three t fits few k e there is = offset_shown Three t fits few e.second_offset is
 
 entry_shown : (v : Version) (t : WholeTables) → Fits v t → length t.opcodes.type_sets ≤ 4095 → length t.opcodes.operand_constraints ≤ 65535
-    → (k : ℕ) (e : OpcodeNumbers) → slice_get t.opcodes.entries k ≡ Some e → IsWellFormedEntry (length t.opcodes.type_sets) (length t.opcodes.operand_constraints) e → IsShownEntry v e
+    → (k : ℕ) (e : OpcodeNumbers) → slice_get t.opcodes.entries k ≡ Some e
+    → IsWellFormedEntry (length t.opcodes.type_sets) (length t.opcodes.operand_constraints) e → IsShownEntry v e
 entry_shown v t fits few many k e there is =
     let within = is.within in
     record {
@@ -95,10 +104,16 @@ opcodes_shown v t is fits =
         few_constraints = omega (arith, constraints);
         few_slots = few_slots 1 t.opcodes.names t.opcodes.opcode_slots is.slots (omega (arith, named, opcodes));
         sets = All-weaker AreMasks AreShownMasks masks_shown t.opcodes.type_sets p.masks;
-        constraints = All-weaker (IsWellFormedConstraint (length t.opcodes.type_sets)) IsShownConstraint (constraint_shown (length t.opcodes.type_sets) sets) t.opcodes.operand_constraints p.constraints;
+        constraints = All-weaker (IsWellFormedConstraint (length t.opcodes.type_sets)) IsShownConstraint
+            (constraint_shown (length t.opcodes.type_sets) sets) t.opcodes.operand_constraints p.constraints;
       };
-      entries = λ k d within. entry_shown v t fits sets constraints k (get_or t.opcodes.entries k d) (slice_get-get_or t.opcodes.entries k d within) (p.entries k d within);
+      entries = λ k d within. entry_shown v t fits sets constraints k (get_or t.opcodes.entries k d)
+          (slice_get-get_or t.opcodes.entries k d within) (p.entries k d within);
     }
 
 pub tables_shown : (v : Version) (t : WholeTables) → IsWellFormed t → Fits v t → AreShown v t
-tables_shown v t is fits = record { opcodes = opcodes_shown v t is.opcodes fits; groups = All-weaker IsWellFormedGroup AreShownGroup group_shown t.groups is.groups }
+tables_shown v t is fits = record {
+  opcodes = opcodes_shown v t is.opcodes fits;
+  groups =
+      All-weaker IsWellFormedGroup AreShownGroup group_shown t.groups is.groups;
+}

@@ -48,7 +48,8 @@ fn type_number(alloc: Global, name: &[u8]) -> Result<u16, AllocError>
 
 /// Reads the line of the constraint of a type.
 fn concrete(alloc: Global, cursor: &mut Cursor) -> Result<Constraint, AllocError>
-    ensures { IfOk result (λ c. (n : ℕ) (rest : List ℕ) → IsTypeNumber n → cursor.old ≡ constraint_line (ConcreteNumber n) ++ rest → (number_constraint_of c ≡ ConcreteNumber n) × (cursor.new ≡ rest)) }
+    ensures { IfOk result (λ c. (n : ℕ) (rest : List ℕ) → IsTypeNumber n
+        → cursor.old ≡ constraint_line (ConcreteNumber n) ++ rest → (number_constraint_of c ≡ ConcreteNumber n) × (cursor.new ≡ rest)) }
 {
     let name = cursor.until("    OperandConstraint::Concrete(ir::types::", b')');
     cursor.pass("),\n");
@@ -58,7 +59,8 @@ fn concrete(alloc: Global, cursor: &mut Cursor) -> Result<Constraint, AllocError
 
 /// Reads the line of the constraint of a type set.
 fn free(cursor: &mut Cursor) -> Constraint
-    ensures { (j : ℕ) (rest : List ℕ) → j < 2 ^ 16 → cursor.old ≡ constraint_line (FreeOf j) ++ rest → (number_constraint_of result ≡ FreeOf j) × (cursor.new ≡ rest) }
+    ensures { (j : ℕ) (rest : List ℕ) → j < 2 ^ 16 → cursor.old ≡ constraint_line (FreeOf j) ++ rest
+        → (number_constraint_of result ≡ FreeOf j) × (cursor.new ≡ rest) }
 {
     let set = cursor.number_u16("    OperandConstraint::Free(", b')');
     cursor.pass("),\n");
@@ -81,7 +83,8 @@ fn is_mark(byte: u8) -> bool
 
 /// The two parts of a word.
 fn split_mark(word: &[u8]) -> Word<'_>
-    ensures { (a : Control) (name : List ℕ) → ends_marked name ≡ false → word.now ≡ name ++ control_mark a → (result.name.now ≡ name) × (which_of result.which ≡ a) }
+    ensures { (a : Control) (name : List ℕ) → ends_marked name ≡ false → word.now ≡ name ++ control_mark a
+        → (result.name.now ≡ name) × (which_of result.which ≡ a) }
 {
     let Some((last, name)) = word.split_last() else {
         return Word {
@@ -114,7 +117,8 @@ fn constraint_named(word: &[u8]) -> Constraint
 
 /// Reads the line of the constraint of a control.
 fn of_control(cursor: &mut Cursor) -> Constraint
-    ensures { (n : NumberConstraint) (rest : List ℕ) → IsOfControl n → cursor.old ≡ constraint_line n ++ rest → (number_constraint_of result ≡ n) × (cursor.new ≡ rest) }
+    ensures { (n : NumberConstraint) (rest : List ℕ) → IsOfControl n → cursor.old ≡ constraint_line n ++ rest
+        → (number_constraint_of result ≡ n) × (cursor.new ≡ rest) }
 {
     let word = cursor.until("    OperandConstraint::", b',');
     cursor.pass(",\n");
@@ -123,7 +127,8 @@ fn of_control(cursor: &mut Cursor) -> Constraint
 
 /// Reads the line of a constraint.
 fn constraint(alloc: Global, cursor: &mut Cursor) -> Result<Constraint, AllocError>
-    ensures { IfOk result (λ c. (n : NumberConstraint) (rest : List ℕ) → IsShownConstraint n → cursor.old ≡ constraint_line n ++ rest → (number_constraint_of c ≡ n) × (cursor.new ≡ rest)) }
+    ensures { IfOk result (λ c. (n : NumberConstraint) (rest : List ℕ) → IsShownConstraint n
+        → cursor.old ≡ constraint_line n ++ rest → (number_constraint_of c ≡ n) × (cursor.new ≡ rest)) }
 {
     let form = cursor.byte_at(FORM_AT);
     if form == b'C' {

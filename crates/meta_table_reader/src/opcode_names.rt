@@ -20,7 +20,9 @@ pub(crate) struct OpcodeNames {
 
 /// Reads the lines of the formats of so many opcodes.
 fn format_lines(alloc: Global, cursor: &mut Cursor, count: usize) -> Result<OpcodeNames, AllocError>
-    ensures { IfOk result (λ r. (t : TableContents) (rest : List ℕ) → All IsName t.names → All IsName t.formats → count ≡ length t.names → count ≡ length t.formats → cursor.old ≡ each_opcode (format_line t) count ++ rest → (r.names.items ≡ t.names) × (r.formats.items ≡ t.formats) × (cursor.new ≡ rest)) }
+    ensures { IfOk result (λ r. (t : TableContents) (rest : List ℕ) → All IsName t.names → All IsName t.formats
+        → count ≡ length t.names → count ≡ length t.formats → cursor.old ≡ each_opcode (format_line t) count ++ rest
+        → (r.names.items ≡ t.names) × (r.formats.items ≡ t.formats) × (cursor.new ≡ rest)) }
 {
     let mut names = Vec::new(alloc);
     let mut formats = Vec::new(alloc);
@@ -34,7 +36,8 @@ fn format_lines(alloc: Global, cursor: &mut Cursor, count: usize) -> Result<Opco
 
 /// Reads the list of the formats.
 pub(crate) fn opcode_names(alloc: Global, cursor: &mut Cursor) -> Result<OpcodeNames, AllocError>
-    ensures { IfOk result (λ r. (t : TableContents) (rest : List ℕ) → AreNamed t → cursor.old ≡ formats_part t ++ rest → (r.names.items ≡ t.names) × (r.formats.items ≡ t.formats) × (cursor.new ≡ rest)) }
+    ensures { IfOk result (λ r. (t : TableContents) (rest : List ℕ) → AreNamed t → cursor.old ≡ formats_part t ++ rest
+        → (r.names.items ≡ t.names) × (r.formats.items ≡ t.formats) × (cursor.new ≡ rest)) }
 {
     let count = list_count(cursor, TableList::Formats);
     let names = format_lines(alloc, cursor, count)?;

@@ -39,7 +39,8 @@ pub(crate) fn version_of(cursor: &Cursor) -> Version
 
 /// Skips the list of the slots of the names, which follow from the names.
 fn skip_slots(cursor: &mut Cursor)
-    ensures { (t : TableContents) (rest : List ℕ) → All IsName t.names → length t.opcode_slots < 2 ^ 64 → cursor.old ≡ slots_part t ++ rest → cursor.new ≡ rest }
+    ensures { (t : TableContents) (rest : List ℕ) → All IsName t.names → length t.opcode_slots < 2 ^ 64
+        → cursor.old ≡ slots_part t ++ rest → cursor.new ≡ rest }
 {
     let count = list_count(cursor, TableList::OpcodeSlots);
     cursor.skip_lines(count);
@@ -48,7 +49,8 @@ fn skip_slots(cursor: &mut Cursor)
 
 /// Reads the list of the type sets.
 fn sets_list(alloc: Global, cursor: &mut Cursor) -> Result<Vec<Masks>, AllocError>
-    ensures { IfOk result (λ v. (t : TableContents) (rest : List ℕ) → AreShownLists t → cursor.old ≡ sets_list t ++ rest → (v.items ≡ t.type_sets) × (cursor.new ≡ rest)) }
+    ensures { IfOk result (λ v. (t : TableContents) (rest : List ℕ) → AreShownLists t
+        → cursor.old ≡ sets_list t ++ rest → (v.items ≡ t.type_sets) × (cursor.new ≡ rest)) }
 {
     let count = list_count(cursor, TableList::TypeSets);
     let sets = items::<Masks>(alloc, cursor, count)?;
@@ -58,7 +60,8 @@ fn sets_list(alloc: Global, cursor: &mut Cursor) -> Result<Vec<Masks>, AllocErro
 
 /// Reads the list of the type sets, which is left out where there are none: then that of the constraints stands there.
 fn type_sets(alloc: Global, cursor: &mut Cursor) -> Result<Vec<Masks>, AllocError>
-    ensures { IfOk result (λ v. (t : TableContents) (rest : List ℕ) → AreShownLists t → cursor.old ≡ sets_part t ++ (constraints_part t ++ rest) → (v.items ≡ t.type_sets) × (cursor.new ≡ constraints_part t ++ rest)) }
+    ensures { IfOk result (λ v. (t : TableContents) (rest : List ℕ) → AreShownLists t
+        → cursor.old ≡ sets_part t ++ (constraints_part t ++ rest) → (v.items ≡ t.type_sets) × (cursor.new ≡ constraints_part t ++ rest)) }
 {
     let title = cursor.byte_at(TITLE_AT);
     if title == b'v' {
@@ -69,7 +72,8 @@ fn type_sets(alloc: Global, cursor: &mut Cursor) -> Result<Vec<Masks>, AllocErro
 
 /// Reads the list of the operand constraints.
 fn operand_constraints(alloc: Global, cursor: &mut Cursor) -> Result<Vec<Constraint>, AllocError>
-    ensures { IfOk result (λ v. (t : TableContents) (rest : List ℕ) → AreShownLists t → cursor.old ≡ constraints_part t ++ rest → (map number_constraint_of v.items ≡ t.operand_constraints) × (cursor.new ≡ rest)) }
+    ensures { IfOk result (λ v. (t : TableContents) (rest : List ℕ) → AreShownLists t
+        → cursor.old ≡ constraints_part t ++ rest → (map number_constraint_of v.items ≡ t.operand_constraints) × (cursor.new ≡ rest)) }
 {
     let count = list_count(cursor, TableList::Constraints);
     let constraints = items::<Constraint>(alloc, cursor, count)?;
@@ -92,7 +96,10 @@ pub(crate) fn opcode_parts(
     cursor: &mut Cursor,
     version: Version,
 ) -> Result<OpcodeParts, AllocError>
-    ensures { IfOk result (λ r. (t : TableContents) (rest : List ℕ) → AreShownOpcodes version t → cursor.old ≡ opcodes_text version t ++ rest → HaveOpcodeLists t r.names.names.items r.names.formats.items r.type_sets.items r.operand_constraints.items r.constraints.items × (cursor.new ≡ rest)) }
+    ensures { IfOk result (λ r. (t : TableContents) (rest : List ℕ) → AreShownOpcodes version t
+        → cursor.old ≡ opcodes_text version t ++ rest
+        → HaveOpcodeLists t r.names.names.items r.names.formats.items r.type_sets.items r.operand_constraints.items
+        r.constraints.items × (cursor.new ≡ rest)) }
 {
     cursor.skip_line();
     let names = opcode_names(alloc, cursor)?;

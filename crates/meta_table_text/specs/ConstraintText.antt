@@ -55,7 +55,7 @@ variant_fields (ByNumber which f) = control_mark which
 
 -- the line of a constraint
 unfoldable pub constraint_line : NumberConstraint → List ℕ
-constraint_line c = text_of (at 1 (codes "OperandConstraint::" ∷ (constraint_text c ∷ (codes "," ∷ []))) ∷ [])
+constraint_line c = text_of (at 1 (codes "OperandConstraint::" ∷ constraint_text c ∷ codes "," ∷ []) ∷ [])
 
 -- a constraint between single quotes
 unfoldable pub quoted : NumberConstraint → List ℕ
@@ -67,4 +67,4 @@ quoted_all cs = parted (map quoted cs)
 
 -- the comment that lists constraints: `// Constraints=['Same', 'Free(1)']`
 unfoldable pub constraints_comment : List NumberConstraint → List ℕ
-constraints_comment cs = text_of (at 2 (codes "// Constraints=[" ∷ (quoted_all cs ∷ (codes "]" ∷ []))) ∷ [])
+constraints_comment cs = text_of (at 2 (codes "// Constraints=[" ∷ quoted_all cs ∷ codes "]" ∷ []) ∷ [])

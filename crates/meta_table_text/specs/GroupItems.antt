@@ -13,28 +13,29 @@ use Rattle.meta_setting_tables.specs.declared.descriptor.Descriptor.{Descriptor}
 
 -- a byte as `0x` and two small hexadecimal digits
 abbrev pub hex_text : ℕ → List ℕ
-hex_text byte = codes "0x" ++ (digit_glyph false (byte / 16) ∷ (digit_glyph false (byte % 16) ∷ []))
+hex_text byte = codes "0x" ++ (digit_glyph false (byte / 16) ∷ digit_glyph false (byte % 16) ∷ [])
 
 -- a byte in eight binary digits, the highest first
 unfoldable pub binary_text : ℕ → List ℕ
-binary_text byte = map (λ place. digit_glyph false (byte / place % 2)) (128 ∷ (64 ∷ (32 ∷ (16 ∷ (8 ∷ (4 ∷ (2 ∷ (1 ∷ []))))))))
+binary_text byte = map (λ place. digit_glyph false (byte / place % 2)) (128 ∷ 64 ∷ 32 ∷ 16 ∷ 8 ∷ 4 ∷ 2 ∷ 1 ∷ [])
 
 -- ---- the first line
 
 -- the comment that a group begins with
 unfoldable pub head_text : List ℕ → List ℕ
-head_text name = text_of (at 0 (codes "// Settings group " ∷ (name ∷ (codes "." ∷ []))) ∷ [])
+head_text name = text_of (at 0 (codes "// Settings group " ∷ name ∷ codes "." ∷ []) ∷ [])
 
 -- ---- elements
 
 -- an enumerator
 unfoldable pub enumerator_text : List ℕ → List ℕ
-enumerator_text name = text_of (at 1 (codes "\"" ∷ (name ∷ (codes "\"," ∷ []))) ∷ [])
+enumerator_text name = text_of (at 1 (codes "\"" ∷ name ∷ codes "\"," ∷ []) ∷ [])
 
 -- what an entry is
 abbrev pub detail_text : Detail → List ℕ
 detail_text (ABool bit) = codes "detail::Detail::Bool { bit: " ++ (decimal bit ++ codes " }")
-detail_text (AnEnum last enumerators) = codes "detail::Detail::Enum { last: " ++ (decimal last ++ (codes ", enumerators: " ++ (decimal enumerators ++ codes " }")))
+detail_text (AnEnum last enumerators) = codes "detail::Detail::Enum { last: "
+    ++ (decimal last ++ (codes ", enumerators: " ++ (decimal enumerators ++ codes " }")))
 detail_text ANum = codes "detail::Detail::Num"
 detail_text Preset = codes "detail::Detail::Preset"
 
@@ -42,12 +43,12 @@ detail_text Preset = codes "detail::Detail::Preset"
 unfoldable pub descriptor_block : List ℕ → List ℕ → ℕ → Detail → List ℕ
 descriptor_block name description offset detail = text_of (
     at 1 (codes "detail::Descriptor {" ∷ [])
-    ∷ (at 2 (codes "name: \"" ∷ (name ∷ (codes "\"," ∷ [])))
-    ∷ (at 2 (codes "description: \"" ∷ (description ∷ (codes "\"," ∷ [])))
-    ∷ (at 2 (codes "offset: " ∷ (decimal offset ∷ (codes "," ∷ [])))
-    ∷ (at 2 (codes "detail: " ∷ (detail_text detail ∷ (codes "," ∷ [])))
+    ∷ (at 2 (codes "name: \"" ∷ name ∷ codes "\"," ∷ [])
+    ∷ (at 2 (codes "description: \"" ∷ description ∷ codes "\"," ∷ [])
+    ∷ (at 2 (codes "offset: " ∷ decimal offset ∷ codes "," ∷ [])
+    ∷ (at 2 (codes "detail: " ∷ detail_text detail ∷ codes "," ∷ [])
     ∷ (at 1 (codes "}" ∷ [])
-    ∷ (at 1 (codes "," ∷ []) ∷ [])))))))
+    ∷ at 1 (codes "," ∷ []) ∷ []))))))
 
 -- the descriptor of an entry
 abbrev pub descriptor_text : Descriptor → List ℕ
@@ -60,11 +61,11 @@ slot_number_text None = codes "0xffff"
 
 -- a slot
 unfoldable pub slot_text : Option ℕ → List ℕ
-slot_text slot = text_of (at 1 (slot_number_text slot ∷ (codes "," ∷ [])) ∷ [])
+slot_text slot = text_of (at 1 (slot_number_text slot ∷ codes "," ∷ []) ∷ [])
 
 -- the mask and the value of a preset in a setting byte, which are equal
 unfoldable pub pair_text : ℕ → List ℕ
-pair_text mask = text_of (at 1 (codes "(0b" ∷ (binary_text mask ∷ (codes ", 0b" ∷ (binary_text mask ∷ (codes ")," ∷ []))))) ∷ [])
+pair_text mask = text_of (at 1 (codes "(0b" ∷ binary_text mask ∷ codes ", 0b" ∷ binary_text mask ∷ codes ")," ∷ []) ∷ [])
 
 -- names, parted by a comma and a space
 abbrev pub texts_with_commas : List (List ℕ) → List ℕ
@@ -72,7 +73,7 @@ texts_with_commas names = join_by (λ name. name) (codes ", ") names
 
 -- the comment of a preset of this name that turns on booleans, whose names are shown so
 unfoldable pub comment_text : List ℕ → List ℕ → List ℕ
-comment_text name booleans = text_of (at 1 (codes "// " ∷ (name ∷ (codes ": " ∷ (booleans ∷ [])))) ∷ [])
+comment_text name booleans = text_of (at 1 (codes "// " ∷ name ∷ codes ": " ∷ booleans ∷ []) ∷ [])
 
 -- ---- the template
 
@@ -84,11 +85,11 @@ bytes_text bytes = join_by hex_text (codes ", ") bytes
 unfoldable pub template_text : List ℕ → List ℕ → List ℕ
 template_text name defaults = text_of (
     at 0 (codes "static TEMPLATE: detail::Template = detail::Template {" ∷ [])
-    ∷ (at 1 (codes "name: \"" ∷ (name ∷ (codes "\"," ∷ [])))
+    ∷ (at 1 (codes "name: \"" ∷ name ∷ codes "\"," ∷ [])
     ∷ (at 1 (codes "descriptors: &DESCRIPTORS," ∷ [])
     ∷ (at 1 (codes "enumerators: &ENUMERATORS," ∷ [])
     ∷ (at 1 (codes "hash_table: &HASH_TABLE," ∷ [])
-    ∷ (at 1 (codes "defaults: &[" ∷ (defaults ∷ (codes "]," ∷ [])))
+    ∷ (at 1 (codes "defaults: &[" ∷ defaults ∷ codes "]," ∷ [])
     ∷ (at 1 (codes "presets: &PRESETS," ∷ [])
     ∷ (at 0 (codes "}" ∷ [])
-    ∷ (at 0 (codes ";" ∷ []) ∷ [])))))))))
+    ∷ at 0 (codes ";" ∷ []) ∷ []))))))))

@@ -8,7 +8,8 @@ use Rattle.meta_setting_tables.specs.GroupTables.{GroupContents}
 use Rattle.meta_setting_tables.specs.WellFormed.{is_preset}
 use Rattle.meta_table_text.specs.declared.table_list.TableList.TheVariants.{Enumerators, Descriptors, SettingSlots, Presets}
 use Rattle.meta_table_text.specs.Lists.{list_text}
-use Rattle.meta_table_text.specs.GroupItems.{head_text, enumerator_text, descriptor_text, slot_text, pair_text, texts_with_commas, comment_text, bytes_text, template_text}
+use Rattle.meta_table_text.specs.GroupItems.{head_text, enumerator_text, descriptor_text, slot_text, pair_text, texts_with_commas}
+use Rattle.meta_table_text.specs.GroupItems.{comment_text, bytes_text, template_text}
 
 -- the enumerators
 unfoldable pub enumerators_text : List (List ℕ) → List ℕ

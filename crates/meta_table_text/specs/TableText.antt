@@ -18,7 +18,7 @@ use Rattle.meta_table_text.specs.GroupText.{group_text}
 
 -- the first line of the text
 unfoldable pub version_line : Version → List ℕ
-version_line v = text_of (at 0 (codes "// Table text version " ∷ (decimal (version_number v) ∷ (codes "." ∷ []))) ∷ [])
+version_line v = text_of (at 0 (codes "// Table text version " ∷ decimal (version_number v) ∷ codes "." ∷ []) ∷ [])
 
 -- the list of the formats, by opcode
 unfoldable pub formats_part : TableContents → List ℕ

@@ -6,7 +6,8 @@ ghost use Rattle.meta_inst.specs.Controls.{which_of};
 ghost use Rattle.meta_opcode_tables.specs.Constraint.{number_constraint_of};
 ghost use Rattle.meta_opcode_tables.specs.Demand.{number_constraint_demanded};
 ghost use Rattle.meta_table_text.specs.TypeSetText.{parted_behind};
-ghost use Rattle.meta_table_text.specs.ConstraintText.{type_numbered, type_text, control_mark, variant_name, variant_fields, constraint_text, constraint_line, quoted, quoted_all, constraints_comment};
+ghost use Rattle.meta_table_text.specs.ConstraintText.{type_numbered, type_text, control_mark, variant_name, variant_fields};
+ghost use Rattle.meta_table_text.specs.ConstraintText.{constraint_text, constraint_line, quoted, quoted_all, constraints_comment};
 
 use meta_gen::{Constraint, Demand, Which};
 use meta_types::{ValueType, there_are_153_types};
@@ -129,7 +130,9 @@ fn push_next<'a>(
     constraint: Constraint,
     before: &'a str,
 ) -> Result<&'a str, AllocError>
-    ensures { IfOk result (λ next. (rest : List Constraint) → string_bytes out.new ++ parted_behind next.now (map quoted (map number_constraint_of rest)) ≡ string_bytes out.old ++ parted_behind before.now (map quoted (map number_constraint_of (constraint ∷ rest)))) }
+    ensures { IfOk result (λ next. (rest : List Constraint)
+        → string_bytes out.new ++ parted_behind next.now (map quoted (map number_constraint_of rest))
+        ≡ string_bytes out.old ++ parted_behind before.now (map quoted (map number_constraint_of (constraint ∷ rest)))) }
 {
     out.push_str(before)?;
     push_quoted(alloc, out, constraint)?;

@@ -1,5 +1,6 @@
 ghost use Rattle.std.specs.Prelude.{◌≡◌, ◌++◌, OnOk, IfOk, string_bytes};
-ghost use Rattle.meta_table_text.specs.GroupItems.{hex_text, head_text, enumerator_text, descriptor_block, descriptor_text, slot_text, pair_text, comment_text, bytes_text, template_text};
+ghost use Rattle.meta_table_text.specs.GroupItems.{hex_text, head_text, enumerator_text, descriptor_block, descriptor_text, slot_text};
+ghost use Rattle.meta_table_text.specs.GroupItems.{pair_text, comment_text, bytes_text, template_text};
 
 use meta_setting_tables::{Descriptor, Detail};
 use std::alloc::{AllocError, Global};

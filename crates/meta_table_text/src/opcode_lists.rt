@@ -4,7 +4,8 @@ ghost use Rattle.meta_opcode_tables.specs.Constraint.{number_constraint_of};
 ghost use Rattle.meta_table_text.specs.TypeSetText.{set_block};
 ghost use Rattle.meta_table_text.specs.ConstraintText.{constraint_line};
 ghost use Rattle.meta_table_text.specs.OpcodeText.{each_opcode, format_line, slot_line, opcode_block};
-ghost use Rattle.meta_table_text.specs.TableText.{formats_part, slots_part, sets_list, sets_part, constraints_part, entries_part, opcodes_text};
+ghost use Rattle.meta_table_text.specs.TableText.{formats_part, slots_part, sets_list, sets_part, constraints_part, entries_part};
+ghost use Rattle.meta_table_text.specs.TableText.{opcodes_text};
 
 use super::constraint_text::push_constraint;
 use super::lines::{push_list_end, push_list_head, push_version};
@@ -27,7 +28,8 @@ fn push_format(out: &mut String, tables: &Tables, opcode: u16) -> Result<(), All
 
 /// Adds the lines of the formats of all opcodes.
 fn push_each_format(out: &mut String, tables: &Tables) -> Result<(), AllocError>
-    ensures { OnOk result (string_bytes out.new ≡ string_bytes out.old ++ each_opcode (format_line tables.now.opcodes) (length tables.now.opcodes.entries)) }
+    ensures { OnOk result (string_bytes out.new ≡ string_bytes out.old ++ each_opcode (format_line tables.now.opcodes)
+        (length tables.now.opcodes.entries)) }
 {
     for before in 0..tables.opcode_count() {
         push_format(out, tables, before + 1)?;
@@ -128,7 +130,8 @@ fn push_each_constraint(
     out: &mut String,
     constraints: &[Constraint],
 ) -> Result<(), AllocError>
-    ensures { OnOk result (string_bytes out.new ≡ string_bytes out.old ++ flat_map constraint_line (map number_constraint_of constraints.now)) }
+    ensures { OnOk result (string_bytes out.new ≡ string_bytes out.old ++ flat_map constraint_line
+        (map number_constraint_of constraints.now)) }
 {
     for constraint in constraints {
         push_constraint(alloc, out, *constraint)?;
@@ -154,7 +157,8 @@ fn push_each_opcode(
     version: Version,
     tables: &Tables,
 ) -> Result<(), AllocError>
-    ensures { OnOk result (string_bytes out.new ≡ string_bytes out.old ++ each_opcode (opcode_block version tables.now.opcodes) (length tables.now.opcodes.entries)) }
+    ensures { OnOk result (string_bytes out.new ≡ string_bytes out.old ++ each_opcode
+        (opcode_block version tables.now.opcodes) (length tables.now.opcodes.entries)) }
 {
     for before in 0..tables.opcode_count() {
         push_opcode(alloc, out, version, tables, before + 1)?;

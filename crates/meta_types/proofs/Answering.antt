@@ -38,14 +38,16 @@ leads Wider u takes from to = absurd takes
 leads f u takes from to = search rules
 
 -- the type with those parts is the answer
-pub found : (g f : Function) (v u : TypeParts) (r : Option ValueType) → g ≡ f → u ≡ v → IsType v → Takes f u → IfSome r (λ t. type_parts_of t ≡ candidate f u) → IfSome r (λ t. Answers g v (type_parts_of t))
+pub found : (g f : Function) (v u : TypeParts) (r : Option ValueType) → g ≡ f → u ≡ v → IsType v → Takes f u
+    → IfSome r (λ t. type_parts_of t ≡ candidate f u) → IfSome r (λ t. Answers g v (type_parts_of t))
 found g f v u (Some t) is same from takes of =
     subst₂ (λ h x. Answers h x (type_parts_of t)) (sym is) same
     (subst (Answers f u) (sym of) (leads f u takes (subst IsType (sym same) from) (subst IsType of (typed t))))
 found g f v u None is same from takes of = of
 
 -- where it is no type's there is none
-pub none : (g f : Function) (v u : TypeParts) (r : Option ValueType) → g ≡ f → u ≡ v → IfNone r (¬ IsType (candidate f u)) → IfNone r ((t : TypeParts) → ¬ Answers g v t)
+pub none : (g f : Function) (v u : TypeParts) (r : Option ValueType) → g ≡ f → u ≡ v → IfNone r (¬ IsType (candidate f u))
+    → IfNone r ((t : TypeParts) → ¬ Answers g v t)
 none g f v u (Some t) is same of = of
 none g f v u None is same of = λ t answers.
     let here : Answers f u t = subst₂ (λ h x. Answers h x t) is (sym same) answers in

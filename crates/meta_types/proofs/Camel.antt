@@ -1,5 +1,6 @@
 -- The camel case of a text, character by character.
-use Rattle.std.proofs.Common.{◌≡◌, ℕ, ◌<◌, ◌≤◌, ◌≢◌, Bool, true, false, List, [], ◌∷◌, ◌++◌, ap, ◌∙◌, sym, refl, arith, ⊎_elim, append_assoc, length}
+use Rattle.std.proofs.Common.{◌≡◌, ℕ, ◌<◌, ◌≤◌, ◌≢◌, Bool, true, false, List, [], ◌∷◌, ◌++◌, ap, ◌∙◌, sym, refl, arith, ⊎_elim}
+use Rattle.std.proofs.Common.{append_assoc, length}
 use Rattle.std.proofs.lemmas.List.{append-nil, nil_from_length}
 use Rattle.std.proofs.lemmas.Str.{encode_ascii}
 use Rattle.std.proofs.lemmas.Bool.Decides.{nat_tests}
@@ -35,28 +36,34 @@ capital_high true c h = grind (arith, nat_tests)
 capital_high false c h = refl
 
 -- any other character stays, or becomes a capital
-pub camel_from-char : (c : ℕ) (up : Bool) (rest : List ℕ) → c ≢ 95 → camel_from up (encode c ++ rest) ≡ encode (capital_at up c) ++ camel_from false rest
+pub camel_from-char : (c : ℕ) (up : Bool) (rest : List ℕ) → c ≢ 95
+    → camel_from up (encode c ++ rest) ≡ encode (capital_at up c) ++ camel_from false rest
 camel_from-char c up rest h = ⊎_elim (ascii c up rest h) (past c up rest) (cases_lt c 128)
   where
     plain : (b : ℕ) (up : Bool) (rest : List ℕ) → b ≢ 95 → camel_from up (b ∷ rest) ≡ capital_at up b ∷ camel_from false rest
     plain b true rest n = grind (arith, nat_tests)
     plain b false rest n = grind (arith, nat_tests)
 
-    ascii : (c : ℕ) (up : Bool) (rest : List ℕ) → c ≢ 95 → c < 128 → camel_from up (encode c ++ rest) ≡ encode (capital_at up c) ++ camel_from false rest
+    ascii : (c : ℕ) (up : Bool) (rest : List ℕ) → c ≢ 95 → c < 128
+        → camel_from up (encode c ++ rest) ≡ encode (capital_at up c) ++ camel_from false rest
     ascii c up rest n l = rw (encode_ascii c l, encode_ascii (capital_at up c) (capital_ascii up c l)) (plain c up rest n)
 
-    past : (c : ℕ) (up : Bool) (rest : List ℕ) → 128 ≤ c → camel_from up (encode c ++ rest) ≡ encode (capital_at up c) ++ camel_from false rest
+    past : (c : ℕ) (up : Bool) (rest : List ℕ) → 128 ≤ c → camel_from up (encode c ++ rest)
+        ≡ encode (capital_at up c) ++ camel_from false rest
     past c up rest l = rw (capital_high up c l) (camel_from-high c up rest l)
 
 -- one more character is written
-pub camel_more : (out more it rest all : List ℕ) (up : Bool) (c ch : ℕ) → more ≡ out ++ encode ch → ch ≡ capital_at up c → it ≡ encode c ++ rest → c ≢ 95 → out ++ camel_from up it ≡ all → more ++ camel_from false rest ≡ all
+pub camel_more : (out more it rest all : List ℕ) (up : Bool) (c ch : ℕ) → more ≡ out ++ encode ch → ch ≡ capital_at up c
+    → it ≡ encode c ++ rest → c ≢ 95 → out ++ camel_from up it ≡ all → more ++ camel_from false rest ≡ all
 camel_more out more it rest all up c ch pushed is next n before =
     rw (pushed, is, append_assoc) (ap (λ z. out ++ z) (sym (camel_from-char c up rest n) ∙ ap (camel_from up) (sym next)) ∙ before)
 
 -- a `_` is dropped
-pub camel_dropped : (out it rest all : List ℕ) (up : Bool) (c : ℕ) → it ≡ encode c ++ rest → c ≡ 95 → out ++ camel_from up it ≡ all → out ++ camel_from true rest ≡ all
+pub camel_dropped : (out it rest all : List ℕ) (up : Bool) (c : ℕ) → it ≡ encode c ++ rest → c ≡ 95 → out ++ camel_from up it ≡ all
+    → out ++ camel_from true rest ≡ all
 camel_dropped out it rest all up c next e before =
-    let same : camel_from up it ≡ camel_from true rest = ap (camel_from up) (next ∙ ap (λ k. encode k ++ rest) e ∙ ap (λ w. w ++ rest) (encode_ascii 95 (omega arith))) in
+    let same : camel_from up it ≡ camel_from true rest =
+    ap (camel_from up) (next ∙ ap (λ k. encode k ++ rest) e ∙ ap (λ w. w ++ rest) (encode_ascii 95 (omega arith))) in
     ap (λ z. out ++ z) (sym same) ∙ before
 
 -- nothing is left

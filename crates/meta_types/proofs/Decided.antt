@@ -1,6 +1,7 @@
 -- What can be decided: each fact, its negation, or both sides of an implication; of numbers, of lists, and at one type and at all of
 -- them.
-use Rattle.std.proofs.Common.{◌≡◌, ◌≤◌, ℕ, suc, ◌⊎◌, Bool, true, false, List, [], ◌∷◌, All, Contains, refl, sym, subst, inl, inr, ⊎_elim, zero-lt-suc, suc-le-suc, arith}
+use Rattle.std.proofs.Common.{◌≡◌, ◌≤◌, ℕ, suc, ◌⊎◌, Bool, true, false, List, [], ◌∷◌, All, Contains, refl, sym, subst, inl, inr, ⊎_elim}
+use Rattle.std.proofs.Common.{zero-lt-suc, suc-le-suc, arith}
 use Rattle.std.proofs.lemmas.Bool.{cases_eq, cases_lt, false≢true}
 use Rattle.std.proofs.lemmas.List.Elements.{All-nil, All-cons, All-head, All-tail}
 use Rattle.meta_lists.proofs.Contained.{contains_cases}
@@ -56,7 +57,8 @@ decided_le a b = ⊎_elim (λ l. inr (λ m. omega (arith, l, m))) (λ l. inl l) 
 -- a fact of each element of a list
 pub decided_each : {X : Type 0} (P : X → Type 0) → ((x : X) → Decided (P x)) → (xs : List X) → Decided (All P xs)
 decided_each P at [] = inl (All-nil P)
-decided_each P at (x ∷ xs) = decided_like (λ h. All-cons P x xs h.0 h.1) (λ h. (All-head P x xs h, All-tail P x xs h)) (decided_both (at x) (decided_each P at xs))
+decided_each P at (x ∷ xs) = decided_like (λ h. All-cons P x xs h.0 h.1) (λ h. (All-head P x xs h, All-tail P x xs h))
+    (decided_both (at x) (decided_each P at xs))
 
 -- a fact at some number that a list contains
 pub decided_in : (P : ℕ → Type 0) → ((n : ℕ) → Decided (P n)) → (xs : List ℕ) → Decided ((n : ℕ) × Contains xs n × P n)
@@ -87,22 +89,26 @@ decided_contains (x ∷ xs) n = with_rest (cases_eq x n) (decided_contains xs n)
 
 -- that parts are those of a type
 pub decided_type : (t : TypeParts) → Decided (IsType t)
-decided_type t = decided_like (λ h. record { width = h.0; lanes = h.1 }) (λ h. (h.width, h.lanes)) (decided_both (decided_contains (widths t.kind) t.width) (decided_contains (lane_counts t.is_dynamic) t.lanes))
+decided_type t = decided_like (λ h. record { width = h.0; lanes = h.1 }) (λ h. (h.width, h.lanes))
+    (decided_both (decided_contains (widths t.kind) t.width) (decided_contains (lane_counts t.is_dynamic) t.lanes))
 
 -- that the parts of two are the same
 pub decided_same : (a b : TypeParts) → Decided (a ≡ b)
-decided_same a b = decided_like (same_parts_true a b) (λ e. subst (λ x. same_parts a x ≡ true) e (same_parts_self a)) (decided_test (same_parts a b))
+decided_same a b = decided_like (same_parts_true a b) (λ e. subst (λ x. same_parts a x ≡ true) e (same_parts_self a))
+    (decided_test (same_parts a b))
 
 module _ (P : TypeParts → Type 0) (at : (t : TypeParts) → Decided (P t)) where
   -- a fact at some type of a kind and a mark
   abbrev At : NumberKind → Bool → Type 0
-  At kind mark = (w : ℕ) × Contains (widths kind) w × ((l : ℕ) × Contains (lane_counts mark) l × P (record { kind = kind; width = w; lanes = l; is_dynamic = mark }))
+  At kind mark = (w : ℕ) × Contains (widths kind) w
+      × ((l : ℕ) × Contains (lane_counts mark) l × P (record { kind = kind; width = w; lanes = l; is_dynamic = mark }))
 
   -- it is decided
   at_kind : (kind : NumberKind) (mark : Bool) → Decided (At kind mark)
   at_kind kind mark =
       decided_in (λ w. (l : ℕ) × Contains (lane_counts mark) l × P (record { kind = kind; width = w; lanes = l; is_dynamic = mark }))
-      (λ w. decided_in (λ l. P (record { kind = kind; width = w; lanes = l; is_dynamic = mark })) (λ l. at (record { kind = kind; width = w; lanes = l; is_dynamic = mark })) (lane_counts mark))
+      (λ w. decided_in (λ l. P (record { kind = kind; width = w; lanes = l; is_dynamic = mark }))
+      (λ l. at (record { kind = kind; width = w; lanes = l; is_dynamic = mark })) (lane_counts mark))
       (widths kind)
 
   -- at some type of some kind and mark
@@ -123,9 +129,11 @@ module _ (P : TypeParts → Type 0) (at : (t : TypeParts) → Decided (P t)) whe
   -- A fact at some type.
   pub decided_some : Decided ((t : TypeParts) × IsType t × P t)
   decided_some = decided_like
-      (λ h. ⊎_elim (λ x. ⊎_elim (found IntKind false) (found IntKind true) x) (λ x. ⊎_elim (found FloatKind false) (found FloatKind true) x) h)
+      (λ h. ⊎_elim (λ x. ⊎_elim (found IntKind false) (found IntKind true) x)
+      (λ x. ⊎_elim (found FloatKind false) (found FloatKind true) x) h)
       (λ h. anywhere h.0.kind h.0.is_dynamic (h.0.width, h.1.width, (h.0.lanes, h.1.lanes, h.2)))
-      (decided_or (decided_or (at_kind IntKind false) (at_kind IntKind true)) (decided_or (at_kind FloatKind false) (at_kind FloatKind true)))
+      (decided_or (decided_or (at_kind IntKind false) (at_kind IntKind true))
+      (decided_or (at_kind FloatKind false) (at_kind FloatKind true)))
 
 -- A fact at each type.
 pub decided_all : (P : TypeParts → Type 0) → ((t : TypeParts) → Decided (P t)) → Decided ((t : TypeParts) → IsType t → P t)

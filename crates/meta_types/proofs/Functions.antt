@@ -4,18 +4,24 @@
 --     func_cases                   two of them are the same or not
 --     relation_or_not              each is a relation or a function
 --     camel_names_differ           they are told apart by their names in camel case
-use Rattle.std.proofs.Common.{◌≡◌, ◌≢◌, ◌⊎◌, inl, inr, ℕ, ◌<◌, ◌≤◌, ◌==◌, ◌||◌, not, nat_lt, cond, Bool, true, false, List, length, get_or, slice_get, None, Some, refl, sym, ap, ◌∙◌, subst, arith, eqb}
+use Rattle.std.proofs.Common.{◌≡◌, ◌≢◌, ◌⊎◌, inl, inr, ℕ, ◌<◌, ◌≤◌, ◌==◌, ◌||◌, not, nat_lt, cond, Bool, true, false, List, length, get_or}
+use Rattle.std.proofs.Common.{slice_get, None, Some, refl, sym, ap, ◌∙◌, subst, arith, eqb}
 use Rattle.std.specs.List.{list_all, position, position_or_len}
 use Rattle.std.specs.Cmp.Lexicographic.{pointwise, bytes_decides}
 use Rattle.std.proofs.lemmas.Bool.{eqb-true, eqb-false, ltb-false, or_cases, not-true, false≢true}
 use Rattle.std.proofs.lemmas.Option.{same_Some, slice_get_within, get_or_from_slice_get}
 use Rattle.std.proofs.lemmas.List.Quantifiers.{position-Some}
 use Rattle.std.proofs.lemmas.List.Sums.{AllPass-from_list_all, fails_before_first}
-use Rattle.meta_types.specs.Function.{Function, LaneOf, AsTruthy, HalfWidth, DoubleWidth, SplitLanes, MergeLanes, DynamicToVector, Narrower, Wider, IsRelation, IsFunction}
+use Rattle.meta_types.specs.Function.{Function, LaneOf, AsTruthy, HalfWidth, DoubleWidth, SplitLanes, MergeLanes, DynamicToVector, Narrower}
+use Rattle.meta_types.specs.Function.{Wider, IsRelation, IsFunction}
 use Rattle.meta_types.specs.DerivedFunc.{function_of, camel_function_name}
 use Rattle.meta_types.specs.declared.derived_func.TheConstants.{DERIVED_FUNCS}
 use Rattle.meta_types.specs.declared.derived_func.DerivedFunc.{DerivedFunc}
-use Rattle.meta_types.specs.declared.derived_func.DerivedFunc.TheVariants.{LaneOf as LaneOfFunc, AsTruthy as AsTruthyFunc, HalfWidth as HalfWidthFunc, DoubleWidth as DoubleWidthFunc, SplitLanes as SplitLanesFunc, MergeLanes as MergeLanesFunc, DynamicToVector as DynamicToVectorFunc, Narrower as NarrowerFunc, Wider as WiderFunc}
+use Rattle.meta_types.specs.declared.derived_func.DerivedFunc.TheVariants.{LaneOf as LaneOfFunc, AsTruthy as AsTruthyFunc}
+use Rattle.meta_types.specs.declared.derived_func.DerivedFunc.TheVariants.{HalfWidth as HalfWidthFunc, DoubleWidth as DoubleWidthFunc}
+use Rattle.meta_types.specs.declared.derived_func.DerivedFunc.TheVariants.{SplitLanes as SplitLanesFunc, MergeLanes as MergeLanesFunc}
+use Rattle.meta_types.specs.declared.derived_func.DerivedFunc.TheVariants.{DynamicToVector as DynamicToVectorFunc, Narrower as NarrowerFunc}
+use Rattle.meta_types.specs.declared.derived_func.DerivedFunc.TheVariants.{Wider as WiderFunc}
 
 -- the place of a function among all of them
 abbrev place : DerivedFunc → ℕ
@@ -96,10 +102,14 @@ abbrev told_apart : Function → Function → Bool
 told_apart f g = not (pointwise ◌==◌ (camel_function_name f) (camel_function_name g)) || (place (func_of f) == place (func_of g))
 
 pub camel_names_differ : (f g : Function) → camel_function_name f ≡ camel_function_name g → f ≡ g
-camel_names_differ f g e = by_case (or_cases (not (pointwise ◌==◌ (camel_function_name f) (camel_function_name g))) (place (func_of f) == place (func_of g)) (each_function (told_apart f) (each_function (λ h. list_all (λ k. told_apart h (function_of k)) DERIVED_FUNCS) refl f) g))
+camel_names_differ f g e = by_case (or_cases (not (pointwise ◌==◌ (camel_function_name f) (camel_function_name g)))
+    (place (func_of f) == place (func_of g))
+    (each_function (told_apart f) (each_function (λ h. list_all (λ k. told_apart h (function_of k)) DERIVED_FUNCS) refl f) g))
   where
-    by_case : (not (pointwise ◌==◌ (camel_function_name f) (camel_function_name g)) ≡ true) ⊎ ((place (func_of f) == place (func_of g)) ≡ true) → f ≡ g
-    by_case (inl differ) = absurd (false≢true (sym (not-true _ differ) ∙ (bytes_decides (camel_function_name f) (camel_function_name g)).1 e))
+    by_case : (not (pointwise ◌==◌ (camel_function_name f) (camel_function_name g)) ≡ true)
+        ⊎ ((place (func_of f) == place (func_of g)) ≡ true) → f ≡ g
+    by_case (inl differ) =
+        absurd (false≢true (sym (not-true _ differ) ∙ (bytes_decides (camel_function_name f) (camel_function_name g)).1 e))
     by_case (inr same) = sym (meant f) ∙ ap function_of (same_place (func_of f) (func_of g) (eqb-true _ _ same)) ∙ meant g
 
 -- whether it is the function of this name
@@ -110,7 +120,8 @@ has_name name f = pointwise ◌==◌ (camel_function_name (function_of f)) name
 pub name_within : (name : List ℕ) (i : ℕ) → position (has_name name) DERIVED_FUNCS ≡ Some i → i < length DERIVED_FUNCS
 name_within name i e = (position-Some (has_name name) DERIVED_FUNCS i LaneOfFunc e).0
 
-pub name_found : (name : List ℕ) (i : ℕ) (f d : DerivedFunc) → position (has_name name) DERIVED_FUNCS ≡ Some i → f ≡ get_or DERIVED_FUNCS i d → camel_function_name (function_of f) ≡ name
+pub name_found : (name : List ℕ) (i : ℕ) (f d : DerivedFunc) → position (has_name name) DERIVED_FUNCS ≡ Some i
+    → f ≡ get_or DERIVED_FUNCS i d → camel_function_name (function_of f) ≡ name
 name_found name i f d e is =
     let found = position-Some (has_name name) DERIVED_FUNCS i d e in
     (bytes_decides (camel_function_name (function_of f)) name).0 (ap (has_name name) is ∙ found.1)
@@ -119,7 +130,8 @@ name_found name i f d e is =
 none_passes : {X : Type 0} (p : X → Bool) (xs : List X) → position p xs ≡ None → length xs ≤ position_or_len p xs
 none_passes p xs e = by_test (nat_lt (position_or_len p xs) (length xs)) refl e
   where
-    by_test : (b : Bool) → nat_lt (position_or_len p xs) (length xs) ≡ b → cond b (Some (position_or_len p xs)) None ≡ None → length xs ≤ position_or_len p xs
+    by_test : (b : Bool) → nat_lt (position_or_len p xs) (length xs) ≡ b → cond b (Some (position_or_len p xs)) None ≡ None
+        → length xs ≤ position_or_len p xs
     by_test true is none = absurd (cc)
     by_test false is none = ltb-false (position_or_len p xs) (length xs) is
 

@@ -21,7 +21,8 @@ tests_step : (f : Function) (u t : TypeParts) (r : Bool) → IsType u → IsType
 tests_step f u t r from to e = ((λ h. record { from = from; to = to; relates = subst IsTrue e h }), λ h. subst IsTrue (sym e) h.relates)
 
 -- the test of two parts is that of the relation
-pub tests_narrower : (f : Function) (u t v s : TypeParts) (r : Bool) → f ≡ Narrower → v ≡ u → s ≡ t → IsType u → IsType t → r ≡ relates Narrower v s → (IsTrue r ↔ StepsTypes f u t)
+pub tests_narrower : (f : Function) (u t v s : TypeParts) (r : Bool) → f ≡ Narrower → v ≡ u → s ≡ t → IsType u → IsType t
+    → r ≡ relates Narrower v s → (IsTrue r ↔ StepsTypes f u t)
 tests_narrower f u t v s r is same_u same_t from to e =
     subst (λ g. IsTrue r ↔ StepsTypes g u t) (sym is) (tests_step Narrower u t r from to (e ∙ ap₂ (relates Narrower) same_u same_t))
 
@@ -30,9 +31,11 @@ turned : (u t : TypeParts) → relates Narrower t u ≡ relates Wider u t
 turned u t = grind (arith, common_steps)
 
 -- so is the test of the two the other way round
-pub tests_wider : (f : Function) (u t v s : TypeParts) (r : Bool) → f ≡ Wider → v ≡ u → s ≡ t → IsType u → IsType t → r ≡ relates Narrower s v → (IsTrue r ↔ StepsTypes f u t)
+pub tests_wider : (f : Function) (u t v s : TypeParts) (r : Bool) → f ≡ Wider → v ≡ u → s ≡ t → IsType u → IsType t
+    → r ≡ relates Narrower s v → (IsTrue r ↔ StepsTypes f u t)
 tests_wider f u t v s r is same_u same_t from to e =
-    subst (λ g. IsTrue r ↔ StepsTypes g u t) (sym is) (tests_step Wider u t r from to (e ∙ ap₂ (relates Narrower) same_t same_u ∙ turned u t))
+    subst (λ g. IsTrue r ↔ StepsTypes g u t) (sym is) (tests_step Wider u t r from to (e ∙ ap₂ (relates Narrower) same_t same_u
+    ∙ turned u t))
 
 -- the test of the type that was found is that of the step
 pub tests_answer : (f : Function) (c t : ValueType) (o : Option ValueType) (r : Bool) → IsFunction f
@@ -42,7 +45,8 @@ pub tests_answer : (f : Function) (c t : ValueType) (o : Option ValueType) (r : 
     → (IsTrue r ↔ StepsTypes f (type_parts_of c) (type_parts_of t))
 tests_answer f c t (Some a) r function found none e = (
   (λ h. (subst (λ x. Answers f (type_parts_of c) (type_parts_of x)) (same_type a t (sym e ∙ h)) found).steps),
-  (λ h. e ∙ equal_type a t (one_value a t (one f (type_parts_of c) (type_parts_of a) (type_parts_of t) found (record { is_function = function; steps = h })))),
+  (λ h. e ∙ equal_type a t (one_value a t (one f (type_parts_of c) (type_parts_of a) (type_parts_of t) found
+      (record { is_function = function; steps = h })))),
 )
 tests_answer f c t None r function found none e = (
   (λ h. absurd (false≢true (sym e ∙ h))),

@@ -4,9 +4,14 @@
 --     camel_function_name f  its name in camel case, as `LaneOf`
 use Rattle.std.specs.Prelude.{ℕ, List, codes}
 use Rattle.meta_types.specs.CamelCase.{camel_case_of}
-use Rattle.meta_types.specs.Function.{Function, LaneOf, AsTruthy, HalfWidth, DoubleWidth, SplitLanes, MergeLanes, DynamicToVector, Narrower, Wider}
+use Rattle.meta_types.specs.Function.{Function, LaneOf, AsTruthy, HalfWidth, DoubleWidth, SplitLanes, MergeLanes, DynamicToVector, Narrower}
+use Rattle.meta_types.specs.Function.{Wider}
 use Rattle.meta_types.specs.declared.derived_func.DerivedFunc.{DerivedFunc}
-use Rattle.meta_types.specs.declared.derived_func.DerivedFunc.TheVariants.{LaneOf as LaneOfFunc, AsTruthy as AsTruthyFunc, HalfWidth as HalfWidthFunc, DoubleWidth as DoubleWidthFunc, SplitLanes as SplitLanesFunc, MergeLanes as MergeLanesFunc, DynamicToVector as DynamicToVectorFunc, Narrower as NarrowerFunc, Wider as WiderFunc}
+use Rattle.meta_types.specs.declared.derived_func.DerivedFunc.TheVariants.{LaneOf as LaneOfFunc, AsTruthy as AsTruthyFunc}
+use Rattle.meta_types.specs.declared.derived_func.DerivedFunc.TheVariants.{HalfWidth as HalfWidthFunc, DoubleWidth as DoubleWidthFunc}
+use Rattle.meta_types.specs.declared.derived_func.DerivedFunc.TheVariants.{SplitLanes as SplitLanesFunc, MergeLanes as MergeLanesFunc}
+use Rattle.meta_types.specs.declared.derived_func.DerivedFunc.TheVariants.{DynamicToVector as DynamicToVectorFunc, Narrower as NarrowerFunc}
+use Rattle.meta_types.specs.declared.derived_func.DerivedFunc.TheVariants.{Wider as WiderFunc}
 
 -- the derived function that is meant
 abbrev pub function_of : DerivedFunc → Function

@@ -6,7 +6,10 @@ use Rattle.meta_types.specs.declared.fault.FaultDetail.{FaultDetail}
 use Rattle.meta_types.specs.declared.fault.FaultDetail.TheVariants.{Nothing, One, Two, Four, At, AtAndOne}
 use Rattle.meta_types.specs.declared.fault.Place.TheVariants.{Instruction, Format, Group, Entry}
 use Rattle.meta_types.specs.declared.fault.DefinitionError.{DefinitionError}
-use Rattle.meta_types.specs.declared.fault.DefinitionError.TheVariants.{BadName, DuplicateName, TooManyOpcodes, BadOutput, FormatMismatch, NoControl, BadSecond, BadDerivation, TooManyOperands, BadImmMethod, BadFormat, FormatClash, TooManyTypeSets, BadEnum, BadPreset, TooManySettings, OutOfMemory}
+use Rattle.meta_types.specs.declared.fault.DefinitionError.TheVariants.{BadName, DuplicateName, TooManyOpcodes, BadOutput, FormatMismatch}
+use Rattle.meta_types.specs.declared.fault.DefinitionError.TheVariants.{NoControl, BadSecond, BadDerivation, TooManyOperands, BadImmMethod}
+use Rattle.meta_types.specs.declared.fault.DefinitionError.TheVariants.{BadFormat, FormatClash, TooManyTypeSets, BadEnum, BadPreset}
+use Rattle.meta_types.specs.declared.fault.DefinitionError.TheVariants.{TooManySettings, OutOfMemory}
 
 -- a place as it is written: `instruction 1`, `format 0`, `group 0`, `entry 0 2`
 abbrev pub place_text : Place → List ℕ
@@ -32,7 +35,8 @@ line_of (FormatClash f earlier) = codes "FormatClash " ++ (decimal f ++ (32 ∷ 
 line_of (TooManyTypeSets count) = codes "TooManyTypeSets " ++ decimal count
 line_of (BadEnum g entry) = codes "BadEnum " ++ (decimal g ++ (32 ∷ decimal entry))
 line_of (BadPreset g entry) = codes "BadPreset " ++ (decimal g ++ (32 ∷ decimal entry))
-line_of (TooManySettings g bools bytes entries) = codes "TooManySettings " ++ (decimal g ++ (32 ∷ (decimal bools ++ (32 ∷ (decimal bytes ++ (32 ∷ decimal entries))))))
+line_of (TooManySettings g bools bytes entries) =
+    codes "TooManySettings " ++ (decimal g ++ (32 ∷ (decimal bools ++ (32 ∷ (decimal bytes ++ (32 ∷ decimal entries))))))
 line_of OutOfMemory = codes "OutOfMemory"
 
 -- its name

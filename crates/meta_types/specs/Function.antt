@@ -37,15 +37,20 @@ abbrev pub relates : Function → TypeParts → TypeParts → Bool
 -- the lane of u
 relates LaneOf u t = same_kind t.kind u.kind && (t.width == u.width && is_scalar t)
 -- `i8` for a scalar; for a vector the int vector of its width, lanes and mark
-relates AsTruthy u t = same_kind t.kind IntKind && ((is_scalar u && (is_scalar t && t.width == 8)) || (not (is_scalar u) && (t.width == u.width && (t.lanes == u.lanes && same_mark t.is_dynamic u.is_dynamic))))
+relates AsTruthy u t = same_kind t.kind IntKind
+    && ((is_scalar u && (is_scalar t && t.width == 8)) ||
+    (not (is_scalar u) && (t.width == u.width && (t.lanes == u.lanes && same_mark t.is_dynamic u.is_dynamic))))
 -- u with half, twice the width
 relates HalfWidth u t = same_kind t.kind u.kind && (2 * t.width == u.width && (t.lanes == u.lanes && same_mark t.is_dynamic u.is_dynamic))
 relates DoubleWidth u t = same_kind t.kind u.kind && (t.width == 2 * u.width && (t.lanes == u.lanes && same_mark t.is_dynamic u.is_dynamic))
 -- half the width and twice the lanes, and the other way round
-relates SplitLanes u t = same_kind t.kind u.kind && (2 * t.width == u.width && (t.lanes == 2 * u.lanes && same_mark t.is_dynamic u.is_dynamic))
-relates MergeLanes u t = same_kind t.kind u.kind && (t.width == 2 * u.width && (2 * t.lanes == u.lanes && same_mark t.is_dynamic u.is_dynamic))
+relates SplitLanes u t = same_kind t.kind u.kind
+    && (2 * t.width == u.width && (t.lanes == 2 * u.lanes && same_mark t.is_dynamic u.is_dynamic))
+relates MergeLanes u t = same_kind t.kind u.kind
+    && (t.width == 2 * u.width && (2 * t.lanes == u.lanes && same_mark t.is_dynamic u.is_dynamic))
 -- the fixed vector of a dynamic vector of less than 256 lanes
-relates DynamicToVector u t = same_kind t.kind u.kind && (t.width == u.width && (t.lanes == u.lanes && (u.is_dynamic && (not t.is_dynamic && nat_lt u.lanes 256))))
+relates DynamicToVector u t = same_kind t.kind u.kind
+    && (t.width == u.width && (t.lanes == u.lanes && (u.is_dynamic && (not t.is_dynamic && nat_lt u.lanes 256))))
 -- two scalars of one kind, of which t has fewer, more bits
 relates Narrower u t = same_kind t.kind u.kind && (is_scalar u && (is_scalar t && nat_lt t.width u.width))
 relates Wider u t = same_kind t.kind u.kind && (is_scalar u && (is_scalar t && nat_lt u.width t.width))

@@ -14,11 +14,13 @@ lane_doc FloatKind width = codes "A " ++ (decimal width ++ codes "-bit floating 
 
 -- ``A SIMD vector with 4 lanes containing a `i32` each.``
 abbrev pub vector_doc : TypeParts → List ℕ
-vector_doc t = codes "A SIMD vector with " ++ (decimal t.lanes ++ (codes " lanes containing a `" ++ (lane_name t.kind t.width ++ codes "` each.")))
+vector_doc t = codes "A SIMD vector with "
+    ++ (decimal t.lanes ++ (codes " lanes containing a `" ++ (lane_name t.kind t.width ++ codes "` each.")))
 
 -- ``A dynamically-scaled SIMD vector with a minimum of 4 lanes containing `i32` bits each.``
 abbrev pub dynamic_doc : TypeParts → List ℕ
-dynamic_doc t = codes "A dynamically-scaled SIMD vector with a minimum of " ++ (decimal t.lanes ++ (codes " lanes containing `" ++ (lane_name t.kind t.width ++ codes "` bits each.")))
+dynamic_doc t = codes "A dynamically-scaled SIMD vector with a minimum of "
+    ++ (decimal t.lanes ++ (codes " lanes containing `" ++ (lane_name t.kind t.width ++ codes "` bits each.")))
 
 -- the documentation of a type: of its lane where it has one lane, else of its vector
 abbrev pub type_doc : TypeParts → List ℕ
@@ -35,7 +37,8 @@ lane_debug FloatKind width = codes "FloatType(bits=" ++ (decimal width ++ codes 
 
 -- and of a vector: `VectorType(base=i32, lanes=4)`, `DynamicVectorType(base=i32, lanes=4)`
 abbrev pub vector_debug : TypeParts → List ℕ
-vector_debug t = (if t.is_dynamic then codes "DynamicVectorType(base=" else codes "VectorType(base=") ++ (lane_name t.kind t.width ++ (codes ", lanes=" ++ (decimal t.lanes ++ codes ")")))
+vector_debug t = (if t.is_dynamic then codes "DynamicVectorType(base=" else codes "VectorType(base=")
+    ++ (lane_name t.kind t.width ++ (codes ", lanes=" ++ (decimal t.lanes ++ codes ")")))
 
 abbrev pub debug_of : TypeParts → List ℕ
 debug_of t = if t.lanes == 1 then lane_debug t.kind t.width else vector_debug t

@@ -3,7 +3,8 @@ ghost use Rattle.std.specs.List.{position};
 ghost use Rattle.std.specs.Cmp.Lexicographic.{pointwise};
 ghost use Rattle.meta_types.specs.TypeParts.{TypeParts, IsType, widths, scalar};
 ghost use Rattle.meta_types.specs.Lane.{lane_parts};
-ghost use Rattle.meta_types.specs.Function.{Function, Narrower, IsRelation, is_scalar, relates, StepsTypes, Answers, StepsNumbers, AnswersNumber};
+ghost use Rattle.meta_types.specs.Function.{Function, Narrower, IsRelation, is_scalar, relates, StepsTypes, Answers, StepsNumbers};
+ghost use Rattle.meta_types.specs.Function.{AnswersNumber};
 ghost use Rattle.meta_types.specs.ValueTypes.{type_parts_of};
 ghost use Rattle.meta_types.specs.DerivedFunc.{function_of, function_name, camel_function_name};
 ghost use Rattle.meta_types.specs.Parts.{parts_meaning};
@@ -232,7 +233,12 @@ impl Parts {
 
     /// The parts of so many lanes.
     fn of_lanes(lane: LaneType, lanes: u64, is_dynamic: bool) -> Parts
-        ensures { parts_meaning result ≡ record { kind = (lane_parts lane).kind; width = (lane_parts lane).width; lanes = lanes; is_dynamic = is_dynamic } }
+        ensures { parts_meaning result ≡ record {
+          kind = (lane_parts lane).kind;
+          width = (lane_parts lane).width;
+          lanes = lanes;
+          is_dynamic = is_dynamic;
+        } }
     {
         let kind = match lane {
             LaneType::Int(_) => LaneKind::Int,

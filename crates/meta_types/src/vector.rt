@@ -178,7 +178,8 @@ fn write_debug<W: fmt::Write>(
     base: LaneType,
     lanes: u64,
 ) -> fmt::Result
-    ensures { DisplaysOnOk W.write_str_gives f.old result (Some (name.now ++ (codes "(base=" ++ (name_of (lane_parts base) ++ (codes ", lanes=" ++ (decimal lanes ++ codes ")")))))) f.new }
+    ensures { DisplaysOnOk W.write_str_gives f.old result
+        (Some (name.now ++ (codes "(base=" ++ (name_of (lane_parts base) ++ (codes ", lanes=" ++ (decimal lanes ++ codes ")")))))) f.new }
 {
     write!(f, "{name}(base={base}, lanes={lanes})")
 }

@@ -1,5 +1,6 @@
 -- Tests of each number of a list, each kind and each mark.
-use Rattle.std.proofs.Common.{◌≡◌, ℕ, ◌+◌, ◌==◌, ◌<◌, ◌≤◌, ◌↔◌, inl, inr, ⊎_elim, Bool, true, false, not, ◌&&◌, ◌||◌, cond, List, [], ◌∷◌, eqb, ap, sym, subst, refl, ◌∙◌, zero, suc, arith}
+use Rattle.std.proofs.Common.{◌≡◌, ℕ, ◌+◌, ◌==◌, ◌<◌, ◌≤◌, ◌↔◌, inl, inr, ⊎_elim, Bool, true, false, not, ◌&&◌, ◌||◌, cond, List, [], ◌∷◌}
+use Rattle.std.proofs.Common.{eqb, ap, sym, subst, refl, ◌∙◌, zero, suc, arith}
 use Rattle.std.specs.List.{filter}
 use Rattle.std.proofs.lemmas.Bool.{false≢true, cases_lt, eqb-true, and_parts}
 use Rattle.meta_types.specs.TypeParts.{NumberKind, IntKind, FloatKind}
@@ -59,10 +60,11 @@ at_bool p e true = (and_parts _ _ e).1
 -- what a filter keeps passes, and was there
 pub among_filter : (p : ℕ → Bool) (xs : List ℕ) (x : ℕ) → Among (filter p xs) x → Among xs x × (p x ≡ true)
 among_filter p [] x h = absurd h
-among_filter p (y ∷ ys) x h = elim (p y) as (λ b. p y ≡ b → Among (cond b (y ∷ filter p ys) (filter p ys)) x → Among (y ∷ ys) x × (p x ≡ true)) [
-  | true ↦ λ t h. ⊎_elim (λ e. (inl e, ap p e ∙ t)) (λ h. let r = among_filter p ys x h in (inr r.0, r.1)) h
-  | false ↦ λ _ h. let r = among_filter p ys x h in (inr r.0, r.1)
-] refl h
+among_filter p (y ∷ ys) x h = elim (p y) as (λ b. p y ≡ b → Among (cond b (y ∷ filter p ys) (filter p ys)) x
+    → Among (y ∷ ys) x × (p x ≡ true)) [
+      | true ↦ λ t h. ⊎_elim (λ e. (inl e, ap p e ∙ t)) (λ h. let r = among_filter p ys x h in (inr r.0, r.1)) h
+      | false ↦ λ _ h. let r = among_filter p ys x h in (inr r.0, r.1)
+    ] refl h
 
 -- and what was there and passes is kept
 pub among_kept : (p : ℕ → Bool) (xs : List ℕ) (x : ℕ) → Among xs x → p x ≡ true → Among (filter p xs) x

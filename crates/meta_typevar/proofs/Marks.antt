@@ -1,5 +1,6 @@
 -- Every mask of some allowed numbers, by trying all of them.
-use Rattle.std.proofs.Common.{◌≡◌, ℕ, ◌==◌, ◌&&◌, Bool, true, false, not, cond, List, [], ◌∷◌, length, map, sum, eqb, ap, ◌∙◌, refl, zero, suc}
+use Rattle.std.proofs.Common.{◌≡◌, ℕ, ◌==◌, ◌&&◌, Bool, true, false, not, cond, List, [], ◌∷◌, length, map, sum, eqb, ap, ◌∙◌, refl, zero}
+use Rattle.std.proofs.Common.{suc}
 use Rattle.std.specs.List.{filter}
 use Rattle.std.proofs.lemmas.List.{length-map}
 use Rattle.std.proofs.lemmas.Bool.{eqb-true, and_parts}
@@ -61,7 +62,8 @@ dynamic_lanes_keep = refl
 -- so it is with what passes any test
 kept : (all : List ℕ) → keeps all ≡ true → (p : ℕ → Bool) → is_kept all (filter p all) ≡ true
 kept all e p =
-    let n : at_marks (length (map p all)) (λ ms. is_kept all (marked ms all)) ≡ true = ap (λ n. at_marks n (λ ms. is_kept all (marked ms all))) (length-map all p) ∙ e in
+    let n : at_marks (length (map p all)) (λ ms. is_kept all (marked ms all)) ≡ true =
+    ap (λ n. at_marks n (λ ms. is_kept all (marked ms all))) (length-map all p) ∙ e in
     ap (is_kept all) (filter_marked p all) ∙ passes_at_marks (λ ms. is_kept all (marked ms all)) (map p all) n
 
 pub holds_sum : (all : List ℕ) → keeps all ≡ true → (p : ℕ → Bool) → filter (holds (sum (filter p all))) all ≡ filter p all

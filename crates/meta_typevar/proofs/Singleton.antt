@@ -11,7 +11,10 @@ use Rattle.meta_typevar.proofs.MaskLemmas.{masks_of}
 
 -- the masks of the type stand for its set
 abbrev stand_for : TypeParts → Bool
-stand_for t = stands_for (lane_counts false) t.lanes (t.lanes ∷ []) && (stands_for (lane_counts true) (sum (vector_lanes t.lanes)) (vector_lanes t.lanes) && (stands_for (widths IntKind) (sum (int_width_of t.kind t.width)) (int_width_of t.kind t.width) && stands_for (widths FloatKind) (sum (float_width_of t.kind t.width)) (float_width_of t.kind t.width)))
+stand_for t = stands_for (lane_counts false) t.lanes (t.lanes ∷ []) &&
+    (stands_for (lane_counts true) (sum (vector_lanes t.lanes)) (vector_lanes t.lanes) &&
+    (stands_for (widths IntKind) (sum (int_width_of t.kind t.width)) (int_width_of t.kind t.width) && stands_for (widths FloatKind)
+    (sum (float_width_of t.kind t.width)) (float_width_of t.kind t.width)))
 
 -- what masks stand for the set of the type t
 pub record StandsForType (t : TypeParts) (m : Masks) : Type 0 where
@@ -36,7 +39,11 @@ stands_for_type t h =
     }
 
 -- the masks that are made of the parts of a type
-pub singleton_made : (t : TypeParts) (kind : NumberKind) (width lanes dynamic ints floats : ℕ) → IsType t → kind ≡ t.kind → width ≡ t.width → lanes ≡ t.lanes → dynamic ≡ sum (vector_lanes lanes) → ints ≡ sum (int_width_of kind width) → floats ≡ sum (float_width_of kind width) → StandsForType t (masks_of lanes dynamic ints floats)
+pub singleton_made : (t : TypeParts) (kind : NumberKind) (width lanes dynamic ints floats : ℕ) → IsType t → kind ≡ t.kind → width ≡ t.width
+    → lanes ≡ t.lanes → dynamic ≡ sum (vector_lanes lanes) → ints ≡ sum (int_width_of kind width)
+    → floats ≡ sum (float_width_of kind width) → StandsForType t (masks_of lanes dynamic ints floats)
 singleton_made t kind width lanes dynamic ints floats h k w l d a b =
-    let is : masks_of lanes dynamic ints floats ≡ type_masks t = λ i. masks_of (l i) ((d ∙ λ j. sum (vector_lanes (l j))) i) ((a ∙ λ j. sum (int_width_of (k j) (w j))) i) ((b ∙ λ j. sum (float_width_of (k j) (w j))) i) in
+    let is : masks_of lanes dynamic ints floats ≡ type_masks t =
+    λ i. masks_of (l i) ((d ∙ λ j. sum (vector_lanes (l j))) i) ((a ∙ λ j. sum (int_width_of (k j) (w j))) i)
+    ((b ∙ λ j. sum (float_width_of (k j) (w j))) i) in
     subst (StandsForType t) (sym is) (stands_for_type t h)

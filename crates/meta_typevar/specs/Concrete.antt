@@ -35,4 +35,6 @@ part_text name (x ∷ xs) follows = (if follows then codes ", " else []) ++ (nam
 
 -- the parts that have a number, as `TypeSet(lanes={1}, ints={8, 16})`
 abbrev pub set_text : TypeSetParts → List ℕ
-set_text s = codes "TypeSet(" ++ (join_by (λ p. p) (codes ", ") (((part_texts (codes "lanes") s.lanes ++ part_texts (codes "dynamic_lanes") s.dynamic_lanes) ++ part_texts (codes "ints") s.ints) ++ part_texts (codes "floats") s.floats) ++ codes ")")
+set_text s = codes "TypeSet(" ++ (join_by (λ p. p) (codes ", ")
+    (((part_texts (codes "lanes") s.lanes ++ part_texts (codes "dynamic_lanes") s.dynamic_lanes) ++ part_texts (codes "ints") s.ints)
+    ++ part_texts (codes "floats") s.floats) ++ codes ")")

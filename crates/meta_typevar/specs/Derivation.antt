@@ -27,13 +27,21 @@ vector_lanes lanes = if lanes == 1 then [] else (lanes ∷ [])
 -- the set of a variable that stands for the type t: its width, and its lane count as lanes, and as dynamic lanes too where
 -- there is more than one lane. So a vector, fixed or dynamic, gives a set of two types
 abbrev pub singleton_sets : TypeParts → TypeSetParts
-singleton_sets t = record { lanes = t.lanes ∷ []; dynamic_lanes = vector_lanes t.lanes; ints = int_width_of t.kind t.width; floats = float_width_of t.kind t.width }
+singleton_sets t = record {
+  lanes = t.lanes ∷ [];
+  dynamic_lanes = vector_lanes t.lanes;
+  ints = int_width_of t.kind t.width;
+  floats =
+      float_width_of t.kind t.width;
+}
 
 -- a call answers the variable that is derived by f from the one with the number n. Where it was there, the registry stays;
 -- else it is added at the end. Where there was no answer the registry stays
-pub record Derives {E : Type 0} (old : List TypeVarContent) (n : ℕ) (f : DerivedFunc) (result : Result ℕ E) (new : List TypeVarContent) : Type 0 where
+pub record Derives {E : Type 0} (old : List TypeVarContent) (n : ℕ) (f : DerivedFunc) (result : Result ℕ E) (new : List TypeVarContent) :
+    Type 0 where
   pub known : (m : ℕ) → m < length old → variable_at old m ≡ longer (variable_at old n) (function_of f) → (result ≡ Ok m) × (new ≡ old)
-  pub added : ((m : ℕ) → m < length old → variable_at old m ≢ longer (variable_at old n) (function_of f)) → (c : TypeVarContent) → IsKept old n c → OnOk result (new ≡ old ++ (derived_content old n c f ∷ []))
+  pub added : ((m : ℕ) → m < length old → variable_at old m ≢ longer (variable_at old n) (function_of f)) → (c : TypeVarContent)
+      → IsKept old n c → OnOk result (new ≡ old ++ (derived_content old n c f ∷ []))
   pub answer : IfOk result (λ m. (m < length new) × (variable_at new m ≡ longer (variable_at old n) (function_of f)))
   pub err : OnErr result (new ≡ old)
 

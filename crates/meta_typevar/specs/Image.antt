@@ -5,7 +5,8 @@
 use Rattle.std.specs.Prelude.{ℕ, ◌*◌, ◌/◌, ◌==◌, ◌&&◌, ◌||◌, not, nat_lt, Bool, true, false, List, [], ◌∷◌, map, if◌then◌else◌}
 use Rattle.std.specs.List.{filter, list_all}
 use Rattle.meta_types.specs.TypeParts.{IntKind, widths}
-use Rattle.meta_types.specs.Function.{Function, LaneOf, AsTruthy, HalfWidth, DoubleWidth, SplitLanes, MergeLanes, DynamicToVector, Narrower, Wider}
+use Rattle.meta_types.specs.Function.{Function, LaneOf, AsTruthy, HalfWidth, DoubleWidth, SplitLanes, MergeLanes, DynamicToVector, Narrower}
+use Rattle.meta_types.specs.Function.{Wider}
 use Rattle.meta_typevar.specs.TypeSetParts.{TypeSetParts}
 
 -- half of each number above the least one, which can't be halved

@@ -67,7 +67,15 @@ derived_name f name = function_name f ++ (40 ∷ (name ++ (41 ∷ [])))
 -- what is kept of the variable that is derived by f from the one with the number n, of which c is kept: its name is made of
 -- the function's and the parent's, it has no documentation, and its type set is the coded image of its parent
 abbrev pub derived_content : List TypeVarContent → ℕ → TypeVarContent → DerivedFunc → TypeVarContent
-derived_content vars n c f = record { name = derived_name (function_of f) c.name; doc = []; base = Some (record { type_var = n; derived_func = f }); type_set = coded_at vars n; root = c.root; chain = c.chain ++ (function_of f ∷ []) }
+derived_content vars n c f = record {
+  name = derived_name (function_of f) c.name;
+  doc = [];
+  base =
+      Some (record { type_var = n; derived_func = f });
+  type_set = coded_at vars n;
+  root = c.root;
+  chain = c.chain ++ (function_of f ∷ []);
+}
 
 -- c stands at the place n
 abbrev pub IsKept : List TypeVarContent → ℕ → TypeVarContent → Type 0
@@ -122,7 +130,8 @@ HoldTypeSets vars = (n : ℕ) → IsTypeSet (sets_of vars n)
 
 -- no two variables have the same parent and function
 abbrev pub AreDerivedOnce : List TypeVarContent → Type 0
-AreDerivedOnce vars = (n m : ℕ) (c d : TypeVarContent) (p : TypeVarParent) → IsKept vars n c → IsKept vars m d → c.base ≡ Some p → d.base ≡ Some p → n ≡ m
+AreDerivedOnce vars = (n m : ℕ) (c d : TypeVarContent) (p : TypeVarParent) → IsKept vars n c → IsKept vars m d → c.base ≡ Some p
+    → d.base ≡ Some p → n ≡ m
 
 -- there are few enough variables to be numbered by 32 bits, their sets are type sets, each stands rightly, and no derived
 -- one stands twice

@@ -16,7 +16,8 @@ one_hash first names number h g a b =
     a.hash ∙ ap simple_hash_of name ∙ sym b.hash
 
 -- where what stands before is the same, the first free slot is
-same_free : (size h : ℕ) (one other : ℕ → Type 0) (p q : ℕ) → ((slot : ℕ) → one slot → other slot) → ((slot : ℕ) → other slot → one slot) → IsFirstFree size h one p → IsFirstFree size h other q → p ≡ q
+same_free : (size h : ℕ) (one other : ℕ → Type 0) (p q : ℕ) → ((slot : ℕ) → one slot → other slot) → ((slot : ℕ) → other slot → one slot)
+    → IsFirstFree size h one p → IsFirstFree size h other q → p ≡ q
 same_free size h one other p q to back a b =
     ⊎_elim
     (λ same. sym a.here ∙ ap (slot_at size h) same ∙ b.here)
@@ -26,16 +27,21 @@ same_free size h one other p q to back a b =
     apart)
     (cases_order a.step b.step)
 
-module _ {X : Type 0} (hashes : X → ℕ → Type 0) (one_hash : (x : X) (h g : ℕ) → hashes x h → hashes x g → h ≡ g) (items : List X) (a b : List (Option X)) (long : length a ≡ length b) (p : IsFilled hashes items a) (q : IsFilled hashes items b) where
+module _ {X : Type 0} (hashes : X → ℕ → Type 0) (one_hash : (x : X) (h g : ℕ) → hashes x h → hashes x g
+    → h ≡ g) (items : List X) (a b : List (Option X)) (long : length a ≡ length b) (p : IsFilled hashes items a)
+    (q : IsFilled hashes items b) where
   -- the items stand at the same places
   same_place : (n i : ℕ) (x : X) → i < n → slice_get items i ≡ Some x → p.place i ≡ q.place i
   same_place zero i x l at = absurd (omega (arith, l))
   same_place (suc n) i x l at =
       let inside = slice_get_within items i x at in
-      let earlier : (j : ℕ) → j < i → p.place j ≡ q.place j = λ j m. let (y, at_y) = get_there items j (omega arith) in same_place n j y (omega (arith, l)) at_y in
+      let earlier : (j : ℕ) → j < i → p.place j ≡ q.place j = λ j m. let (y, at_y) = get_there items j (omega arith)
+      in same_place n j y (omega (arith, l)) at_y in
       let (h, hashed, free) = p.first i x at in
       let (g, hashed_too, free_too) = q.first i x at in
-      let there : IsFirstFree (length a) h (IsTakenBefore q.place i) (q.place i) = subst (λ n. IsFirstFree n h (IsTakenBefore q.place i) (q.place i)) (sym long) (subst (λ w. IsFirstFree (length b) w (IsTakenBefore q.place i) (q.place i)) (sym (one_hash x h g hashed hashed_too)) free_too) in
+      let there : IsFirstFree (length a) h (IsTakenBefore q.place i) (q.place i) =
+      subst (λ n. IsFirstFree n h (IsTakenBefore q.place i) (q.place i)) (sym long)
+      (subst (λ w. IsFirstFree (length b) w (IsTakenBefore q.place i) (q.place i)) (sym (one_hash x h g hashed hashed_too)) free_too) in
       same_free (length a) h (IsTakenBefore p.place i) (IsTakenBefore q.place i) (p.place i) (q.place i)
       (λ slot t. (t.0, t.1, sym (earlier t.0 t.1) ∙ t.2))
       (λ slot t. (t.0, t.1, earlier t.0 t.1 ∙ t.2))
@@ -49,7 +55,9 @@ module _ {X : Type 0} (hashes : X → ℕ → Type 0) (one_hash : (x : X) (h g :
       let same : x ≡ y = same_Some x y (same_Some (Some x) (Some y) (sym h ∙ ap (slice_get a) (sym is) ∙ p.holds i y at)) in
       ap (slice_get b) (sym is ∙ same_place (suc i) i y (omega arith) at) ∙ q.holds i y at ∙ ap (λ z. Some (Some z)) (sym same)
 
-module _ {X : Type 0} (hashes : X → ℕ → Type 0) (one_hash : (x : X) (h g : ℕ) → hashes x h → hashes x g → h ≡ g) (items : List X) (a b : List (Option X)) (long : length a ≡ length b) (p : IsFilled hashes items a) (q : IsFilled hashes items b) where
+module _ {X : Type 0} (hashes : X → ℕ → Type 0) (one_hash : (x : X) (h g : ℕ) → hashes x h → hashes x g
+    → h ≡ g) (items : List X) (a b : List (Option X)) (long : length a ≡ length b) (p : IsFilled hashes items a)
+    (q : IsFilled hashes items b) where
   same_slot : (slot : ℕ) (o u : Option X) → slice_get a slot ≡ Some o → slice_get b slot ≡ Some u → o ≡ u
   same_slot slot None None at at_b = refl
   same_slot slot (Some x) u at at_b = same_Some (Some x) u (sym (held_too hashes one_hash items a b long p q slot x at) ∙ at_b)
@@ -68,5 +76,7 @@ one_size count m n a b =
     omega arith
 
 -- names have one list of slots
-pub one_filling : (first : ℕ) (names : List (List ℕ)) (a b : List (Option ℕ)) → AreNameSlots first names a → AreNameSlots first names b → a ≡ b
-one_filling first names a b p q = same_slots (HashesTo first names) (one_hash first names) (numbers_from first (length names)) a b (one_size (length (numbers_from first (length names))) (length a) (length b) p.size q.size) p.filled q.filled
+pub one_filling : (first : ℕ) (names : List (List ℕ)) (a b : List (Option ℕ)) → AreNameSlots first names a → AreNameSlots first names b
+    → a ≡ b
+one_filling first names a b p q = same_slots (HashesTo first names) (one_hash first names) (numbers_from first (length names)) a b
+    (one_size (length (numbers_from first (length names))) (length a) (length b) p.size q.size) p.filled q.filled

@@ -26,7 +26,8 @@ pub record IsFilled {X : Type 0} (hashes : X → ℕ → Type 0) (items : List X
   pub place : ℕ → ℕ
   pub holds : (i : ℕ) (x : X) → slice_get items i ≡ Some x → SlotHolds slots (place i) x
   pub only : (slot : ℕ) (x : X) → SlotHolds slots slot x → (i : ℕ) × (i < length items) × (place i ≡ slot)
-  pub first : (i : ℕ) (x : X) → slice_get items i ≡ Some x → (h : ℕ) × hashes x h × IsFirstFree (length slots) h (IsTakenBefore place i) (place i)
+  pub first : (i : ℕ) (x : X) → slice_get items i ≡ Some x → (h : ℕ) × hashes x h
+      × IsFirstFree (length slots) h (IsTakenBefore place i) (place i)
 
 -- the slots of the items: as many as the size says, filled in the order of the items
 pub record IsSlots {X : Type 0} (hashes : X → ℕ → Type 0) (items : List X) (slots : List (Option X)) : Type 0 where

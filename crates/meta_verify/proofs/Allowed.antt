@@ -30,7 +30,8 @@ module _ (d : InstructionSet) (tables : TableContents) (made : AreTablesOf d tab
       let (k, b, number, at, is) = opcode_is d tables made op q.name e in
       h k b at is
 
-module _ (d : InstructionSet) (tables : TableContents) (made : AreTablesOf d tables) (means : (op : ℕ) (c e : Option ℕ) (rs vs : List ℕ) → (Allows tables op c e rs vs ↔ AcceptsOpcode d op c e rs vs)) where
+module _ (d : InstructionSet) (tables : TableContents) (made : AreTablesOf d tables) (means : (op : ℕ) (c e : Option ℕ) (rs vs : List ℕ)
+    → (Allows tables op c e rs vs ↔ AcceptsOpcode d op c e rs vs)) where
   pub unknown_forth : (q : Question) → HasTypes q → AllowedReply tables q Unknown → AcceptedReply d q Unknown
   unknown_forth q asks h = accepted d tables made means q asks Unknown h
 
@@ -41,14 +42,18 @@ module _ (d : InstructionSet) (tables : TableContents) (made : AreTablesOf d tab
     holds = opcode_named d tables made k b at ∙ ap (λ n. Some n) is;
     none_before = λ j l e.
         let (p, c, number, there, named) = opcode_is d tables made j name e in
-        let same : p ≡ k = different_names d valid p k name (declared_name_at d valid p c there ∙ ap (λ n. Some n) named) (declared_name_at d valid k b at ∙ ap (λ n. Some n) is) in
+        let same : p ≡ k = different_names d valid p k name (declared_name_at d valid p c there
+        ∙ ap (λ n. Some n) named) (declared_name_at d valid k b at ∙ ap (λ n. Some n) is) in
         omega (arith, l, number, same);
   }
 
-module _ (d : InstructionSet) (tables : TableContents) (made : AreTablesOf d tables) (means : (op : ℕ) (c e : Option ℕ) (rs vs : List ℕ) → (Allows tables op c e rs vs ↔ AcceptsOpcode d op c e rs vs)) (valid : IsValid d) where
-  allows_asked : (q : Question) → HasTypes q → (b : Builder) (asked : IsAskedFor d q.name b) → AcceptsAsked d b q → AllowsAsked tables (asked.place + 1) q
+module _ (d : InstructionSet) (tables : TableContents) (made : AreTablesOf d tables) (means : (op : ℕ) (c e : Option ℕ) (rs vs : List ℕ)
+    → (Allows tables op c e rs vs ↔ AcceptsOpcode d op c e rs vs)) (valid : IsValid d) where
+  allows_asked : (q : Question) → HasTypes q → (b : Builder) (asked : IsAskedFor d q.name b) → AcceptsAsked d b q
+      → AllowsAsked tables (asked.place + 1) q
   allows_asked q asks b asked accepts =
-      (means (asked.place + 1) (option_map number_of q.control) (option_map number_of q.second) (map number_of q.results) (map number_of q.values)).1 (record {
+      (means (asked.place + 1) (option_map number_of q.control) (option_map number_of q.second) (map number_of q.results)
+      (map number_of q.values)).1 (record {
         place = asked.place;
         builder = b;
         at = asked.at;
@@ -70,12 +75,17 @@ module _ (d : InstructionSet) (tables : TableContents) (made : AreTablesOf d tab
 
   -- what the declarations reply the tables reply
   pub allowed : (q : Question) → HasTypes q → (r : Reply) → AcceptedReply d q r → AllowedReply tables q r
-  allowed q asks Accept (b, asked, accepts) = (asked.place + 1, first_named d tables made valid asked.place b q.name asked.at asked.named, allows_asked q asks b asked accepts)
+  allowed q asks Accept (b, asked, accepts) =
+      (asked.place + 1, first_named d tables made valid asked.place b q.name asked.at asked.named, allows_asked q asks b asked accepts)
   allowed q asks Refuse (b, asked, refuses) = (
     asked.place + 1,
     first_named d tables made valid asked.place b q.name asked.at asked.named,
     λ allows.
-        let (c, other, accepts) = accepted d tables made means q asks Accept (asked.place + 1, first_named d tables made valid asked.place b q.name asked.at asked.named, allows) in
+        let (c, other, accepts) = accepted d tables made means q asks Accept (
+          asked.place + 1,
+          first_named d tables made valid asked.place b q.name asked.at asked.named,
+          allows,
+        ) in
         refuses (subst (λ x. AcceptsAsked d x q) (one_asked d valid q.name c b other asked) accepts),
   )
   allowed q asks Unknown h = unknown_back d tables made q asks h

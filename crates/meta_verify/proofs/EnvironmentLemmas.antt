@@ -1,5 +1,6 @@
 -- Which values are defined.
-use Rattle.std.proofs.Common.{◌≡◌, ℕ, ◌+◌, ◌<◌, ◌||◌, not, Bool, true, false, cond, nat_eq, List, [], ◌∷◌, ◌++◌, map, length, take, drop, get_or, slice_get, Option, Some, None, IfSome, is_some, refl, sym, ap, ap₂, ◌∙◌, subst}
+use Rattle.std.proofs.Common.{◌≡◌, ℕ, ◌+◌, ◌<◌, ◌||◌, not, Bool, true, false, cond, nat_eq, List, [], ◌∷◌, ◌++◌, map, length, take, drop}
+use Rattle.std.proofs.Common.{get_or, slice_get, Option, Some, None, IfSome, is_some, refl, sym, ap, ap₂, ◌∙◌, subst}
 use Rattle.std.specs.Option.{option_map}
 use Rattle.std.specs.Cmp.{unsigned_tied}
 use Rattle.std.specs.Ordering.{nat_cmp}
@@ -19,30 +20,39 @@ use Rattle.meta_verify.specs.declared.known.KnownTypes.{KnownTypes}
 use Rattle.meta_verify.specs.declared.statement.TypedNumber.{TypedNumber}
 
 -- one value more at the end
-pub with_values_more : (env : Environment) (rs : List TypedValue) (r : TypedValue) → with_values env (rs ++ r ∷ []) ≡ with_value (with_values env rs) r
+pub with_values_more : (env : Environment) (rs : List TypedValue) (r : TypedValue)
+    → with_values env (rs ++ r ∷ []) ≡ with_value (with_values env rs) r
 with_values_more env [] r = refl
 with_values_more env (q ∷ rs) r = with_values_more (with_value env q) rs r
 
 -- the values so far, and the next
-pub next_typed : (rs : List TypedNumber) (i : ℕ) (r : TypedNumber) → slice_get rs i ≡ Some r → map typed_value_of (take (i + 1) rs) ≡ map typed_value_of (take i rs) ++ typed_value_of r ∷ []
+pub next_typed : (rs : List TypedNumber) (i : ℕ) (r : TypedNumber) → slice_get rs i ≡ Some r
+    → map typed_value_of (take (i + 1) rs) ≡ map typed_value_of (take i rs) ++ typed_value_of r ∷ []
 next_typed rs i r at = ap (map typed_value_of) (take_next rs i r at) ∙ map-append typed_value_of (take i rs) (r ∷ [])
 
-pub next_defined : (env : Environment) (rs : List TypedNumber) (i : ℕ) (r : TypedNumber) → slice_get rs i ≡ Some r → with_values env (map typed_value_of (take (i + 1) rs)) ≡ with_value (with_values env (map typed_value_of (take i rs))) (typed_value_of r)
-next_defined env rs i r at = ap (with_values env) (next_typed rs i r at) ∙ with_values_more env (map typed_value_of (take i rs)) (typed_value_of r)
+pub next_defined : (env : Environment) (rs : List TypedNumber) (i : ℕ) (r : TypedNumber) → slice_get rs i ≡ Some r
+    → with_values env (map typed_value_of (take (i + 1) rs))
+    ≡ with_value (with_values env (map typed_value_of (take i rs))) (typed_value_of r)
+next_defined env rs i r at = ap (with_values env) (next_typed rs i r at)
+    ∙ with_values_more env (map typed_value_of (take i rs)) (typed_value_of r)
 
 -- what stands at a key by the order of keys stands there by their equality
-pub at_key : {X : Type 0} (old new : ℕ → X) (k : ℕ) (w : X) → ((q : ℕ) → new q ≡ cond (is_at (nat_cmp k) q) w (old q)) → (q : ℕ) → new q ≡ cond (nat_eq k q) w (old q)
+pub at_key : {X : Type 0} (old new : ℕ → X) (k : ℕ) (w : X) → ((q : ℕ) → new q ≡ cond (is_at (nat_cmp k) q) w (old q)) → (q : ℕ)
+    → new q ≡ cond (nat_eq k q) w (old q)
 at_key old new k w h q = h q ∙ ap (λ b. cond b w (old q)) (unsigned_tied k q)
 
 -- a map with one value more, or another type for it
-pub defined_step : (old new : ℕ → Option ℕ) (env : Environment) (k n : ℕ) → ((q : ℕ) → new q ≡ cond (nat_eq k q) (Some n) (old q)) → ((v : ℕ) → option_map type_with (old v) ≡ env v) → (v : ℕ) → option_map type_with (new v) ≡ with_value env (record { value = k; type = type_with n }) v
+pub defined_step : (old new : ℕ → Option ℕ) (env : Environment) (k n : ℕ) → ((q : ℕ) → new q ≡ cond (nat_eq k q) (Some n) (old q))
+    → ((v : ℕ) → option_map type_with (old v) ≡ env v) → (v : ℕ)
+    → option_map type_with (new v) ≡ with_value env (record { value = k; type = type_with n }) v
 defined_step old new env k n h e v = ap (option_map type_with) (h v) ∙ by_test (nat_eq k v)
   where
     by_test : (b : Bool) → option_map type_with (cond b (Some n) (old v)) ≡ cond b (Some (type_with n)) (env v)
     by_test true = refl
     by_test false = e v
 
-pub known_step : (old new : ℕ → Option ℕ) (k n : ℕ) → ((q : ℕ) → new q ≡ cond (nat_eq k q) (Some n) (old q)) → IsTypeNumber n → ((v : ℕ) → IfSome (old v) IsTypeNumber) → (v : ℕ) → IfSome (new v) IsTypeNumber
+pub known_step : (old new : ℕ → Option ℕ) (k n : ℕ) → ((q : ℕ) → new q ≡ cond (nat_eq k q) (Some n) (old q)) → IsTypeNumber n
+    → ((v : ℕ) → IfSome (old v) IsTypeNumber) → (v : ℕ) → IfSome (new v) IsTypeNumber
 known_step old new k n h is e v = subst (λ o. IfSome o IsTypeNumber) (sym (h v)) (by_test (nat_eq k v))
   where
     by_test : (b : Bool) → IfSome (cond b (Some n) (old v)) IsTypeNumber
@@ -50,14 +60,17 @@ known_step old new k n h is e v = subst (λ o. IfSome o IsTypeNumber) (sym (h v)
     by_test false = e v
 
 -- the first result that is defined before, or twice
-pub redefined_here : (env : Environment) (r : TypedValue) (rs : List TypedValue) → is_some (env r.value) ≡ true → first_redefined env (r ∷ rs) ≡ Some r.value
+pub redefined_here : (env : Environment) (r : TypedValue) (rs : List TypedValue) → is_some (env r.value) ≡ true
+    → first_redefined env (r ∷ rs) ≡ Some r.value
 redefined_here env r rs h = ap (λ b. cond b (Some r.value) (first_redefined (with_value env r) rs)) h
 
-pub redefined_later : (env : Environment) (r : TypedValue) (rs : List TypedValue) → is_some (env r.value) ≡ false → first_redefined env (r ∷ rs) ≡ first_redefined (with_value env r) rs
+pub redefined_later : (env : Environment) (r : TypedValue) (rs : List TypedValue) → is_some (env r.value) ≡ false
+    → first_redefined env (r ∷ rs) ≡ first_redefined (with_value env r) rs
 redefined_later env r rs h = ap (λ b. cond b (Some r.value) (first_redefined (with_value env r) rs)) h
 
 -- the values that are defined behind some results: those before and those seen
-pub seen_step : (first env : Environment) (old new : ℕ → Bool) (r : TypedValue) → ((q : ℕ) → new q ≡ cond (nat_eq r.value q) true (old q)) → ((v : ℕ) → is_some (env v) ≡ (is_some (first v) || old v)) → (v : ℕ) → is_some (with_value env r v) ≡ (is_some (first v) || new v)
+pub seen_step : (first env : Environment) (old new : ℕ → Bool) (r : TypedValue) → ((q : ℕ) → new q ≡ cond (nat_eq r.value q) true (old q))
+    → ((v : ℕ) → is_some (env v) ≡ (is_some (first v) || old v)) → (v : ℕ) → is_some (with_value env r v) ≡ (is_some (first v) || new v)
 seen_step first env old new r h e v = by_test (nat_eq r.value v) ∙ ap (λ b. is_some (first v) || b) (sym (h v))
   where
     by_test : (b : Bool) → is_some (cond b (Some r.type) (env v)) ≡ (is_some (first v) || cond b true (old v))
@@ -68,11 +81,14 @@ seen_step first env old new r h e v = by_test (nat_eq r.value v) ∙ ap (λ b. i
 pub undefined_here : (env : Environment) (v : ℕ) (vs : List ℕ) → env v ≡ None → first_undefined env (v ∷ vs) ≡ Some v
 undefined_here env v vs h = ap (λ o. cond (is_some o) (first_undefined env vs) (Some v)) h
 
-pub undefined_later : (env : Environment) (v : ℕ) (vs : List ℕ) (t : TypeParts) → env v ≡ Some t → first_undefined env (v ∷ vs) ≡ first_undefined env vs
+pub undefined_later : (env : Environment) (v : ℕ) (vs : List ℕ) (t : TypeParts) → env v ≡ Some t
+    → first_undefined env (v ∷ vs) ≡ first_undefined env vs
 undefined_later env v vs t h = ap (λ o. cond (is_some o) (first_undefined env vs) (Some v)) h
 
 -- one value more has its type
-pub one_more_type : (env : Environment) (vs : List ℕ) (i v : ℕ) (ns : List ℕ) (n : ℕ) → slice_get vs i ≡ Some v → env v ≡ Some (type_with n) → HaveTypes env (take i vs) (map type_with ns) → HaveTypes env (take (i + 1) vs) (map type_with (ns ++ n ∷ []))
+pub one_more_type : (env : Environment) (vs : List ℕ) (i v : ℕ) (ns : List ℕ) (n : ℕ) → slice_get vs i ≡ Some v
+    → env v ≡ Some (type_with n) → HaveTypes env (take i vs) (map type_with ns)
+    → HaveTypes env (take (i + 1) vs) (map type_with (ns ++ n ∷ []))
 one_more_type env vs i v ns n at has h =
     ap (map env) (take_next vs i v at) ∙ map-append env (take i vs) (v ∷ [])
     ∙ ap₂ (λ (a b : List (Option TypeParts)). a ++ b) h (ap (λ o. o ∷ []) has)
@@ -92,10 +108,12 @@ pub seen_next : (old new : BTreeSet ℕ) (env : Environment) (rs : List TypedNum
     → (v : ℕ) → is_some (with_values env (map typed_value_of (take (i + 1) rs)) v) ≡ (is_some (env v) || contains nat_cmp new v)
 seen_next old new env rs i d l h e v =
     ap (λ (f : Environment). is_some (f v)) (next_defined env rs i (get_or rs i d) (slice_get-get_or rs i d l))
-    ∙ seen_step env (with_values env (map typed_value_of (take i rs))) (contains nat_cmp old) (contains nat_cmp new) (typed_value_of (get_or rs i d)) (at_key (contains nat_cmp old) (contains nat_cmp new) (get_or rs i d).value true h) e v
+    ∙ seen_step env (with_values env (map typed_value_of (take i rs))) (contains nat_cmp old) (contains nat_cmp new)
+    (typed_value_of (get_or rs i d)) (at_key (contains nat_cmp old) (contains nat_cmp new) (get_or rs i d).value true h) e v
 
 -- the results that are left begin with the next
-left_typed : (rs : List TypedNumber) (i : ℕ) (d : TypedNumber) → i < length rs → map typed_value_of (drop i rs) ≡ typed_value_of (get_or rs i d) ∷ map typed_value_of (drop (i + 1) rs)
+left_typed : (rs : List TypedNumber) (i : ℕ) (d : TypedNumber) → i < length rs
+    → map typed_value_of (drop i rs) ≡ typed_value_of (get_or rs i d) ∷ map typed_value_of (drop (i + 1) rs)
 left_typed rs i d l = ap (map typed_value_of) (drop_next rs i (get_or rs i d) (slice_get-get_or rs i d l))
 
 -- the next is neither defined before nor seen
@@ -114,8 +132,10 @@ not_before false v o e none = refl
 pub redefined_next : (env : Environment) (rs : List TypedNumber) (i : ℕ) (d : TypedNumber) (seen : Bool) → i < length rs
     → is_some (env (get_or rs i d).value) ≡ false → true ≡ not seen
     → is_some (with_values env (map typed_value_of (take i rs)) (get_or rs i d).value) ≡ (is_some (env (get_or rs i d).value) || seen)
-    → first_redefined (with_values env (map typed_value_of (take i rs))) (map typed_value_of (drop i rs)) ≡ first_redefined env (map typed_value_of rs)
-    → first_redefined (with_values env (map typed_value_of (take (i + 1) rs))) (map typed_value_of (drop (i + 1) rs)) ≡ first_redefined env (map typed_value_of rs)
+    → first_redefined (with_values env (map typed_value_of (take i rs))) (map typed_value_of (drop i rs))
+    ≡ first_redefined env (map typed_value_of rs)
+    → first_redefined (with_values env (map typed_value_of (take (i + 1) rs))) (map typed_value_of (drop (i + 1) rs))
+    ≡ first_redefined env (map typed_value_of rs)
 redefined_next env rs i d seen l before new both e =
     let now = with_values env (map typed_value_of (take i rs)) in
     let r = get_or rs i d in

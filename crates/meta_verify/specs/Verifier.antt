@@ -16,20 +16,24 @@ abbrev pub verdicts : Texts
 verdicts d input is_rejection text = IsVerdict (AcceptedReply d.set) input is_rejection text
 
 -- a source and a sink, by what they tell, before and after a run over declarations
-module _ {S K : Type 0} (left : S → Option (List ℕ)) (reads : S → ℕ) (taken : K → Option (List ℕ)) (writes : K → ℕ) (d : Declared) (s s' : S) (k k' : K) where
+module _ {S K : Type 0} (left : S → Option (List ℕ)) (reads : S → ℕ) (taken : K → Option (List ℕ)) (writes : K → ℕ)
+    (d : Declared) (s s' : S) (k k' : K) where
   -- the run is done, no line of the input is wrong, and the sink took exactly `ok`
   abbrev pub SaysRight : List ℕ → List ℕ → Ending → Type 0
-  SaysRight input before ending = (ending ≡ Done) × AreRight (AcceptedReply d.set) (lines_of input) × (taken k' ≡ Some (before ++ right_text))
+  SaysRight input before ending = (ending ≡ Done) × AreRight (AcceptedReply d.set) (lines_of input)
+      × (taken k' ≡ Some (before ++ right_text))
 
   -- the input is rejected, and the sink took exactly which line is the first wrong one, and why
   abbrev pub SaysWrong : List ℕ → List ℕ → Ending → Type 0
   SaysWrong input before ending =
-      (ending ≡ Rejected) × (n : ℕ) × (reason : Reason) × IsFirstWrong (AcceptedReply d.set) (lines_of input) n reason × (taken k' ≡ Some (before ++ wrong_text (n + 1) reason))
+      (ending ≡ Rejected) × (n : ℕ) × (reason : Reason) × IsFirstWrong (AcceptedReply d.set) (lines_of input) n reason
+      × (taken k' ≡ Some (before ++ wrong_text (n + 1) reason))
 
   -- Where there are no words and the declarations are valid, memory didn't run out, the source told its bytes and gave at most the
   -- limit, and no count rose, one of the two is said of what was left.
   abbrev pub ChecksLines : List (List ℕ) → Ending → Type 0
   ChecksLines words ending =
       words ≡ [] → AreValid d → ending ≢ OutOfMemory → (input before : List ℕ)
-      → left s ≡ Some input → length input ≤ longest_input → (Rose (reads s) (reads s') → ⊥) → taken k ≡ Some before → (Rose (writes k) (writes k') → ⊥)
+      → left s ≡ Some input → length input ≤ longest_input → (Rose (reads s) (reads s') → ⊥) → taken k ≡ Some before
+      → (Rose (writes k) (writes k') → ⊥)
       → SaysRight input before ending ⊎ SaysWrong input before ending

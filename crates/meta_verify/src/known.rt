@@ -63,7 +63,8 @@ impl KnownTypes {
     /// Defines the value. Where there is no memory for it, nothing changes.
     pub(crate) fn insert(&mut self, value: u32, number: u16) -> Result<(), AllocError>
         requires { IsTypeNumber number }
-        ensures defined { OnOk result ((v : ℕ) → known_number self.new v ≡ (if nat_eq value v then Some number else known_number self.old v)) }
+        ensures defined { OnOk result ((v : ℕ) → known_number self.new v
+            ≡ (if nat_eq value v then Some number else known_number self.old v)) }
         ensures kept { OnErr result ((v : ℕ) → known_number self.new v ≡ known_number self.old v) }
     {
         if is_far(&self.near, value) {

@@ -19,4 +19,5 @@ AreFirstNamed numbers word = map name_of (map type_with numbers) ≡ take (lengt
 
 -- the name at this place of the word, from 0, is that of no type
 abbrev pub NamesNoneAt : ℕ → List ℕ → Type 0
-NamesNoneAt place word = (name : List ℕ) × (slice_get (pieces_of 44 word) place ≡ Some name) × ((t : TypeParts) → IsType t → name_of t ≢ name)
+NamesNoneAt place word = (name : List ℕ) × (slice_get (pieces_of 44 word) place ≡ Some name)
+    × ((t : TypeParts) → IsType t → name_of t ≢ name)

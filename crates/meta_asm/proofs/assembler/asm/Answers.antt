@@ -12,13 +12,17 @@ pub returns-clause-writes_back : goal.returns-clause-writes_back
 returns-clause-writes_back g c = writes_back c.assemble.ensures (c.one_first_fault.ensures.valid _)
 
 pub returns-clause-refuses : goal.returns-clause-refuses
-returns-clause-refuses g c asked = lemma.refuses c.assemble.ensures one_form (c.one_first_fault.ensures.valid _) asked.0 asked.1 (c.one_first_fault.ensures.same _)
+returns-clause-refuses g c asked = lemma.refuses c.assemble.ensures one_form
+    (c.one_first_fault.ensures.valid _) asked.0 asked.1 (c.one_first_fault.ensures.same _)
 
 pub returns-clause-complete : goal.returns-clause-complete
 returns-clause-complete g c asked = lemma.complete c.assemble.ensures one_form (c.one_first_fault.ensures.valid _) asked.0 asked.1
 
 pub returns-clause-usage : goal.returns-clause-usage
-returns-clause-usage g c = (λ e asked. lemma.usage c.assemble.ensures e asked.0 asked.1, λ none. lemma.no_words c.assemble.ensures (λ form asks. none (form, asks)))
+returns-clause-usage g c = (
+  λ e asked. lemma.usage c.assemble.ensures e asked.0 asked.1,
+  λ none. lemma.no_words c.assemble.ensures (λ form asks. none (form, asks)),
+)
 
 pub returns-clause-done : goal.returns-clause-done
 returns-clause-done g c = lemma.done c.assemble.ensures

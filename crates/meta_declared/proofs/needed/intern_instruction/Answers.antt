@@ -6,7 +6,9 @@ use Rattle.meta_declared.proofs.needed.intern_instruction.Goals as goal
 pub returns : goal.returns
 returns c =
     on_ok_weaker _
-    (adds_needed c.args.vars.now c.args.instruction.now.value_operands c.requires.within (ctrl_number c.args.instruction.now.polymorphic_info) c.requires.control c.requires.registry c.requires.variables c.requires.controls _ _ _ _
+    (adds_needed c.args.vars.now c.args.instruction.now.value_operands c.requires.within
+    (ctrl_number c.args.instruction.now.polymorphic_info) c.requires.control c.requires.registry c.requires.variables
+    c.requires.controls _ _ _ _
     (rw c.controls-controls.ensures at c.in_ok-intern_control.ensures)
     (rw c.controls-controls.ensures at c.in_ok-intern_control-2.ensures))
     (rw (c.controls-controls.ensures, c.variables.ensures, c.value_operands-operands.ensures) at c.intern_free.ensures)

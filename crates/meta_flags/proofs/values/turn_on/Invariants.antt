@@ -7,4 +7,5 @@ use Rattle.meta_flags.proofs.values.turn_on.Given as goal
 
 -- the values so far are turned on
 abbrev pub invariant-loop-k : goal.invariant-loop-k
-invariant-loop-k l = map value_of l.values ≡ with_marked_true (take l.k (map (λ (d : Descriptor). is_on l.bytes d.offset d.detail) l.entries)) (map value_of l.fn.values)
+invariant-loop-k l = map value_of l.values
+    ≡ with_marked_true (take l.k (map (λ (d : Descriptor). is_on l.bytes d.offset d.detail) l.entries)) (map value_of l.fn.values)

@@ -11,8 +11,11 @@ pub push_part-requires : goal.push_part-requires
 push_part-requires c =
     let d = c.args.built.now.declared.set in
     let declared = c.declarations-declarations.ensures.declarations in
-    let fits : AreOfRegistries d.vars d.formats d.instructions = subst (λ (e : Declared). AreOfRegistries e.set.vars e.set.formats e.set.instructions) declared c.instructions-instructions.ensures.fits in
+    let fits : AreOfRegistries d.vars d.formats d.instructions =
+    subst (λ (e : Declared). AreOfRegistries e.set.vars e.set.formats e.set.instructions) declared
+    c.instructions-instructions.ensures.fits in
     let table : c.formats.result.now ≡ d.formats = c.formats.ensures.formats ∙ ap (λ (e : Declared). e.set.formats) declared in
-    let have : HaveFormats d.formats c.args.built.now.instructions = have_formats d c.args.built.now.instructions c.instructions.ensures.built fits in
+    let have : HaveFormats d.formats c.args.built.now.instructions =
+    have_formats d c.args.built.now.instructions c.instructions.ensures.built fits in
     subst (λ (fs : List InstructionFormat). HaveFormats fs c.instructions.result.now) (sym table)
     (subst (λ (cs : List BuiltInstruction). HaveFormats d.formats cs) (sym c.instructions.ensures.instructions) have)

@@ -13,11 +13,14 @@ returns-then-not-is_plain_byte c = (
   λ t. absurd (no_truth t),
   λ plain.
       sym c.if-not-is_plain_byte.true
-      ∙ c.is_plain_byte.ensures.1 (plain_at c.as_bytes-byte-items.result.now c.args.word.now c.loop-byte.byte-index c.as_bytes-byte-items.ensures plain c.loop-byte-test.true),
+      ∙ c.is_plain_byte.ensures.1
+      (plain_at c.as_bytes-byte-items.result.now c.args.word.now c.loop-byte.byte-index c.as_bytes-byte-items.ensures
+      plain c.loop-byte-test.true),
 )
 
 pub returns : goal.returns
 returns c = (
-  λ t. plain_all c.as_bytes-byte-items.result.now c.args.word.now c.loop-byte.byte-index c.as_bytes-byte-items.ensures c.loop-byte-test.false c.loop-byte.invariant,
+  λ t. plain_all c.as_bytes-byte-items.result.now c.args.word.now c.loop-byte.byte-index c.as_bytes-byte-items.ensures
+      c.loop-byte-test.false c.loop-byte.invariant,
   λ plain. refl,
 )

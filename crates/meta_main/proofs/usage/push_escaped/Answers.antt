@@ -7,7 +7,9 @@ pub loop-letter-preserved : goal.loop-letter-preserved
 loop-letter-preserved c =
     let same : c.from.result ≡ c.in-Some.letter = search rules in (
       subst (λ n. n ≤ 4) (sym c.in-Some.ensures.steps.0) c.loop-letter.invariant.0,
-      one_more_letter (string_bytes c.loop-letter.shown) _ c.from.result c.in-Some.letter (escape_byte_rest c.loop-letter.letter-iterator) _ _ same c.in_ok-push.ensures.bytes c.in-Some.ensures.steps.1.0 c.loop-letter.invariant.1,
+      one_more_letter (string_bytes c.loop-letter.shown) _ c.from.result c.in-Some.letter
+          (escape_byte_rest c.loop-letter.letter-iterator) _ _ same c.in_ok-push.ensures.bytes
+          c.in-Some.ensures.steps.1.0 c.loop-letter.invariant.1,
     )
 
 pub returns : goal.returns

@@ -7,4 +7,5 @@ use Rattle.meta_main.proofs.usage.push_escaped.Given as goal
 abbrev pub invariant-loop-letter : goal.invariant-loop-letter
 invariant-loop-letter l =
     (escape_byte_end l.letter-iterator ≤ 4)
-    × (string_bytes l.shown ++ encode_utf8_all (escape_byte_rest l.letter-iterator) ≡ string_bytes l.fn.shown ++ encode_utf8_all (escape_ascii l.byte))
+    × (string_bytes l.shown ++ encode_utf8_all (escape_byte_rest l.letter-iterator)
+    ≡ string_bytes l.fn.shown ++ encode_utf8_all (escape_ascii l.byte))

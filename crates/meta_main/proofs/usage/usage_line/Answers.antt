@@ -15,7 +15,8 @@ pub returns-clause-plain : goal.returns-clause-plain
 returns-clause-plain c = λ named.
     IfOk-weaker c.format.result _ _ (λ text e.
     let wrong = string_bytes c.in_ok-wrong.wrong in
-    let parts : string_bytes text ≡ wrong ++ (codes ": " ++ (string_bytes c.in_ok-commands.commands ++ codes "; --help says more")) = search (rules, e) in
+    let parts : string_bytes text ≡ wrong ++ (codes ": " ++ (string_bytes c.in_ok-commands.commands ++ codes "; --help says more")) =
+    search (rules, e) in
     let is : string_bytes text ≡ wrong ++ (codes ": " ++ (commands_text c.args.manual.now.commands.now ++ codes "; --help says more")) =
     parts ∙ ap (λ (names : List ℕ). wrong ++ (codes ": " ++ (names ++ codes "; --help says more"))) c.in_ok-commands.ensures in
     line_plain c.args.manual.now.commands.now c.args.words.now c.in-Some.misuse wrong (string_bytes text) c.in_ok-wrong.ensures is named)
@@ -25,7 +26,8 @@ pub returns-clause-line : goal.returns-clause-line
 returns-clause-line c = λ none.
     IfOk-weaker c.format.result _ _ (λ text e.
     let wrong = string_bytes c.in_ok-wrong.wrong in
-    let parts : string_bytes text ≡ wrong ++ (codes ": " ++ (string_bytes c.in_ok-commands.commands ++ codes "; --help says more")) = search (rules, e) in
+    let parts : string_bytes text ≡ wrong ++ (codes ": " ++ (string_bytes c.in_ok-commands.commands ++ codes "; --help says more")) =
+    search (rules, e) in
     let is : string_bytes text ≡ wrong ++ (codes ": " ++ (commands_text c.args.manual.now.commands.now ++ codes "; --help says more")) =
     parts ∙ ap (λ (names : List ℕ). wrong ++ (codes ": " ++ (names ++ codes "; --help says more"))) c.in_ok-commands.ensures in
     record { misuse = c.in-Some.misuse; is_misuse = c.in-Some.ensures.some; wrong = wrong; is_wrong = c.in_ok-wrong.ensures; is = is })

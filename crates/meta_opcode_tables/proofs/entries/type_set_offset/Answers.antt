@@ -10,7 +10,10 @@ pub set_place-requires-clause-held : goal.set_place-requires-clause-held
 set_place-requires-clause-held c = c.requires.held c.in-Some.v (sym c.get.ensures ∙ c.in-Some.is)
 
 pub returns-in-Some : goal.returns-in-Some
-returns-in-Some c = λ tables has. offset_of c.args.vars.now c.args.controls.now c.args.type_sets.now (which_of c.args.which) c.in-Some.v c.set_place.result (sym c.get.ensures ∙ c.in-Some.is) c.set_place.ensures.below c.set_place.ensures.set tables has
+returns-in-Some c = λ tables has. offset_of c.args.vars.now c.args.controls.now c.args.type_sets.now
+    (which_of c.args.which) c.in-Some.v c.set_place.result (sym c.get.ensures
+    ∙ c.in-Some.is) c.set_place.ensures.below c.set_place.ensures.set tables has
 
 pub returns-in-None : goal.returns-in-None
-returns-in-None c = λ tables has. no_offset c.args.vars.now c.args.controls.now (which_of c.args.which) (sym c.get.ensures ∙ c.in-None.is) tables
+returns-in-None c = λ tables has. no_offset c.args.vars.now c.args.controls.now (which_of c.args.which) (sym c.get.ensures
+    ∙ c.in-None.is) tables

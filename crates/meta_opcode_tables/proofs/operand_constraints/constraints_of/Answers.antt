@@ -6,10 +6,12 @@ use Rattle.meta_opcode_tables.proofs.Describing.{one_more}
 use Rattle.meta_opcode_tables.proofs.operand_constraints.constraints_of.Goals as goal
 
 pub next_constraint-constraint-requires-clause-held : goal.next_constraint-constraint-requires-clause-held
-next_constraint-constraint-requires-clause-held c = c.requires.held _ _ (slice_get_read c.args.variables.now _ _ _ refl c.loop-place-test.true c.index-variables-place.is)
+next_constraint-constraint-requires-clause-held c =
+    c.requires.held _ _ (slice_get_read c.args.variables.now _ _ _ refl c.loop-place-test.true c.index-variables-place.is)
 
 pub next_constraint-constraint-requires-clause-constrained : goal.next_constraint-constraint-requires-clause-constrained
-next_constraint-constraint-requires-clause-constrained c = c.requires.constrained _ _ (slice_get_read c.args.variables.now _ _ _ refl c.loop-place-test.true c.index-variables-place.is)
+next_constraint-constraint-requires-clause-constrained c =
+    c.requires.constrained _ _ (slice_get_read c.args.variables.now _ _ _ refl c.loop-place-test.true c.index-variables-place.is)
 
 pub loop-place-preserved : goal.loop-place-preserved
 loop-place-preserved c =
@@ -35,10 +37,15 @@ returns c =
     }
 
 pub loop-place-init : goal.loop-place-init
-loop-place-init c = record { count = ap length c.in_ok-constraints.ensures.items; described = λ k n below at. absurd (omega arith); before = tt }
+loop-place-init c = record {
+  count = ap length c.in_ok-constraints.ensures.items;
+  described = λ k n below at. absurd (omega arith);
+  before = tt;
+}
 
 pub next_constraint-constraint-requires-clause-of_registry : goal.next_constraint-constraint-requires-clause-of_registry
-next_constraint-constraint-requires-clause-of_registry c = c.requires.variables _ _ (slice_get_read c.args.variables.now _ _ _ refl c.loop-place-test.true c.index-variables-place.is)
+next_constraint-constraint-requires-clause-of_registry c =
+    c.requires.variables _ _ (slice_get_read c.args.variables.now _ _ _ refl c.loop-place-test.true c.index-variables-place.is)
 
 pub next_constraint-constraint-requires-clause-controls : goal.next_constraint-constraint-requires-clause-controls
 next_constraint-constraint-requires-clause-controls c = c.requires.controls

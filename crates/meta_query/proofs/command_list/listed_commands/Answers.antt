@@ -18,4 +18,19 @@ returns-clause-listed c =
 
 pub returns-clause-commands : goal.returns-clause-commands
 returns-clause-commands c =
-    commanded _ (inl (Query, tt, refl, refl, refl), (inl (Recheck, tt, refl, refl, refl), (inl (Tables, tt, refl, refl, refl), (inl (Types, tt, refl, refl, refl), (inl (Settings, tt, refl, refl, refl), (inl (Instructions, tt, refl, refl, refl), (inl (Builder, tt, refl, refl, refl), (inr (refl, refl), tt))))))))
+    commanded _ (
+      inl (Query, tt, refl, refl, refl),
+      (
+        inl (Recheck, tt, refl, refl, refl),
+        (
+          inl (Tables, tt, refl, refl, refl),
+          (
+            inl (Types, tt, refl, refl, refl),
+            (
+              inl (Settings, tt, refl, refl, refl),
+              (inl (Instructions, tt, refl, refl, refl), (inl (Builder, tt, refl, refl, refl), (inr (refl, refl), tt))),
+            ),
+          ),
+        ),
+      ),
+    )

@@ -8,10 +8,14 @@ use Rattle.meta_setting_tables.proofs.enumerators.numbers_of.Goals as goal
 pub loop-value-preserved : goal.loop-value-preserved
 loop-value-preserved c =
     let k = c.loop-value.value-index in
-    let at = slice_get_read c.args.values.now (length c.args.values.now) k c.value-item.result refl c.loop-value-test.true c.value-item.is in
-    let kept = kept_added c.loop-value.texts c.add.new.self c.value-item.result (λ i h. (c.in_ok-add.ensures.known i h).1) c.in_ok-add.ensures.added in
+    let at = slice_get_read c.args.values.now (length c.args.values.now) k c.value-item.result refl c.loop-value-test.true c.value-item.is
+    in
+    let kept = kept_added c.loop-value.texts c.add.new.self c.value-item.result
+    (λ i h. (c.in_ok-add.ensures.known i h).1) c.in_ok-add.ensures.added in
     record {
-      numbers = numbers_next c.loop-value.texts c.add.new.self c.args.values.now k c.in_ok-add.field-0 c.value-item.result c.loop-value.numbers.items c.push.new.self.items at kept c.in_ok-add.ensures.index c.loop-value.invariant.numbers c.in_ok-push.ensures.items;
+      numbers = numbers_next c.loop-value.texts c.add.new.self c.args.values.now k c.in_ok-add.field-0 c.value-item.result
+          c.loop-value.numbers.items c.push.new.self.items at kept c.in_ok-add.ensures.index c.loop-value.invariant.numbers
+          c.in_ok-push.ensures.items;
       different = c.in_ok-add.ensures.different;
       kept = kept_then c.args.texts.now c.loop-value.texts c.add.new.self c.loop-value.invariant.kept kept;
     }
@@ -60,4 +64,5 @@ loop-value-init c = record {
 }
 
 pub returns-clause-numbers : goal.returns-clause-numbers
-returns-clause-numbers c = numbers_all c.loop-value.texts c.args.values.now c.loop-value.value-index c.loop-value.numbers.items c.loop-value-test.false c.loop-value.invariant.numbers
+returns-clause-numbers c = numbers_all c.loop-value.texts c.args.values.now c.loop-value.value-index c.loop-value.numbers.items
+    c.loop-value-test.false c.loop-value.invariant.numbers

@@ -8,23 +8,28 @@ pub describe_settings-requires-clause-enums : goal.describe_settings-requires-cl
 describe_settings-requires-clause-enums c = λ k s values at is.
     let size = c.settings_size-size.ensures.size in
     let small = c.settings_size-size.type_inv in
-    enum_early c.args.group.now c.requires.built c.settings_size-size.ensures.sized (omega (arith, size, small)) k s values (ap (λ (w : List PlacedSetting). slice_get w k) (sym c.settings.ensures) ∙ at) is
+    enum_early c.args.group.now c.requires.built c.settings_size-size.ensures.sized (omega (arith, size, small)) k s values
+    (ap (λ (w : List PlacedSetting). slice_get w k) (sym c.settings.ensures) ∙ at) is
 
 pub returns-clause-names : goal.returns-clause-names
 returns-clause-names c =
     let g = c.args.group.now in
     let described =
-    described_as g c.describe_settings.new.enumerators c.in_ok-settings.settings.items c.in_ok-presets.presets.items c.settings.result.now c.presets.result.now c.settings_size-size.result c.settings.ensures c.presets.ensures c.settings_size-size.ensures.size
+    described_as g c.describe_settings.new.enumerators c.in_ok-settings.settings.items c.in_ok-presets.presets.items c.settings.result.now
+    c.presets.result.now c.settings_size-size.result c.settings.ensures c.presets.ensures c.settings_size-size.ensures.size
     c.in_ok-settings.ensures.names c.in_ok-settings.ensures.described c.in_ok-presets.ensures.names c.in_ok-presets.ensures.described in
-    IfOk-weaker c.joined.result _ _ (λ v joined. names_are g c.describe_settings.new.enumerators c.in_ok-settings.settings.items c.in_ok-presets.presets.items v.items described joined) c.joined.ensures
+    IfOk-weaker c.joined.result _ _ (λ v joined. names_are g c.describe_settings.new.enumerators c.in_ok-settings.settings.items
+    c.in_ok-presets.presets.items v.items described joined) c.joined.ensures
 
 pub returns-clause-entries : goal.returns-clause-entries
 returns-clause-entries c =
     let g = c.args.group.now in
     let described =
-    described_as g c.describe_settings.new.enumerators c.in_ok-settings.settings.items c.in_ok-presets.presets.items c.settings.result.now c.presets.result.now c.settings_size-size.result c.settings.ensures c.presets.ensures c.settings_size-size.ensures.size
+    described_as g c.describe_settings.new.enumerators c.in_ok-settings.settings.items c.in_ok-presets.presets.items c.settings.result.now
+    c.presets.result.now c.settings_size-size.result c.settings.ensures c.presets.ensures c.settings_size-size.ensures.size
     c.in_ok-settings.ensures.names c.in_ok-settings.ensures.described c.in_ok-presets.ensures.names c.in_ok-presets.ensures.described in
-    IfOk-weaker c.joined.result _ _ (λ v joined. entries_are g c.describe_settings.new.enumerators c.in_ok-settings.settings.items c.in_ok-presets.presets.items v.items described joined) c.joined.ensures
+    IfOk-weaker c.joined.result _ _ (λ v joined. entries_are g c.describe_settings.new.enumerators c.in_ok-settings.settings.items
+    c.in_ok-presets.presets.items v.items described joined) c.joined.ensures
 
 pub returns-in_err-settings-clause-enumerators : goal.returns-in_err-settings-clause-enumerators
 returns-in_err-settings-clause-enumerators c = IfOk-from_err c.from_residual.result _ c.from_residual.ensures.0

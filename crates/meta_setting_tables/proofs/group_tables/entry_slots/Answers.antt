@@ -19,7 +19,8 @@ loop-descriptor-preserved c =
     let k = c.loop-descriptor.descriptor-index in
     let item = c.descriptor-item.result in
     let front = take k c.args.descriptors.now in
-    let at : slice_get c.args.descriptors.now k ≡ Some item = slice_get-get_or c.args.descriptors.now k item c.loop-descriptor-test.true ∙ ap Some (sym c.descriptor-item.is) in
+    let at : slice_get c.args.descriptors.now k ≡ Some item = slice_get-get_or c.args.descriptors.now k item c.loop-descriptor-test.true
+    ∙ ap Some (sym c.descriptor-item.is) in
     ap pointed_to c.in_ok-push.ensures.items ∙ map-append (λ r. r.now) c.loop-descriptor.names.items (c.as_bytes.result ∷ [])
     ∙ ap (λ w. w ++ c.as_bytes.result.now ∷ []) c.loop-descriptor.invariant
     ∙ ap (λ n. names_in front ++ n ∷ []) c.as_bytes.ensures
@@ -28,14 +29,18 @@ loop-descriptor-preserved c =
 pub name_slots-requires : goal.name_slots-requires
 name_slots-requires c =
     let front = take c.loop-descriptor.descriptor-index c.args.descriptors.now in
-    let count : length c.as_slice.result.now ≡ length front = ap length c.as_slice.ensures.value ∙ sym (length-map c.loop-descriptor.names.items (λ r. r.now)) ∙ ap length c.loop-descriptor.invariant ∙ length-map front (λ (d : Descriptor). d.name) in
+    let count : length c.as_slice.result.now ≡ length front = ap length c.as_slice.ensures.value
+    ∙ sym (length-map c.loop-descriptor.names.items (λ r. r.now)) ∙ ap length c.loop-descriptor.invariant
+    ∙ length-map front (λ (d : Descriptor). d.name) in
     let all = length-take c.loop-descriptor.descriptor-index c.args.descriptors.now in
     let few = c.requires in
     record { few = omega arith; numbered = omega arith }
 
 pub returns-clause-slots : goal.returns-clause-slots
 returns-clause-slots c =
-    subst (λ w. IfOk c.name_slots.result (λ v. AreNameSlots 0 w v.items)) (ap pointed_to c.as_slice.ensures.value ∙ c.loop-descriptor.invariant ∙ ap names_in (take_all c.loop-descriptor.descriptor-index c.args.descriptors.now c.loop-descriptor-test.false)) c.name_slots.ensures.slots
+    subst (λ w. IfOk c.name_slots.result (λ v. AreNameSlots 0 w v.items)) (ap pointed_to c.as_slice.ensures.value
+    ∙ c.loop-descriptor.invariant ∙ ap names_in
+    (take_all c.loop-descriptor.descriptor-index c.args.descriptors.now c.loop-descriptor-test.false)) c.name_slots.ensures.slots
 
 pub returns-clause-vacant : goal.returns-clause-vacant
 returns-clause-vacant c = c.name_slots.ensures.vacant

@@ -9,7 +9,8 @@ use Rattle.meta_setting_tables.specs.GroupTables.{names_in}
 use Rattle.meta_setting_tables.proofs.names.have_distinct_names.Goals as goal
 
 -- the name of the entry that was read
-read : (entries : List Descriptor) (k : ℕ) (entry : Descriptor) → k < length entries → entry ≡ slice_index_or entries k entry → slice_get (names_in entries) k ≡ Some entry.name
+read : (entries : List Descriptor) (k : ℕ) (entry : Descriptor) → k < length entries
+    → entry ≡ slice_index_or entries k entry → slice_get (names_in entries) k ≡ Some entry.name
 read entries k entry l is = get_map (λ (d : Descriptor). d.name) entries k entry (slice_get_read entries (length entries) k entry refl l is)
 
 pub loop-entry-init : goal.loop-entry-init
@@ -28,7 +29,8 @@ loop-entry-preserved c =
     let names = names_in c.args.entries.now in
     let k = c.loop-entry.entry-index in
     let at = read c.args.entries.now k c.entry-item.result c.loop-entry-test.true c.entry-item.is in
-    one_kept names k _ at _ c.loop-entry.invariant _ (told_none _ _ c.if-is_some.ensures c.in_ok-add.ensures.added) (told_none _ _ c.if-is_some.ensures c.in_ok-add.ensures.unshared)
+    one_kept names k _ at _ c.loop-entry.invariant _ (told_none _ _ c.if-is_some.ensures c.in_ok-add.ensures.added)
+    (told_none _ _ c.if-is_some.ensures c.in_ok-add.ensures.unshared)
 
 pub returns : goal.returns
 returns c =

@@ -19,4 +19,5 @@ loop-entry-preserved c =
     (subst (λ (d : Descriptor). IsName d.name) c.entry-item.is (c.is_name.ensures.0 c.if-not-is_name.false)) c.loop-entry.invariant
 
 pub returns : goal.returns
-returns c = so_far_all (λ (d : Descriptor). IsName d.name) c.args.entries.now c.loop-entry.entry-index c.loop-entry-test.false c.loop-entry.invariant
+returns c = so_far_all (λ (d : Descriptor). IsName d.name) c.args.entries.now c.loop-entry.entry-index
+    c.loop-entry-test.false c.loop-entry.invariant

@@ -10,13 +10,18 @@ loop-entry-init c = so_far_none (λ (d : Descriptor). All IsPlainByte d.descript
 
 pub returns-then-not-is_plain_description : goal.returns-then-not-is_plain_description
 returns-then-not-is_plain_description c =
-    not_of_all (λ (d : Descriptor). All IsPlainByte d.description) c.args.entries.now c.loop-entry.entry-index c.entry-item.result c.loop-entry-test.true
-    (λ p. false≢true (sym c.if-not-is_plain_description.true ∙ c.is_plain_description.ensures.1 (subst (λ (d : Descriptor). All IsPlainByte d.description) (sym c.entry-item.is) p)))
+    not_of_all (λ (d : Descriptor). All IsPlainByte d.description) c.args.entries.now c.loop-entry.entry-index
+    c.entry-item.result c.loop-entry-test.true
+    (λ p. false≢true (sym c.if-not-is_plain_description.true
+    ∙ c.is_plain_description.ensures.1 (subst (λ (d : Descriptor). All IsPlainByte d.description) (sym c.entry-item.is) p)))
 
 pub loop-entry-preserved : goal.loop-entry-preserved
 loop-entry-preserved c =
-    so_far_more (λ (d : Descriptor). All IsPlainByte d.description) c.args.entries.now c.loop-entry.entry-index c.entry-item.result c.loop-entry-test.true
-    (subst (λ (d : Descriptor). All IsPlainByte d.description) c.entry-item.is (c.is_plain_description.ensures.0 c.if-not-is_plain_description.false)) c.loop-entry.invariant
+    so_far_more (λ (d : Descriptor). All IsPlainByte d.description) c.args.entries.now c.loop-entry.entry-index
+    c.entry-item.result c.loop-entry-test.true
+    (subst (λ (d : Descriptor). All IsPlainByte d.description) c.entry-item.is
+    (c.is_plain_description.ensures.0 c.if-not-is_plain_description.false)) c.loop-entry.invariant
 
 pub returns : goal.returns
-returns c = so_far_all (λ (d : Descriptor). All IsPlainByte d.description) c.args.entries.now c.loop-entry.entry-index c.loop-entry-test.false c.loop-entry.invariant
+returns c = so_far_all (λ (d : Descriptor). All IsPlainByte d.description) c.args.entries.now c.loop-entry.entry-index
+    c.loop-entry-test.false c.loop-entry.invariant

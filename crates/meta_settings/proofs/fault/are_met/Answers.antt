@@ -18,4 +18,5 @@ loop-arg-preserved c =
     (subst (IsMet c.args.booleans c.args.earlier) c.arg-item.is (c.is_met.ensures.0 c.if-not-is_met.false)) c.loop-arg.invariant
 
 pub returns : goal.returns
-returns c = so_far_all (IsMet c.args.booleans c.args.earlier) c.args.args.now c.loop-arg.arg-index c.loop-arg-test.false c.loop-arg.invariant
+returns c = so_far_all (IsMet c.args.booleans c.args.earlier) c.args.args.now c.loop-arg.arg-index
+    c.loop-arg-test.false c.loop-arg.invariant

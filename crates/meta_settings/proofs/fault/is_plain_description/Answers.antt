@@ -10,7 +10,8 @@ loop-byte-init c = so_far_none IsPlainByte c.as_bytes-bytes.result.now
 pub returns-then-not-is_plain_byte : goal.returns-then-not-is_plain_byte
 returns-then-not-is_plain_byte c =
     subst (λ bytes. IsTrue false ↔ All IsPlainByte bytes) c.as_bytes-bytes.ensures
-    (not_of_all IsPlainByte c.as_bytes-bytes.result.now c.loop-byte.byte-index 0 c.loop-byte-test.true (λ p. false≢true (sym c.if-not-is_plain_byte.true ∙ c.is_plain_byte.ensures.1 p)))
+    (not_of_all IsPlainByte c.as_bytes-bytes.result.now c.loop-byte.byte-index 0 c.loop-byte-test.true
+    (λ p. false≢true (sym c.if-not-is_plain_byte.true ∙ c.is_plain_byte.ensures.1 p)))
 
 pub loop-byte-preserved : goal.loop-byte-preserved
 loop-byte-preserved c =

@@ -13,5 +13,6 @@ returns-then-not-is_name c = (
 pub returns-then-not-is_plain_description : goal.returns-then-not-is_plain_description
 returns-then-not-is_plain_description c = (
   λ t. absurd (false≢true t),
-  λ well. absurd (false≢true (sym c.if-not-is_plain_description.true ∙ c.is_plain_description.ensures.1 (subst (All IsPlainByte) (sym c.description.ensures) well.description))),
+  λ well. absurd (false≢true (sym c.if-not-is_plain_description.true
+      ∙ c.is_plain_description.ensures.1 (subst (All IsPlainByte) (sym c.description.ensures) well.description))),
 )

@@ -9,7 +9,8 @@ returns-clause-of_synth c =
     let counts = c.of-counts.ensures in
     let found = c.of-counts.result.found in
     let accepted = c.of-counts.result.accepted in
-    let lengths = c.as_str.ensures.value ∙ c.in_ok-lengths.ensures ∙ (λ i. lengths_text (counts.opcodes i) (counts.type_sets i) (counts.constraints i) (counts.slots i)) in
+    let lengths = c.as_str.ensures.value ∙ c.in_ok-lengths.ensures
+    ∙ (λ i. lengths_text (counts.opcodes i) (counts.type_sets i) (counts.constraints i) (counts.slots i)) in
     IfOk-weaker c.line.result _ _ (λ line e d hold is made. of_synth c.args.n d c.args.tables.now (string_bytes line) hold is made (record {
       found = found;
       are_found = counts.found;

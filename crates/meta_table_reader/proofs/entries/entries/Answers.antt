@@ -11,6 +11,8 @@ unfolding entries_part
 returns c = λ t rest shown e.
     let n = length t.entries in
     let lines = each_opcode (opcode_block c.args.version t) n in
-    let (count, a) = c.list_count-count.ensures n (lines ++ (list_end ++ rest)) (let few = shown.named.few in omega (arith, few)) (e ∙ list_grouped Entries n lines rest) in
-    let (entries, b) = c.in_ok-entries.ensures t (list_end ++ rest) shown count (a ∙ ap (λ k. each_opcode (opcode_block c.args.version t) k ++ (list_end ++ rest)) (sym count)) in
+    let (count, a) = c.list_count-count.ensures n (lines ++ (list_end ++ rest)) (let few = shown.named.few in omega (arith, few)) (e
+    ∙ list_grouped Entries n lines rest) in
+    let (entries, b) = c.in_ok-entries.ensures t (list_end ++ rest) shown count (a
+    ∙ ap (λ k. each_opcode (opcode_block c.args.version t) k ++ (list_end ++ rest)) (sym count)) in
     (entries, c.skip_list_end.ensures rest b)

@@ -13,6 +13,7 @@ returns c = λ names rest few all e.
     let lines = flat_map enumerator_text names in
     let end : List ℕ = list_end ++ rest in
     let small : length names < 2 ^ 64 = omega (arith, few) in
-    let (count, a) = c.list_count-count.ensures (length names) (lines ++ end) small (e ∙ list_grouped Enumerators (length names) lines rest) in
+    let (count, a) = c.list_count-count.ensures (length names) (lines ++ end) small
+    (e ∙ list_grouped Enumerators (length names) lines rest) in
     let (read, left) = c.in_ok-names.ensures names end all count a in
     (read, c.skip_list_end.ensures rest left)

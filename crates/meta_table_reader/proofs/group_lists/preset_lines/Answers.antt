@@ -21,12 +21,15 @@ loop-preserved c = λ booleans ds ms rest all shown own count e.
     let text = preset_text booleans size ms in
     let so_far = c.loop.invariant booleans ds ms rest all shown own count e in
     let within : i < length ds = omega (arith, c.loop-test.true, count) in
-    let (d, at, both) = one_within (λ (d : Descriptor). IsShownDescriptor d × AreShownMasksOf size ms d) ds i (λ k x w. (shown k x w, own k x w)) within in
+    let (d, at, both) = one_within (λ (d : Descriptor). IsShownDescriptor d
+    × AreShownMasksOf size ms d) ds i (λ k x w. (shown k x w, own k x w)) within in
     let mine = masks_from size ms d.offset in
     let left = flat_map text (drop (i + 1) ds) ++ rest in
     let comment = comment_text d.name (texts_with_commas (names_on booleans mine)) in
-    let (pushed, a) = c.in_ok-push_masks.ensures mine (comment ++ left) both.1.bytes (sym both.1.count) (front text ds rest c.loop.cursor i d at so_far.1 ∙ preset_parts booleans size ms d left) in
-    let taken = flat_map-append (λ (d : Descriptor). masks_from size ms d.offset) (take i ds) (d ∷ []) ∙ ap (λ w. flat_map (λ (d : Descriptor). masks_from size ms d.offset) (take i ds) ++ w) (append-nil mine) in (
+    let (pushed, a) = c.in_ok-push_masks.ensures mine (comment ++ left) both.1.bytes (sym both.1.count)
+    (front text ds rest c.loop.cursor i d at so_far.1 ∙ preset_parts booleans size ms d left) in
+    let taken = flat_map-append (λ (d : Descriptor). masks_from size ms d.offset) (take i ds) (d ∷ [])
+    ∙ ap (λ w. flat_map (λ (d : Descriptor). masks_from size ms d.offset) (take i ds) ++ w) (append-nil mine) in (
       pushed ∙ ap (λ w. w ++ mine) so_far.0 ∙ sym taken ∙ ap (flat_map (λ (d : Descriptor). masks_from size ms d.offset)) (sym at.taken),
       c.skip_line.ensures.item comment left (comment_is_line booleans mine d all both.0) a,
     )
@@ -36,5 +39,7 @@ returns c = λ booleans ds ms rest all shown own count e.
     let i = c.loop.counter in
     let size = c.args.size in
     let so_far = c.loop.invariant booleans ds ms rest all shown own count e in
-    let past : length ds ≤ i = omega (arith, c.loop-test.false, count) in
-    (so_far.0 ∙ ap (flat_map (λ (d : Descriptor). masks_from size ms d.offset)) (take_all i ds past), only_rest_left (preset_text booleans size ms) ds rest i c.loop.cursor past so_far.1)
+    let past : length ds ≤ i = omega (arith, c.loop-test.false, count) in (
+      so_far.0 ∙ ap (flat_map (λ (d : Descriptor). masks_from size ms d.offset)) (take_all i ds past),
+      only_rest_left (preset_text booleans size ms) ds rest i c.loop.cursor past so_far.1,
+    )

@@ -21,9 +21,12 @@ returns c = λ size masks rest shown presets e.
     let lines = flat_map (preset_text ds size masks) ps in
     let end : List ℕ = list_end ++ rest in
     let (pairs, a) = c.list_count-pairs.ensures n (lines ++ end) presets.few (e ∙ list_grouped Presets n lines rest) in
-    let count : c.preset_count-presets.result ≡ length ps = c.preset_count-presets.ensures ∙ sym (length-filter (λ (d : Descriptor). is_preset d.detail) ds) in
+    let count : c.preset_count-presets.result ≡ length ps = c.preset_count-presets.ensures
+    ∙ sym (length-filter (λ (d : Descriptor). is_preset d.detail) ds) in
     let found = c.size_of-size.result in
-    let is : 0 < length ps → found ≡ size = λ some. c.size_of-size.ensures size (subst (λ k. 0 < k) (sym count) some) (pairs ∙ ap (λ k. k * size) (sym count)) in
+    let is : 0 < length ps → found ≡ size = λ some. c.size_of-size.ensures size (subst (λ k. 0 < k) (sym count) some)
+    (pairs ∙ ap (λ k. k * size) (sym count)) in
     let (each, same, joined) = sized ds ps size found masks (size_cases ps size found is) presets.each presets.joined in
-    let (read, left) = c.in_ok-masks.ensures ds ps masks end shown (All-filter (λ (d : Descriptor). is_preset d.detail) IsShownDescriptor ds shown) each count (a ∙ ap (λ w. w ++ end) same) in
+    let (read, left) = c.in_ok-masks.ensures ds ps masks end shown
+    (All-filter (λ (d : Descriptor). is_preset d.detail) IsShownDescriptor ds shown) each count (a ∙ ap (λ w. w ++ end) same) in
     (read ∙ joined, c.skip_list_end.ensures rest left)

@@ -19,9 +19,13 @@ loop-preserved c = λ ms rest all count e.
     let so_far = c.loop.invariant ms rest all count e in
     let within : i < length ms = omega (arith, c.loop-test.true, c.min-end.ensures, count) in
     let (mask, at, small) = one_within IsByte ms i all within in
-    let (read, left) = c.pair.ensures mask (flat_map pair_text (drop (i + 1) ms) ++ rest) small (front pair_text ms rest c.loop.cursor i mask at so_far.1) in
-    let before = c.args.masks.now.items in
-    (c.in_ok-push.ensures.items ∙ (λ k. so_far.0 k ++ read k ∷ []) ∙ append_assoc before (take i ms) (mask ∷ []) ∙ ap (λ w. before ++ w) (sym at.taken), left)
+    let (read, left) = c.pair.ensures mask (flat_map pair_text (drop (i + 1) ms) ++ rest) small
+    (front pair_text ms rest c.loop.cursor i mask at so_far.1) in
+    let before = c.args.masks.now.items in (
+      c.in_ok-push.ensures.items ∙ (λ k. so_far.0 k ++ read k ∷ []) ∙ append_assoc before (take i ms) (mask ∷ [])
+          ∙ ap (λ w. before ++ w) (sym at.taken),
+      left,
+    )
 
 pub returns : goal.returns
 returns c = λ ms rest all count e.

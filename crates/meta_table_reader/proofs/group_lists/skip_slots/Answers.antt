@@ -15,6 +15,8 @@ unfolding slots_text
 returns c = λ slots rest few e.
     let lines = flat_map slot_text slots in
     let end : List ℕ = list_end ++ rest in
-    let (count, a) = c.list_count-count.ensures (length slots) (lines ++ end) few (e ∙ list_grouped SettingSlots (length slots) lines rest) in
-    let left = c.skip_lines.ensures.item (map slot_text slots) end (slots_are_lines slots) (count ∙ sym (length-map slots slot_text)) (a ∙ ap (λ w. w ++ end) (sym (flat_map-map (λ line. line) slot_text slots))) in
+    let (count, a) = c.list_count-count.ensures (length slots) (lines ++ end) few
+    (e ∙ list_grouped SettingSlots (length slots) lines rest) in
+    let left = c.skip_lines.ensures.item (map slot_text slots) end (slots_are_lines slots)
+    (count ∙ sym (length-map slots slot_text)) (a ∙ ap (λ w. w ++ end) (sym (flat_map-map (λ line. line) slot_text slots))) in
     c.skip_list_end.ensures rest left

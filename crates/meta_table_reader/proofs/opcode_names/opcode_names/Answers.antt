@@ -11,6 +11,8 @@ unfolding formats_part
 returns c = λ t rest named e.
     let n = length t.entries in
     let lines = each_opcode (format_line t) n in
-    let (count, a) = c.list_count-count.ensures n (lines ++ (list_end ++ rest)) (omega (arith, named.few)) (e ∙ list_grouped Formats n lines rest) in
-    let (names, formats, b) = c.in_ok-names.ensures t (list_end ++ rest) named.names named.formats (count ∙ sym named.named) (count ∙ sym named.formatted) (a ∙ ap (λ k. each_opcode (format_line t) k ++ (list_end ++ rest)) (sym count)) in
+    let (count, a) = c.list_count-count.ensures n (lines ++ (list_end ++ rest)) (omega (arith, named.few)) (e
+    ∙ list_grouped Formats n lines rest) in
+    let (names, formats, b) = c.in_ok-names.ensures t (list_end ++ rest) named.names named.formats (count ∙ sym named.named) (count
+    ∙ sym named.formatted) (a ∙ ap (λ k. each_opcode (format_line t) k ++ (list_end ++ rest)) (sym count)) in
     (names, formats, c.skip_list_end.ensures rest b)

@@ -20,5 +20,6 @@ returns c = λ t rest shown e.
     let end : List ℕ = list_end ++ rest in
     let few : length ns < 2 ^ 64 = let few = shown.few_constraints in omega (arith, few) in
     let (count, a) = c.list_count-count.ensures (length ns) (lines ++ end) few (e ∙ list_grouped Constraints (length ns) lines rest) in
-    let (read, left) = c.in_ok-constraints.ensures cs end (all_shown ns shown.constraints) (count ∙ sym (length-map ns constraint_from)) (a ∙ ap (λ w. w ++ end) (sym (same_lines ns))) in
+    let (read, left) = c.in_ok-constraints.ensures cs end (all_shown ns shown.constraints)
+    (count ∙ sym (length-map ns constraint_from)) (a ∙ ap (λ w. w ++ end) (sym (same_lines ns))) in
     (ap (map number_constraint_of) read ∙ same_numbers ns, c.skip_list_end.ensures rest left)

@@ -16,6 +16,8 @@ returns c = λ t rest named few e.
     let slots = t.opcode_slots in
     let lines = flat_map (slot_line t) slots in
     let end : List ℕ = list_end ++ rest in
-    let (count, a) = c.list_count-count.ensures (length slots) (lines ++ end) few (e ∙ list_grouped OpcodeSlots (length slots) lines rest) in
-    let left = c.skip_lines.ensures.item (map (slot_line t) slots) end (slots_are_lines t named slots) (count ∙ sym (length-map slots (slot_line t))) (a ∙ ap (λ w. w ++ end) (sym (flat_map-map (λ line. line) (slot_line t) slots))) in
+    let (count, a) = c.list_count-count.ensures (length slots) (lines ++ end) few
+    (e ∙ list_grouped OpcodeSlots (length slots) lines rest) in
+    let left = c.skip_lines.ensures.item (map (slot_line t) slots) end (slots_are_lines t named slots)
+    (count ∙ sym (length-map slots (slot_line t))) (a ∙ ap (λ w. w ++ end) (sym (flat_map-map (λ line. line) (slot_line t) slots))) in
     c.skip_list_end.ensures rest left

@@ -12,6 +12,15 @@ returns c = λ t shown e.
     let (lists, left) = c.in_ok-opcodes.ensures t.opcodes (flat_map group_text t.groups) shown.opcodes (c.new-cursor.ensures ∙ e) in
     let zipped = c.in_ok-groups.ensures t.groups shown.groups left in
     record {
-      opcodes = record { names = sym lists.names; formats = sym lists.formats; type_sets = sym lists.type_sets; operand_constraints = sym lists.operand_constraints; entries = sym lists.entries };
-      groups = record { count = zip_count HasGroupParts c.in_ok-groups.groups.items t.groups zipped; each = zip_each HasGroupParts c.in_ok-groups.groups.items t.groups zipped };
+      opcodes = record {
+        names = sym lists.names;
+        formats = sym lists.formats;
+        type_sets = sym lists.type_sets;
+        operand_constraints = sym lists.operand_constraints;
+        entries = sym lists.entries;
+      };
+      groups = record {
+        count = zip_count HasGroupParts c.in_ok-groups.groups.items t.groups zipped;
+        each = zip_each HasGroupParts c.in_ok-groups.groups.items t.groups zipped;
+      };
     }

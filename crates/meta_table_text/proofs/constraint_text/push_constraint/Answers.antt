@@ -9,5 +9,6 @@ pub returns : goal.returns
 unfolding constraint_line
 returns c =
     on_ok_weaker c.push_str-2.result
-    (three (string_bytes c.args.out.now) (codes "    OperandConstraint::") (constraint_text (number_constraint_of c.args.constraint)) (codes ",\n") c.in_ok-push_str.ensures.bytes c.in_ok-push_constraint_text.ensures)
+    (three (string_bytes c.args.out.now) (codes "    OperandConstraint::") (constraint_text (number_constraint_of c.args.constraint))
+    (codes ",\n") c.in_ok-push_str.ensures.bytes c.in_ok-push_constraint_text.ensures)
     (where_ok c.push_str-2.result (string_bytes c.push_constraint_text.new.out) (codes ",\n") c.push_str-2.ensures.bytes)

@@ -10,6 +10,7 @@ pub returns : goal.returns
 returns c =
     let n = number_constraint_demanded c.demanded-demand.result in
     on_ok_weaker c.push_fields.result
-    (λ e. two (string_bytes c.args.out.now) (variant_name n) (variant_fields n) (c.in_ok-push_str.ensures.bytes ∙ ap (λ (name : List ℕ). string_bytes c.args.out.now ++ name) c.variant_name.ensures) e
+    (λ e. two (string_bytes c.args.out.now) (variant_name n) (variant_fields n) (c.in_ok-push_str.ensures.bytes
+    ∙ ap (λ (name : List ℕ). string_bytes c.args.out.now ++ name) c.variant_name.ensures) e
     ∙ ap (λ (text : List ℕ). string_bytes c.args.out.now ++ text) (text_of_parts n ∙ ap constraint_text c.demanded-demand.ensures))
     c.push_fields.ensures

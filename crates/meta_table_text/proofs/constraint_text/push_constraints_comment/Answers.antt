@@ -9,5 +9,7 @@ pub returns : goal.returns
 unfolding constraints_comment
 returns c =
     on_ok_weaker c.push_str-2.result
-    (three (string_bytes c.args.out.now) (codes "        // Constraints=[") (quoted_all (map number_constraint_of c.args.constraints.now)) (codes "]\n") c.in_ok-push_str.ensures.bytes c.in_ok-push_quoted_all.ensures)
+    (three (string_bytes c.args.out.now) (codes "        // Constraints=[")
+    (quoted_all (map number_constraint_of c.args.constraints.now))
+    (codes "]\n") c.in_ok-push_str.ensures.bytes c.in_ok-push_quoted_all.ensures)
     (where_ok c.push_str-2.result (string_bytes c.push_quoted_all.new.out) (codes "]\n") c.push_str-2.ensures.bytes)

@@ -12,5 +12,6 @@ returns c =
     let t = c.in-Some.found in
     let numbered = ap type_numbered (sym c.in-Some.ensures.found) ∙ c.types_by_number.ensures.type_of (type_parts_of t) (typed t) in
     on_ok_weaker c.push_str.result
-    (λ e. e ∙ ap (λ text. string_bytes c.args.out.now ++ text) (c.as_str.ensures ∙ c.in_ok-name.ensures ∙ sym (ap rust_name_or_nothing numbered)))
+    (λ e. e ∙ ap (λ text. string_bytes c.args.out.now ++ text) (c.as_str.ensures ∙ c.in_ok-name.ensures
+    ∙ sym (ap rust_name_or_nothing numbered)))
     (where_ok c.push_str.result (string_bytes c.args.out.now) c.as_str.result.now c.push_str.ensures.bytes)

@@ -12,5 +12,7 @@ unfolding enumerators_text
 returns c =
     let none = none_left c.args.names.now c.loop-name.name-index (omega (arith, c.loop-name-test.false, c.loop-name.auto.name-index-end)) in
     on_ok_weaker c.push_list_end.result
-    (λ e. list_written (string_bytes c.args.out.now) (list_head Enumerators (length c.args.names.now)) _ (flat_map enumerator_text c.args.names.now) _ _ list_end _ c.in_ok-push_list_head.ensures c.loop-name.invariant (ap (λ left. flat_map enumerator_text left) none) e)
+    (λ e. list_written (string_bytes c.args.out.now) (list_head Enumerators (length c.args.names.now)) _
+    (flat_map enumerator_text c.args.names.now) _ _ list_end _ c.in_ok-push_list_head.ensures c.loop-name.invariant
+    (ap (λ left. flat_map enumerator_text left) none) e)
     c.push_list_end.ensures

@@ -12,7 +12,8 @@ returns c =
     let g = c.args.group.now in
     let size = length g.defaults in
     on_ok_weaker c.push_list_end.result
-    (λ e. three (string_bytes c.args.out.now) (list_head Presets (length (presets_in g.descriptors) * size)) (flat_map (preset_text g.descriptors size g.preset_masks) (presets_in g.descriptors)) list_end
+    (λ e. three (string_bytes c.args.out.now) (list_head Presets (length (presets_in g.descriptors) * size))
+    (flat_map (preset_text g.descriptors size g.preset_masks) (presets_in g.descriptors)) list_end
     (c.in_ok-push_list_head.ensures ∙ ap (λ n. string_bytes c.args.out.now ++ list_head Presets n) c.preset_masks.ensures.count)
     c.in_ok-push_each_preset.ensures
     e)

@@ -12,5 +12,7 @@ unfolding slots_text
 returns c =
     let none = none_left c.args.slots.now c.loop-slot.slot-index (omega (arith, c.loop-slot-test.false, c.loop-slot.auto.slot-index-end)) in
     on_ok_weaker c.push_list_end.result
-    (λ e. list_written (string_bytes c.args.out.now) (list_head SettingSlots (length c.args.slots.now)) _ (flat_map slot_text c.args.slots.now) _ _ list_end _ c.in_ok-push_list_head.ensures c.loop-slot.invariant (ap (λ left. flat_map slot_text left) none) e)
+    (λ e. list_written (string_bytes c.args.out.now) (list_head SettingSlots (length c.args.slots.now)) _
+    (flat_map slot_text c.args.slots.now) _ _ list_end _ c.in_ok-push_list_head.ensures c.loop-slot.invariant
+    (ap (λ left. flat_map slot_text left) none) e)
     c.push_list_end.ensures

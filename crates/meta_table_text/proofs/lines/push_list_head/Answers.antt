@@ -8,5 +8,6 @@ pub returns : goal.returns
 unfolding list_head
 returns c =
     on_ok_weaker c.write.result
-    (λ e. e ∙ ap₂ (λ title head. string_bytes c.args.out.now ++ (title ++ (head ++ (decimal c.args.count ++ codes "] = [\n")))) c.title-title.ensures c.head-head.ensures)
+    (λ e. e ∙ ap₂ (λ title head. string_bytes c.args.out.now
+    ++ (title ++ (head ++ (decimal c.args.count ++ codes "] = [\n")))) c.title-title.ensures c.head-head.ensures)
     c.write.ensures.bytes

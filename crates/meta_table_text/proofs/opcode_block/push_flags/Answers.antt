@@ -8,5 +8,6 @@ pub returns : goal.returns
 unfolding flags_lines
 returns c =
     on_ok_weaker c.push_str-2.result
-    (three (string_bytes c.args.out.now) (codes "    OpcodeConstraints {\n        flags: 0x") (hex_byte c.args.flags) (codes ",\n") c.in_ok-push_str.ensures.bytes c.in_ok-push_hex_byte.ensures)
+    (three (string_bytes c.args.out.now) (codes "    OpcodeConstraints {\n        flags: 0x") (hex_byte c.args.flags)
+    (codes ",\n") c.in_ok-push_str.ensures.bytes c.in_ok-push_hex_byte.ensures)
     (where_ok c.push_str-2.result (string_bytes c.push_hex_byte.new.out) (codes ",\n") c.push_str-2.ensures.bytes)

@@ -14,5 +14,6 @@ returns c =
     let old = string_bytes c.args.out.now in
     let head = c.in_ok-push_list_head.ensures ∙ ap (λ n. old ++ list_head Entries n) c.opcode_count-count.ensures.count in
     on_ok_weaker c.push_list_end.result
-    (three old (list_head Entries (length t.entries)) (each_opcode (opcode_block c.args.version t) (length t.entries)) list_end head c.in_ok-push_each_opcode.ensures)
+    (three old (list_head Entries (length t.entries)) (each_opcode (opcode_block c.args.version t) (length t.entries))
+    list_end head c.in_ok-push_each_opcode.ensures)
     c.push_list_end.ensures

@@ -15,5 +15,6 @@ returns c =
     let old = string_bytes c.args.out.now in
     let head = c.in_ok-push_list_head.ensures ∙ ap (λ n. old ++ list_head Formats n) c.opcode_count-count.ensures.count in
     on_ok_weaker c.push_list_end.result
-    (three old (list_head Formats (length t.entries)) (each_opcode (format_line t) (length t.entries)) list_end head c.in_ok-push_each_format.ensures)
+    (three old (list_head Formats (length t.entries)) (each_opcode (format_line t) (length t.entries)) list_end head
+    c.in_ok-push_each_format.ensures)
     c.push_list_end.ensures

@@ -20,7 +20,8 @@ loop-name-preserved c =
     let names = c.args.names.now in
     let k = c.loop-name.name-index in
     let at = slice_get_read names (length names) k c.name-item.result refl c.loop-name-test.true c.name-item.is in
-    one_kept names k _ at _ c.loop-name.invariant _ (told_none _ _ c.if-is_some.ensures c.in_ok-add.ensures.added) (told_none _ _ c.if-is_some.ensures c.in_ok-add.ensures.unshared)
+    one_kept names k _ at _ c.loop-name.invariant _ (told_none _ _ c.if-is_some.ensures c.in_ok-add.ensures.added)
+    (told_none _ _ c.if-is_some.ensures c.in_ok-add.ensures.unshared)
 
 pub returns : goal.returns
 returns c = all_kept c.args.names.now c.loop-name.name-index _ c.loop-name.invariant c.loop-name-test.false

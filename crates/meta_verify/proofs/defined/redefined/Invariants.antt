@@ -9,6 +9,8 @@ use Rattle.meta_verify.proofs.defined.redefined.Given as goal
 -- what is defined behind the results so far is what was before, and what was seen; the answer is that to what is left
 abbrev pub invariant-loop-r : goal.invariant-loop-r
 invariant-loop-r l = record {
-  seen : (v : ℕ) → is_some (with_values (environment_of l.types) (map typed_value_of (take l.r-index l.results)) v) ≡ (is_some (environment_of l.types v) || contains nat_cmp l.seen v);
-  left : first_redefined (with_values (environment_of l.types) (map typed_value_of (take l.r-index l.results))) (map typed_value_of (drop l.r-index l.results)) ≡ first_redefined (environment_of l.types) (map typed_value_of l.results);
+  seen : (v : ℕ) → is_some (with_values (environment_of l.types) (map typed_value_of (take l.r-index l.results)) v)
+      ≡ (is_some (environment_of l.types v) || contains nat_cmp l.seen v);
+  left : first_redefined (with_values (environment_of l.types) (map typed_value_of (take l.r-index l.results)))
+      (map typed_value_of (drop l.r-index l.results)) ≡ first_redefined (environment_of l.types) (map typed_value_of l.results);
 }

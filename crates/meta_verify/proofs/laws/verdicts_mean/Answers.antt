@@ -5,7 +5,8 @@ pub returns-clause-line : goal.returns-clause-line
 returns-clause-line c = λ d t made means lines n answer h. answered_means d t made means lines n answer h
 
 pub returns-clause-verdict : goal.returns-clause-verdict
-returns-clause-verdict c = λ d t valid made means input is_rejection text h. verdict_means d.set t made means valid.set input is_rejection text h
+returns-clause-verdict c = λ d t valid made means input is_rejection text h.
+    verdict_means d.set t made means valid.set input is_rejection text h
 
 pub returns-clause-fed : goal.returns-clause-fed
 returns-clause-fed c = λ d t valid made means env named line answer behind. fed_means d t made means valid env named line answer behind

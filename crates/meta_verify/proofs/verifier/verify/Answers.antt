@@ -6,7 +6,8 @@ pub returns-clause-headline : goal.returns-clause-headline
 returns-clause-headline g c = headline c.check.ensures (c.one_first_fault.ensures.valid _)
 
 pub returns-clause-refuses : goal.returns-clause-refuses
-returns-clause-refuses g c none = lemma.refuses c.check.ensures lemma.no_other (c.one_first_fault.ensures.valid _) tt none (c.one_first_fault.ensures.same _)
+returns-clause-refuses g c none = lemma.refuses c.check.ensures lemma.no_other
+    (c.one_first_fault.ensures.valid _) tt none (c.one_first_fault.ensures.same _)
 
 pub returns-clause-complete : goal.returns-clause-complete
 returns-clause-complete g c none = lemma.complete c.check.ensures lemma.no_other (c.one_first_fault.ensures.valid _) tt none

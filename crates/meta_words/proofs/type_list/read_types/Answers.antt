@@ -18,15 +18,19 @@ pub loop-name-preserved : goal.loop-name-preserved
 loop-name-preserved c =
     let is = c.in-Some-type_number.ensures.found in
     record {
-      known = rw c.in_ok-push.ensures.items (All-push IsTypeNumber c.loop-name.numbers.items c.in-Some-type_number.number c.loop-name.invariant.known is.number);
-      named = rw c.in_ok-push.ensures.items (one_more c.loop-name.numbers.items c.in-Some-type_number.number _ _ _ _ c.loop-name.invariant.named c.in-Some.ensures.steps is.named);
+      known = rw c.in_ok-push.ensures.items
+          (All-push IsTypeNumber c.loop-name.numbers.items c.in-Some-type_number.number c.loop-name.invariant.known is.number);
+      named = rw c.in_ok-push.ensures.items (one_more c.loop-name.numbers.items c.in-Some-type_number.number _ _ _ _
+          c.loop-name.invariant.named c.in-Some.ensures.steps is.named);
     }
 
 pub returns-in_default-clause-front : goal.returns-in_default-clause-front
 returns-in_default-clause-front c = first_named c.loop-name.numbers.items c.args.word.now _ c.loop-name.invariant.named
 
 pub returns-in_default-clause-stop : goal.returns-in_default-clause-stop
-returns-in_default-clause-stop c = λ e. next_named c.loop-name.numbers.items c.args.word.now c.in-Some.name.now _ _ c.loop-name.invariant.named c.in-Some.ensures.steps c.in_default.ensures.none
+returns-in_default-clause-stop c =
+    λ e. next_named c.loop-name.numbers.items c.args.word.now c.in-Some.name.now _ _ c.loop-name.invariant.named c.in-Some.ensures.steps
+    c.in_default.ensures.none
 
 pub returns-clause-front : goal.returns-clause-front
 returns-clause-front c = first_named c.loop-name.numbers.items c.args.word.now _ c.loop-name.invariant.named

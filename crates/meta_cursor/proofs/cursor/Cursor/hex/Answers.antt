@@ -6,4 +6,5 @@ pub returns-clause-item : goal.returns-clause-item
 returns-clause-item c = search rules
 
 pub returns-clause-left : goal.returns-clause-left
-returns-clause-left c = c.digit-low.ensures.left ∙ ap (drop 1) c.digit-high.ensures.left ∙ drop-drop 1 1 c.pass.new.self ∙ ap (drop 2) c.pass.ensures.left
+returns-clause-left c = c.digit-low.ensures.left ∙ ap (drop 1) c.digit-high.ensures.left
+    ∙ drop-drop 1 1 c.pass.new.self ∙ ap (drop 2) c.pass.ensures.left

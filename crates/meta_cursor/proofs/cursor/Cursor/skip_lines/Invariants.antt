@@ -6,7 +6,8 @@ use Rattle.meta_cursor.proofs.cursor.Cursor.skip_lines.Given as goal
 -- the lines that are left, where lines stand there, and what is left in any text
 abbrev pub invariant-loop : goal.invariant-loop
 invariant-loop l = record {
-  item : (lines : List (List ℕ)) (rest : List ℕ) → All (λ line. IsTrue (is_line line)) lines → l.count ≡ length lines → l.initial.self ≡ flat_map (λ line. line) lines ++ rest
+  item : (lines : List (List ℕ)) (rest : List ℕ) → All (λ line. IsTrue (is_line line)) lines → l.count ≡ length lines
+      → l.initial.self ≡ flat_map (λ line. line) lines ++ rest
       → l.self ≡ flat_map (λ line. line) (drop l.counter lines) ++ rest;
   left : l.self ≡ behind_lines l.counter l.initial.self;
 }

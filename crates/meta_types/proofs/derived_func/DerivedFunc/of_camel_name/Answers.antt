@@ -10,4 +10,5 @@ pub returns-clause-found : goal.returns-clause-found
 returns-clause-found c = name_found c.args.name.now c.in_ok-place.place _ LaneOf (sym c.camel_place.ensures ∙ c.in_ok-place.was) refl
 
 pub returns-in_err-place-clause-none : goal.returns-in_err-place-clause-none
-returns-in_err-place-clause-none c = rw c.from_residual.ensures (name_missing c.args.name.now (sym c.camel_place.ensures ∙ c.in_err-place.was))
+returns-in_err-place-clause-none c =
+    rw c.from_residual.ensures (name_missing c.args.name.now (sym c.camel_place.ensures ∙ c.in_err-place.was))

@@ -12,7 +12,8 @@ pub define_all-requires : goal.define_all-requires
 define_all-requires c = record {
   fresh = fresh_there c.self.inside.types c.args.self.now (typed_value_of c.in-Parameter.parameter ∷ []) c.self.view_is
       (subst (λ s. first_redefined (definitions c.args.self.now) (defined_by (stated s)) ≡ None) c.in-Parameter.is c.requires.fresh);
-  numbered = All-cons IsTypedNumber c.in-Parameter.parameter [] (subst HasTypeNumbers c.in-Parameter.is c.requires.known) (All-nil IsTypedNumber);
+  numbered = All-cons IsTypedNumber c.in-Parameter.parameter []
+      (subst HasTypeNumbers c.in-Parameter.is c.requires.known) (All-nil IsTypedNumber);
 }
 
 pub define_all-requires-in-Applied : goal.define_all-requires-in-Applied
@@ -32,22 +33,27 @@ invariant_of-self-in-Applied c = c.define_all-in-Applied.ensures.known c.self.in
 pub returns-in-Parameter-clause-defined : goal.returns-in-Parameter-clause-defined
 returns-in-Parameter-clause-defined c =
     on_ok_weaker c.define_all.result
-    (λ h. seen_more c.self.inside.types c.define_all.new.types c.args.self.now _ (typed_value_of c.in-Parameter.parameter ∷ []) c.self.view_is refl h
+    (λ h. seen_more c.self.inside.types c.define_all.new.types c.args.self.now _
+    (typed_value_of c.in-Parameter.parameter ∷ []) c.self.view_is refl h
     ∙ ap (λ s. with_values (definitions c.args.self.now) (defined_by (stated s))) (sym c.in-Parameter.is))
     c.define_all.ensures.defined
 
 pub returns-in-Parameter-clause-kept : goal.returns-in-Parameter-clause-kept
 returns-in-Parameter-clause-kept c =
-    on_err_weaker c.define_all.result (λ h. seen_same c.self.inside.types c.define_all.new.types c.args.self.now _ c.self.view_is refl h) c.define_all.ensures.kept
+    on_err_weaker c.define_all.result
+    (λ h. seen_same c.self.inside.types c.define_all.new.types c.args.self.now _ c.self.view_is refl h) c.define_all.ensures.kept
 
 pub returns-in-Applied-clause-defined : goal.returns-in-Applied-clause-defined
 returns-in-Applied-clause-defined c =
     on_ok_weaker c.define_all-in-Applied.result
-    (λ h. seen_more c.self.inside.types c.define_all-in-Applied.new.types c.args.self.now _ (map typed_value_of c.deref.result.now) c.self.view_is refl h
+    (λ h. seen_more c.self.inside.types c.define_all-in-Applied.new.types c.args.self.now _
+    (map typed_value_of c.deref.result.now) c.self.view_is refl h
     ∙ ap (λ rs. with_values (definitions c.args.self.now) (map typed_value_of rs)) c.deref.ensures.value
     ∙ ap (λ s. with_values (definitions c.args.self.now) (defined_by (stated s))) (sym c.in-Applied.is))
     c.define_all-in-Applied.ensures.defined
 
 pub returns-in-Applied-clause-kept : goal.returns-in-Applied-clause-kept
 returns-in-Applied-clause-kept c =
-    on_err_weaker c.define_all-in-Applied.result (λ h. seen_same c.self.inside.types c.define_all-in-Applied.new.types c.args.self.now _ c.self.view_is refl h) c.define_all-in-Applied.ensures.kept
+    on_err_weaker c.define_all-in-Applied.result
+    (λ h. seen_same c.self.inside.types c.define_all-in-Applied.new.types c.args.self.now _ c.self.view_is refl h)
+    c.define_all-in-Applied.ensures.kept
