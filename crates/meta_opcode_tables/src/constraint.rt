@@ -1,4 +1,4 @@
-ghost use Rattle.std.specs.Prelude.{◌≡◌, ◌↔◌, ◌≤◌, ℕ, IsTrue, IfSome, IfNone};
+ghost use Rattle.std.specs.Prelude.{◌≡◌, ◌↔◌, ◌≤◌, ℕ, IsTrue, IfSome, IfNone, take, drop};
 ghost use Rattle.meta_types.specs.DerivedFunc.{function_of};
 ghost use Rattle.meta_inst.specs.Which.{First, Second, both};
 ghost use Rattle.meta_inst.specs.Controls.{which_of};
@@ -12,6 +12,14 @@ use meta_types::DerivedFunc;
 
 /// The type set offset of an opcode without a control, and of one without a second control.
 pub const NO_TYPE_SET: u16 = 65535;
+
+/// So many of the constraints, or those that there are, from this place on (this project's own).
+pub fn constraints_from(constraints: &[Constraint], place: usize, count: usize) -> &[Constraint]
+    ensures { result.now ≡ take count (drop place constraints.now) }
+{
+    let behind = &constraints[constraints.len().min(place)..];
+    &behind[..behind.len().min(count)]
+}
 
 /// What an operand's type has to be, by its number (in the crate `OperandConstraint` of the code that it writes).
 #[derive(Clone, Copy, Debug, PartialEq, Eq)]

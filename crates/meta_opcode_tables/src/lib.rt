@@ -15,7 +15,7 @@ mod operand_constraints;
 mod parts;
 mod same;
 
-pub use constraint::{Constraint, Demand, NO_TYPE_SET, OpcodeConstraints};
+pub use constraint::{Constraint, Demand, NO_TYPE_SET, OpcodeConstraints, constraints_from};
 pub use laws::{
     designated_values_have_the_controlling_type, equal_constraints, one_table_has_the_parts,
     one_table_of_an_instruction_set, tables_mean_the_declarations,

@@ -1,4 +1,4 @@
-ghost use Rattle.std.specs.Prelude.{◌≡◌, ◌≢◌, ◌↔◌, ◌+◌, ℕ, List, map, take, drop, get_or, false, IsSome, IfSome, IfNone, None, Some};
+ghost use Rattle.std.specs.Prelude.{◌≡◌, ◌≢◌, ◌↔◌, ◌+◌, ℕ, List, map, get_or, false, IsSome, IfSome, IfNone, None, Some};
 ghost use Rattle.std.specs.List.{list_any};
 ghost use Rattle.meta_meaning.specs.Tables.{OpcodeNumbers, at_opcode};
 ghost use Rattle.meta_opcode_tables.specs.Constraint.{number_constraint_of, entry_of};
@@ -7,7 +7,7 @@ ghost use Rattle.meta_opcode_tables.specs.declared.constraint.Constraint.{Constr
 ghost use Rattle.meta_short.specs.Manners.{is_open, is_control, manner_of, value_constraints, result_constraints};
 ghost use Rattle.meta_short.specs.Written.{manner_in};
 
-use meta_gen::{Constraint, NO_TYPE_SET, OpcodeConstraints, Tables};
+use meta_gen::{Constraint, NO_TYPE_SET, OpcodeConstraints, Tables, constraints_from};
 use meta_types::Text;
 
 /// Whether a result under this constraint is written with its type: the constraint leaves several.
@@ -31,20 +31,12 @@ pub fn is_control(constraint: Constraint) -> bool
     matches!(constraint, Constraint::Same)
 }
 
-/// So many of the constraints, or those that there are, from this place on.
-fn part(constraints: &[Constraint], place: usize, count: usize) -> &[Constraint]
-    ensures { result.now ≡ take count (drop place constraints.now) }
-{
-    let behind = &constraints[constraints.len().min(place)..];
-    &behind[..behind.len().min(count)]
-}
-
 /// The constraints of the results of an entry.
 fn result_constraints(tables: &Tables, entry: OpcodeConstraints) -> &[Constraint]
     ensures { map number_constraint_of result.now ≡ result_constraints tables.now.opcodes (entry_of entry) }
 {
     let place = entry.constraint_offset as usize;
-    part(tables.operand_constraints(), place, entry.result_count())
+    constraints_from(tables.operand_constraints(), place, entry.result_count())
 }
 
 /// The constraints of the values of an entry (this project's own).
@@ -52,7 +44,7 @@ pub fn value_constraints(tables: &Tables, entry: OpcodeConstraints) -> &[Constra
     ensures { map number_constraint_of result.now ≡ value_constraints tables.now.opcodes (entry_of entry) }
 {
     let place = entry.constraint_offset as usize + entry.result_count();
-    part(tables.operand_constraints(), place, entry.value_count())
+    constraints_from(tables.operand_constraints(), place, entry.value_count())
 }
 
 /// Whether some value has the controlling type.

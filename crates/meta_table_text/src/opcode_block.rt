@@ -1,4 +1,4 @@
-ghost use Rattle.std.specs.Prelude.{◌≡◌, ◌++◌, OnOk, IfOk, map, take, drop, string_bytes};
+ghost use Rattle.std.specs.Prelude.{◌≡◌, ◌++◌, OnOk, IfOk, map, string_bytes};
 ghost use Rattle.meta_opcode_tables.specs.Constraint.{number_constraint_of, entry_of};
 ghost use Rattle.meta_opcode_tables.specs.Contents.{IsOpcode};
 ghost use Rattle.meta_table_text.specs.OpcodeText.{name_at, format_at, camel_at, hex_byte, flags_lines, place_line, second_line};
@@ -8,7 +8,7 @@ ghost use Rattle.meta_table_text.specs.OpcodeText.{entry_comments, entry_block, 
 use super::constraint_text::push_constraints_comment;
 use super::type_set_text::{push_block_end, push_set_comment};
 use super::version::Version;
-use meta_gen::{Constraint, NO_TYPE_SET, OpcodeConstraints, Tables};
+use meta_gen::{Constraint, NO_TYPE_SET, OpcodeConstraints, Tables, constraints_from};
 use meta_types::{Text, camel_case};
 use std::alloc::{AllocError, Global};
 
@@ -118,20 +118,16 @@ fn push_flags_comment(
     )
 }
 
-/// So many of the constraints, or those that there are, from this place on.
-fn part(constraints: &[Constraint], place: u16, count: usize) -> &[Constraint]
-    ensures { result.now ≡ take count (drop place constraints.now) }
-{
-    let behind = &constraints[constraints.len().min(place as usize)..];
-    &behind[..behind.len().min(count)]
-}
-
 /// The constraints of an entry.
 fn constraints_of(tables: &Tables, entry: OpcodeConstraints) -> &[Constraint]
     ensures { map number_constraint_of result.now ≡ constraints_of tables.now.opcodes (entry_of entry) }
 {
     let count = entry.result_count() + entry.value_count();
-    part(tables.operand_constraints(), entry.constraint_offset, count)
+    constraints_from(
+        tables.operand_constraints(),
+        entry.constraint_offset as usize,
+        count,
+    )
 }
 
 /// Adds the comment on a control whose type set has this place, and nothing where it has none.
