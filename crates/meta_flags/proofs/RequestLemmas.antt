@@ -12,8 +12,8 @@ abbrev pub HasBytes : List ℕ → Type 0
 HasBytes word = 0 < length word
 
 -- the first letter of the first word, by which commands differ
-abbrev letter : List (List ℕ) → ℕ
-letter words = get_or (get_or words 0 []) 0 0
+abbrev first_letter : List (List ℕ) → ℕ
+first_letter words = get_or (get_or words 0 []) 0 0
 
 -- ---- the words of a request
 
@@ -71,25 +71,25 @@ module _ (words : List (List ℕ)) where
         All-head HasBytes value [] (All-tail HasBytes name (value ∷ []) behind),
         same,
       )
-  asks_set (Enable name) some e = absurd (omega (arith, ap letter e))
-  asks_set (Get name) some e = absurd (omega (arith, ap letter e))
-  asks_set Toml some e = absurd (omega (arith, ap letter e))
+  asks_set (Enable name) some e = absurd (omega (arith, ap first_letter e))
+  asks_set (Get name) some e = absurd (omega (arith, ap first_letter e))
+  asks_set Toml some e = absurd (omega (arith, ap first_letter e))
 
   pub asks_enable : (r : Request) → All HasBytes (request_words r) → codes "enable" ∷ words ≡ request_words r
       → (name : List ℕ) × HasBytes name × (words ≡ name ∷ [])
   asks_enable (Enable name) some e =
       let same : words ≡ name ∷ [] = cc in (name, All-head HasBytes name [] (All-tail HasBytes (codes "enable") (name ∷ []) some), same)
-  asks_enable (Set name value) some e = absurd (omega (arith, ap letter e))
-  asks_enable (Get name) some e = absurd (omega (arith, ap letter e))
-  asks_enable Toml some e = absurd (omega (arith, ap letter e))
+  asks_enable (Set name value) some e = absurd (omega (arith, ap first_letter e))
+  asks_enable (Get name) some e = absurd (omega (arith, ap first_letter e))
+  asks_enable Toml some e = absurd (omega (arith, ap first_letter e))
 
   pub asks_get : (r : Request) → All HasBytes (request_words r) → codes "get" ∷ words ≡ request_words r
       → (name : List ℕ) × HasBytes name × (words ≡ name ∷ [])
   asks_get (Get name) some e =
       let same : words ≡ name ∷ [] = cc in (name, All-head HasBytes name [] (All-tail HasBytes (codes "get") (name ∷ []) some), same)
-  asks_get (Set name value) some e = absurd (omega (arith, ap letter e))
-  asks_get (Enable name) some e = absurd (omega (arith, ap letter e))
-  asks_get Toml some e = absurd (omega (arith, ap letter e))
+  asks_get (Set name value) some e = absurd (omega (arith, ap first_letter e))
+  asks_get (Enable name) some e = absurd (omega (arith, ap first_letter e))
+  asks_get Toml some e = absurd (omega (arith, ap first_letter e))
 
 -- no request is another with more words
 no_longer : (q r : Request) (word : List ℕ) (rest : List (List ℕ)) → request_words q ++ word ∷ rest ≡ request_words r → ⊥
@@ -97,17 +97,17 @@ no_longer (Set n v) (Set m w) word rest e = absurd (omega (arith, ap length e))
 no_longer (Set n v) (Enable m) word rest e = absurd (omega (arith, ap length e))
 no_longer (Set n v) (Get m) word rest e = absurd (omega (arith, ap length e))
 no_longer (Set n v) Toml word rest e = absurd (omega (arith, ap length e))
-no_longer (Enable n) (Set m w) word rest e = absurd (omega (arith, ap letter e))
+no_longer (Enable n) (Set m w) word rest e = absurd (omega (arith, ap first_letter e))
 no_longer (Enable n) (Enable m) word rest e = absurd (omega (arith, ap length e))
 no_longer (Enable n) (Get m) word rest e = absurd (omega (arith, ap length e))
 no_longer (Enable n) Toml word rest e = absurd (omega (arith, ap length e))
-no_longer (Get n) (Set m w) word rest e = absurd (omega (arith, ap letter e))
+no_longer (Get n) (Set m w) word rest e = absurd (omega (arith, ap first_letter e))
 no_longer (Get n) (Enable m) word rest e = absurd (omega (arith, ap length e))
 no_longer (Get n) (Get m) word rest e = absurd (omega (arith, ap length e))
 no_longer (Get n) Toml word rest e = absurd (omega (arith, ap length e))
-no_longer Toml (Set m w) word rest e = absurd (omega (arith, ap letter e))
-no_longer Toml (Enable m) word rest e = absurd (omega (arith, ap letter e))
-no_longer Toml (Get m) word rest e = absurd (omega (arith, ap letter e))
+no_longer Toml (Set m w) word rest e = absurd (omega (arith, ap first_letter e))
+no_longer Toml (Enable m) word rest e = absurd (omega (arith, ap first_letter e))
+no_longer Toml (Get m) word rest e = absurd (omega (arith, ap first_letter e))
 no_longer Toml Toml word rest e = absurd (omega (arith, ap length e))
 
 -- requests of the same words are one
@@ -118,10 +118,10 @@ same_request (Set n v) (Get m) e = absurd (omega (arith, ap length e))
 same_request (Set n v) Toml e = absurd (omega (arith, ap length e))
 same_request (Enable n) (Set m w) e = absurd (omega (arith, ap length e))
 same_request (Enable n) (Enable m) e = let name : n ≡ m = cc in ap Enable name
-same_request (Enable n) (Get m) e = absurd (omega (arith, ap letter e))
+same_request (Enable n) (Get m) e = absurd (omega (arith, ap first_letter e))
 same_request (Enable n) Toml e = absurd (omega (arith, ap length e))
 same_request (Get n) (Set m w) e = absurd (omega (arith, ap length e))
-same_request (Get n) (Enable m) e = absurd (omega (arith, ap letter e))
+same_request (Get n) (Enable m) e = absurd (omega (arith, ap first_letter e))
 same_request (Get n) (Get m) e = let name : n ≡ m = cc in ap Get name
 same_request (Get n) Toml e = absurd (omega (arith, ap length e))
 same_request Toml (Set m w) e = absurd (omega (arith, ap length e))

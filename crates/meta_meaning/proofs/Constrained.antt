@@ -16,13 +16,13 @@ use Rattle.meta_meaning.proofs.Fixedness.{fixed_or_nowhere}
 use Rattle.meta_meaning.proofs.ControlFamily.{under_or_not, ruling_of, accepts_from_admits, admits_from_accepts}
 
 -- the operand has a constraint
-abbrev HasConstraint : Sets → (Which → Option Variable) → Variable → Type 0
-HasConstraint sets controls w = (x : TypeConstraint) × IsConstraint sets controls w x
+abbrev HasSomeConstraint : Sets → (Which → Option Variable) → Variable → Type 0
+HasSomeConstraint sets controls w = (x : TypeConstraint) × IsConstraint sets controls w x
 
 module _ (sets : Sets) (w : Variable) (controls : Which → Option Variable) (under : (a : Which) (v : Variable) → controls a ≡ Some v
     → v.chain ≡ []) (open_ : IsOpen sets w) (good : IsBadlyDerived sets controls w → ⊥) where
   -- an open underived operand is a control or takes any type of its root's set
-  underived : w.chain ≡ [] → IsControlled controls w ⊎ (IsControlled controls w → ⊥) → HasConstraint sets controls w
+  underived : w.chain ≡ [] → IsControlled controls w ⊎ (IsControlled controls w → ⊥) → HasSomeConstraint sets controls w
   underived d (inl (a, p)) = (
     SameType a,
     record {
@@ -44,7 +44,7 @@ module _ (sets : Sets) (w : Variable) (controls : Which → Option Variable) (un
 
   -- a derived operand is one step from a control, or badly derived
   derived : (f : Function) (fs : List Function) → w.chain ≡ f ∷ fs → IsControlled controls w ⊎ (IsControlled controls w → ⊥)
-      → HasConstraint sets controls w
+      → HasSomeConstraint sets controls w
   derived f [] d (inl (a, p)) = (
     ByType a f,
     record {
@@ -72,7 +72,7 @@ module _ (sets : Sets) (w : Variable) (controls : Which → Option Variable) (un
       }))
 
   -- an open operand, by its chain
-  by_chain : (fs : List Function) → w.chain ≡ fs → HasConstraint sets controls w
+  by_chain : (fs : List Function) → w.chain ≡ fs → HasSomeConstraint sets controls w
   by_chain [] d = underived d (under_or_not controls w)
   by_chain (f ∷ fs) d = derived f fs d (under_or_not controls w)
 
@@ -83,7 +83,7 @@ pub has_constraint : (sets : Sets) (i : Instruction) (control : Option Variable)
 has_constraint sets i control h second good k w at = by_case (fixed_or_nowhere (sets w.root) w.chain)
   where
     -- one type is fixed for it, or none
-    by_case : ((t : TypeParts) × IsFixed (sets w.root) w.chain t) ⊎ IsOpen sets w → HasConstraint sets (controls_of i control) w
+    by_case : ((t : TypeParts) × IsFixed (sets w.root) w.chain t) ⊎ IsOpen sets w → HasSomeConstraint sets (controls_of i control) w
     by_case (inl (t, fixed)) = (ConcreteType t, fixed)
     by_case (inr open_) = by_chain sets w (controls_of i control) (ruling_of sets i control h second).underived open_
         (λ bad. good k (record { variable = w; operand = at; bad = bad })) w.chain refl

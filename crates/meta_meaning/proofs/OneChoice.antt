@@ -16,7 +16,7 @@ use Rattle.meta_meaning.specs.Constraint.{TypeConstraint, ConcreteType, FreeType
 use Rattle.meta_meaning.specs.Constraint.{ControlFits}
 use Rattle.meta_meaning.proofs.Family.{Ruling, AllFit, IsChoice}
 use Rattle.meta_meaning.proofs.Candidates.{Candidate, RootReason, has_candidate, same_candidate, underived_agrees, step_agrees}
-use Rattle.meta_meaning.proofs.Choice.{Asked, choose, chosen}
+use Rattle.meta_meaning.proofs.Choice.{AskedTypes, choose, chosen}
 
 module _ (sets : Sets) (i : Instruction) (controls : Which → Option Variable) (ruling : Ruling sets i controls) (c : Which
     → Option TypeParts) (ts : List TypeParts) where
@@ -30,7 +30,7 @@ module _ (sets : Sets) (i : Instruction) (controls : Which → Option Variable) 
   at_place fits pass k w t at_k t_at = has_candidate sets i controls ruling c k w t fits at_k (pass k w t at_k t_at)
 
   -- the candidates of all places
-  asked : AllFit sets controls c → AllPass → Asked (operands i) ts
+  asked : AllFit sets controls c → AllPass → AskedTypes (operands i) ts
   asked fits pass k w t at_k t_at = (at_place fits pass k w t at_k t_at).type_of
 
   -- the choice that the candidates make

@@ -12,26 +12,26 @@ use Rattle.meta_query.specs.declared.command.Command.TheVariants.{Query, Recheck
 -- ---- the name of a command tells it, but for its number
 
 -- the number of a command, where it has one
-abbrev number_of : Command → ℕ
-number_of Query = 0
-number_of Recheck = 0
-number_of Tables = 0
-number_of Types = 0
-number_of Settings = 0
-number_of Instructions = 0
-number_of Builder = 0
-number_of (Synth n) = n
+abbrev command_number : Command → ℕ
+command_number Query = 0
+command_number Recheck = 0
+command_number Tables = 0
+command_number Types = 0
+command_number Settings = 0
+command_number Instructions = 0
+command_number Builder = 0
+command_number (Synth n) = n
 
 -- all commands, that with a number with this one
 abbrev commands : ℕ → List Command
 commands n = Query ∷ Recheck ∷ Tables ∷ Types ∷ Settings ∷ Instructions ∷ Builder ∷ Synth n ∷ []
 
 -- the first of them that has the name
-abbrev command_named : List ℕ → ℕ → Option Command
-command_named name n = find (λ c. pointwise nat_eq (command_name c) name) (commands n)
+abbrev numbered_command : List ℕ → ℕ → Option Command
+numbered_command name n = find (λ c. pointwise nat_eq (command_name c) name) (commands n)
 
 -- by its own name and number each is found
-finds : (c : Command) → command_named (command_name c) (number_of c) ≡ Some c
+finds : (c : Command) → numbered_command (command_name c) (command_number c) ≡ Some c
 finds Query = refl
 finds Recheck = refl
 finds Tables = refl
@@ -48,10 +48,10 @@ same_number : (m n : ℕ) → m < 2 ^ 32 → n < 2 ^ 32 → decimal m ≡ decima
 same_number m n few less e = decimal_injective m n (omega arith) (omega arith) e
 
 -- the words are no number, and this is 0, or they are this number
-abbrev IsBehind : List (List ℕ) → ℕ → Type 0
-IsBehind words n = ((words ≡ []) × (n ≡ 0)) ⊎ ((words ≡ decimal n ∷ []) × (n < 2 ^ 32))
+abbrev StandsBehind : List (List ℕ) → ℕ → Type 0
+StandsBehind words n = ((words ≡ []) × (n ≡ 0)) ⊎ ((words ≡ decimal n ∷ []) × (n < 2 ^ 32))
 
-behind_of : (c : Command) → HasNumber c → IsBehind (number_words c) (number_of c)
+behind_of : (c : Command) → HasNumber c → StandsBehind (number_words c) (command_number c)
 behind_of Query h = inl (refl, refl)
 behind_of Recheck h = inl (refl, refl)
 behind_of Tables h = inl (refl, refl)
@@ -61,7 +61,7 @@ behind_of Instructions h = inl (refl, refl)
 behind_of Builder h = inl (refl, refl)
 behind_of (Synth n) h = inr (refl, h)
 
-one_behind : (words others : List (List ℕ)) (m n : ℕ) → words ≡ others → IsBehind words m → IsBehind others n → m ≡ n
+one_behind : (words others : List (List ℕ)) (m n : ℕ) → words ≡ others → StandsBehind words m → StandsBehind others n → m ≡ n
 one_behind words others m n e (inl (none, m_is)) (inl (no_other, n_is)) = m_is ∙ sym n_is
 one_behind words others m n e (inl (none, m_is)) (inr (some, few)) = absurd (cc)
 one_behind words others m n e (inr (some, few)) (inl (none, n_is)) = absurd (cc)
@@ -76,7 +76,8 @@ same_command c d words h g =
     let same : command_words c ≡ command_words d = sym h.are ∙ g.are in
     let name : command_name c ≡ command_name d = cc in
     let behind : number_words c ≡ number_words d = cc in
-    let number : number_of c ≡ number_of d =
-    one_behind (number_words c) (number_words d) (number_of c) (number_of d) behind (behind_of c h.number) (behind_of d g.number) in
-    let found : Some c ≡ Some d = sym (finds c) ∙ ap₂ command_named name number ∙ finds d in
+    let number : command_number c ≡ command_number d =
+    one_behind (number_words c) (number_words d) (command_number c) (command_number d) behind (behind_of c h.number) (behind_of d g.number)
+    in
+    let found : Some c ≡ Some d = sym (finds c) ∙ ap₂ numbered_command name number ∙ finds d in
     cc

@@ -30,7 +30,7 @@ enum_early g built sized small k s values at is = (
 )
 
 -- what the descriptors say, those of the settings and those of the presets
-pub record AreDescribed (g : Layout) (enumerators : List (List ℕ)) (settings presets : List Descriptor) : Type 0 where
+pub record HaveDescriptors (g : Layout) (enumerators : List (List ℕ)) (settings presets : List Descriptor) : Type 0 where
   pub names : names_in settings ≡ map (λ (s : PlacedSetting). s.name) g.settings
   pub described : (k : ℕ) (s : PlacedSetting) (d : Descriptor) → slice_get g.settings k ≡ Some s
       → slice_get settings k ≡ Some d → DescribesSetting enumerators (take k g.settings) s d
@@ -47,7 +47,7 @@ pub described_as : (g : Layout) (enumerators : List (List ℕ)) (settings preset
     → DescribesSetting enumerators (take k own) s d)
     → names_in presets ≡ map (λ (p : BuiltPreset). p.name) own_presets
     → ((k : ℕ) (p : BuiltPreset) → slice_get own_presets k ≡ Some p
-    → slice_get presets k ≡ Some (preset_descriptor size k p)) → AreDescribed g enumerators settings presets
+    → slice_get presets k ≡ Some (preset_descriptor size k p)) → HaveDescriptors g enumerators settings presets
 described_as g enumerators settings presets own own_presets size e f s names described preset_names preset_described = record {
   names = names ∙ ap (map (λ (s : PlacedSetting). s.name)) e;
   described = λ k s d at there. subst (λ (w : List PlacedSetting). DescribesSetting enumerators (take k w) s d) e
@@ -58,7 +58,7 @@ described_as g enumerators settings presets own own_presets size e f s names des
 }
 
 module _ (g : Layout) (enumerators : List (List ℕ)) (settings presets ds : List Descriptor)
-    (h : AreDescribed g enumerators settings presets) (joined : ds ≡ settings ++ presets) where
+    (h : HaveDescriptors g enumerators settings presets) (joined : ds ≡ settings ++ presets) where
   setting_count : length settings ≡ length g.settings
   setting_count = sym (length-map settings (λ (d : Descriptor). d.name)) ∙ ap length h.names
       ∙ length-map g.settings (λ (s : PlacedSetting). s.name)

@@ -44,12 +44,12 @@ no_same : (f : Function) → camel_function_name f ≡ codes "Same" → ⊥
 no_same f e = false≢true (sym (not_same f) ∙ (bytes_decides (camel_function_name f) (codes "Same")).1 e)
 
 -- what the parts of a word are, however it has parts
-abbrev pub HasParts : List ℕ → List ℕ → Which → Type 0
-HasParts word name a = (b : Which) (x : List ℕ) → ends_marked x ≡ false → word ≡ x ++ control_mark b → (name ≡ x) × (a ≡ b)
+abbrev pub HasWordParts : List ℕ → List ℕ → Which → Type 0
+HasWordParts word name a = (b : Which) (x : List ℕ) → ends_marked x ≡ false → word ≡ x ++ control_mark b → (name ≡ x) × (a ≡ b)
 
 -- the constraint that has the word, where its name is that of a function
 pub named_by : (n : NumberConstraint) (word name : List ℕ) (a : Which) (f : Function) → IsOfControl n
-    → word ≡ constraint_text n → HasParts word name a → camel_function_name f ≡ name → ByNumber a f ≡ n
+    → word ≡ constraint_text n → HasWordParts word name a → camel_function_name f ≡ name → ByNumber a f ≡ n
 named_by (ConcreteNumber m) word name a f is e parts named = absurd is
 named_by (FreeOf j) word name a f is e parts named = absurd is
 named_by (SameNumber b) word name a f is e parts named =
@@ -60,7 +60,7 @@ named_by (ByNumber b g) word name a f is e parts named =
 
 -- and where it is that of none
 pub named_same : (n : NumberConstraint) (word name : List ℕ) (a : Which) → IsOfControl n → word ≡ constraint_text n
-    → HasParts word name a → ((f : Function) → camel_function_name f ≢ name) → SameNumber a ≡ n
+    → HasWordParts word name a → ((f : Function) → camel_function_name f ≢ name) → SameNumber a ≡ n
 named_same (ConcreteNumber m) word name a is e parts none = absurd is
 named_same (FreeOf j) word name a is e parts none = absurd is
 named_same (SameNumber b) word name a is e parts none = let (same, control) = parts b (codes "Same") refl e in ap SameNumber control

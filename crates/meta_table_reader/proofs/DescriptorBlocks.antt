@@ -9,7 +9,7 @@ use Rattle.meta_table_text.specs.GroupItems.{enumerator_text, detail_text, descr
 use Rattle.meta_cursor.proofs.Cancel.{cancel_front, cancel_item, cancel_number}
 use Rattle.meta_table_reader.specs.ShownGroup.{IsShownEnum, IsShownDetail, IsShownDescriptor}
 use Rattle.meta_table_reader.proofs.NameBytes.{name_lacks_quote, plain_lacks_quote}
-use Rattle.meta_table_reader.proofs.Details.{letter, letter_is, is_bool, is_enum, is_num, is_preset}
+use Rattle.meta_table_reader.proofs.Details.{first_letter, letter_is, is_bool, is_enum, is_num, is_preset}
 
 -- ---- enumerators
 
@@ -84,7 +84,7 @@ detail_told ANum d r s one other e =
     let is = is_num d s (sym (ap (λ t. slice_index t 34) e) ∙ letter_is ANum r) in
     (sym is, cancel_front (before_detail ++ detail_text ANum) r s (e ∙ ap (λ d. before_detail ++ (detail_text d ++ s)) is))
 detail_told Preset d r s one other e =
-    let here : letter d s ≡ 80 = sym (ap (λ t. slice_index t 34) e) ∙ letter_is Preset r in
+    let here : first_letter d s ≡ 80 = sym (ap (λ t. slice_index t 34) e) ∙ letter_is Preset r in
     let is = is_preset d s (λ x. omega (arith, here, x)) (λ x. omega (arith, here, x)) (λ x. omega (arith, here, x)) in
     (sym is, cancel_front (before_detail ++ detail_text Preset) r s (e ∙ ap (λ d. before_detail ++ (detail_text d ++ s)) is))
 

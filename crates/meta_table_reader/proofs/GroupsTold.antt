@@ -27,7 +27,7 @@ use Rattle.meta_table_reader.proofs.EntryBlocks.{glyph_told, hex_told}
 use Rattle.meta_table_reader.proofs.DescriptorBlocks.{enumerator_told, descriptor_told}
 use Rattle.meta_table_reader.proofs.GroupLines.{slots_are_lines, comment_is_line, preset_parts}
 use Rattle.meta_table_reader.proofs.Presets.{size_cases}
-use Rattle.meta_table_reader.proofs.ShownBytes.{behind_comma, without_comma, bytes_lack}
+use Rattle.meta_table_reader.proofs.ShownBytes.{comma_behind, without_comma, bytes_lack}
 use Rattle.meta_table_reader.proofs.TemplateLines.{template_lines, template_lines_are, before_defaults, behind_defaults, template_opened}
 
 -- ---- lists of names, of entries and of slots
@@ -152,7 +152,7 @@ bytes_told [] [] one other e = refl
 bytes_told [] (c ∷ cs) one other e = absurd (cc)
 bytes_told (b ∷ bs) [] one other e = absurd (cc)
 bytes_told (b ∷ bs) (c ∷ cs) one other e =
-    let (here, left) = hex_told b c (behind_comma bs) (behind_comma cs) (all_first IsByte b bs one) (all_first IsByte c cs other)
+    let (here, left) = hex_told b c (comma_behind bs) (comma_behind cs) (all_first IsByte b bs one) (all_first IsByte c cs other)
     (cancel_front (codes "0x") _ _ e) in
     let more = bytes_told bs cs (all_behind IsByte b bs one) (all_behind IsByte c cs other) (sym (without_comma bs) ∙ ap (drop 2) left
     ∙ without_comma cs) in

@@ -29,102 +29,104 @@ at_mask all p e mask h =
     ap (p (filter (holds mask) all)) h ∙ t
 
 -- the mask n stands for the numbers ys, of those that are allowed
-pub record StandsFor (all : List ℕ) (n : ℕ) (ys : List ℕ) : Type 0 where
+pub record MasksNumbers (all : List ℕ) (n : ℕ) (ys : List ℕ) : Type 0 where
   pub set : filter (holds n) all ≡ ys
   pub mask : n ≡ sum (filter (holds n) all)
 
-abbrev pub stands_for : List ℕ → ℕ → List ℕ → Bool
-stands_for all n ys = pointwise eqb (filter (holds n) all) ys && (n == sum (filter (holds n) all))
+abbrev pub masks_numbers : List ℕ → ℕ → List ℕ → Bool
+masks_numbers all n ys = pointwise eqb (filter (holds n) all) ys && (n == sum (filter (holds n) all))
 
-pub stands : (all : List ℕ) (n : ℕ) (ys : List ℕ) → stands_for all n ys ≡ true → StandsFor all n ys
+pub stands : (all : List ℕ) (n : ℕ) (ys : List ℕ) → masks_numbers all n ys ≡ true → MasksNumbers all n ys
 stands all n ys e =
     let b = and_parts _ _ e in
     record { set = (bytes_decides _ _).0 b.0; mask = eqb-true _ _ b.1 }
 
 -- half and twice the widths
-half_ints : at_marks 5 (λ ms. stands_for (widths IntKind) (bit_and (sum (marked ms (widths IntKind)) / 2 ^ 1) 248)
+half_ints : at_marks 5 (λ ms. masks_numbers (widths IntKind) (bit_and (sum (marked ms (widths IntKind)) / 2 ^ 1) 248)
     (halves 8 (marked ms (widths IntKind)))) ≡ true
 half_ints = refl
 
-half_floats : at_marks 4 (λ ms. stands_for (widths FloatKind) (bit_and (sum (marked ms (widths FloatKind)) / 2 ^ 1) 240)
+half_floats : at_marks 4 (λ ms. masks_numbers (widths FloatKind) (bit_and (sum (marked ms (widths FloatKind)) / 2 ^ 1) 240)
     (halves 16 (marked ms (widths FloatKind)))) ≡ true
 half_floats = refl
 
-double_ints : at_marks 5 (λ ms. stands_for (widths IntKind) (sum (marked ms (widths IntKind)) * 2 ^ 1 % 256)
+double_ints : at_marks 5 (λ ms. masks_numbers (widths IntKind) (sum (marked ms (widths IntKind)) * 2 ^ 1 % 256)
     (doubles 128 (marked ms (widths IntKind)))) ≡ true
 double_ints = refl
 
-double_floats : at_marks 4 (λ ms. stands_for (widths FloatKind) (sum (marked ms (widths FloatKind)) * 2 ^ 1 % 256)
+double_floats : at_marks 4 (λ ms. masks_numbers (widths FloatKind) (sum (marked ms (widths FloatKind)) * 2 ^ 1 % 256)
     (doubles 128 (marked ms (widths FloatKind)))) ≡ true
 double_floats = refl
 
 -- half and twice the lanes
-half_lanes : at_marks 9 (λ ms. stands_for (lane_counts false) (sum (marked ms (lane_counts false)) / 2 ^ 1)
+half_lanes : at_marks 9 (λ ms. masks_numbers (lane_counts false) (sum (marked ms (lane_counts false)) / 2 ^ 1)
     (halves 1 (marked ms (lane_counts false)))) ≡ true
 half_lanes = refl
 
-double_lanes : at_marks 9 (λ ms. stands_for (lane_counts false) (bit_and (sum (marked ms (lane_counts false)) * 2 ^ 1 % 65536) 511)
+double_lanes : at_marks 9 (λ ms. masks_numbers (lane_counts false) (bit_and (sum (marked ms (lane_counts false)) * 2 ^ 1 % 65536) 511)
     (doubles 256 (marked ms (lane_counts false)))) ≡ true
 double_lanes = refl
 
 -- the dynamic lanes below 256 as lanes
-fixed_form : at_marks 8 (λ ms. stands_for (lane_counts false) (bit_and (sum (marked ms (lane_counts true))) 255)
+fixed_form : at_marks 8 (λ ms. masks_numbers (lane_counts false) (bit_and (sum (marked ms (lane_counts true))) 255)
     (filter (λ n. nat_lt n 256) (marked ms (lane_counts true)))) ≡ true
 fixed_form = refl
 
 -- the int and the float widths together
-both_widths : at_marks 5 (λ ms. at_marks 4 (λ ns. stands_for (widths IntKind)
+both_widths : at_marks 5 (λ ms. at_marks 4 (λ ns. masks_numbers (widths IntKind)
     (bit_or (sum (marked ms (widths IntKind))) (sum (marked ns (widths FloatKind))))
     (filter (λ w. is_among (marked ms (widths IntKind)) w || is_among (marked ns (widths FloatKind)) w) (widths IntKind)))) ≡ true
 both_widths = refl
 
 pub halved_ints : (mask : ℕ) → mask ≡ sum (filter (holds mask) (widths IntKind))
-    → StandsFor (widths IntKind) (bit_and (mask / 2 ^ 1) 248) (halves 8 (filter (holds mask) (widths IntKind)))
+    → MasksNumbers (widths IntKind) (bit_and (mask / 2 ^ 1) 248) (halves 8 (filter (holds mask) (widths IntKind)))
 halved_ints mask h =
-    stands _ _ _ (at_mask (widths IntKind) (λ xs n. stands_for (widths IntKind) (bit_and (n / 2 ^ 1) 248) (halves 8 xs)) half_ints mask h)
+    stands _ _ _ (at_mask (widths IntKind) (λ xs n. masks_numbers (widths IntKind) (bit_and (n / 2 ^ 1) 248) (halves 8 xs)) half_ints mask
+    h)
 
 pub halved_floats : (mask : ℕ) → mask ≡ sum (filter (holds mask) (widths FloatKind))
-    → StandsFor (widths FloatKind) (bit_and (mask / 2 ^ 1) 240) (halves 16 (filter (holds mask) (widths FloatKind)))
+    → MasksNumbers (widths FloatKind) (bit_and (mask / 2 ^ 1) 240) (halves 16 (filter (holds mask) (widths FloatKind)))
 halved_floats mask h = stands _ _ _
-    (at_mask (widths FloatKind) (λ xs n. stands_for (widths FloatKind) (bit_and (n / 2 ^ 1) 240) (halves 16 xs)) half_floats mask h)
+    (at_mask (widths FloatKind) (λ xs n. masks_numbers (widths FloatKind) (bit_and (n / 2 ^ 1) 240) (halves 16 xs)) half_floats mask h)
 
 pub doubled_ints : (mask : ℕ) → mask ≡ sum (filter (holds mask) (widths IntKind))
-    → StandsFor (widths IntKind) (mask * 2 ^ 1 % 256) (doubles 128 (filter (holds mask) (widths IntKind)))
+    → MasksNumbers (widths IntKind) (mask * 2 ^ 1 % 256) (doubles 128 (filter (holds mask) (widths IntKind)))
 doubled_ints mask h =
-    stands _ _ _ (at_mask (widths IntKind) (λ xs n. stands_for (widths IntKind) (n * 2 ^ 1 % 256) (doubles 128 xs)) double_ints mask h)
+    stands _ _ _ (at_mask (widths IntKind) (λ xs n. masks_numbers (widths IntKind) (n * 2 ^ 1 % 256) (doubles 128 xs)) double_ints mask h)
 
 pub doubled_floats : (mask : ℕ) → mask ≡ sum (filter (holds mask) (widths FloatKind))
-    → StandsFor (widths FloatKind) (mask * 2 ^ 1 % 256) (doubles 128 (filter (holds mask) (widths FloatKind)))
+    → MasksNumbers (widths FloatKind) (mask * 2 ^ 1 % 256) (doubles 128 (filter (holds mask) (widths FloatKind)))
 doubled_floats mask h = stands _ _ _
-    (at_mask (widths FloatKind) (λ xs n. stands_for (widths FloatKind) (n * 2 ^ 1 % 256) (doubles 128 xs)) double_floats mask h)
+    (at_mask (widths FloatKind) (λ xs n. masks_numbers (widths FloatKind) (n * 2 ^ 1 % 256) (doubles 128 xs)) double_floats mask h)
 
 pub halved_lanes : (mask : ℕ) → mask ≡ sum (filter (holds mask) (lane_counts false))
-    → StandsFor (lane_counts false) (mask / 2 ^ 1) (halves 1 (filter (holds mask) (lane_counts false)))
+    → MasksNumbers (lane_counts false) (mask / 2 ^ 1) (halves 1 (filter (holds mask) (lane_counts false)))
 halved_lanes mask h =
-    stands _ _ _ (at_mask (lane_counts false) (λ xs n. stands_for (lane_counts false) (n / 2 ^ 1) (halves 1 xs)) half_lanes mask h)
+    stands _ _ _ (at_mask (lane_counts false) (λ xs n. masks_numbers (lane_counts false) (n / 2 ^ 1) (halves 1 xs)) half_lanes mask h)
 
 pub doubled_lanes : (mask : ℕ) → mask ≡ sum (filter (holds mask) (lane_counts false))
-    → StandsFor (lane_counts false) (bit_and (mask * 2 ^ 1 % 65536) 511) (doubles 256 (filter (holds mask) (lane_counts false)))
+    → MasksNumbers (lane_counts false) (bit_and (mask * 2 ^ 1 % 65536) 511) (doubles 256 (filter (holds mask) (lane_counts false)))
 doubled_lanes mask h = stands _ _ _ (at_mask (lane_counts false)
-    (λ xs n. stands_for (lane_counts false) (bit_and (n * 2 ^ 1 % 65536) 511) (doubles 256 xs)) double_lanes mask h)
+    (λ xs n. masks_numbers (lane_counts false) (bit_and (n * 2 ^ 1 % 65536) 511) (doubles 256 xs)) double_lanes mask h)
 
 pub fixed_lanes : (mask : ℕ) → mask ≡ sum (filter (holds mask) (lane_counts true))
-    → StandsFor (lane_counts false) (bit_and mask 255) (filter (λ n. nat_lt n 256) (filter (holds mask) (lane_counts true)))
+    → MasksNumbers (lane_counts false) (bit_and mask 255) (filter (λ n. nat_lt n 256) (filter (holds mask) (lane_counts true)))
 fixed_lanes mask h = stands _ _ _
-    (at_mask (lane_counts true) (λ xs n. stands_for (lane_counts false) (bit_and n 255) (filter (λ n. nat_lt n 256) xs)) fixed_form mask h)
+    (at_mask (lane_counts true) (λ xs n. masks_numbers (lane_counts false) (bit_and n 255) (filter (λ n. nat_lt n 256) xs)) fixed_form mask
+    h)
 
 pub all_widths : (ints floats : ℕ) → ints ≡ sum (filter (holds ints) (widths IntKind))
     → floats ≡ sum (filter (holds floats) (widths FloatKind))
-    → StandsFor (widths IntKind) (bit_or ints floats)
+    → MasksNumbers (widths IntKind) (bit_or ints floats)
     (filter (λ w. is_among (filter (holds ints) (widths IntKind)) w || is_among (filter (holds floats) (widths FloatKind)) w)
     (widths IntKind))
 all_widths ints floats h l =
-    let at_ints : at_marks 4 (λ ns. stands_for (widths IntKind) (bit_or ints (sum (marked ns (widths FloatKind))))
+    let at_ints : at_marks 4 (λ ns. masks_numbers (widths IntKind) (bit_or ints (sum (marked ns (widths FloatKind))))
     (filter (λ w. is_among (filter (holds ints) (widths IntKind)) w || is_among (marked ns (widths FloatKind)) w) (widths IntKind)))
     ≡ true =
-    at_mask (widths IntKind) (λ xs n. at_marks 4 (λ ns. stands_for (widths IntKind) (bit_or n (sum (marked ns (widths FloatKind))))
+    at_mask (widths IntKind) (λ xs n. at_marks 4 (λ ns. masks_numbers (widths IntKind) (bit_or n (sum (marked ns (widths FloatKind))))
     (filter (λ w. is_among xs w || is_among (marked ns (widths FloatKind)) w) (widths IntKind)))) both_widths ints h in
-    stands _ _ _ (at_mask (widths FloatKind) (λ ys n. stands_for (widths IntKind) (bit_or ints n)
+    stands _ _ _ (at_mask (widths FloatKind) (λ ys n. masks_numbers (widths IntKind) (bit_or ints n)
     (filter (λ w. is_among (filter (holds ints) (widths IntKind)) w || is_among ys w) (widths IntKind))) at_ints floats l)
 
 pub apart : (a b : ℕ) → (a ≡ b → ⊥) → (a == b) ≡ false
@@ -222,7 +224,7 @@ double_image m h =
     }
 
 -- with other lanes
-split : (m n : Masks) (lanes : ℕ) → IsMaskImage HalfWidth m n → StandsFor (lane_counts false) lanes (doubles 256 (sets_in m).lanes)
+split : (m n : Masks) (lanes : ℕ) → IsMaskImage HalfWidth m n → MasksNumbers (lane_counts false) lanes (doubles 256 (sets_in m).lanes)
     → IsMaskImage SplitLanes m (masks_of lanes n.dynamic_lanes n.ints n.floats)
 split m n lanes h s = record {
   sets = λ i. record { lanes = s.set i; dynamic_lanes = (h.sets i).dynamic_lanes; ints = (h.sets i).ints; floats = (h.sets i).floats };
@@ -250,7 +252,7 @@ fixed_image m h =
       masks = record { lanes = s.mask; dynamic_lanes = refl; ints = h.ints; floats = h.floats };
     }
 
-pub truthy_image : (m : Masks) (ints : ℕ) → AreMasks m → StandsFor (widths IntKind) ints (truthy_ints (sets_in m))
+pub truthy_image : (m : Masks) (ints : ℕ) → AreMasks m → MasksNumbers (widths IntKind) ints (truthy_ints (sets_in m))
     → IsMaskImage AsTruthy m (masks_of m.lanes m.dynamic_lanes ints 0)
 truthy_image m ints h s = record {
   sets = λ i. record { lanes = (sets_in m).lanes; dynamic_lanes = (sets_in m).dynamic_lanes; ints = s.set i; floats = [] };
@@ -258,7 +260,7 @@ truthy_image m ints h s = record {
 }
 
 pub vector_ints : (m : Masks) → AreMasks m → (m.lanes == 1) ≡ false
-    → StandsFor (widths IntKind) (bit_or m.ints m.floats) (truthy_ints (sets_in m))
+    → MasksNumbers (widths IntKind) (bit_or m.ints m.floats) (truthy_ints (sets_in m))
 vector_ints m h e =
     let t : is_one_lane (sets_in m).lanes ≡ false = sym (scalars_told m.lanes h.lanes) ∙ e in
     let s = all_widths m.ints m.floats h.ints h.floats in

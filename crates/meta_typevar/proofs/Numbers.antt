@@ -36,8 +36,8 @@ at_lane : (p : Bool → ℕ → Bool) → at_lanes p ≡ true → (b : Bool) (n 
 at_lane p e b n h = all_in_at (lane_counts b) (p b) (at_bool (λ b. all_in (lane_counts b) (p b)) e b) n (among _ _ h)
 
 -- the row of a lane count
-abbrev row_of : Bool → ℕ → ℕ
-row_of is_dynamic lanes = log2 lanes + (if is_dynamic then 8 else 0)
+abbrev lane_row : Bool → ℕ → ℕ
+lane_row is_dynamic lanes = log2 lanes + (if is_dynamic then 8 else 0)
 
 -- lanes of one code are the same, and so are lane counts of one row
 abbrev codes_tell : NumberKind → ℕ → NumberKind → ℕ → Bool
@@ -47,7 +47,7 @@ all_codes_tell : at_widths (λ k w. at_widths (λ l v. codes_tell k w l v)) ≡ 
 all_codes_tell = refl
 
 abbrev rows_tell : Bool → ℕ → Bool → ℕ → Bool
-rows_tell b m c n = not (row_of b m == row_of c n) || (same_mark b c && (m == n))
+rows_tell b m c n = not (lane_row b m == lane_row c n) || (same_mark b c && (m == n))
 
 all_rows_tell : at_lanes (λ b m. at_lanes (λ c n. rows_tell b m c n)) ≡ true
 all_rows_tell = refl
@@ -59,7 +59,7 @@ same_lane k w l v h i e =
     let r = and_parts _ _ (implies _ _ t (eq-eqb _ _ e)) in
     (same_kind_true k l r.0, eqb-true w v r.1)
 
-same_count : (b : Bool) (m : ℕ) (c : Bool) (n : ℕ) → Contains (lane_counts b) m → Contains (lane_counts c) n → row_of b m ≡ row_of c n
+same_count : (b : Bool) (m : ℕ) (c : Bool) (n : ℕ) → Contains (lane_counts b) m → Contains (lane_counts c) n → lane_row b m ≡ lane_row c n
     → (b ≡ c) × (m ≡ n)
 same_count b m c n h i e =
     let t = at_lane (λ c n. rows_tell b m c n) (at_lane (λ b m. at_lanes (λ c n. rows_tell b m c n)) all_rows_tell b m h) c n i in
@@ -76,7 +76,7 @@ lane_told m k w h = (
       subst (λ (v : ℕ). Holds (width_mask m k) v) s.1 at_kind,
 )
 
-lanes_told : (m : Masks) (b : Bool) (n : ℕ) → Contains (lane_counts b) n → (Holds (lane_mask m b) n ↔ HoldsLanes m (row_of b n))
+lanes_told : (m : Masks) (b : Bool) (n : ℕ) → Contains (lane_counts b) n → (Holds (lane_mask m b) n ↔ HoldsLanes m (lane_row b n))
 lanes_told m b n h = (
   λ held. record { is_dynamic = b; lanes = n; is_count = h; counted = refl; held = held },
   λ x.
@@ -93,7 +93,7 @@ abbrev is_lane_bit : NumberKind → ℕ → ℕ → Bool
 is_lane_bit k n code = is_in (widths k) (bit n) && (lane_code k (bit n) == code)
 
 abbrev is_count_bit : Bool → ℕ → ℕ → Bool
-is_count_bit b n row = is_in (lane_counts b) (bit n) && (row_of b (bit n) == row)
+is_count_bit b n row = is_in (lane_counts b) (bit n) && (lane_row b (bit n) == row)
 
 int_bits : all_in (from 5 4) (λ c. is_lane_bit IntKind (c - 1) c) ≡ true
 int_bits = refl

@@ -6,14 +6,14 @@ use Rattle.meta_types.proofs.AllTypes.{at_all_types}
 use Rattle.meta_typevar.specs.MaskSets.{sets_in, AreMasks}
 use Rattle.meta_typevar.specs.Derivation.{singleton_sets, vector_lanes, int_width_of, float_width_of}
 use Rattle.meta_typevar.specs.declared.masks.Masks.{Masks}
-use Rattle.meta_typevar.proofs.ImageLemmas.{stands_for, stands}
+use Rattle.meta_typevar.proofs.ImageLemmas.{masks_numbers, stands}
 use Rattle.meta_typevar.proofs.MaskLemmas.{masks_of}
 
 -- the masks of the type stand for its set
 abbrev stand_for : TypeParts → Bool
-stand_for t = stands_for (lane_counts false) t.lanes (t.lanes ∷ []) &&
-    (stands_for (lane_counts true) (sum (vector_lanes t.lanes)) (vector_lanes t.lanes) &&
-    (stands_for (widths IntKind) (sum (int_width_of t.kind t.width)) (int_width_of t.kind t.width) && stands_for (widths FloatKind)
+stand_for t = masks_numbers (lane_counts false) t.lanes (t.lanes ∷ []) &&
+    (masks_numbers (lane_counts true) (sum (vector_lanes t.lanes)) (vector_lanes t.lanes) &&
+    (masks_numbers (widths IntKind) (sum (int_width_of t.kind t.width)) (int_width_of t.kind t.width) && masks_numbers (widths FloatKind)
     (sum (float_width_of t.kind t.width)) (float_width_of t.kind t.width)))
 
 -- what masks stand for the set of the type t

@@ -5,11 +5,11 @@ use Rattle.std.proofs.lemmas.Iterator.Consumers.{YieldsList-from_rest}
 use Rattle.std.proofs.lemmas.Option.{slice_get-get_or, slice_get_within, slice_get_read}
 use Rattle.meta_lists.proofs.Results.{from_ok}
 use Rattle.meta_declared.specs.declared.formats.UsedFormat.{UsedFormat}
-use Rattle.meta_declared.proofs.ByName.{Entry, AreOfFirst, none_yet, one_more, by_names}
+use Rattle.meta_declared.proofs.ByName.{FormatEntry, AreOfFirst, none_yet, one_more, by_names}
 use Rattle.meta_declared.proofs.formats.by_name.Goals as goal
 
 pub loop-place-init : goal.loop-place-init
-loop-place-init c = subst (λ (es : List Entry). AreOfFirst c.args.formats.now c.args.used.now 0 es) (sym c.new-ids.ensures.empty)
+loop-place-init c = subst (λ (es : List FormatEntry). AreOfFirst c.args.formats.now c.args.used.now 0 es) (sym c.new-ids.ensures.empty)
     (none_yet c.args.formats.now c.args.used.now)
 
 pub get-requires : goal.get-requires
