@@ -6,7 +6,7 @@ use Rattle.std.specs.Cmp.Lexicographic.{bytes_decides}
 use Rattle.std.proofs.lemmas.Bool.{false≢true}
 use Rattle.meta_verify.specs.Defined.{definitions}
 use Rattle.meta_short.specs.Reading.{IsShortIn}
-use Rattle.meta_short.proofs.OneLine.{one_form_of_line}
+use Rattle.meta_short.proofs.OneLine.{one_form_in}
 use Rattle.meta_asm.proofs.ReaderLemmas.{right_line}
 use Rattle.meta_asm.proofs.reader.is_short_form.Goals as goal
 
@@ -23,7 +23,7 @@ returns-in-Some-clause-other c = λ e h.
     let short = subst (λ (o : Option (List ℕ)). IfSome o
     (λ t. IsShortIn c.args.tables.now.opcodes (definitions c.args.checker.now) c.args.line.now t)) c.in-Some.is
     c.in_ok-short.ensures.short in
-    let same = one_form_of_line c.args.tables.now.opcodes (definitions c.args.checker.now) c.args.line.now _ _ short h in
+    let same = one_form_in c.args.tables.now.opcodes (definitions c.args.checker.now) c.args.line.now _ _ short h in
     false≢true (sym e ∙ c.eq.ensures ∙ (bytes_decides c.as_bytes.result.now c.args.text.now).1 (c.as_bytes.ensures ∙ same))
 
 pub returns-in-None-clause-other : goal.returns-in-None-clause-other
