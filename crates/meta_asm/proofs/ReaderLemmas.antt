@@ -18,6 +18,7 @@ use Rattle.meta_types.specs.Name.{IsNameByte, IsName}
 use Rattle.meta_types.specs.TypeParts.{TypeParts, IsType, number_of}
 use Rattle.meta_types.specs.Function.{StepsNumbers}
 use Rattle.meta_types.specs.TypeNumber.{type_with, IsTypeNumber}
+use Rattle.meta_types.proofs.Functions.{no_function}
 use Rattle.meta_types.proofs.TypeNumbers.{type_back, number_is_one}
 use Rattle.meta_inst.specs.Which.{First, both}
 use Rattle.meta_meaning.specs.Inference.{GivesNumber, GivesAt, GivesResults}
@@ -172,8 +173,7 @@ module _ (tables : TableContents) (env : Environment) (op : ℕ) (entry : Opcode
   gives_one (ConcreteNumber c) n k closed g p = g ∙ sym p
   gives_one (FreeOf j) n k closed g p = absurd (cc)
   gives_one (SameNumber w) n k closed g p = same_Some n k (sym g ∙ p)
-  gives_one (ByNumber w f) n k closed (inl (inl e, zero_is)) p = absurd ((not_relation f closed).0 e)
-  gives_one (ByNumber w f) n k closed (inl (inr e, zero_is)) p = absurd ((not_relation f closed).1 e)
+  gives_one (ByNumber w f) n k closed (inl (relation, zero_is)) p = absurd (no_function f relation (not_relation f closed))
   gives_one (ByNumber w f) n k closed (inr (u, is, answers)) (v, also, steps) =
       one_number_reached f u n k (not_relation f closed) answers.steps
       (subst (λ z. StepsNumbers f z k) (same_Some v u (sym also ∙ is)) steps)

@@ -1,13 +1,16 @@
 -- What is left out of a line is determined by what is written, by tables.
-use Rattle.std.proofs.Common.{◌≡◌, ℕ, zero, suc, ◌+◌, ◌<◌, ◌==◌, ◌||◌, MatchBool, Bool, true, false, List, [], ◌∷◌, map, length, take, drop}
+use Rattle.std.proofs.Common.{◌≡◌, ◌↔◌, inl, inr, IsTrue, ℕ, zero, suc, ◌+◌, ◌<◌, ◌==◌, ◌||◌, MatchBool, Bool, true, false, List, [], ◌∷◌}
+use Rattle.std.proofs.Common.{map, length, take, drop}
 use Rattle.std.proofs.Common.{get_or, slice_get, Option, None, Some, refl, sym, ap, ap₂, ◌∙◌, subst, arith}
 use Rattle.std.specs.List.{list_any}
+use Rattle.std.specs.Cmp.{both_ways}
+use Rattle.std.proofs.lemmas.Bool.{false≢true}
 use Rattle.std.proofs.lemmas.Option.{same_Some, slice_get_within, get_or_from_slice_get}
 use Rattle.meta_lists.proofs.Places.{get_there, get_stays, get_right, get_take, get_drop, get_taken}
 use Rattle.meta_lists.proofs.Mapped.{get_map}
 use Rattle.meta_types.specs.TypeParts.{number_of}
-use Rattle.meta_types.specs.Function.{Function, LaneOf, AsTruthy, HalfWidth, DoubleWidth, SplitLanes, MergeLanes, DynamicToVector, Narrower}
-use Rattle.meta_types.specs.Function.{Wider, IsFunction, StepsTypes, StepsNumbers}
+use Rattle.meta_types.specs.Function.{Function, Narrower, Wider, IsRelation, IsFunction, StepsTypes, StepsNumbers}
+use Rattle.meta_types.proofs.Functions.{relation_or_not}
 use Rattle.meta_types.proofs.OneAnswer.{one}
 use Rattle.meta_types.proofs.Numbers.{one_number}
 use Rattle.meta_inst.specs.Which.{Which, First, Second, both}
@@ -18,17 +21,25 @@ use Rattle.meta_verify.specs.Statement.{TypedValue}
 use Rattle.meta_short.specs.Short.{ShortResult, shortened, short_results}
 use Rattle.meta_short.specs.Manners.{is_relation, is_open, is_control, result_constraints, value_constraints, manner_of}
 
+-- the test for a relation
+pub relation_is : (f : Function) → is_relation f ≡ true → IsRelation f
+relation_is Narrower h = inl refl
+relation_is Wider h = inr refl
+relation_is f h = absurd (cc)
+
+pub relation_passes : (f : Function) → IsRelation f → is_relation f ≡ true
+relation_passes f (inl e) = ap is_relation e
+relation_passes f (inr e) = ap is_relation e
+
+pub relation_test : (b : Bool) (f : Function) → (IsTrue b ↔ IsRelation f) → b ≡ is_relation f
+relation_test b f h = both_ways b (is_relation f) (λ e. relation_passes f (h.0 e)) (λ e. h.1 (relation_is f e))
+
 -- a function that isn't a relation
 pub not_relation : (f : Function) → is_relation f ≡ false → IsFunction f
-not_relation LaneOf h = ((λ e. absurd (cc)), (λ e. absurd (cc)))
-not_relation AsTruthy h = ((λ e. absurd (cc)), (λ e. absurd (cc)))
-not_relation HalfWidth h = ((λ e. absurd (cc)), (λ e. absurd (cc)))
-not_relation DoubleWidth h = ((λ e. absurd (cc)), (λ e. absurd (cc)))
-not_relation SplitLanes h = ((λ e. absurd (cc)), (λ e. absurd (cc)))
-not_relation MergeLanes h = ((λ e. absurd (cc)), (λ e. absurd (cc)))
-not_relation DynamicToVector h = ((λ e. absurd (cc)), (λ e. absurd (cc)))
-not_relation Narrower h = absurd (cc)
-not_relation Wider h = absurd (cc)
+not_relation f h = elim (relation_or_not f) [
+  | inl r ↦ absurd (false≢true (sym h ∙ relation_passes f r))
+  | inr is ↦ is
+]
 
 -- a function leads from a number to one number
 pub one_number_reached : (f : Function) (u n m : ℕ) → IsFunction f → StepsNumbers f u n → StepsNumbers f u m → n ≡ m

@@ -1,5 +1,5 @@
 -- The manner of an opcode by tables is that of the instruction as it is declared.
-use Rattle.std.proofs.Common.{◌≡◌, ◌≢◌, ◌⊎◌, ◌↔◌, inl, inr, ℕ, zero, suc, ◌+◌, ◌<◌, ◌≤◌, ◌/◌, ◌%◌, ◌==◌, ◌&&◌, Bool, true, false, IsTrue}
+use Rattle.std.proofs.Common.{◌≡◌, ◌↔◌, inl, inr, ℕ, zero, suc, ◌+◌, ◌<◌, ◌≤◌, ◌/◌, ◌%◌, ◌==◌, ◌&&◌, Bool, true, false, IsTrue}
 use Rattle.std.proofs.Common.{List, [], ◌∷◌, ◌++◌, map, drop, length, slice_get, Option, None, Some, refl, sym, ap, ap₂, ◌∙◌, subst}
 use Rattle.std.proofs.Common.{add-one, arith, eq-eqb}
 use Rattle.std.specs.List.{list_any}
@@ -12,8 +12,8 @@ use Rattle.meta_lists.proofs.Places.{get_there, get_beside, get_stays, get_right
 use Rattle.meta_lists.proofs.Mapped.{get_map}
 use Rattle.meta_lists.proofs.Pushed.{not_empty}
 use Rattle.meta_types.specs.TypeParts.{TypeParts, number_of}
-use Rattle.meta_types.specs.Function.{Function, LaneOf, AsTruthy, HalfWidth, DoubleWidth, SplitLanes, MergeLanes, DynamicToVector, Narrower}
-use Rattle.meta_types.specs.Function.{Wider}
+use Rattle.meta_types.specs.Function.{IsRelation, IsFunction}
+use Rattle.meta_types.proofs.Functions.{no_function}
 use Rattle.meta_typevar.specs.TypeSetParts.{TypeSetParts, HasOne}
 use Rattle.meta_typevar.specs.Chain.{IsFixed}
 use Rattle.meta_typevar.specs.Variable.{Variable, Sets, underived}
@@ -33,10 +33,10 @@ use Rattle.meta_lists.proofs.Everywhere.{at_place}
 use Rattle.meta_answers.proofs.Meant.{opcode_is}
 use Rattle.meta_verify.proofs.Allowed.{first_named}
 use Rattle.meta_short.specs.Short.{Manner}
-use Rattle.meta_short.specs.Manners.{is_relation, is_open, is_control, result_constraints, value_constraints, manner_of, IsMannerIn}
+use Rattle.meta_short.specs.Manners.{is_open, is_control, result_constraints, value_constraints, manner_of, IsMannerIn}
 use Rattle.meta_short.specs.Manners.{ControlHasOne, IsMannerOf, IsMannerDeclared}
 use Rattle.meta_short.specs.Made.{AreMade}
-use Rattle.meta_short.proofs.Determined.{result_at, value_within, any_there, control_constraint_is}
+use Rattle.meta_short.proofs.Determined.{relation_is, relation_passes, result_at, value_within, any_there, control_constraint_is}
 
 -- ---- chains
 
@@ -53,29 +53,9 @@ underived_ends w none h = not_empty h.before h.last (sym h.chain ∙ none)
 -- a variable whose type is fixed ends in no relation
 fixed_ends : (s : TypeSetParts) (w : Variable) (t : TypeParts) → IsFixed s w.chain t → EndsInRelation w → ⊥
 fixed_ends s w t fixed h =
-    let P : Function → Type 0 = λ f. (f ≢ Narrower) × (f ≢ Wider) in
     let at : slice_get w.chain (length h.before) ≡ Some h.last = ap (λ c. slice_get c (length h.before)) h.chain
     ∙ get_seam h.before h.last [] in
-    by_case h.last (at_place P w.chain (length h.before) h.last fixed.functions at) h.relation
-  where
-    by_case : (f : Function) → (f ≢ Narrower) × (f ≢ Wider) → (f ≡ Narrower) ⊎ (f ≡ Wider) → ⊥
-    by_case f (narrower, wider) (inl e) = narrower e
-    by_case f (narrower, wider) (inr e) = wider e
-
-relation_is : (f : Function) → is_relation f ≡ true → (f ≡ Narrower) ⊎ (f ≡ Wider)
-relation_is Narrower h = inl refl
-relation_is Wider h = inr refl
-relation_is LaneOf h = absurd (cc)
-relation_is AsTruthy h = absurd (cc)
-relation_is HalfWidth h = absurd (cc)
-relation_is DoubleWidth h = absurd (cc)
-relation_is SplitLanes h = absurd (cc)
-relation_is MergeLanes h = absurd (cc)
-relation_is DynamicToVector h = absurd (cc)
-
-is_a_relation : (f : Function) → (f ≡ Narrower) ⊎ (f ≡ Wider) → is_relation f ≡ true
-is_a_relation f (inl e) = ap is_relation e
-is_a_relation f (inr e) = ap is_relation e
+    no_function h.last h.relation (at_place IsFunction w.chain (length h.before) h.last fixed.functions at)
 
 -- ---- one instruction
 
@@ -158,7 +138,7 @@ module _ (sets : Sets) (i : Instruction) (control : Option Variable) (tables : T
     λ o. record { before = h.variable.chain; last = f; chain = h.derived.chain; relation = relation_is f (sym (ap is_open stands) ∙ o) },
     λ ends.
         let last : ends.last ≡ f = same_last ends.before h.variable.chain ends.last f (sym ends.chain ∙ h.derived.chain) in
-        ap is_open stands ∙ is_a_relation f (subst (λ g. (g ≡ Narrower) ⊎ (g ≡ Wider)) last ends.relation),
+        ap is_open stands ∙ relation_passes f (subst IsRelation last ends.relation),
   )
 
   results_counted : length i.results ≡ result_count entry.flags

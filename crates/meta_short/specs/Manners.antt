@@ -5,8 +5,7 @@ use Rattle.std.specs.Prelude.{◌≡◌, ◌↔◌, ℕ, ◌+◌, ◌/◌, ◌%�
 use Rattle.std.specs.Prelude.{Option, Some, None}
 use Rattle.std.specs.List.{list_any}
 use Rattle.meta_lists.specs.First.{IsFirst}
-use Rattle.meta_types.specs.Function.{Function, LaneOf, AsTruthy, HalfWidth, DoubleWidth, SplitLanes, MergeLanes, DynamicToVector, Narrower}
-use Rattle.meta_types.specs.Function.{Wider}
+use Rattle.meta_types.specs.Function.{Function, Narrower, Wider}
 use Rattle.meta_typevar.specs.TypeSetParts.{HasOne}
 use Rattle.meta_typevar.specs.Variable.{Variable, Sets}
 use Rattle.meta_inst.specs.Which.{First, Second}
@@ -27,13 +26,7 @@ use Rattle.meta_short.specs.Short.{Manner}
 abbrev pub is_relation : Function → Bool
 is_relation Narrower = true
 is_relation Wider = true
-is_relation LaneOf = false
-is_relation AsTruthy = false
-is_relation HalfWidth = false
-is_relation DoubleWidth = false
-is_relation SplitLanes = false
-is_relation MergeLanes = false
-is_relation DynamicToVector = false
+is_relation f = false
 
 -- a result under this constraint is written with its type
 abbrev pub is_open : NumberConstraint → Bool

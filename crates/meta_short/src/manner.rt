@@ -7,21 +7,19 @@ ghost use Rattle.meta_opcode_tables.specs.declared.constraint.Constraint.{Constr
 ghost use Rattle.meta_short.specs.Manners.{is_open, is_control, manner_of, value_constraints, result_constraints};
 ghost use Rattle.meta_short.specs.Written.{manner_in};
 
-use meta_gen::{Constraint, NO_TYPE_SET, OpcodeConstraints, Tables, constraints_from};
+use meta_gen::{Constraint, Demand, NO_TYPE_SET, OpcodeConstraints, Tables, constraints_from};
 use meta_types::Text;
 
 /// Whether a result under this constraint is written with its type: the constraint leaves several.
 fn is_open(constraint: Constraint) -> bool
     ensures { result ≡ is_open (number_constraint_of constraint) }
 {
-    matches!(
-        constraint,
-        Constraint::Free(_)
-            | Constraint::Narrower
-            | Constraint::Wider
-            | Constraint::Narrower2
-            | Constraint::Wider2
-    )
+    match constraint.demanded() {
+        Demand::Number(_) => false,
+        Demand::OfSet(_) => true,
+        Demand::Controlling(_) => false,
+        Demand::By(_, derived_func) => derived_func.is_relation(),
+    }
 }
 
 /// Whether a value under this constraint has the controlling type (this project's own).
