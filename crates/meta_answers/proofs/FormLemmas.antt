@@ -1,5 +1,6 @@
 -- The forms of the lines that ask.
-use Rattle.std.proofs.Common.{◌≡◌, ◌≢◌, ℕ, ◌<◌, Bool, true, false, cond, List, [], ◌∷◌, length, Some, None, codes, refl, sym, ap, ◌∙◌, arith}
+use Rattle.std.proofs.Common.{◌≡◌, ◌≢◌, ℕ, ◌<◌, Bool, true, false, cond, List, [], ◌∷◌, length, Some, None, codes, refl, sym, ap, ◌∙◌}
+use Rattle.std.proofs.Common.{arith}
 use Rattle.std.specs.Prelude.{nat_eq}
 use Rattle.std.specs.Cmp.Lexicographic.{bytes_decides, pointwise}
 use Rattle.std.proofs.lemmas.List.Elements.{All-head, All-tail}
@@ -11,47 +12,50 @@ use Rattle.meta_answers.specs.Question.{Question, IsQuestion, question_words}
 use Rattle.meta_answers.specs.Inference.{Inference, IsInference, inference_words}
 use Rattle.meta_answers.specs.Query.{Asked, OfQuestion, OfInference, OfSetting, setting_words, Asks}
 use Rattle.meta_answers.specs.Form.{command_text, command_named}
-use Rattle.meta_answers.specs.declared.form.Command.{Command}
-use Rattle.meta_answers.specs.declared.form.Command.TheVariants.{Accept, Infer, Setting}
+use Rattle.meta_answers.specs.declared.form.QueryWord.{QueryWord}
+use Rattle.meta_answers.specs.declared.form.QueryWord.TheVariants.{Accept, Infer, Setting}
 use Rattle.meta_answers.proofs.QuestionLemmas.{name_has_bytes}
 use Rattle.meta_answers.proofs.InferenceLemmas.{name_bytes}
 
 -- ---- the first word
 
-named_back : (c : Command) → command_named (command_text c) ≡ Some c
+named_back : (c : QueryWord) → command_named (command_text c) ≡ Some c
 named_back Accept = refl
 named_back Infer = refl
 named_back Setting = refl
 
 -- a word is the command that it is found to be
-command_is : (text : List ℕ) (c : Command) → command_named text ≡ Some c → text ≡ command_text c
+command_is : (text : List ℕ) (c : QueryWord) → command_named text ≡ Some c → text ≡ command_text c
 command_is text c e = by_accept (pointwise nat_eq text (codes "accept")) refl e
   where
     by_setting : (b : Bool) → pointwise nat_eq text (codes "setting") ≡ b → cond b (Some Setting) None ≡ Some c → text ≡ command_text c
     by_setting true is e = let same : Setting ≡ c = cc in (bytes_decides text (codes "setting")).0 is ∙ ap command_text same
     by_setting false is e = absurd (cc)
 
-    by_infer : (b : Bool) → pointwise nat_eq text (codes "infer") ≡ b → cond b (Some Infer) (cond (pointwise nat_eq text (codes "setting")) (Some Setting) None) ≡ Some c → text ≡ command_text c
+    by_infer : (b : Bool) → pointwise nat_eq text (codes "infer") ≡ b
+        → cond b (Some Infer) (cond (pointwise nat_eq text (codes "setting")) (Some Setting) None) ≡ Some c → text ≡ command_text c
     by_infer true is e = let same : Infer ≡ c = cc in (bytes_decides text (codes "infer")).0 is ∙ ap command_text same
     by_infer false is e = by_setting (pointwise nat_eq text (codes "setting")) refl e
 
-    by_accept : (b : Bool) → pointwise nat_eq text (codes "accept") ≡ b → cond b (Some Accept) (cond (pointwise nat_eq text (codes "infer")) (Some Infer) (cond (pointwise nat_eq text (codes "setting")) (Some Setting) None)) ≡ Some c → text ≡ command_text c
+    by_accept : (b : Bool) → pointwise nat_eq text (codes "accept") ≡ b
+        → cond b (Some Accept) (cond (pointwise nat_eq text (codes "infer")) (Some Infer)
+        (cond (pointwise nat_eq text (codes "setting")) (Some Setting) None)) ≡ Some c → text ≡ command_text c
     by_accept true is e = let same : Accept ≡ c = cc in (bytes_decides text (codes "accept")).0 is ∙ ap command_text same
     by_accept false is e = by_infer (pointwise nat_eq text (codes "infer")) refl e
 
-no_command : (text : List ℕ) (c : Command) → command_named text ≡ None → text ≡ command_text c → ⊥
+no_command : (text : List ℕ) (c : QueryWord) → command_named text ≡ None → text ≡ command_text c → ⊥
 no_command text c none e =
     let both : None ≡ Some c = sym none ∙ ap command_named e ∙ named_back c in
     absurd (cc)
 
-other_command : (c d : Command) → command_text c ≡ command_text d → c ≡ d
+other_command : (c d : QueryWord) → command_text c ≡ command_text d → c ≡ d
 other_command c d e =
     let both : Some c ≡ Some d = sym (named_back c) ∙ ap command_named e ∙ named_back d in
     cc
 
 -- ---- what is asked
 
-abbrev asked_command : Asked → Command
+abbrev asked_command : Asked → QueryWord
 asked_command (OfQuestion q) = Accept
 asked_command (OfInference q) = Infer
 asked_command (OfSetting name) = Setting
@@ -75,7 +79,8 @@ one_piece line first pieces (OfSetting name) h = let e = ap length (sym pieces �
 
 module _ (line first behind : List ℕ) (pieces : pieces_of 32 line ≡ first ∷ pieces_of 32 behind) where
   -- the words of the line are its command and what stands behind it
-  pub words_found : (c : Command) (words : List (List ℕ)) → command_named first ≡ Some c → pieces_of 32 behind ≡ words → pieces_of 32 line ≡ command_text c ∷ words
+  pub words_found : (c : QueryWord) (words : List (List ℕ)) → command_named first ≡ Some c
+      → pieces_of 32 behind ≡ words → pieces_of 32 line ≡ command_text c ∷ words
   words_found c words named e = pieces ∙ (λ i. command_is first c named i ∷ e i)
 
   first_is : (q : Asked) → Asks line q → first ≡ command_text (asked_command q)
@@ -87,24 +92,31 @@ module _ (line first behind : List ℕ) (pieces : pieces_of 32 line ≡ first �
   pub not_a_command : command_named first ≡ None → (q : Asked) → Asks line q → ⊥
   not_a_command none q asks = no_command first (asked_command q) none (first_is q asks)
 
-  same_command : (c : Command) → command_named first ≡ Some c → (q : Asked) → Asks line q → c ≡ asked_command q
+  same_command : (c : QueryWord) → command_named first ≡ Some c → (q : Asked) → Asks line q → c ≡ asked_command q
   same_command c named q asks = other_command c (asked_command q) (sym (command_is first c named) ∙ first_is q asks)
 
-  pub no_accept : command_named first ≡ Some Accept → ((name control results values : List ℕ) → 0 < length name → pieces_of 32 behind ≢ name ∷ control ∷ results ∷ values ∷ []) → (q : Asked) → Asks line q → ⊥
-  no_accept named none (OfQuestion q) asks = none q.name (control_text q.control q.second) (types_text q.results) (types_text q.values) (name_has_bytes line q asks) (behind_is (OfQuestion q) asks)
+  pub no_accept : command_named first ≡ Some Accept
+      → ((name control results values : List ℕ) → 0 < length name
+      → pieces_of 32 behind ≢ name ∷ control ∷ results ∷ values ∷ []) → (q : Asked) → Asks line q → ⊥
+  no_accept named none (OfQuestion q) asks = none q.name (control_text q.control q.second) (types_text q.results)
+      (types_text q.values) (name_has_bytes line q asks) (behind_is (OfQuestion q) asks)
   no_accept named none (OfInference q) asks = let e = same_command Accept named (OfInference q) asks in absurd (cc)
   no_accept named none (OfSetting name) asks = let e = same_command Accept named (OfSetting name) asks in absurd (cc)
 
-  pub no_infer : command_named first ≡ Some Infer → ((name control : List ℕ) → 0 < length name → pieces_of 32 behind ≢ name ∷ control ∷ []) → (q : Asked) → Asks line q → ⊥
+  pub no_infer : command_named first ≡ Some Infer
+      → ((name control : List ℕ) → 0 < length name → pieces_of 32 behind ≢ name ∷ control ∷ []) → (q : Asked) → Asks line q → ⊥
   no_infer named none (OfQuestion q) asks = let e = same_command Infer named (OfQuestion q) asks in absurd (cc)
-  no_infer named none (OfInference q) asks = none q.name (control_text q.control q.second) (name_bytes line q asks) (behind_is (OfInference q) asks)
+  no_infer named none (OfInference q) asks = none q.name (control_text q.control q.second) (name_bytes line q asks)
+      (behind_is (OfInference q) asks)
   no_infer named none (OfSetting name) asks = let e = same_command Infer named (OfSetting name) asks in absurd (cc)
 
-  pub no_setting_word : command_named first ≡ Some Setting → ((name : List ℕ) → 0 < length name → pieces_of 32 behind ≢ name ∷ []) → (q : Asked) → Asks line q → ⊥
+  pub no_setting_word : command_named first ≡ Some Setting
+      → ((name : List ℕ) → 0 < length name → pieces_of 32 behind ≢ name ∷ []) → (q : Asked) → Asks line q → ⊥
   no_setting_word named none (OfQuestion q) asks = let e = same_command Setting named (OfQuestion q) asks in absurd (cc)
   no_setting_word named none (OfInference q) asks = let e = same_command Setting named (OfInference q) asks in absurd (cc)
   no_setting_word named none (OfSetting name) asks =
-      none name (All-head IsWord name [] (All-tail IsWord (codes "setting") (name ∷ []) asks.each)).has_bytes (behind_is (OfSetting name) asks)
+      none name (All-head IsWord name [] (All-tail IsWord (codes "setting") (name ∷ []) asks.each)).has_bytes
+      (behind_is (OfSetting name) asks)
 
 -- ---- a line asks for one thing at most
 

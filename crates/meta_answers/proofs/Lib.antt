@@ -7,4 +7,5 @@ mod SettingLines
 mod LineParts
 pub mod Meant
 mod OneInference
+pub mod OneReply
 mod OneOutput

@@ -6,32 +6,33 @@ use Rattle.std.specs.Cmp.Lexicographic.{pointwise}
 use Rattle.meta_answers.specs.Inference.{inference_words}
 use Rattle.meta_answers.specs.Query.{setting_words}
 use Rattle.meta_answers.specs.Question.{question_words}
-use Rattle.meta_answers.specs.declared.form.Command.{Command}
-use Rattle.meta_answers.specs.declared.form.Command.TheVariants.{Accept as AcceptCommand, Infer as InferCommand, Setting as SettingCommand}
-use Rattle.meta_answers.specs.declared.form.Form.{Form}
-use Rattle.meta_answers.specs.declared.form.Form.TheVariants.{Accept, Infer, Setting}
+use Rattle.meta_answers.specs.declared.form.QueryWord.{QueryWord}
+use Rattle.meta_answers.specs.declared.form.QueryWord.TheVariants.{Accept as AcceptCommand, Infer as InferCommand}
+use Rattle.meta_answers.specs.declared.form.QueryWord.TheVariants.{Setting as SettingCommand}
+use Rattle.meta_answers.specs.declared.form.QueryForm.{QueryForm}
+use Rattle.meta_answers.specs.declared.form.QueryForm.TheVariants.{Accept, Infer, Setting}
 
 -- the first word of a line
-abbrev pub command_text : Command → List ℕ
+abbrev pub command_text : QueryWord → List ℕ
 command_text AcceptCommand = codes "accept"
 command_text InferCommand = codes "infer"
 command_text SettingCommand = codes "setting"
 
 -- the command that a word is
-abbrev pub command_named : List ℕ → Option Command
+abbrev pub command_named : List ℕ → Option QueryWord
 command_named text =
     if pointwise nat_eq text (codes "accept") then Some AcceptCommand
     else (if pointwise nat_eq text (codes "infer") then Some InferCommand
     else (if pointwise nat_eq text (codes "setting") then Some SettingCommand else None))
 
 -- the words of a line of this form
-abbrev pub words_in : Form → List (List ℕ)
+abbrev pub words_in : QueryForm → List (List ℕ)
 words_in (Accept w) = question_words w.name.now w.control.now w.results.now w.values.now
 words_in (Infer w) = inference_words w.name.now w.control.now
 words_in (Setting name) = setting_words name.now
 
 -- the name in it
-abbrev pub name_in : Form → List ℕ
+abbrev pub name_in : QueryForm → List ℕ
 name_in (Accept w) = w.name.now
 name_in (Infer w) = w.name.now
 name_in (Setting name) = name.now

@@ -18,8 +18,8 @@ pub record Question : Type 0 where
 abbrev pub question_words : List ℕ → List ℕ → List ℕ → List ℕ → List (List ℕ)
 question_words name control results values = codes "accept" ∷ name ∷ control ∷ results ∷ values ∷ []
 
-abbrev pub words_of : Question → List (List ℕ)
-words_of q = question_words q.name (control_text q.control q.second) (types_text q.results) (types_text q.values)
+abbrev pub question_words_of : Question → List (List ℕ)
+question_words_of q = question_words q.name (control_text q.control q.second) (types_text q.results) (types_text q.values)
 
 -- each type of q can be named
 pub record HasTypes (q : Question) : Type 0 where
@@ -30,7 +30,7 @@ pub record HasTypes (q : Question) : Type 0 where
 
 -- the line asks q: it is the words of q, and each type of q can be named
 pub record IsQuestion (line : List ℕ) (q : Question) : Type 0 where
-  pub words : AreWords line (words_of q)
+  pub words : AreWords line (question_words_of q)
   pub control : IfSome q.control IsType
   pub second : IfSome q.second IsType
   pub behind : IsBehind q.control q.second

@@ -7,7 +7,7 @@ use meta_words::{Pieces, cut};
 
 /// The first word of a line that asks.
 #[derive(Clone, Copy)]
-pub(crate) enum Command {
+pub(crate) enum QueryWord {
     Accept,
     Infer,
     Setting,
@@ -31,20 +31,20 @@ pub(crate) struct InferWords<'a> {
 
 /// The form of a line that asks, with its words behind the first.
 #[derive(Clone, Copy)]
-pub(crate) enum Form<'a> {
+pub(crate) enum QueryForm<'a> {
     Accept(AcceptWords<'a>),
     Infer(InferWords<'a>),
     Setting(&'a [u8]),
 }
 
 /// The command that the word is.
-fn command_of(word: &[u8]) -> Option<Command>
+fn command_of(word: &[u8]) -> Option<QueryWord>
     ensures { result ≡ command_named word.now }
 {
     match word {
-        b"accept" => Some(Command::Accept),
-        b"infer" => Some(Command::Infer),
-        b"setting" => Some(Command::Setting),
+        b"accept" => Some(QueryWord::Accept),
+        b"infer" => Some(QueryWord::Infer),
+        b"setting" => Some(QueryWord::Setting),
         _ => None,
     }
 }
@@ -111,7 +111,7 @@ fn setting_word(behind: &[u8]) -> Option<&[u8]>
 }
 
 /// The form of the line, and `None` only where it asks nothing. A line that has a form asks where its words name types.
-pub(crate) fn form_of(line: &[u8]) -> Option<Form<'_>>
+pub(crate) fn form_of(line: &[u8]) -> Option<QueryForm<'_>>
     ensures words { IfSome result (λ form. pieces_of 32 line.now ≡ words_in form) }
     ensures named { IfSome result (λ form. 0 < length (name_in form)) }
     ensures none { IfNone result ((q : Asked) → ¬ Asks line.now q) }
@@ -120,17 +120,17 @@ pub(crate) fn form_of(line: &[u8]) -> Option<Form<'_>>
     let behind = rest?;
     let command = command_of(first)?;
     match command {
-        Command::Accept => {
+        QueryWord::Accept => {
             let accept = accept_words(behind)?;
-            Some(Form::Accept(accept))
+            Some(QueryForm::Accept(accept))
         }
-        Command::Infer => {
+        QueryWord::Infer => {
             let infer = infer_words(behind)?;
-            Some(Form::Infer(infer))
+            Some(QueryForm::Infer(infer))
         }
-        Command::Setting => {
+        QueryWord::Setting => {
             let setting = setting_word(behind)?;
-            Some(Form::Setting(setting))
+            Some(QueryForm::Setting(setting))
         }
     }
 }

@@ -1,10 +1,11 @@
-pub mod PartLemmas
-pub mod ResultLemmas
-pub mod WordLemmas
-pub mod LineLemmas
-pub mod WrittenLemmas
-pub mod ReaderLemmas
-pub mod ListingLemmas
-pub mod MeaningLemmas
-pub mod BackLemmas
-pub mod Runs
+mod PartLemmas
+mod ResultLemmas
+mod WordLemmas
+mod LineLemmas
+mod WrittenLemmas
+mod ReaderLemmas
+mod ListingLemmas
+mod MeaningLemmas
+mod OneOutput
+mod BackLemmas
+mod Runs

@@ -1,5 +1,7 @@
 -- Lists of lines and of their short forms, line by line.
-use Rattle.std.proofs.Common.{◌≡◌, ◌≢◌, ◌⊎◌, inl, inr, ℕ, zero, suc, ◌+◌, ◌<◌, Bool, true, false, List, [], ◌∷◌, ◌++◌, take, drop, length, ◌==◌, slice_get, Option, None, Some, refl, sym, ap, ap₂, ◌∙◌, subst, append-nil, append_assoc, length-append, map, arith, rules, tests}
+use Rattle.std.proofs.Common.{◌≡◌, ◌≢◌, ◌⊎◌, inl, inr, ℕ, zero, suc, ◌+◌, ◌<◌, Bool, true, false, List, [], ◌∷◌, ◌++◌, take, drop, length}
+use Rattle.std.proofs.Common.{◌==◌, slice_get, Option, None, Some, refl, sym, ap, ap₂, ◌∙◌, subst, append-nil, append_assoc, length-append}
+use Rattle.std.proofs.Common.{map, arith, rules, tests}
 use Rattle.std.proofs.lemmas.List.Concat.{flat_map-append}
 use Rattle.meta_lists.proofs.Places.{take_next}
 use Rattle.meta_meaning.specs.Tables.{TableContents}
@@ -10,28 +12,33 @@ use Rattle.meta_verify.specs.Wrong.{Replies, IsWrong, Feeds}
 use Rattle.meta_verify.specs.declared.reason.Reason.{Reason}
 use Rattle.meta_verify.proofs.StatementLemmas.{one_statement, name_has_bytes}
 use Rattle.meta_verify.proofs.OneAnswer.{not_wrong}
-use Rattle.meta_verify.proofs.OneReply.{one_allowed}
-use Rattle.meta_short.specs.Short.{Manner, short_results, short_result_text, behind, control_written, values_written, results_part, short_text}
+use Rattle.meta_answers.proofs.OneReply.{one_allowed}
+use Rattle.meta_short.specs.Short.{Manner, short_results, short_result_text, behind, control_written, values_written, results_part}
+use Rattle.meta_short.specs.Short.{short_text}
 use Rattle.meta_short.specs.Manners.{IsMannerIn}
 use Rattle.meta_short.specs.Reading.{Manners, IsShort, IsShortIn}
 use Rattle.meta_asm.specs.Listing.{text_of_lines, filled, AreShort, AreShortForms, AddsShortForm, AddsLine, IsFirstUnread}
 use Rattle.meta_asm.proofs.ReaderLemmas.{right_line}
 
 -- one line more, behind the others
-pub one_more : (R : Replies) (M : Manners) (env between : Environment) (lines texts : List (List ℕ)) (line text : List ℕ) → AreShort R M env lines texts between → (short : IsShort R M between line text)
+pub one_more : (R : Replies) (M : Manners) (env between : Environment) (lines texts : List (List ℕ)) (line text : List ℕ)
+    → AreShort R M env lines texts between → (short : IsShort R M between line text)
     → AreShort R M env (lines ++ line ∷ []) (texts ++ text ∷ []) (with_values between (defined_by short.statement))
 one_more R M env between [] [] line text e short =
-    subst (λ (x : Environment). (g : IsShort R M x line text) → AreShort R M env (line ∷ []) (text ∷ []) (with_values x (defined_by g.statement))) (sym e) (λ g. (g, refl)) short
+    subst (λ (x : Environment). (g : IsShort R M x line text)
+    → AreShort R M env (line ∷ []) (text ∷ []) (with_values x (defined_by g.statement))) (sym e) (λ g. (g, refl)) short
 one_more R M env between [] (t ∷ ts) line text h short = absurd h
 one_more R M env between (l ∷ ls) [] line text h short = absurd h
-one_more R M env between (l ∷ ls) (t ∷ ts) line text (first, rest) short = (first, one_more R M (with_values env (defined_by first.statement)) between ls ts line text rest short)
+one_more R M env between (l ∷ ls) (t ∷ ts) line text (first, rest) short =
+    (first, one_more R M (with_values env (defined_by first.statement)) between ls ts line text rest short)
 
 filled-append : (xs ys : List (List ℕ)) → filled (xs ++ ys) ≡ filled xs ++ filled ys
 filled-append [] ys = refl
 filled-append ([] ∷ xs) ys = filled-append xs ys
 filled-append ((c ∷ cs) ∷ xs) ys = ap (λ zs. (c ∷ cs) ∷ zs) (filled-append xs ys)
 
-filled_next : (lines : List (List ℕ)) (n : ℕ) (line : List ℕ) → slice_get lines n ≡ Some line → filled (take (n + 1) lines) ≡ filled (take n lines) ++ filled (line ∷ [])
+filled_next : (lines : List (List ℕ)) (n : ℕ) (line : List ℕ) → slice_get lines n ≡ Some line
+    → filled (take (n + 1) lines) ≡ filled (take n lines) ++ filled (line ∷ [])
 filled_next lines n line at = ap filled (take_next lines n line at) ∙ filled-append (take n lines) (line ∷ [])
 
 filled_one : (line : List ℕ) → line ≢ [] → filled (line ∷ []) ≡ line ∷ []
@@ -39,16 +46,21 @@ filled_one [] some = absurd (some refl)
 filled_one (c ∷ cs) some = refl
 
 -- an empty line more
-filled_skip : (lines : List (List ℕ)) (n : ℕ) (line : List ℕ) → slice_get lines n ≡ Some line → line ≡ [] → filled (take (n + 1) lines) ≡ filled (take n lines)
-filled_skip lines n line at none = filled_next lines n line at ∙ ap (λ l. filled (take n lines) ++ filled (l ∷ [])) none ∙ append-nil (filled (take n lines))
+filled_skip : (lines : List (List ℕ)) (n : ℕ) (line : List ℕ) → slice_get lines n ≡ Some line → line ≡ []
+    → filled (take (n + 1) lines) ≡ filled (take n lines)
+filled_skip lines n line at none = filled_next lines n line at ∙ ap (λ l. filled (take n lines) ++ filled (l ∷ [])) none
+    ∙ append-nil (filled (take n lines))
 
 -- another line more
-filled_more : (lines : List (List ℕ)) (n : ℕ) (line : List ℕ) → slice_get lines n ≡ Some line → line ≢ [] → filled (take (n + 1) lines) ≡ filled (take n lines) ++ line ∷ []
+filled_more : (lines : List (List ℕ)) (n : ℕ) (line : List ℕ) → slice_get lines n ≡ Some line → line ≢ []
+    → filled (take (n + 1) lines) ≡ filled (take n lines) ++ line ∷ []
 filled_more lines n line at some = filled_next lines n line at ∙ ap (λ ls. filled (take n lines) ++ ls) (filled_one line some)
 
-text_more : (lines : List (List ℕ)) (line out : List ℕ) → out ≡ text_of_lines lines → out ++ (line ++ 10 ∷ []) ≡ text_of_lines (lines ++ line ∷ [])
+text_more : (lines : List (List ℕ)) (line out : List ℕ) → out ≡ text_of_lines lines
+    → out ++ (line ++ 10 ∷ []) ≡ text_of_lines (lines ++ line ∷ [])
 text_more lines line out e =
-    ap₂ (λ (x y : List ℕ). x ++ y) e (sym (append-nil (line ++ 10 ∷ []))) ∙ sym (flat_map-append (λ (l : List ℕ). l ++ 10 ∷ []) lines (line ∷ []))
+    ap₂ (λ (x y : List ℕ). x ++ y) e (sym (append-nil (line ++ 10 ∷ [])))
+    ∙ sym (flat_map-append (λ (l : List ℕ). l ++ 10 ∷ []) lines (line ∷ []))
 
 -- a statement isn't written as nothing
 no_results_part : (ts : List (List ℕ)) (rest : List ℕ) → 0 < length rest → results_part ts ++ rest ≡ [] → ⊥
@@ -60,7 +72,8 @@ no_text (OfParameter r) m states e = absurd (cc)
 no_text {line = line} (OfApplication a) m states e =
     let some = name_has_bytes line a states in
     let rest = behind 46 (control_written m.leaves_out a.control a.second) ++ behind 32 (values_written (map value_text a.values)) in
-    no_results_part (map short_result_text (short_results m.opened a.results)) (a.name ++ rest) (omega (arith, some, length-append a.name rest)) e
+    no_results_part (map short_result_text (short_results m.opened a.results)) (a.name ++ rest)
+    (omega (arith, some, length-append a.name rest)) e
 
 -- a short form isn't empty
 pub has_text : (R : Replies) (M : Manners) (env : Environment) (line text : List ℕ) → IsShort R M env line text → text ≢ []
@@ -70,19 +83,24 @@ module _ (tables : TableContents) where
   -- ---- one line
 
   -- a right line leads where its statement does
-  pub leads : (env env' : Environment) (line text : List ℕ) (short : IsShortIn tables env line text) (answer : Option Reason) → Feeds (AllowedReply tables) env line answer env' → env' ≡ with_values env (defined_by short.statement)
+  pub leads : (env env' : Environment) (line text : List ℕ) (short : IsShortIn tables env line text) (answer : Option Reason)
+      → Feeds (AllowedReply tables) env line answer env' → env' ≡ with_values env (defined_by short.statement)
   leads env env' [] text short answer fed = absurd (right_line tables env [] text short (inl refl))
-  leads env env' (c ∷ cs) text short None (s, (states, faultless), is) = is ∙ ap (λ x. with_values env (defined_by x)) (one_statement (c ∷ cs) s short.statement states short.right.0)
+  leads env env' (c ∷ cs) text short None (s, (states, faultless), is) = is
+      ∙ ap (λ x. with_values env (defined_by x)) (one_statement (c ∷ cs) s short.statement states short.right.0)
   leads env env' (c ∷ cs) text short (Some reason) (wrong, is) = absurd (right_line tables env (c ∷ cs) text short (inr (reason, wrong)))
 
   pub has_bytes : (env : Environment) (line text : List ℕ) → IsShortIn tables env line text → line ≢ []
   has_bytes env line text short e = right_line tables env line text short (inl e)
 
   -- a line that has no short form is empty, where it isn't wrong
-  pub skipped : (env env' : Environment) (line : List ℕ) → (line ≡ []) ⊎ ((reason : Reason) × IsWrong (AllowedReply tables) env line reason) → Feeds (AllowedReply tables) env line None env' → (line ≡ []) × (env' ≡ env)
+  pub skipped : (env env' : Environment) (line : List ℕ) → (line ≡ [])
+      ⊎ ((reason : Reason) × IsWrong (AllowedReply tables) env line reason) → Feeds (AllowedReply tables) env line None env'
+      → (line ≡ []) × (env' ≡ env)
   skipped env env' [] h (none, is) = (refl, is)
   skipped env env' (c ∷ cs) (inl e) fed = absurd (cc)
-  skipped env env' (c ∷ cs) (inr (reason, wrong)) (s, right, is) = absurd (not_wrong (AllowedReply tables) (one_allowed tables) env (c ∷ cs) s reason right wrong)
+  skipped env env' (c ∷ cs) (inr (reason, wrong)) (s, right, is) =
+      absurd (not_wrong (AllowedReply tables) (one_allowed tables) env (c ∷ cs) s reason right wrong)
 
   -- ---- the lines so far
 
@@ -92,20 +110,26 @@ module _ (tables : TableContents) where
     pub short : AreShort (AllowedReply tables) (IsMannerIn tables) nothing_defined (filled (take n lines)) texts env
     pub out_is : out ≡ text_of_lines texts
 
-  pub none_written : (lines : List (List ℕ)) (env : Environment) (out : List ℕ) → env ≡ nothing_defined → out ≡ [] → AreWritten lines 0 env out
+  pub none_written : (lines : List (List ℕ)) (env : Environment) (out : List ℕ) → env ≡ nothing_defined → out ≡ []
+      → AreWritten lines 0 env out
   none_written lines env out e is = record { texts = []; short = e; out_is = is }
 
-  pub one_written : (lines : List (List ℕ)) (n : ℕ) (env env' : Environment) (line out out' : List ℕ) → AreWritten lines n env out → slice_get lines n ≡ Some line → AddsShortForm tables env line env' out out' → AreWritten lines (n + 1) env' out'
+  pub one_written : (lines : List (List ℕ)) (n : ℕ) (env env' : Environment) (line out out' : List ℕ) → AreWritten lines n env out
+      → slice_get lines n ≡ Some line → AddsShortForm tables env line env' out out' → AreWritten lines (n + 1) env' out'
   one_written lines n env env' line out out' h at (inl (none, same, is)) = record {
     texts = h.texts;
-    short = subst (λ e. AreShort (AllowedReply tables) (IsMannerIn tables) nothing_defined (filled (take (n + 1) lines)) h.texts e) (sym same)
-        (subst (λ ls. AreShort (AllowedReply tables) (IsMannerIn tables) nothing_defined ls h.texts env) (sym (filled_skip lines n line at none)) h.short);
+    short = subst (λ e. AreShort (AllowedReply tables) (IsMannerIn tables) nothing_defined (filled (take (n + 1) lines)) h.texts e)
+        (sym same)
+        (subst (λ ls. AreShort (AllowedReply tables) (IsMannerIn tables) nothing_defined ls h.texts env)
+        (sym (filled_skip lines n line at none)) h.short);
     out_is = is ∙ h.out_is;
   }
   one_written lines n env env' line out out' h at (inr (text, short, some, same, is)) = record {
     texts = h.texts ++ text ∷ [];
-    short = subst (λ e. AreShort (AllowedReply tables) (IsMannerIn tables) nothing_defined (filled (take (n + 1) lines)) (h.texts ++ text ∷ []) e) (sym same)
-        (subst (λ ls. AreShort (AllowedReply tables) (IsMannerIn tables) nothing_defined ls (h.texts ++ text ∷ []) (with_values env (defined_by short.statement))) (sym (filled_more lines n line at some))
+    short = subst (λ e. AreShort (AllowedReply tables) (IsMannerIn tables) nothing_defined (filled (take (n + 1) lines))
+        (h.texts ++ text ∷ []) e) (sym same)
+        (subst (λ ls. AreShort (AllowedReply tables) (IsMannerIn tables) nothing_defined ls (h.texts ++ text ∷ [])
+        (with_values env (defined_by short.statement))) (sym (filled_more lines n line at some))
         (one_more (AllowedReply tables) (IsMannerIn tables) nothing_defined env (filled (take n lines)) h.texts line text h.short short));
     out_is = is ∙ text_more h.texts text out h.out_is;
   }
@@ -119,52 +143,79 @@ module _ (tables : TableContents) where
   pub none_read : (texts : List (List ℕ)) (env : Environment) (out : List ℕ) → env ≡ nothing_defined → out ≡ [] → AreRead texts 0 env out
   none_read texts env out e is = record { lines = []; reads = e; out_is = is }
 
-  pub one_read : (texts : List (List ℕ)) (n : ℕ) (env env' : Environment) (text out out' : List ℕ) → AreRead texts n env out → slice_get texts n ≡ Some text → AddsLine tables env text env' out out' → AreRead texts (n + 1) env' out'
+  pub one_read : (texts : List (List ℕ)) (n : ℕ) (env env' : Environment) (text out out' : List ℕ) → AreRead texts n env out
+      → slice_get texts n ≡ Some text → AddsLine tables env text env' out out' → AreRead texts (n + 1) env' out'
   one_read texts n env env' text out out' h at (inl (none, same, is)) = record {
     lines = h.lines;
-    reads = subst (λ e. AreShort (AllowedReply tables) (IsMannerIn tables) nothing_defined h.lines (filled (take (n + 1) texts)) e) (sym same)
-        (subst (λ ts. AreShort (AllowedReply tables) (IsMannerIn tables) nothing_defined h.lines ts env) (sym (filled_skip texts n text at none)) h.reads);
+    reads = subst (λ e. AreShort (AllowedReply tables) (IsMannerIn tables) nothing_defined h.lines (filled (take (n + 1) texts)) e)
+        (sym same)
+        (subst (λ ts. AreShort (AllowedReply tables) (IsMannerIn tables) nothing_defined h.lines ts env)
+        (sym (filled_skip texts n text at none)) h.reads);
     out_is = is ∙ h.out_is;
   }
   one_read texts n env env' text out out' h at (inr (line, short, some, same, is)) = record {
     lines = h.lines ++ line ∷ [];
-    reads = subst (λ e. AreShort (AllowedReply tables) (IsMannerIn tables) nothing_defined (h.lines ++ line ∷ []) (filled (take (n + 1) texts)) e) (sym same)
-        (subst (λ ts. AreShort (AllowedReply tables) (IsMannerIn tables) nothing_defined (h.lines ++ line ∷ []) ts (with_values env (defined_by short.statement))) (sym (filled_more texts n text at some))
+    reads = subst (λ e. AreShort (AllowedReply tables) (IsMannerIn tables) nothing_defined (h.lines ++ line ∷ [])
+        (filled (take (n + 1) texts)) e) (sym same)
+        (subst (λ ts. AreShort (AllowedReply tables) (IsMannerIn tables) nothing_defined (h.lines ++ line ∷ []) ts
+        (with_values env (defined_by short.statement))) (sym (filled_more texts n text at some))
         (one_more (AllowedReply tables) (IsMannerIn tables) nothing_defined env h.lines (filled (take n texts)) line text h.reads short));
     out_is = is ∙ text_more h.lines line out h.out_is;
   }
 
   -- the next reads as none
-  pub first_unread : (texts : List (List ℕ)) (n : ℕ) (env : Environment) (text out : List ℕ) → AreRead texts n env out → slice_get texts n ≡ Some text → text ≢ [] → ((line : List ℕ) → IsShortIn tables env line text → ⊥) → IsFirstUnread (AllowedReply tables) (IsMannerIn tables) texts n
-  first_unread texts n env text out h at some none = record { text = text; at = at; some = some; lines = h.lines; before = env; reads = h.reads; unread = none }
+  pub first_unread : (texts : List (List ℕ)) (n : ℕ) (env : Environment) (text out : List ℕ) → AreRead texts n env out
+      → slice_get texts n ≡ Some text → text ≢ [] → ((line : List ℕ) → IsShortIn tables env line text → ⊥)
+      → IsFirstUnread (AllowedReply tables) (IsMannerIn tables) texts n
+  first_unread texts n env text out h at some none = record {
+    text = text;
+    at = at;
+    some = some;
+    lines = h.lines;
+    before = env;
+    reads =
+        h.reads;
+    unread = none;
+  }
 
   -- ---- a line that was fed
 
   -- it has no short form
-  pub skip_added : (env env' : Environment) (line out out' : List ℕ) (answer : Option Reason) → (line ≡ []) ⊎ ((reason : Reason) × IsWrong (AllowedReply tables) env line reason) → Feeds (AllowedReply tables) env line answer env' → out' ≡ out
+  pub skip_added : (env env' : Environment) (line out out' : List ℕ) (answer : Option Reason) → (line ≡ [])
+      ⊎ ((reason : Reason) × IsWrong (AllowedReply tables) env line reason) → Feeds (AllowedReply tables) env line answer env' → out' ≡ out
       → answer ≡ None → AddsShortForm tables env line env' out out'
   skip_added env env' line out out' answer h fed is e =
       let none = skipped env env' line h (subst (λ a. Feeds (AllowedReply tables) env line a env') e fed) in
       inl (none.0, none.1, is)
 
   -- it has one, which was added, with LF
-  pub short_added : (env env' : Environment) (line text out between out' : List ℕ) (answer : Option Reason) → IsShortIn tables env line text → Feeds (AllowedReply tables) env line answer env' → between ≡ out ++ text → out' ≡ between ++ 10 ∷ []
+  pub short_added : (env env' : Environment) (line text out between out' : List ℕ) (answer : Option Reason)
+      → IsShortIn tables env line text → Feeds (AllowedReply tables) env line answer env' → between ≡ out ++ text
+      → out' ≡ between ++ 10 ∷ []
       → AddsShortForm tables env line env' out out'
   short_added env env' line text out between out' answer short fed first second =
-      inr (text, short, has_bytes env line text short, leads env env' line text short answer fed, second ∙ ap (λ t. t ++ 10 ∷ []) first ∙ append_assoc out text (10 ∷ []))
+      inr (
+        text,
+        short,
+        has_bytes env line text short,
+        leads env env' line text short answer fed,
+        second ∙ ap (λ t. t ++ 10 ∷ []) first
+            ∙ append_assoc out text (10 ∷ []),
+      )
 
   -- it is what a text reads as, and was added, with LF
-  pub line_added : (env env' : Environment) (line text out between out' : List ℕ) (answer : Option Reason) → IsShortIn tables env line text → text ≢ [] → Feeds (AllowedReply tables) env line answer env' → between ≡ out ++ line → out' ≡ between ++ 10 ∷ []
+  pub line_added : (env env' : Environment) (line text out between out' : List ℕ) (answer : Option Reason) → IsShortIn tables env line text
+      → text ≢ [] → Feeds (AllowedReply tables) env line answer env' → between ≡ out ++ line → out' ≡ between ++ 10 ∷ []
       → AddsLine tables env text env' out out'
   line_added env env' line text out between out' answer short some fed first second =
-      inr (line, short, some, leads env env' line text short answer fed, second ∙ ap (λ t. t ++ 10 ∷ []) first ∙ append_assoc out line (10 ∷ []))
-
--- where the lines from this one on begin with this line
-pub at_front : (lines : List (List ℕ)) (n : ℕ) (line : List ℕ) (rest : List (List ℕ)) → drop n lines ≡ line ∷ rest → slice_get lines n ≡ Some line
-at_front [] zero line rest e = absurd (cc)
-at_front [] (suc n) line rest e = absurd (cc)
-at_front (l ∷ lines) zero line rest e = let same : l ≡ line = cc in ap (λ x. Some x) same
-at_front (l ∷ lines) (suc n) line rest e = at_front lines n line rest e
+      inr (
+        line,
+        short,
+        some,
+        leads env env' line text short answer fed,
+        second ∙ ap (λ t. t ++ 10 ∷ []) first
+            ∙ append_assoc out line (10 ∷ []),
+      )
 
 -- none is left
 past : (lines : List (List ℕ)) (n : ℕ) → drop n lines ≡ [] → take n lines ≡ lines
@@ -174,15 +225,30 @@ past (l ∷ lines) zero e = absurd (cc)
 past (l ∷ lines) (suc n) e = ap (λ ls. l ∷ ls) (past lines n e)
 
 module _ (tables : TableContents) where
-  pub all_written : (lines : List (List ℕ)) (n : ℕ) (env : Environment) (out : List ℕ) → AreWritten tables lines n env out → drop n lines ≡ []
+  pub all_written : (lines : List (List ℕ)) (n : ℕ) (env : Environment) (out : List ℕ) → AreWritten tables lines n env out
+      → drop n lines ≡ []
       → (texts : List (List ℕ)) × AreShortForms (AllowedReply tables) (IsMannerIn tables) (filled lines) texts × (out ≡ text_of_lines texts)
-  all_written lines n env out h e =
-      (h.texts, (env, subst (λ ls. AreShort (AllowedReply tables) (IsMannerIn tables) nothing_defined (filled ls) h.texts env) (past lines n e) h.short), h.out_is)
+  all_written lines n env out h e = (
+    h.texts,
+    (
+      env,
+      subst (λ ls. AreShort (AllowedReply tables) (IsMannerIn tables) nothing_defined (filled ls) h.texts env)
+          (past lines n e) h.short,
+    ),
+    h.out_is,
+  )
 
   pub all_read : (texts : List (List ℕ)) (n : ℕ) (env : Environment) (out : List ℕ) → AreRead tables texts n env out → drop n texts ≡ []
       → (lines : List (List ℕ)) × AreShortForms (AllowedReply tables) (IsMannerIn tables) lines (filled texts) × (out ≡ text_of_lines lines)
-  all_read texts n env out h e =
-      (h.lines, (env, subst (λ ts. AreShort (AllowedReply tables) (IsMannerIn tables) nothing_defined h.lines (filled ts) env) (past texts n e) h.reads), h.out_is)
+  all_read texts n env out h e = (
+    h.lines,
+    (
+      env,
+      subst (λ ts. AreShort (AllowedReply tables) (IsMannerIn tables) nothing_defined h.lines (filled ts) env)
+          (past texts n e) h.reads,
+    ),
+    h.out_is,
+  )
 
 -- a text that has no bytes, and one that has
 pub empty_is : (text : List ℕ) (is_empty : Bool) → is_empty ≡ (length text == 0) → is_empty ≡ true → text ≡ []

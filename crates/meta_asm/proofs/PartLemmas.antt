@@ -1,5 +1,6 @@
 -- The parts of the short form of an application.
-use Rattle.std.proofs.Common.{◌≡◌, ◌≢◌, ℕ, List, [], ◌∷◌, ◌++◌, map, All, Option, None, Some, refl, sym, ap, ◌∙◌, append_assoc, append-nil, arith}
+use Rattle.std.proofs.Common.{◌≡◌, ◌≢◌, ℕ, List, [], ◌∷◌, ◌++◌, map, All, Option, None, Some, refl, sym, ap, ◌∙◌, append_assoc, append-nil}
+use Rattle.std.proofs.Common.{arith}
 use Rattle.std.specs.Option.{option_map, option_map_or}
 use Rattle.std.proofs.lemmas.List.Elements.{All-append}
 use Rattle.meta_words.specs.Words.{pieces_of}
@@ -10,7 +11,8 @@ use Rattle.meta_short.proofs.SplitLemmas.{Lacks, part_pieces, split_pieces, one_
 use Rattle.meta_short.proofs.ShortLemmas.{results_form, equals, space, front_lacks, control_lacks, values_lack}
 
 -- what was cut from a text of these parts
-module _ {X : Type 0} (now : X → List ℕ) (byte : ℕ) (text first : List ℕ) (rest : Option X) (cut : pieces_of byte text ≡ first ∷ option_map_or (λ r. pieces_of byte (now r)) rest []) where
+module _ {X : Type 0} (now : X → List ℕ) (byte : ℕ) (text first : List ℕ) (rest : Option X) (cut : pieces_of byte text
+    ≡ first ∷ option_map_or (λ r. pieces_of byte (now r)) rest []) where
   pieces_behind : (o : Option X) → option_map_or (λ r. pieces_of byte (now r)) o [] ≡ part_pieces byte (option_map now o)
   pieces_behind None = refl
   pieces_behind (Some r) = refl
@@ -30,26 +32,34 @@ module _ {X : Type 0} (now : X → List ℕ) (byte : ℕ) (text first : List ℕ
 
 -- ---- the two sides
 
-module _ {X : Type 0} (now : X → List ℕ) (text first : List ℕ) (rest : Option X) (cut : pieces_of 61 text ≡ first ∷ option_map_or (λ r. pieces_of 61 (now r)) rest []) where
+module _ {X : Type 0} (now : X → List ℕ) (text first : List ℕ) (rest : Option X) (cut : pieces_of 61 text
+    ≡ first ∷ option_map_or (λ r. pieces_of 61 (now r)) rest []) where
   -- where there is no `=` there are no results
-  pub no_results : rest ≡ None → (ts : List (List ℕ)) (applied : List ℕ) → All (Lacks 61) ts → Lacks 61 applied → text ≡ results_part ts ++ applied → (None ≡ values_written ts) × (first ≡ applied)
+  pub no_results : rest ≡ None → (ts : List (List ℕ)) (applied : List ℕ) → All (Lacks 61) ts → Lacks 61 applied
+      → text ≡ results_part ts ++ applied → (None ≡ values_written ts) × (first ≡ applied)
   no_results none [] applied h g e = (refl, first_is now 61 text first rest cut applied None g (e ∙ sym (append-nil applied)))
   no_results none (t ∷ ts) applied h g e =
-      let some : option_map now rest ≡ Some (32 ∷ applied) = rest_is now 61 text first rest cut (joined (t ∷ ts) ++ 32 ∷ []) (Some (32 ∷ applied)) (front_lacks (t ∷ ts) h) (e ∙ results_form (t ∷ ts) applied) in
+      let some : option_map now rest ≡ Some (32 ∷ applied) =
+      rest_is now 61 text first rest cut (joined (t ∷ ts) ++ 32 ∷ []) (Some (32 ∷ applied)) (front_lacks (t ∷ ts) h) (e
+      ∙ results_form (t ∷ ts) applied) in
       let nothing : option_map now rest ≡ None = ap (option_map now) none in
       absurd (cc)
 
   -- where there is one, these stand before it, and the rest behind it
-  module _ (r : X) (some : rest ≡ Some r) (list applied : List ℕ) (before : (front : List ℕ) → first ≡ front ++ 32 ∷ [] → list ≡ front) (after : (others : List ℕ) → now r ≡ 32 ∷ others → applied ≡ others) where
-    pub has_results : (ts : List (List ℕ)) (other : List ℕ) → All (Lacks 61) ts → Lacks 61 other → text ≡ results_part ts ++ other → (Some list ≡ values_written ts) × (applied ≡ other)
+  module _ (r : X) (some : rest ≡ Some r) (list applied : List ℕ) (before : (front : List ℕ) → first ≡ front ++ 32 ∷ []
+      → list ≡ front) (after : (others : List ℕ) → now r ≡ 32 ∷ others → applied ≡ others) where
+    pub has_results : (ts : List (List ℕ)) (other : List ℕ) → All (Lacks 61) ts → Lacks 61 other → text ≡ results_part ts ++ other
+        → (Some list ≡ values_written ts) × (applied ≡ other)
     has_results [] other h g e =
         let none : option_map now rest ≡ None = rest_is now 61 text first rest cut other None g (e ∙ sym (append-nil other)) in
         let there : option_map now rest ≡ Some (now r) = ap (option_map now) some in
         absurd (cc)
     has_results (t ∷ ts) other h g e =
-        let is : text ≡ (joined (t ∷ ts) ++ 32 ∷ []) ++ behind 61 (Some (32 ∷ other)) = e ∙ results_form (t ∷ ts) other in
-        let front : first ≡ joined (t ∷ ts) ++ 32 ∷ [] = first_is now 61 text first rest cut (joined (t ∷ ts) ++ 32 ∷ []) (Some (32 ∷ other)) (front_lacks (t ∷ ts) h) is in
-        let back : option_map now rest ≡ Some (32 ∷ other) = rest_is now 61 text first rest cut (joined (t ∷ ts) ++ 32 ∷ []) (Some (32 ∷ other)) (front_lacks (t ∷ ts) h) is in
+        let is : text ≡ joined (t ∷ ts) ++ 32 ∷ [] ++ behind 61 (Some (32 ∷ other)) = e ∙ results_form (t ∷ ts) other in
+        let front : first ≡ joined (t ∷ ts) ++ 32 ∷ [] =
+        first_is now 61 text first rest cut (joined (t ∷ ts) ++ 32 ∷ []) (Some (32 ∷ other)) (front_lacks (t ∷ ts) h) is in
+        let back : option_map now rest ≡ Some (32 ∷ other) =
+        rest_is now 61 text first rest cut (joined (t ∷ ts) ++ 32 ∷ []) (Some (32 ∷ other)) (front_lacks (t ∷ ts) h) is in
         let there : option_map now rest ≡ Some (now r) = ap (option_map now) some in
         let behind_it : now r ≡ 32 ∷ other = cc in
         (ap (λ l. Some l) (before (joined (t ∷ ts)) front), after other behind_it)
@@ -58,20 +68,26 @@ module _ {X : Type 0} (now : X → List ℕ) (text first : List ℕ) (rest : Opt
 
 -- what stands behind the results
 abbrev pub applied_part : Manner → Application → List ℕ
-applied_part m a = a.name ++ (behind 46 (control_written m.leaves_out a.control a.second) ++ behind 32 (values_written (map value_text a.values)))
+applied_part m a =
+    a.name ++ (behind 46 (control_written m.leaves_out a.control a.second) ++ behind 32 (values_written (map value_text a.values)))
 
 pub applied_lacks : (m : Manner) (a : Application) → IsPlain a.name → CanApply a → Lacks 61 (applied_part m a)
 applied_lacks m a plain can =
-    All-append (λ b. b ≢ 61) a.name (behind 46 (control_written m.leaves_out a.control a.second) ++ behind 32 (values_written (map value_text a.values))) plain.equals
-    (All-append (λ b. b ≢ 61) (behind 46 (control_written m.leaves_out a.control a.second)) (behind 32 (values_written (map value_text a.values)))
+    All-append (λ b. b ≢ 61) a.name (behind 46 (control_written m.leaves_out a.control a.second)
+    ++ behind 32 (values_written (map value_text a.values))) plain.equals
+    (All-append (λ b. b ≢ 61) (behind 46 (control_written m.leaves_out a.control a.second))
+    (behind 32 (values_written (map value_text a.values)))
     (control_lacks 61 m.leaves_out a.control a.second equals (omega arith) (omega arith) can.control can.second)
     (values_lack 61 a.values equals (omega arith) (omega arith) can.values))
 
 -- the name and the control stand before the values
-pub head_values : (m : Manner) (a : Application) → applied_part m a ≡ (a.name ++ behind 46 (control_written m.leaves_out a.control a.second)) ++ behind 32 (values_written (map value_text a.values))
-head_values m a = sym (append_assoc a.name (behind 46 (control_written m.leaves_out a.control a.second)) (behind 32 (values_written (map value_text a.values))))
+pub head_values : (m : Manner) (a : Application) → applied_part m a
+    ≡ (a.name ++ behind 46 (control_written m.leaves_out a.control a.second)) ++ behind 32 (values_written (map value_text a.values))
+head_values m a = sym (append_assoc a.name (behind 46 (control_written m.leaves_out a.control a.second))
+    (behind 32 (values_written (map value_text a.values))))
 
-pub head_lacks : (m : Manner) (a : Application) → IsPlain a.name → CanApply a → Lacks 32 (a.name ++ behind 46 (control_written m.leaves_out a.control a.second))
+pub head_lacks : (m : Manner) (a : Application) → IsPlain a.name → CanApply a
+    → Lacks 32 (a.name ++ behind 46 (control_written m.leaves_out a.control a.second))
 head_lacks m a plain can =
     All-append (λ b. b ≢ 32) a.name (behind 46 (control_written m.leaves_out a.control a.second)) plain.space
     (control_lacks 32 m.leaves_out a.control a.second space (omega arith) (omega arith) can.control can.second)

@@ -1,5 +1,6 @@
 -- The words of a line.
-use Rattle.std.proofs.Common.{◌≡◌, ◌≢◌, ℕ, ◌==◌, not, false, List, [], ◌∷◌, ◌++◌, map, All, None, Some, codes, refl, sym, ap, ap₂, ◌∙◌, rules, tests}
+use Rattle.std.proofs.Common.{◌≡◌, ◌≢◌, ℕ, ◌==◌, not, false, List, [], ◌∷◌, ◌++◌, map, All, None, Some, codes, refl, sym, ap, ap₂, ◌∙◌}
+use Rattle.std.proofs.Common.{rules, tests}
 use Rattle.std.specs.List.{join_with_byte, filter}
 use Rattle.std.proofs.lemmas.List.Elements.{All-head, All-tail, filter-append}
 use Rattle.meta_types.specs.TypeParts.{number_of, name_of}
@@ -24,14 +25,16 @@ kept (b ∷ bs) h =
     rw none (ap (λ cs. b ∷ cs) (kept bs (All-tail (λ b. b ≢ 32) b bs h)))
 
 -- nor have the texts behind the first, without the space before each
-behind_kept : (t : List ℕ) (ts : List (List ℕ)) → All (Lacks 32) (t ∷ ts) → no_spaces (join_with_byte 44 (t ∷ map (λ (u : List ℕ). 32 ∷ u) ts)) ≡ join_with_byte 44 (t ∷ ts)
+behind_kept : (t : List ℕ) (ts : List (List ℕ)) → All (Lacks 32) (t ∷ ts)
+    → no_spaces (join_with_byte 44 (t ∷ map (λ (u : List ℕ). 32 ∷ u) ts)) ≡ join_with_byte 44 (t ∷ ts)
 behind_kept t [] h = kept t (All-head (Lacks 32) t [] h)
 behind_kept t (u ∷ []) h =
     filter-append (λ b. not (b == 32)) t (44 ∷ 32 ∷ u)
     ∙ ap₂ (λ (x y : List ℕ). x ++ 44 ∷ y) (kept t (All-head (Lacks 32) t (u ∷ []) h)) (behind_kept u [] (All-tail (Lacks 32) t (u ∷ []) h))
 behind_kept t (u ∷ w ∷ ws) h =
     filter-append (λ b. not (b == 32)) t (44 ∷ 32 ∷ (u ++ 44 ∷ join_with_byte 44 (map (λ (u : List ℕ). 32 ∷ u) (w ∷ ws))))
-    ∙ ap₂ (λ (x y : List ℕ). x ++ 44 ∷ y) (kept t (All-head (Lacks 32) t (u ∷ w ∷ ws) h)) (behind_kept u (w ∷ ws) (All-tail (Lacks 32) t (u ∷ w ∷ ws) h))
+    ∙ ap₂ (λ (x y : List ℕ). x ++ 44 ∷ y) (kept t (All-head (Lacks 32) t (u ∷ w ∷ ws) h))
+    (behind_kept u (w ∷ ws) (All-tail (Lacks 32) t (u ∷ w ∷ ws) h))
 
 -- a list without its spaces
 pub list_kept : (ts : List (List ℕ)) (list : List ℕ) → All (Lacks 32) ts → Some list ≡ values_written ts → no_spaces list ≡ list_text ts

@@ -1,17 +1,15 @@
 -- What a run does that writes a list of lines in another form.
---     ShortensList, SpellsList, WritesBack, RefusesDeclarations, Completes      what it does where nothing fails
-use Rattle.std.specs.Prelude.{◌≡◌, ◌≢◌, ℕ, ◌+◌, ◌≤◌, ◌⊎◌, Bool, true, false, List, ◌++◌, length, Option, Some}
-use Rattle.meta_types.specs.declared.fault.DefinitionError.{DefinitionError}
-use Rattle.meta_text.specs.Outside.{Rose, longest_input, GaveMore}
-use Rattle.meta_declared.specs.AllDeclared.{Declared, ShowsFirst, AreValid}
+--     ShortensList, SpellsList, WritesBack      what it writes where nothing fails
+use Rattle.std.specs.Prelude.{◌≡◌, ◌≢◌, ℕ, ◌+◌, ◌⊎◌, Bool, true, false, List, ◌++◌, Option, Some}
+use Rattle.meta_text.specs.Outside.{Rose}
+use Rattle.meta_declared.specs.AllDeclared.{Declared, AreValid}
 use Rattle.meta_words.specs.Lines.{lines_of}
 use Rattle.meta_answers.specs.Answer.{AcceptedReply}
-use Rattle.meta_run.specs.Run as ran
-use Rattle.meta_run.specs.Run.{refusal}
+use Rattle.meta_run.specs.Run.{IsGiven, IsAnsweredWhole, IsCutShort}
 use Rattle.meta_run.specs.declared.ending.Ending.{Ending}
-use Rattle.meta_run.specs.declared.ending.Ending.TheVariants.{Done, Refused, OutOfMemory, TooLong, Rejected}
-use Rattle.meta_verify.specs.Verdict.{wrong_text, IsFirstWrong}
-use Rattle.meta_verify.specs.declared.reason.Reason.{Reason}
+use Rattle.meta_run.specs.declared.ending.Ending.TheVariants.{Done, OutOfMemory, Rejected}
+use Rattle.meta_verify.specs.Verdict.{wrong_text}
+use Rattle.meta_verify.specs.Verifier.{SaysWrong}
 use Rattle.meta_verify.specs.declared.reason.Reason.TheVariants.{Bad}
 use Rattle.meta_short.specs.Manners.{IsMannerDeclared}
 use Rattle.meta_asm.specs.Listing.{text_of_lines, filled, AreShortForms, IsFirstUnread, IsShortened}
@@ -24,72 +22,60 @@ abbrev pub AskForm : List (List ℕ) → Type 0
 AskForm words = (form : Form) × (words ≡ words_for form)
 
 -- a source and a sink, by what they tell, before and after a run over declarations
-module _ {S K : Type 0} (left : S → Option (List ℕ)) (reads : S → ℕ) (taken : K → Option (List ℕ)) (writes : K → ℕ) (d : Declared) (s s' : S) (k k' : K) where
-  -- the words ask for a form, and the input is written in it; or they ask for none, and it is a usage error
-  abbrev pub IsRun : List (List ℕ) → Ending → Type 0
-  IsRun words ending = ran.IsRun left reads taken writes d s s' k k' (λ (form : Form). words ≡ words_for form) (λ _. true) written_in ending
-
+module _ {S K : Type 0} (left : S → Option (List ℕ)) (reads : S → ℕ) (taken : K → Option (List ℕ)) (writes : K → ℕ)
+    (d : Declared) (s s' : S) (k k' : K) where
   -- for a form that the words ask for, the input was written in it whole, as an answer or, where the mark is true, as a rejection
   abbrev pub IsWrittenWhole : List (List ℕ) → Bool → Type 0
-  IsWrittenWhole words is_rejection = (form : Form) × (words ≡ words_for form) × ran.IsAnsweredWhole left reads taken writes d s s' k k' true (written_in form) is_rejection
+  IsWrittenWhole words is_rejection = (form : Form) × (words ≡ words_for form)
+      × IsAnsweredWhole left reads taken writes d s s' k k' true (written_in form) is_rejection
 
-  -- the same, and the sink took a part of it, and not all
+  -- the same, and the sink took a part of what was to be written, and not all
   abbrev pub IsWrittenInPart : List (List ℕ) → Type 0
-  IsWrittenInPart words = (form : Form) × (words ≡ words_for form) × ran.IsAnsweredInPart left reads taken writes d s s' k k' true (written_in form)
+  IsWrittenInPart words = (form : Form) × (words ≡ words_for form) × IsCutShort left reads taken writes d s s' k k' true (written_in form)
 
-  -- What was left is given: it was told, it is at most the limit, and nothing failed.
-  abbrev pub IsGiven : List ℕ → List ℕ → Ending → Type 0
-  IsGiven input before ending =
-      (ending ≢ OutOfMemory) × (left s ≡ Some input) × (length input ≤ longest_input) × (Rose (reads s) (reads s') → ⊥) × (taken k ≡ Some before) × (Rose (writes k) (writes k') → ⊥)
+  -- Nothing fails: memory didn't run out, the source told what it had left, which is at most the limit, the sink told what it had taken,
+  -- and no count rose.
+  abbrev pub NothingFails : List ℕ → List ℕ → Ending → Type 0
+  NothingFails input before ending = (ending ≢ OutOfMemory) × IsGiven left reads taken writes d s s' k k' true input
+      × (taken k ≡ Some before) × (Rose (writes k) (writes k') → ⊥)
 
   -- the run is done, no line of the input is wrong, and the sink took exactly the short form of each, with LF
   abbrev pub WritesShortForms : List ℕ → List ℕ → Ending → Type 0
   WritesShortForms input before ending =
-      (ending ≡ Done) × (texts : List (List ℕ)) × AreShortForms (AcceptedReply d.set) (IsMannerDeclared d.set) (filled (lines_of input)) texts × (taken k' ≡ Some (before ++ text_of_lines texts))
-
-  -- the input is rejected, and the sink took exactly which line is the first wrong one, and why
-  abbrev pub SaysWrong : List ℕ → List ℕ → Ending → Type 0
-  SaysWrong input before ending =
-      (ending ≡ Rejected) × (n : ℕ) × (reason : Reason) × IsFirstWrong (AcceptedReply d.set) (lines_of input) n reason × (taken k' ≡ Some (before ++ wrong_text (n + 1) reason))
+      (ending ≡ Done) × (texts : List (List ℕ))
+      × AreShortForms (AcceptedReply d.set) (IsMannerDeclared d.set) (filled (lines_of input)) texts
+      × (taken k' ≡ Some (before ++ text_of_lines texts))
 
   -- the run is done, and the sink took exactly the line that each text of the input reads as, with LF
   abbrev pub WritesLines : List ℕ → List ℕ → Ending → Type 0
   WritesLines input before ending =
-      (ending ≡ Done) × (lines : List (List ℕ)) × AreShortForms (AcceptedReply d.set) (IsMannerDeclared d.set) lines (filled (lines_of input)) × (taken k' ≡ Some (before ++ text_of_lines lines))
+      (ending ≡ Done) × (lines : List (List ℕ))
+      × AreShortForms (AcceptedReply d.set) (IsMannerDeclared d.set) lines (filled (lines_of input))
+      × (taken k' ≡ Some (before ++ text_of_lines lines))
 
   -- the input is rejected, and the sink took exactly which text is the first that reads as no line
   abbrev pub SaysUnread : List ℕ → List ℕ → Ending → Type 0
   SaysUnread input before ending =
-      (ending ≡ Rejected) × (n : ℕ) × IsFirstUnread (AcceptedReply d.set) (IsMannerDeclared d.set) (lines_of input) n × (taken k' ≡ Some (before ++ wrong_text (n + 1) Bad))
+      (ending ≡ Rejected) × (n : ℕ) × IsFirstUnread (AcceptedReply d.set) (IsMannerDeclared d.set) (lines_of input) n
+      × (taken k' ≡ Some (before ++ wrong_text (n + 1) Bad))
 
-  -- Where the word is `short`, the declarations are valid, and nothing failed, one of the two is said of what was left.
+  -- Where the word is `short`, the declarations are valid, and nothing failed, the short forms are written of what was left, or which
+  -- line of it is the first wrong one, and why.
   abbrev pub ShortensList : List (List ℕ) → Ending → Type 0
   ShortensList words ending =
-      words ≡ words_for Short → AreValid d → (input before : List ℕ) → IsGiven input before ending → WritesShortForms input before ending ⊎ SaysWrong input before ending
+      words ≡ words_for Short → AreValid d → (input before : List ℕ) → NothingFails input before ending
+      → WritesShortForms input before ending ⊎ SaysWrong left reads taken writes d s s' k k' input before ending
 
-  -- The same where the word is `explicit`.
+  -- Where the word is `explicit`, the lines are written that it reads as, or which text is the first that reads as none.
   abbrev pub SpellsList : List (List ℕ) → Ending → Type 0
   SpellsList words ending =
-      words ≡ words_for Explicit → AreValid d → (input before : List ℕ) → IsGiven input before ending → WritesLines input before ending ⊎ SaysUnread input before ending
+      words ≡ words_for Explicit → AreValid d → (input before : List ℕ) → NothingFails input before ending
+      → WritesLines input before ending ⊎ SaysUnread input before ending
 
   -- Where the word is `explicit`, the declarations are valid, nothing failed, and the input is what `short` writes of a list that has no
   -- wrong line: the run is done, and the sink took exactly the list itself, its lines but the empty ones, each with LF.
   abbrev pub WritesBack : List (List ℕ) → Ending → Type 0
   WritesBack words ending =
-      words ≡ words_for Explicit → AreValid d → (list input before : List ℕ) → IsShortened (AcceptedReply d.set) (IsMannerDeclared d.set) list false input → IsGiven input before ending
+      words ≡ words_for Explicit → AreValid d → (list input before : List ℕ)
+      → IsShortened (AcceptedReply d.set) (IsMannerDeclared d.set) list false input → NothingFails input before ending
       → (ending ≡ Done) × (taken k' ≡ Some (before ++ text_of_lines (filled (lines_of list))))
-
-  -- Where the words ask for a form and the declarations show a fault, memory didn't run out and the sink's count didn't rise: the
-  -- declarations are refused, and the sink took exactly the line that says so, by the first fault.
-  abbrev pub RefusesDeclarations : List (List ℕ) → Ending → Type 0
-  RefusesDeclarations words ending =
-      AskForm words → (e : DefinitionError) → ShowsFirst d e → ending ≢ OutOfMemory → (before : List ℕ) → taken k ≡ Some before
-      → (Rose (writes k) (writes k') → ⊥)
-      → (ending ≡ Refused) × (taken k' ≡ Some (before ++ refusal e))
-
-  -- Where the words ask for a form and the declarations are valid, and neither count rose, the list or its rejection was written whole,
-  -- unless memory ran out, or the source gave more than the limit. That asks for no bytes to be told.
-  abbrev pub Completes : List (List ℕ) → Ending → Type 0
-  Completes words ending =
-      AskForm words → AreValid d → (Rose (reads s) (reads s') → ⊥) → (Rose (writes k) (writes k') → ⊥)
-      → (ending ≡ Done) ⊎ ((ending ≡ Rejected) ⊎ ((ending ≡ OutOfMemory) ⊎ ((ending ≡ TooLong) × GaveMore longest_input (left s) (left s'))))

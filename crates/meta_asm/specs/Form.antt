@@ -8,13 +8,13 @@ use Rattle.meta_asm.specs.declared.form.Form.{Form}
 use Rattle.meta_asm.specs.declared.form.Form.TheVariants.{Short, Explicit}
 
 -- the name of the form
-abbrev pub name_of : Form → List ℕ
-name_of Short = codes "short"
-name_of Explicit = codes "explicit"
+abbrev pub form_name : Form → List ℕ
+form_name Short = codes "short"
+form_name Explicit = codes "explicit"
 
 -- the words that ask for it: its name
 abbrev pub words_for : Form → List (List ℕ)
-words_for form = name_of form ∷ []
+words_for form = form_name form ∷ []
 
 -- what an input is written as in the form, as declarations mean
 abbrev pub written_in : Form → Texts

@@ -28,7 +28,8 @@ abbrev pub AreShort : Replies → Manners → Environment → List (List ℕ) �
 AreShort R M env [] [] env' = env' ≡ env
 AreShort R M env [] (text ∷ texts) env' = ⊥
 AreShort R M env (line ∷ lines) [] env' = ⊥
-AreShort R M env (line ∷ lines) (text ∷ texts) env' = (short : IsShort R M env line text) × AreShort R M (with_values env (defined_by short.statement)) lines texts env'
+AreShort R M env (line ∷ lines) (text ∷ texts) env' =
+    (short : IsShort R M env line text) × AreShort R M (with_values env (defined_by short.statement)) lines texts env'
 
 -- the same of a whole list
 abbrev pub AreShortForms : Replies → Manners → List (List ℕ) → List (List ℕ) → Type 0
@@ -46,8 +47,10 @@ pub record IsFirstUnread (R : Replies) (M : Manners) (texts : List (List ℕ)) (
 
 -- The short forms of the lines of an input, or, as a rejection, which is the first wrong one, and why.
 abbrev pub IsShortened : Replies → Manners → List ℕ → Bool → List ℕ → Type 0
-IsShortened R M input false text = (texts : List (List ℕ)) × AreShortForms R M (filled (lines_of input)) texts × (text ≡ text_of_lines texts)
-IsShortened R M input true text = (n : ℕ) × (reason : Reason) × IsFirstWrong R (lines_of input) n reason × (text ≡ wrong_text (n + 1) reason)
+IsShortened R M input false text =
+    (texts : List (List ℕ)) × AreShortForms R M (filled (lines_of input)) texts × (text ≡ text_of_lines texts)
+IsShortened R M input true text =
+    (n : ℕ) × (reason : Reason) × IsFirstWrong R (lines_of input) n reason × (text ≡ wrong_text (n + 1) reason)
 
 -- The lines that those of an input read as, or, as a rejection, which is the first that reads as none.
 abbrev pub IsSpelled : Replies → Manners → List ℕ → Bool → List ℕ → Type 0
@@ -60,10 +63,12 @@ IsSpelled R M input true text = (n : ℕ) × IsFirstUnread R M (lines_of input) 
 abbrev pub AddsShortForm : TableContents → Environment → List ℕ → Environment → List ℕ → List ℕ → Type 0
 AddsShortForm tables env line env' out out' =
     ((line ≡ []) × (env' ≡ env) × (out' ≡ out))
-    ⊎ ((text : List ℕ) × (short : IsShortIn tables env line text) × (line ≢ []) × (env' ≡ with_values env (defined_by short.statement)) × (out' ≡ out ++ (text ++ 10 ∷ [])))
+    ⊎ ((text : List ℕ) × (short : IsShortIn tables env line text) × (line ≢ [])
+    × (env' ≡ with_values env (defined_by short.statement)) × (out' ≡ out ++ (text ++ 10 ∷ [])))
 
 -- An empty text is skipped, and for another the line that it reads as is added, with LF, and what that defines is defined.
 abbrev pub AddsLine : TableContents → Environment → List ℕ → Environment → List ℕ → List ℕ → Type 0
 AddsLine tables env text env' out out' =
     ((text ≡ []) × (env' ≡ env) × (out' ≡ out))
-    ⊎ ((line : List ℕ) × (short : IsShortIn tables env line text) × (text ≢ []) × (env' ≡ with_values env (defined_by short.statement)) × (out' ≡ out ++ (line ++ 10 ∷ [])))
+    ⊎ ((line : List ℕ) × (short : IsShortIn tables env line text) × (text ≢ [])
+    × (env' ≡ with_values env (defined_by short.statement)) × (out' ≡ out ++ (line ++ 10 ∷ [])))

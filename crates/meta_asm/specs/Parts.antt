@@ -1,15 +1,15 @@
 -- The parts of the short form of an application, as the program holds them.
---     HasParts m a p         they are those of a, with the types left out that m leaves out
+--     HasShortParts m a p    they are those of a, with the types left out that m leaves out
 --     TellTypes opened rs numbers      the numbers tell the types of the results whose types aren't written
 use Rattle.std.specs.Prelude.{◌≡◌, ℕ, Bool, false, List, [], ◌∷◌, map, length, slice_get, get_or, Some}
 use Rattle.std.specs.Option.{option_map}
 use Rattle.meta_types.specs.TypeParts.{number_of}
 use Rattle.meta_verify.specs.Statement.{TypedValue, Application, value_text}
 use Rattle.meta_short.specs.Short.{Manner, short_results, short_result_text, control_written, values_written}
-use Rattle.meta_asm.specs.declared.parts.Parts.{Parts}
+use Rattle.meta_asm.specs.declared.parts.ShortParts.{ShortParts}
 
 -- the list of the results, the name, what stands behind the point, and the list of the values
-pub record HasParts (m : Manner) (a : Application) (p : Parts) : Type 0 where
+pub record HasShortParts (m : Manner) (a : Application) (p : ShortParts) : Type 0 where
   pub results : option_map (λ t. t.now) p.results ≡ values_written (map short_result_text (short_results m.opened a.results))
   pub name : p.name.now ≡ a.name
   pub control : option_map (λ t. t.now) p.control ≡ control_written m.leaves_out a.control a.second
@@ -18,7 +18,8 @@ pub record HasParts (m : Manner) (a : Application) (p : Parts) : Type 0 where
 -- there is a number for each result, and that for a result whose type isn't written is the number of its type
 pub record TellTypes (opened : List Bool) (rs : List TypedValue) (numbers : List ℕ) : Type 0 where
   pub count : length numbers ≡ length rs
-  pub each : (k : ℕ) (r : TypedValue) → slice_get rs k ≡ Some r → get_or opened k false ≡ false → slice_get numbers k ≡ Some (number_of r.type)
+  pub each : (k : ℕ) (r : TypedValue)
+      → slice_get rs k ≡ Some r → get_or opened k false ≡ false → slice_get numbers k ≡ Some (number_of r.type)
 
 -- the comma that stands behind a word before the next
 abbrev pub comma_behind : List ℕ → List ℕ

@@ -14,7 +14,8 @@ use Rattle.meta_short.specs.Parts.{IsPlain}
 use Rattle.meta_short.specs.Manners.{manner_of}
 
 -- the tables allow the types of the values and the results for the opcode of the name, whose entry says in which manner it is written
-pub record IsReadBy (tables : TableContents) (env : Environment) (op : ℕ) (entry : OpcodeNumbers) (m : Manner) (a : Application) : Type 0 where
+pub record IsReadBy (tables : TableContents) (env : Environment) (op : ℕ) (entry : OpcodeNumbers) (m : Manner)
+    (a : Application) : Type 0 where
   pub can : CanApply a
   pub plain : IsPlain a.name
   pub some : 0 < length a.name

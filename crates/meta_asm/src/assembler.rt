@@ -1,9 +1,10 @@
-ghost use Rattle.std.specs.Prelude.{◌≡◌, ◌≢◌, ◌≤◌, ◌⊎◌, ◌↔◌, true, false};
+ghost use Rattle.std.specs.Prelude.{◌≡◌, ◌≢◌, ◌≤◌, ◌↔◌, true, false};
 ghost use Rattle.meta_text.specs.Outside.{Rose, longest_input, GaveMore, GaveAtMost};
 ghost use Rattle.meta_declared.specs.AllDeclared.{AreValid};
 ghost use Rattle.meta_run.specs.Ending.{WritesNothing};
-ghost use Rattle.meta_run.specs.Run.{IsRefusedWhole, IsRefusedInPart, NeverRises};
-ghost use Rattle.meta_asm.specs.Assembler.{AskForm, IsRun, IsWrittenWhole, IsWrittenInPart, ShortensList, SpellsList, WritesBack, RefusesDeclarations, Completes};
+ghost use Rattle.meta_run.specs.Run.{IsRun, IsRefusedWhole, NeverRises, RefusesDeclarations, Completes};
+ghost use Rattle.meta_asm.specs.Form.{words_for, written_in};
+ghost use Rattle.meta_asm.specs.Assembler.{AskForm, IsWrittenWhole, IsWrittenInPart, ShortensList, SpellsList, WritesBack};
 
 use super::form::Form;
 use super::listing::{shortened, spelled};
@@ -13,7 +14,7 @@ use meta_run::{Answer, Answerer, Ending, run_answerer};
 use meta_short::short_forms_mean;
 use meta_text::{Sink, Source};
 use meta_types::Text;
-use meta_verify::answers_mean;
+use meta_verify::verdicts_mean;
 use std::alloc::{AllocError, Global};
 
 impl Answerer for Form {
@@ -29,7 +30,7 @@ impl Answerer for Form {
     }
 
     fn answer(&self, alloc: Global, built: &Built<'_>, input: &[u8]) -> Result<Answer, AllocError> {
-        answers_mean();
+        verdicts_mean();
         short_forms_mean();
         let _declarations = built.declarations();
         let tables = tables_of(alloc, built)?;
@@ -48,7 +49,8 @@ fn assemble<S: Source, K: Sink>(
     source: &mut S,
     sink: &mut K,
 ) -> Ending
-    ensures { IsRun S.left S.faults K.taken K.faults declarations.now source.old source.new sink.old sink.new words.now result }
+    ensures { IsRun S.left S.faults K.taken K.faults declarations.now source.old source.new sink.old sink.new
+        (λ form. words.now ≡ words_for form) (λ _. true) written_in result }
 {
     match Form::parse(words) {
         Some(form) => run_answerer(alloc, &form, declarations, source, sink),
@@ -73,26 +75,32 @@ pub fn asm<S: Source, K: Sink>(
 ) -> Ending
     // Over valid declarations `short` writes the short form of each line, exactly where no line is wrong, and `explicit` the line that
     // each text reads as, exactly where each reads as one; else the first other one is told. Other declarations are refused.
-    ensures shortens { ShortensList S.left S.faults K.taken K.faults declarations.now source.old source.new sink.old sink.new words.now result }
+    ensures shortens { ShortensList S.left S.faults K.taken K.faults declarations.now source.old source.new sink.old
+        sink.new words.now result }
     ensures spells { SpellsList S.left S.faults K.taken K.faults declarations.now source.old source.new sink.old sink.new words.now result }
-    ensures refuses { RefusesDeclarations S.left S.faults K.taken K.faults declarations.now source.old source.new sink.old sink.new words.now result }
-    ensures complete { Completes S.left S.faults K.taken K.faults declarations.now source.old source.new sink.old sink.new words.now result }
+    ensures refuses { AskForm words.now → RefusesDeclarations S.left S.faults K.taken K.faults declarations.now
+        source.old source.new sink.old sink.new result }
+    ensures complete { AskForm words.now → Completes S.left S.faults K.taken K.faults declarations.now source.old
+        source.new sink.old sink.new true result }
 
     // So `explicit` writes a list back of what `short` wrote of it: it is done, and the list is the same, but for empty lines and CRs.
-    ensures writes_back { WritesBack S.left S.faults K.taken K.faults declarations.now source.old source.new sink.old sink.new words.now result }
+    ensures writes_back { WritesBack S.left S.faults K.taken K.faults declarations.now source.old source.new sink.old
+        sink.new words.now result }
 
     // The words decide whether it is a usage error, and then nothing was read or written.
     ensures usage { (result ≡ Ending.Usage) ↔ (AskForm words.now → ⊥) }
 
-    ensures done { result ≡ Ending.Done → IsWrittenWhole S.left S.faults K.taken K.faults declarations.now source.old source.new sink.old sink.new words.now false }
-    ensures rejected { result ≡ Ending.Rejected → IsWrittenWhole S.left S.faults K.taken K.faults declarations.now source.old source.new sink.old sink.new words.now true }
+    ensures done { result ≡ Ending.Done
+        → IsWrittenWhole S.left S.faults K.taken K.faults declarations.now source.old source.new sink.old sink.new words.now false }
+    ensures rejected { result ≡ Ending.Rejected
+        → IsWrittenWhole S.left S.faults K.taken K.faults declarations.now source.old source.new sink.old sink.new words.now true }
     ensures refused { result ≡ Ending.Refused → IsRefusedWhole declarations.now (K.taken sink.old) (K.taken sink.new) }
     ensures read_fault { result ≡ Ending.ReadFault → AreValid declarations.now × Rose (S.faults source.old) (S.faults source.new) }
     ensures write_fault { result ≡ Ending.WriteFault → Rose (K.faults sink.old) (K.faults sink.new) }
     ensures written_in_part { result ≡ Ending.WriteFault
-        → IsRefusedInPart declarations.now (K.taken sink.old) (K.taken sink.new)
-        ⊎ IsWrittenInPart S.left S.faults K.taken K.faults declarations.now source.old source.new sink.old sink.new words.now }
-    ensures too_long { result ≡ Ending.TooLong → AreValid declarations.now × GaveMore longest_input (S.left source.old) (S.left source.new) }
+        → IsWrittenInPart S.left S.faults K.taken K.faults declarations.now source.old source.new sink.old sink.new words.now }
+    ensures too_long { result ≡ Ending.TooLong → AreValid declarations.now
+        × GaveMore longest_input (S.left source.old) (S.left source.new) }
     ensures else_within { result ≢ Ending.TooLong → GaveAtMost longest_input (S.left source.old) (S.left source.new) }
 
     ensures untouched { WritesNothing result → sink.new ≡ sink.old }

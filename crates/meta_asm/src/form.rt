@@ -1,5 +1,5 @@
 ghost use Rattle.std.specs.Prelude.{◌≡◌, ◌≢◌, IfSome, IfNone};
-ghost use Rattle.meta_asm.specs.Form.{name_of, words_for};
+ghost use Rattle.meta_asm.specs.Form.{form_name, words_for};
 ghost use Rattle.meta_asm.specs.declared.form.Form as spec;
 
 use meta_types::Text;
@@ -27,8 +27,8 @@ impl Form {
 
     /// The form of this name.
     fn named(name: &[u8]) -> Option<Form>
-        ensures some { IfSome result (λ form. name.now ≡ name_of form) }
-        ensures none { IfNone result ((form : spec.Form) → name.now ≢ name_of form) }
+        ensures some { IfSome result (λ form. name.now ≡ form_name form) }
+        ensures none { IfNone result ((form : spec.Form) → name.now ≢ form_name form) }
     {
         if name == b"short".as_slice() {
             return Some(Form::Short);

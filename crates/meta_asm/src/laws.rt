@@ -3,16 +3,50 @@ ghost use Rattle.meta_inst.specs.InstructionSet.{InstructionSet};
 ghost use Rattle.meta_inst.specs.Faults.{IsValid};
 ghost use Rattle.meta_meaning.specs.Tables.{TableContents};
 ghost use Rattle.meta_opcode_tables.specs.WellFormed.{IsWellFormedOpcodes};
+ghost use Rattle.meta_declared.specs.AllDeclared.{Declared, AreValid};
 ghost use Rattle.meta_words.specs.Lines.{lines_of};
 ghost use Rattle.meta_answers.specs.Answer.{AllowedReply, AcceptedReply};
 ghost use Rattle.meta_short.specs.Manners.{IsMannerIn, IsMannerDeclared};
 ghost use Rattle.meta_asm.specs.Listing.{text_of_lines, filled, IsShortened, IsSpelled};
+ghost use Rattle.meta_asm.specs.Form.{words_for, written_in};
+ghost use Rattle.meta_asm.specs.declared.form.Form.{Form};
+
+use meta_short::{one_line_reads, one_short_form};
+use meta_verify::{one_answer, one_statement, one_verdict};
 
 /// The short forms of a list, as a text, are written back as the list itself, and as nothing else: its lines but the empty ones, without
 /// the CRs that were dropped, each with LF, and no rejection. So it is by well-formed tables, and as valid declarations mean.
 pub fn lists_are_written_back()
-    ensures tables { (tables : TableContents) → IsWellFormedOpcodes tables → (input out : List ℕ) → IsShortened (AllowedReply tables) (IsMannerIn tables) input false out
-        → (is_rejection : Bool) (text : List ℕ) → (IsSpelled (AllowedReply tables) (IsMannerIn tables) out is_rejection text ↔ ((is_rejection ≡ false) × (text ≡ text_of_lines (filled (lines_of input))))) }
-    ensures declared { (d : InstructionSet) → IsValid d → (input out : List ℕ) → IsShortened (AcceptedReply d) (IsMannerDeclared d) input false out
-        → (is_rejection : Bool) (text : List ℕ) → (IsSpelled (AcceptedReply d) (IsMannerDeclared d) out is_rejection text ↔ ((is_rejection ≡ false) × (text ≡ text_of_lines (filled (lines_of input))))) }
+    ensures tables { (tables : TableContents) → IsWellFormedOpcodes tables → (input out : List ℕ)
+        → IsShortened (AllowedReply tables) (IsMannerIn tables) input false out → (is_rejection : Bool) (text : List ℕ)
+        → (IsSpelled (AllowedReply tables) (IsMannerIn tables) out is_rejection text
+        ↔ ((is_rejection ≡ false) × (text ≡ text_of_lines (filled (lines_of input))))) }
+    ensures declared { (d : InstructionSet) → IsValid d → (input out : List ℕ)
+        → IsShortened (AcceptedReply d) (IsMannerDeclared d) input false out → (is_rejection : Bool) (text : List ℕ)
+        → (IsSpelled (AcceptedReply d) (IsMannerDeclared d) out is_rejection text
+        ↔ ((is_rejection ≡ false) × (text ≡ text_of_lines (filled (lines_of input))))) }
 {}
+
+/// Words ask for one form at most.
+pub fn one_form()
+    ensures { (words : List (List ℕ)) (a b : Form) → words ≡ words_for a → words ≡ words_for b → a ≡ b }
+{}
+
+/// An input is written in a form in one way at most: by tables, which for the explicit form are well-formed, and as valid declarations
+/// mean.
+pub fn one_output_of_a_form()
+    ensures short { (tables : TableContents) (input : List ℕ) (a b : Bool) (s t : List ℕ)
+        → IsShortened (AllowedReply tables) (IsMannerIn tables) input a s
+        → IsShortened (AllowedReply tables) (IsMannerIn tables) input b t → (a ≡ b) × (s ≡ t) }
+    ensures explicit { (tables : TableContents) → IsWellFormedOpcodes tables → (input : List ℕ) (a b : Bool) (s t : List ℕ)
+        → IsSpelled (AllowedReply tables) (IsMannerIn tables) input a s
+        → IsSpelled (AllowedReply tables) (IsMannerIn tables) input b t → (a ≡ b) × (s ≡ t) }
+    ensures declared { (d : Declared) (form : Form) (input : List ℕ) (a b : Bool) (s t : List ℕ) → AreValid d
+        → written_in form d input a s → written_in form d input b t → (a ≡ b) × (s ≡ t) }
+{
+    one_statement();
+    one_answer();
+    one_verdict();
+    one_short_form();
+    one_line_reads();
+}

@@ -34,8 +34,10 @@ fn push_short_form(
     line: &[u8],
     out: &mut String,
 ) -> Result<Option<Reason>, AllocError>
-    ensures fed { IfOk result (λ answer. Feeds (AllowedReply tables.now.opcodes) (definitions checker.old) line.now answer (definitions checker.new)) }
-    ensures added { IfOk result (λ answer. answer ≡ None → AddsShortForm tables.now.opcodes (definitions checker.old) line.now (definitions checker.new) (string_bytes out.old) (string_bytes out.new)) }
+    ensures fed { IfOk result (λ answer.
+        Feeds (AllowedReply tables.now.opcodes) (definitions checker.old) line.now answer (definitions checker.new)) }
+    ensures added { IfOk result (λ answer. answer ≡ None → AddsShortForm tables.now.opcodes
+        (definitions checker.old) line.now (definitions checker.new) (string_bytes out.old) (string_bytes out.new)) }
 {
     if !push_line(alloc, tables, checker, line, out)? {
         return checker.feed(tables, line);
@@ -47,7 +49,8 @@ fn push_short_form(
 /// Writes the short forms of the lines of an input, or says which is the first wrong line, and why.
 pub(crate) fn shortened(alloc: Global, tables: &Tables, input: &[u8]) -> Result<Answer, AllocError>
     requires within { length input.now ≤ longest_input }
-    ensures { IfOk result (λ answer. IsShortened (AllowedReply tables.now.opcodes) (IsMannerIn tables.now.opcodes) input.now answer.is_rejection (string_bytes answer.text)) }
+    ensures { IfOk result (λ answer. IsShortened (AllowedReply tables.now.opcodes) (IsMannerIn tables.now.opcodes)
+        input.now answer.is_rejection (string_bytes answer.text)) }
 {
     let mut checker = Checker::new(alloc);
     let mut text = String::new(alloc);
@@ -73,9 +76,11 @@ fn push_read_line(
     text: &[u8],
     out: &mut String,
 ) -> Result<bool, AllocError>
-    ensures added { IfOk result (λ reads. reads ≡ true → AddsLine tables.now.opcodes (definitions checker.old) text.now (definitions checker.new) (string_bytes out.old) (string_bytes out.new)) }
+    ensures added { IfOk result (λ reads. reads ≡ true → AddsLine tables.now.opcodes
+        (definitions checker.old) text.now (definitions checker.new) (string_bytes out.old) (string_bytes out.new)) }
     ensures some { IfOk result (λ reads. reads ≡ false → text.now ≢ []) }
-    ensures unread { IfOk result (λ reads. reads ≡ false → (line : List ℕ) → ¬ ReadsIn tables.now.opcodes (definitions checker.old) text.now line) }
+    ensures unread { IfOk result (λ reads. reads ≡ false
+        → (line : List ℕ) → ¬ ReadsIn tables.now.opcodes (definitions checker.old) text.now line) }
 {
     if text.is_empty() {
         return Ok(true);
@@ -93,7 +98,8 @@ fn push_read_line(
 /// Writes the lines that those of an input read as, or says which is the first that reads as none.
 pub(crate) fn spelled(alloc: Global, tables: &Tables, input: &[u8]) -> Result<Answer, AllocError>
     requires within { length input.now ≤ longest_input }
-    ensures { IfOk result (λ answer. IsSpelled (AllowedReply tables.now.opcodes) (IsMannerIn tables.now.opcodes) input.now answer.is_rejection (string_bytes answer.text)) }
+    ensures { IfOk result (λ answer. IsSpelled (AllowedReply tables.now.opcodes) (IsMannerIn tables.now.opcodes)
+        input.now answer.is_rejection (string_bytes answer.text)) }
 {
     let mut checker = Checker::new(alloc);
     let mut text = String::new(alloc);

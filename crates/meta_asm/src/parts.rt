@@ -3,14 +3,14 @@ ghost use Rattle.std.specs.Option.{option_map};
 ghost use Rattle.meta_verify.specs.Statement.{Application, CanApply};
 ghost use Rattle.meta_short.specs.Short.{Manner, results_part, values_written, short_application};
 ghost use Rattle.meta_short.specs.Parts.{IsPlain};
-ghost use Rattle.meta_asm.specs.Parts.{HasParts};
+ghost use Rattle.meta_asm.specs.Parts.{HasShortParts};
 
 use meta_words::cut;
 
 /// The parts of the short form of an application: the list before ` = `, the name, what stands behind the point, and the list of the
 /// values.
 #[derive(Clone, Copy)]
-pub(crate) struct Parts<'a> {
+pub(crate) struct ShortParts<'a> {
     pub(crate) results: Option<&'a [u8]>,
     pub(crate) name: &'a [u8],
     pub(crate) control: Option<&'a [u8]>,
@@ -47,8 +47,12 @@ struct Sides<'a> {
 
 /// The two sides of the short form of an application. Of another text they are some parts of it.
 fn sides_of(text: &[u8]) -> Sides<'_>
-    ensures results { (results : List (List ℕ)) (applied : List ℕ) → All (λ t. All (λ b. b ≢ 61) t) results → All (λ b. b ≢ 61) applied → text.now ≡ results_part results ++ applied → option_map (λ t. t.now) result.results ≡ values_written results }
-    ensures applied { (results : List (List ℕ)) (applied : List ℕ) → All (λ t. All (λ b. b ≢ 61) t) results → All (λ b. b ≢ 61) applied → text.now ≡ results_part results ++ applied → result.applied.now ≡ applied }
+    ensures results { (results : List (List ℕ)) (applied : List ℕ)
+        → All (λ t. All (λ b. b ≢ 61) t) results → All (λ b. b ≢ 61) applied → text.now ≡ results_part results ++ applied
+        → option_map (λ t. t.now) result.results ≡ values_written results }
+    ensures applied { (results : List (List ℕ)) (applied : List ℕ)
+        → All (λ t. All (λ b. b ≢ 61) t) results → All (λ b. b ≢ 61) applied → text.now ≡ results_part results ++ applied
+        → result.applied.now ≡ applied }
 {
     let (front, rest) = cut(text, b'=');
     match rest {
@@ -64,13 +68,13 @@ fn sides_of(text: &[u8]) -> Sides<'_>
 }
 
 /// The parts of the short form of an application. Of another text they are some parts of it.
-pub(crate) fn parts_of(text: &[u8]) -> Parts<'_>
-    ensures { (m : Manner) (a : Application) → IsPlain a.name → CanApply a → text.now ≡ short_application m a → HasParts m a result }
+pub(crate) fn parts_of(text: &[u8]) -> ShortParts<'_>
+    ensures { (m : Manner) (a : Application) → IsPlain a.name → CanApply a → text.now ≡ short_application m a → HasShortParts m a result }
 {
     let sides = sides_of(text);
     let (head, values) = cut(sides.applied, b' ');
     let (name, control) = cut(head, b'.');
-    Parts {
+    ShortParts {
         results: sides.results,
         name,
         control,

@@ -13,11 +13,11 @@ ghost use Rattle.meta_verify.specs.Wrong.{IsRight};
 ghost use Rattle.meta_short.specs.Short.{Manner as spec_Manner, short_application};
 ghost use Rattle.meta_short.specs.Manners.{manner_of, is_control, IsMannerIn};
 ghost use Rattle.meta_short.specs.Reading.{IsShortIn, ReadsIn};
-ghost use Rattle.meta_asm.specs.Parts.{HasParts};
+ghost use Rattle.meta_asm.specs.Parts.{HasShortParts};
 ghost use Rattle.meta_asm.specs.Read.{IsReadBy};
 ghost use Rattle.meta_asm.specs.Written.{HasWritten};
 
-use super::parts::{Parts, parts_of};
+use super::parts::{ShortParts, parts_of};
 use super::results::results_word;
 use super::words::{Words, control_word, line_of, values_word};
 use super::written::{Written, written_of};
@@ -41,7 +41,8 @@ fn find_named(tables: &Tables, name: &[u8]) -> Option<Named>
     ensures first { IfSome result (λ n. IsFirst (IsOpcodeNamed tables.now.opcodes.names name.now) n.opcode) }
     ensures entry { IfSome result (λ n. at_opcode tables.now.opcodes.entries n.opcode ≡ Some (entry_of n.entry)) }
     ensures manner { IfSome result (λ n. n.leaves_out ≡ (manner_of tables.now.opcodes (entry_of n.entry)).leaves_out) }
-    ensures none { IfNone result ((op : ℕ) (entry : OpcodeNumbers) → at_opcode tables.now.opcodes.names op ≡ Some name.now → at_opcode tables.now.opcodes.entries op ≢ Some entry) }
+    ensures none { IfNone result ((op : ℕ) (entry : OpcodeNumbers)
+        → at_opcode tables.now.opcodes.names op ≡ Some name.now → at_opcode tables.now.opcodes.entries op ≢ Some entry) }
 {
     let opcode = tables.find_opcode(name)?;
     let entry = tables.constraints(opcode)?;
@@ -62,7 +63,9 @@ fn control_place(constraints: &[Constraint]) -> Option<usize>
 
 /// The number of the controlling type: as it is written, or else that of the value that has it.
 fn control_of(tables: &Tables, checker: &Checker, named: Named, written: &Written) -> Option<u16>
-    ensures { (m : spec_Manner) (a : spec.Application) → IsReadBy tables.now.opcodes (definitions checker.now) named.opcode (entry_of named.entry) m a → named.leaves_out ≡ m.leaves_out → HasWritten m a written.now → result ≡ option_map number_of a.control }
+    ensures { (m : spec_Manner) (a : spec.Application)
+        → IsReadBy tables.now.opcodes (definitions checker.now) named.opcode (entry_of named.entry) m a
+        → named.leaves_out ≡ m.leaves_out → HasWritten m a written.now → result ≡ option_map number_of a.control }
 {
     if written.control.is_some() {
         return written.control;
@@ -81,9 +84,12 @@ fn line_with_types(
     tables: &Tables,
     checker: &Checker,
     named: Named,
-    parts: Parts<'_>,
+    parts: ShortParts<'_>,
 ) -> Result<Option<Vec<u8>>, AllocError>
-    ensures { IfOk result (λ o. (line : List ℕ) (m : spec_Manner) (a : spec.Application) → spec.IsStatement line (spec.OfApplication a) → IsReadBy tables.now.opcodes (definitions checker.now) named.opcode (entry_of named.entry) m a → named.leaves_out ≡ m.leaves_out → HasParts m a parts.entry → option_map (λ l. l.items) o ≡ Some line) }
+    ensures { IfOk result (λ o. (line : List ℕ) (m : spec_Manner) (a : spec.Application)
+        → spec.IsStatement line (spec.OfApplication a)
+        → IsReadBy tables.now.opcodes (definitions checker.now) named.opcode (entry_of named.entry) m a
+        → named.leaves_out ≡ m.leaves_out → HasShortParts m a parts.entry → option_map (λ l. l.items) o ≡ Some line) }
 {
     let values = values_word(alloc, parts.values)?;
     let Some(written) = written_of(alloc, parts, &values)? else {
@@ -115,7 +121,9 @@ fn spelled_out(
     checker: &Checker,
     text: &[u8],
 ) -> Result<Option<Vec<u8>>, AllocError>
-    ensures { IfOk result (λ o. (line : List ℕ) (m : spec_Manner) (a : spec.Application) → IsRight (AllowedReply tables.now.opcodes) (definitions checker.now) line (spec.OfApplication a) → IsMannerIn tables.now.opcodes a.name m → text.now ≡ short_application m a → option_map (λ l. l.items) o ≡ Some line) }
+    ensures { IfOk result (λ o. (line : List ℕ) (m : spec_Manner) (a : spec.Application)
+        → IsRight (AllowedReply tables.now.opcodes) (definitions checker.now) line (spec.OfApplication a)
+        → IsMannerIn tables.now.opcodes a.name m → text.now ≡ short_application m a → option_map (λ l. l.items) o ≡ Some line) }
 {
     let _opcodes = tables.opcode_count();
     let parts = parts_of(text);

@@ -17,7 +17,8 @@ fn push_result(
     text: &[u8],
     number: u16,
 ) -> Result<bool, AllocError>
-    ensures { IfOk result (λ has_type. (opened : Bool) (r : TypedValue) → IsTyped r → (opened ≡ false → number ≡ number_of r.type) → text.now ≡ short_result_text (shortened opened r)
+    ensures { IfOk result (λ has_type. (opened : Bool) (r : TypedValue) → IsTyped r
+        → (opened ≡ false → number ≡ number_of r.type) → text.now ≡ short_result_text (shortened opened r)
         → (has_type ≡ true) × (word.new.items ≡ word.old.items ++ typed_text r)) }
 {
     word.extend_from_slice(text)?;
@@ -57,7 +58,8 @@ pub(crate) fn results_word(
     numbers: &[u16],
 ) -> Result<Option<Vec<u8>>, AllocError>
     ensures { IfOk result (λ word. (opened : List Bool) (rs : List TypedValue) → All IsTyped rs → TellTypes opened rs numbers.now
-        → option_map (λ t. t.now) list.entry ≡ values_written (map short_result_text (short_results opened rs)) → option_map (λ w. w.items) word ≡ Some (list_text (map typed_text rs))) }
+        → option_map (λ t. t.now) list.entry ≡ values_written (map short_result_text (short_results opened rs))
+        → option_map (λ w. w.items) word ≡ Some (list_text (map typed_text rs))) }
 {
     let Some(listed) = list else {
         let word = b"-".to_vec(alloc)?;

@@ -1,4 +1,5 @@
-ghost use Rattle.std.specs.Prelude.{◌≡◌, ◌≢◌, ◌++◌, ◌==◌, ℕ, not, true, List, [], ◌∷◌, All, filter, Option, Some, None, IfOk, IfSome, codes};
+ghost use Rattle.std.specs.Prelude.{◌≡◌, ◌≢◌, ◌++◌, ◌==◌, ℕ, not, true, List, [], ◌∷◌, All, filter, Option, Some, None};
+ghost use Rattle.std.specs.Prelude.{IfOk, IfSome, codes};
 ghost use Rattle.std.specs.List.{join_with_byte};
 ghost use Rattle.std.specs.Option.{option_map};
 ghost use Rattle.meta_types.specs.TypeParts.{name_of};
@@ -21,7 +22,8 @@ pub(crate) struct Words<'a> {
 
 /// The line of the words.
 pub(crate) fn line_of(alloc: Global, words: Words<'_>) -> Result<Vec<u8>, AllocError>
-    ensures { IfOk result (λ line. line.items ≡ join_with_byte 32 (codes "line" ∷ words.entry.name.now ∷ words.entry.control.now ∷ words.entry.results.now ∷ words.entry.values.now ∷ [])) }
+    ensures { IfOk result (λ line. line.items ≡ join_with_byte 32
+        (codes "line" ∷ words.entry.name.now ∷ words.entry.control.now ∷ words.entry.results.now ∷ words.entry.values.now ∷ [])) }
 {
     let mut line = Vec::new(alloc);
     line.extend_from_slice(b"line ")?;
@@ -50,7 +52,8 @@ fn without_spaces(alloc: Global, list: &[u8]) -> Result<Vec<u8>, AllocError>
 
 /// The word for values: `-` for none, and else their list without its spaces.
 pub(crate) fn values_word(alloc: Global, list: Option<&[u8]>) -> Result<Vec<u8>, AllocError>
-    ensures { IfOk result (λ word. (texts : List (List ℕ)) → All (λ t. All (λ b. b ≢ 32) t) texts → option_map (λ t. t.now) list.entry ≡ values_written texts → word.items ≡ list_text texts) }
+    ensures { IfOk result (λ word. (texts : List (List ℕ)) → All (λ t. All (λ b. b ≢ 32) t) texts
+        → option_map (λ t. t.now) list.entry ≡ values_written texts → word.items ≡ list_text texts) }
 {
     match list {
         Some(list) => without_spaces(alloc, list),
@@ -60,7 +63,8 @@ pub(crate) fn values_word(alloc: Global, list: Option<&[u8]>) -> Result<Vec<u8>,
 
 /// Adds the name of the type with this number, and tells whether there is one.
 pub(crate) fn push_type(alloc: Global, word: &mut Vec<u8>, number: u16) -> Result<bool, AllocError>
-    ensures { IfOk result (λ found. IsTypeNumber number → (found ≡ true) × (word.new.items ≡ word.old.items ++ name_of (type_with number))) }
+    ensures { IfOk result (λ found. IsTypeNumber number
+        → (found ≡ true) × (word.new.items ≡ word.old.items ++ name_of (type_with number))) }
 {
     let Some(value_type) = ValueType::from_number(number) else {
         return Ok(false);
@@ -77,7 +81,8 @@ pub(crate) fn control_word(
     known: Option<u16>,
 ) -> Result<Vec<u8>, AllocError>
     ensures written { IfOk result (λ word. (text : List ℕ) → option_map (λ t. t.now) written.entry ≡ Some text → word.items ≡ text) }
-    ensures known { IfOk result (λ word. option_map (λ t. t.now) written.entry ≡ None → IfSome known IsTypeNumber → word.items ≡ control_text (option_map type_with known) None) }
+    ensures known { IfOk result (λ word. option_map (λ t. t.now) written.entry ≡ None → IfSome known IsTypeNumber
+        → word.items ≡ control_text (option_map type_with known) None) }
 {
     if let Some(written) = written {
         return written.to_vec(alloc);

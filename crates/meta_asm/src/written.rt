@@ -3,10 +3,10 @@ ghost use Rattle.meta_verify.specs.Statement as spec;
 ghost use Rattle.meta_verify.specs.Statement.{CanApply, value_text, list_text};
 ghost use Rattle.meta_short.specs.Short.{Manner};
 ghost use Rattle.meta_short.specs.Parts.{IsPlain};
-ghost use Rattle.meta_asm.specs.Parts.{HasParts};
+ghost use Rattle.meta_asm.specs.Parts.{HasShortParts};
 ghost use Rattle.meta_asm.specs.Written.{IsWritten};
 
-use super::parts::Parts;
+use super::parts::ShortParts;
 use super::words::{Words, line_of};
 use meta_verify::Statement;
 use std::alloc::{AllocError, Global};
@@ -22,10 +22,11 @@ pub(crate) struct Written {
 /// What the parts of a text write, of which `values` is the word for the values, and `None` where they are those of no application.
 pub(crate) fn written_of(
     alloc: Global,
-    parts: Parts<'_>,
+    parts: ShortParts<'_>,
     values: &[u8],
 ) -> Result<Option<Written>, AllocError>
-    ensures { IfOk result (λ written. (m : Manner) (a : spec.Application) → CanApply a → IsPlain a.name → 0 < length a.name → HasParts m a parts.entry → values.now ≡ list_text (map value_text a.values) → IsWritten m a written) }
+    ensures { IfOk result (λ written. (m : Manner) (a : spec.Application) → CanApply a → IsPlain a.name → 0 < length a.name
+        → HasShortParts m a parts.entry → values.now ≡ list_text (map value_text a.values) → IsWritten m a written) }
 {
     let control = parts.control.unwrap_or(b"-");
     let words = Words {

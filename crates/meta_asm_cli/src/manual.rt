@@ -1,4 +1,4 @@
-use meta_main::{Command, Manual};
+use meta_main::{CommandForm, Manual};
 
 const HELP: &str = "\
 Writes a list of lines over the shared instructions of Cranelift with the types left out that the others tell, or with all types.
@@ -24,11 +24,11 @@ pub(crate) const MANUAL: Manual = Manual {
     version: "0.1.0",
     help: HELP,
     commands: &[
-        Command {
+        CommandForm {
             name: "short",
             numbers: &[],
         },
-        Command {
+        CommandForm {
             name: "explicit",
             numbers: &[],
         },

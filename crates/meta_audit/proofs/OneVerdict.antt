@@ -1,21 +1,13 @@
 -- There is one verdict on tables beside declarations, and one line for a text.
-use Rattle.std.proofs.Common.{◌≡◌, ◌<◌, ◌≤◌, ◌+◌, ◌⊎◌, ℕ, List, [], ◌∷◌, ◌++◌, refl, sym, ap, ◌∙◌, subst, inl, inr, ⊎_elim, arith}
-use Rattle.std.proofs.lemmas.Bool.{cases_lt}
-use Rattle.meta_lists.specs.First.{IsFirst}
+use Rattle.std.proofs.Common.{◌≡◌, ◌+◌, ℕ, List, [], ◌∷◌, ◌++◌, refl, sym, ap, ◌∙◌, subst, inl, inr}
+use Rattle.meta_lists.proofs.First.{one_first}
 use Rattle.meta_declared.specs.AllDeclared.{Declared}
 use Rattle.meta_gen.specs.WholeTables.{WholeTables}
 use Rattle.meta_table_reader.specs.Readable.{Reads}
 use Rattle.meta_audit.specs.Verdict.{AllMatch, Differs, DiffersAt, IsVerdict}
-use Rattle.meta_audit.specs.AuditLine.{verdict_text, IsVerdictLine, IsAuditLine}
+use Rattle.meta_audit.specs.AuditLine.{verdict_text, IsAuditLine}
 use Rattle.meta_audit.specs.declared.verdict.Verdict.{Verdict}
 use Rattle.meta_audit.specs.declared.verdict.Verdict.TheVariants.{Yes, Opcodes, Opcode, Group}
-
--- the first number of which something holds is one
-one_first : (P : ℕ → Type 0) (m n : ℕ) → IsFirst P m → IsFirst P n → m ≡ n
-one_first P m n a b =
-    ⊎_elim (λ (l : m < n). absurd (b.none_before m l a.holds))
-    (λ (g : n ≤ m). ⊎_elim (λ (l : n < m). absurd (a.none_before n l b.holds)) (λ (h : m ≤ n). omega (arith, g, h)) (cases_lt n m))
-    (cases_lt m n)
 
 module _ (d : Declared) (t : WholeTables) where
   -- where all opcodes match none differs
@@ -33,7 +25,8 @@ module _ (d : Declared) (t : WholeTables) where
   one_verdict Opcodes (Group g) a b = absurd (a b.count)
   one_verdict (Opcode m) Yes a b = absurd (none_differs b.opcodes a.place a.first.holds)
   one_verdict (Opcode m) Opcodes a b = absurd (b a.count)
-  one_verdict (Opcode m) (Opcode n) a b = ap Opcode (a.number ∙ ap (λ k. k + 1) (one_first (Differs d.set t.opcodes) a.place b.place a.first b.first) ∙ sym b.number)
+  one_verdict (Opcode m) (Opcode n) a b =
+      ap Opcode (a.number ∙ ap (λ k. k + 1) (one_first (Differs d.set t.opcodes) a.place b.place a.first b.first) ∙ sym b.number)
   one_verdict (Opcode m) (Group g) a b = absurd (none_differs b.opcodes a.place a.first.holds)
   one_verdict (Group g) Yes a b = absurd (a.first.holds (b.groups g))
   one_verdict (Group g) Opcodes a b = absurd (b a.count)
@@ -41,10 +34,12 @@ module _ (d : Declared) (t : WholeTables) where
   one_verdict (Group g) (Group h) a b = ap Group (one_first (DiffersAt d t) g h a.first b.first)
 
 -- a text has one line
-pub one_line : ((text : List ℕ) (t u : WholeTables) → Reads text t → Reads text u → t ≡ u) → (d : Declared) (text one other : List ℕ) → IsAuditLine d text one → IsAuditLine d text other → one ≡ other
+pub one_line : ((text : List ℕ) (t u : WholeTables) → Reads text t → Reads text u → t ≡ u) → (d : Declared) (text one other : List ℕ)
+    → IsAuditLine d text one → IsAuditLine d text other → one ≡ other
 one_line one_reading d text one other (inl a) (inl b) =
     let same : a.tables ≡ b.tables = one_reading text a.tables b.tables a.reads b.reads in
-    let verdict : a.verdict ≡ b.verdict = one_verdict d b.tables a.verdict b.verdict (subst (λ t. IsVerdict d t a.verdict) same a.is_verdict) b.is_verdict in
+    let verdict : a.verdict ≡ b.verdict =
+    one_verdict d b.tables a.verdict b.verdict (subst (λ t. IsVerdict d t a.verdict) same a.is_verdict) b.is_verdict in
     a.is ∙ ap (λ v. verdict_text v ++ 10 ∷ []) verdict ∙ sym b.is
 one_line one_reading d text one other (inl a) (inr b) = absurd (b.reads_none a.tables a.reads)
 one_line one_reading d text one other (inr a) (inl b) = absurd (a.reads_none b.tables b.reads)

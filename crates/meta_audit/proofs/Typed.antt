@@ -1,15 +1,17 @@
 -- Which numbers can pass: those of types alone, from 112 to 383.
-use Rattle.std.proofs.Common.{◌≡◌, ◌≢◌, ◌↔◌, ◌+◌, ◌<◌, ◌≤◌, ◌==◌, ◌⊎◌, ltb, ℕ, Bool, true, List, Option, None, Some, IfSome, MatchBool, All, length, slice_get, refl, sym, ap, ◌∙◌, subst, inl, inr, arith}
+use Rattle.std.proofs.Common.{◌≡◌, ◌≢◌, ◌↔◌, ◌+◌, ◌<◌, ◌≤◌, ◌==◌, ◌⊎◌, ltb, ℕ, Bool, true, List, Option, None, Some, IfSome, MatchBool, All}
+use Rattle.std.proofs.Common.{length, slice_get, refl, sym, ap, ◌∙◌, subst, inl, inr, arith}
 use Rattle.std.proofs.lemmas.Bool.{MatchBool-at_true, MatchBool-at_false, eq-eqb, ne_eqb, ltb-true, cases_eq}
 use Rattle.std.proofs.lemmas.Option.{same_Some, none-some}
+use Rattle.meta_lists.proofs.Everywhere.{at_place}
 use Rattle.meta_types.specs.TypeParts.{TypeParts, IsType, number_of}
 use Rattle.meta_types.proofs.AllTypes.{at_all, at_all_types}
 use Rattle.meta_types.proofs.TypeNumbers.{number_is_one}
 use Rattle.meta_inst.specs.Which.{Which, First, Second, both}
-use Rattle.meta_meaning.specs.Tables.{TableContents, NumberConstraint, ConcreteNumber, FreeOf, SameNumber, ByNumber, SetContains, ControlNumberFits, NumberPasses, PassesAt, no_type_set}
+use Rattle.meta_meaning.specs.Tables.{TableContents, NumberConstraint, ConcreteNumber, FreeOf, SameNumber, ByNumber, SetContains}
+use Rattle.meta_meaning.specs.Tables.{ControlNumberFits, NumberPasses, PassesAt, no_type_set}
 use Rattle.meta_types.specs.TypeNumber.{type_with, IsTypeNumber}
 use Rattle.meta_opcode_tables.specs.WellFormed.{IsWellFormedConstraint, IsWellFormedOpcodes}
-use Rattle.meta_setting_tables.proofs.Everywhere.{at_place}
 use Rattle.meta_audit.specs.Comparison.{SameNumbers, SameControl}
 
 -- ---- numbers of types
@@ -24,7 +26,8 @@ all_low = refl
 -- and from 112 on
 pub in_range : (n : ℕ) → IsTypeNumber n → (112 ≤ n) × (n < 384)
 in_range n h =
-    let low : number_of (type_with n) < 384 = ltb-true (number_of (type_with n)) 384 (at_all_types is_low all_low (type_with n) h.is_type) in
+    let low : number_of (type_with n) < 384 = ltb-true (number_of (type_with n)) 384 (at_all_types is_low all_low (type_with n) h.is_type)
+    in
     let e = h.numbered in
     (omega (arith, e), omega (arith, e, low))
 
@@ -40,11 +43,13 @@ module _ (tables : TableContents) (j : ℕ) where
 
   -- where there is one, what its set contains fits
   pub some_fits : j ≢ no_type_set → (n : ℕ) → SetContains tables j n → ControlNumberFits tables j (Some n)
-  some_fits there n c = subst (λ b. MatchBool b (Some n ≡ None) ((m : ℕ) × (Some n ≡ Some m) × SetContains tables j m)) (sym (ne_eqb j no_type_set there)) (n, refl, c)
+  some_fits there n c = subst (λ b. MatchBool b (Some n ≡ None) ((m : ℕ) × (Some n ≡ Some m) × SetContains tables j m))
+      (sym (ne_eqb j no_type_set there)) (n, refl, c)
 
   -- and what fits is contained
   pub fitting : j ≢ no_type_set → (c : Option ℕ) → ControlNumberFits tables j c → (n : ℕ) × (c ≡ Some n) × SetContains tables j n
-  fitting there c fits = MatchBool-at_false {b = j == no_type_set} (c ≡ None) ((n : ℕ) × (c ≡ Some n) × SetContains tables j n) (ne_eqb j no_type_set there) fits
+  fitting there c fits = MatchBool-at_false {b = j == no_type_set} (c ≡ None) ((n : ℕ) × (c ≡ Some n)
+      × SetContains tables j n) (ne_eqb j no_type_set there) fits
 
   -- none fits only where there is no control
   pub none_fits : ControlNumberFits tables j None → j ≡ no_type_set
@@ -73,7 +78,8 @@ module _ (tables : TableContents) (j : ℕ) where
 
 -- ---- what passes
 
-module _ (tables : TableContents) (well : IsWellFormedOpcodes tables) (c d : Option ℕ) (c_typed : IfSome c IsTypeNumber) (d_typed : IfSome d IsTypeNumber) where
+module _ (tables : TableContents) (well : IsWellFormedOpcodes tables) (c d : Option ℕ) (c_typed : IfSome c IsTypeNumber)
+    (d_typed : IfSome d IsTypeNumber) where
   -- the number of a control is that of a type
   control_typed : (a : Which) (m : ℕ) → both c d a ≡ Some m → IsTypeNumber m
   control_typed First m e = subst (λ o. IfSome o IsTypeNumber) e c_typed
@@ -81,16 +87,20 @@ module _ (tables : TableContents) (well : IsWellFormedOpcodes tables) (c d : Opt
 
   -- a number that passes is that of a type
   pub passing_number : (p n : ℕ) → PassesAt tables (both c d) p n → IsTypeNumber n
-  passing_number p n h = of_constraint h.constraint (at_place (IsWellFormedConstraint (length tables.type_sets)) tables.operand_constraints p h.constraint well.parts.constraints h.is_constraint) h.passes
+  passing_number p n h = of_constraint h.constraint
+      (at_place (IsWellFormedConstraint (length tables.type_sets)) tables.operand_constraints p h.constraint well.parts.constraints
+      h.is_constraint) h.passes
     where
-      of_constraint : (x : NumberConstraint) → IsWellFormedConstraint (length tables.type_sets) x → NumberPasses tables (both c d) x n → IsTypeNumber n
+      of_constraint : (x : NumberConstraint) → IsWellFormedConstraint (length tables.type_sets) x → NumberPasses tables (both c d) x n
+          → IsTypeNumber n
       of_constraint (ConcreteNumber m) good passes = subst IsTypeNumber (sym passes) good
       of_constraint (FreeOf j) good passes = contained_typed tables j n passes
       of_constraint (SameNumber a) good passes = control_typed a n passes
       of_constraint (ByNumber a f) good (u, is, steps) = subst IsTypeNumber steps.number_to (number_is_one steps.to steps.steps.to)
 
 -- what is the same of all numbers from 112 to 383 is the same of all
-pub same_numbers : (own other : TableContents) → IsWellFormedOpcodes own → IsWellFormedOpcodes other → (c d : Option ℕ) → IfSome c IsTypeNumber → IfSome d IsTypeNumber → (p q : ℕ)
+pub same_numbers : (own other : TableContents) → IsWellFormedOpcodes own → IsWellFormedOpcodes other → (c d : Option ℕ)
+    → IfSome c IsTypeNumber → IfSome d IsTypeNumber → (p q : ℕ)
     → ((n : ℕ) → 112 ≤ n → n < 384 → (PassesAt own (both c d) p n ↔ PassesAt other (both c d) q n)) → SameNumbers own other (both c d) p q
 same_numbers own other own_well well c d c_typed d_typed p q same n = (
   λ h. let r = in_range n (passing_number own own_well c d c_typed d_typed p n h) in (same n r.0 r.1).0 h,

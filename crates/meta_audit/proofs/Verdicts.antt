@@ -1,5 +1,6 @@
 -- What is said of tables beside those of declarations is what is said of them beside the declarations.
-use Rattle.std.proofs.Common.{◌≡◌, ◌≢◌, ◌↔◌, ◌+◌, ◌<◌, ℕ, zero, suc, List, length, Option, None, Some, option_map, slice_get, refl, sym, ap, ◌∙◌, subst, arith}
+use Rattle.std.proofs.Common.{◌≡◌, ◌≢◌, ◌↔◌, ◌+◌, ◌<◌, ℕ, zero, suc, List, length, Option, None, Some, option_map, slice_get, refl, sym, ap}
+use Rattle.std.proofs.Common.{◌∙◌, subst, arith}
 use Rattle.std.proofs.lemmas.Option.{same_Some, none-some, slice_get_within}
 use Rattle.meta_lists.specs.First.{IsFirst}
 use Rattle.meta_lists.proofs.Places.{get_there}
@@ -29,13 +30,15 @@ use Rattle.meta_gen.specs.WholeTables.{WholeTables, AreTablesOfGroups, AreWholeT
 use Rattle.meta_gen.specs.WellFormed.{IsWellFormed}
 use Rattle.meta_audit.specs.Matching.{Matches, MatchesEntry}
 use Rattle.meta_audit.specs.Comparison.{SameEntry, SameOpcode}
-use Rattle.meta_audit.specs.Verdict.{declared_entries, entries_at, AreAsMany, AllMatch, FindsOpcode, FindsSettingIn, Differs, IsVerdict, AreMeant, AreSameBelow, IsComparison}
+use Rattle.meta_audit.specs.Verdict.{declared_entries, entries_at, AreAsMany, AllMatch, FindsOpcode, FindsSettingIn, Differs, IsVerdict}
+use Rattle.meta_audit.specs.Verdict.{AreMeant, AreSameBelow, IsComparison}
 use Rattle.meta_audit.specs.declared.verdict.Verdict.{Verdict}
 use Rattle.meta_audit.specs.declared.verdict.Verdict.TheVariants.{Yes, Opcodes, Opcode, Group}
 use Rattle.meta_audit.proofs.SameMeaning.{matches_from_same, same_from_matches}
 
 -- the groups of the tables of declarations have the names of the declared entries
-pub own_groups : (groups : List GroupDeclaration) (tables : List GroupContents) → AreTablesOfGroups groups tables → (g : ℕ) → entries_at tables g ≡ declared_entries groups g
+pub own_groups : (groups : List GroupDeclaration) (tables : List GroupContents) → AreTablesOfGroups groups tables → (g : ℕ)
+    → entries_at tables g ≡ declared_entries groups g
 own_groups groups tables made g = by_case (slice_get groups g) refl (slice_get tables g) refl
   where
     count : length tables ≡ length groups
@@ -74,28 +77,35 @@ module _ (d : InstructionSet) (own other : TableContents) (sets : HoldTypeSets d
         is_control = held.is_control;
         entry = s.other_entry;
         at = s.other_at;
-        means = matches_from_same (root_sets d) (instruction_in_set d b) held.control own other held.entry s.other_entry (typed b) held.is_control held.good held.is_entry (subst (λ e. SameEntry own other e s.other_entry) same s.same);
+        means = matches_from_same (root_sets d) (instruction_in_set d b) held.control own other held.entry s.other_entry
+            (typed b) held.is_control held.good held.is_entry (subst (λ e. SameEntry own other e s.other_entry) same s.same);
       }
 
   -- An opcode that means the instruction means the same.
-  pub same_from : IsWellFormedOpcodes own → IsWellFormedOpcodes other → (k : ℕ) (b : Builder) → IsAt d k b → Matches d other k b → SameOpcode own other k
+  pub same_from : IsWellFormedOpcodes own → IsWellFormedOpcodes other → (k : ℕ) (b : Builder) → IsAt d k b → Matches d other k b
+      → SameOpcode own other k
   same_from own_well well k b at m =
       let held = made.holds k b at in
-      let one : m.control ≡ held.control = same_control (root_sets d) (instruction_in_set d b) m.control held.control m.is_control held.is_control in
+      let one : m.control ≡ held.control =
+      same_control (root_sets d) (instruction_in_set d b) m.control held.control m.is_control held.is_control in
       record {
         name = m.named ∙ sym (own_name k b at);
         entry = held.entry;
         at = held.at;
         other_entry = m.entry;
         other_at = m.at;
-        same = same_from_matches (root_sets d) (instruction_in_set d b) held.control own other held.entry m.entry (typed b) held.is_control held.good held.is_entry own_well well (subst (λ v. MatchesEntry (root_sets d) (instruction_in_set d b) v other m.entry) one m.means);
+        same = same_from_matches (root_sets d) (instruction_in_set d b) held.control own other held.entry m.entry
+            (typed b) held.is_control held.good held.is_entry own_well well
+            (subst (λ v. MatchesEntry (root_sets d) (instruction_in_set d b) v other m.entry) one m.means);
       }
 
 -- the instruction at a place where the tables of the declarations have an opcode
-instruction_at : (d : InstructionSet) (own : TableContents) → AreTablesOf d own → (k : ℕ) → k < length own.entries → (b : Builder) × IsAt d k b
+instruction_at : (d : InstructionSet) (own : TableContents) → AreTablesOf d own → (k : ℕ) → k < length own.entries
+    → (b : Builder) × IsAt d k b
 instruction_at d own made k less = let count = made.count in get_there d.instructions k (omega (arith, less, count))
 
-module _ (d : Declared) (own t : WholeTables) (sets : HoldTypeSets d.set.vars) (made : AreWholeTablesOf d own) (own_well : IsWellFormed own) (well : IsWellFormed t) where
+module _ (d : Declared) (own t : WholeTables) (sets : HoldTypeSets d.set.vars) (made : AreWholeTablesOf d own)
+    (own_well : IsWellFormed own) (well : IsWellFormed t) where
   -- as many opcodes, and the first that differs
   all_match : AreSameBelow own.opcodes t.opcodes (length own.opcodes.entries) → AllMatch d.set t.opcodes
   all_match same k b at =
@@ -108,7 +118,12 @@ module _ (d : Declared) (own t : WholeTables) (sets : HoldTypeSets d.set.vars) (
 
   -- What is said beside the tables of the declarations is the verdict.
   pub verdict_of : (v : Verdict) → IsComparison own t v → IsVerdict d t v
-  verdict_of Yes (same, groups) = record { count = same.count ∙ made.opcodes.count; opcodes = all_match same; groups = λ g. groups g ∙ groups_are g }
+  verdict_of Yes (same, groups) = record {
+    count = same.count ∙ made.opcodes.count;
+    opcodes = all_match same;
+    groups = λ g. groups g
+        ∙ groups_are g;
+  }
   verdict_of Opcodes differ = λ e. differ (e ∙ sym made.opcodes.count)
   verdict_of (Opcode n) (k, number, same, differ) =
       let (b, at) = instruction_at d.set own.opcodes made.opcodes k differ.within in
@@ -117,8 +132,14 @@ module _ (d : Declared) (own t : WholeTables) (sets : HoldTypeSets d.set.vars) (
         place = k;
         number = number;
         first = record {
-          holds = record { builder = b; at = at; other = λ m. differ.differ (same_from d.set own.opcodes t.opcodes sets made.opcodes own_well.opcodes well.opcodes k b at m) };
-          none_before = λ j less x. x.other (matches_from d.set own.opcodes t.opcodes sets made.opcodes j x.builder x.at (same.same j less));
+          holds = record {
+            builder = b;
+            at = at;
+            other =
+                λ m. differ.differ (same_from d.set own.opcodes t.opcodes sets made.opcodes own_well.opcodes well.opcodes k b at m);
+          };
+          none_before =
+              λ j less x. x.other (matches_from d.set own.opcodes t.opcodes sets made.opcodes j x.builder x.at (same.same j less));
         };
       }
   verdict_of (Group g) (same, first) = record {
@@ -146,13 +167,22 @@ own_meant d own sets made = record {
   count = made.opcodes.count;
   opcodes = λ k b at.
       let held = made.opcodes.holds k b at in
-      matches_from d.set own.opcodes own.opcodes sets made.opcodes k b at (record { name = refl; entry = held.entry; at = held.at; other_entry = held.entry; other_at = held.at; same = same_self own.opcodes held.entry });
+      matches_from d.set own.opcodes own.opcodes sets made.opcodes k b at (record {
+        name = refl;
+        entry = held.entry;
+        at =
+            held.at;
+        other_entry = held.entry;
+        other_at = held.at;
+        same = same_self own.opcodes held.entry;
+      });
   groups = own_groups d.groups own.groups made.groups;
 }
 
 -- ---- names
 
-module _ (d : InstructionSet) (other : TableContents) (well : IsWellFormedOpcodes other) (count : AreAsMany d other) (all : AllMatch d other) where
+module _ (d : InstructionSet) (other : TableContents) (well : IsWellFormedOpcodes other) (count : AreAsMany d other)
+    (all : AllMatch d other) where
   -- an opcode has a name exactly where its instruction has it
   named_to : (name : List ℕ) (op : ℕ) → IsOpcodeNamed other.names name op → IsDeclaredNamed d name op
   named_to name zero e = absurd (none-some name e)
@@ -171,11 +201,19 @@ module _ (d : InstructionSet) (other : TableContents) (well : IsWellFormedOpcode
   -- What is found by its name in the tables is what is found in the declarations.
   finds_to : (name : List ℕ) (answer : Option ℕ) → FindsOpcode other name answer → FindsName d name answer
   finds_to name None none = λ k b at is. none (suc k) ((all k b at).named ∙ ap Some is)
-  finds_to name (Some op) first = record { holds = named_to name op first.holds; none_before = λ j less h. first.none_before j less (named_from name j h) }
+  finds_to name (Some op) first = record {
+    holds = named_to name op first.holds;
+    none_before =
+        λ j less h. first.none_before j less (named_from name j h);
+  }
 
   finds_from : (name : List ℕ) (answer : Option ℕ) → FindsName d name answer → FindsOpcode other name answer
   finds_from name None none = λ op at. let h = named_to name op at in none h.place h.builder h.at h.named
-  finds_from name (Some op) first = record { holds = named_from name op first.holds; none_before = λ j less h. first.none_before j less (named_to name j h) }
+  finds_from name (Some op) first = record {
+    holds = named_from name op first.holds;
+    none_before =
+        λ j less h. first.none_before j less (named_to name j h);
+  }
 
   pub finds_declared : (name : List ℕ) (answer : Option ℕ) → (FindsOpcode other name answer ↔ FindsName d name answer)
   finds_declared name answer = (finds_to name answer, finds_from name answer)
@@ -186,7 +224,8 @@ none_behind f None e = refl
 none_behind f (Some x) e = absurd (none-some (f x) (sym e))
 
 -- the one entry of a name is the first that has it, and none is where none has it
-finds_one : (names : List (List ℕ)) (name : List ℕ) (answer : Option ℕ) → ((e : ℕ) → ((answer ≡ Some e) ↔ (slice_get names e ≡ Some name))) → FindsEntry names name answer
+finds_one : (names : List (List ℕ)) (name : List ℕ) (answer : Option ℕ) → ((e : ℕ) → ((answer ≡ Some e) ↔ (slice_get names e ≡ Some name)))
+    → FindsEntry names name answer
 finds_one names name None exact = λ e at. absurd (none-some e ((exact e).1 at))
 finds_one names name (Some e) exact = record {
   holds = (exact e).0 refl;
@@ -198,17 +237,23 @@ module _ (d : Declared) (t : WholeTables) (meant : AreMeant d t) (group : ℕ) (
   settings_to : AreValidGroups d.groups → FindsSettingIn t group name answer → FindsSetting d group name answer
   settings_to valid h = record {
     entry = λ g at e.
-        let (tables, there, names) = mapped (λ (x : GroupContents). names_in x.descriptors) (slice_get t.groups group) (entry_names (built_of g)) (meant.groups group ∙ ap (option_map (λ (x : GroupDeclaration). entry_names (built_of x))) at) in
-        finds_exactly (entry_names (built_of g)) name answer (subst (λ (ns : List (List ℕ)). FindsEntry ns name answer) names (h.entry tables there)) (built_names g (valid group g at)) e;
-    no_group = λ none. h.no_group (none_behind (λ (x : GroupContents). names_in x.descriptors) (slice_get t.groups group) (meant.groups group ∙ ap (option_map (λ (x : GroupDeclaration). entry_names (built_of x))) none));
+        let (tables, there, names) = mapped (λ (x : GroupContents). names_in x.descriptors) (slice_get t.groups group)
+        (entry_names (built_of g)) (meant.groups group ∙ ap (option_map (λ (x : GroupDeclaration). entry_names (built_of x))) at) in
+        finds_exactly (entry_names (built_of g)) name answer
+        (subst (λ (ns : List (List ℕ)). FindsEntry ns name answer) names (h.entry tables there)) (built_names g (valid group g at)) e;
+    no_group = λ none. h.no_group (none_behind (λ (x : GroupContents). names_in x.descriptors) (slice_get t.groups group)
+        (meant.groups group ∙ ap (option_map (λ (x : GroupDeclaration). entry_names (built_of x))) none));
   }
 
   settings_from : FindsSetting d group name answer → FindsSettingIn t group name answer
   settings_from h = record {
     entry = λ g at.
-        let (declared, there, names) = mapped (λ (x : GroupDeclaration). entry_names (built_of x)) (slice_get d.groups group) (names_in g.descriptors) (sym (meant.groups group) ∙ ap (option_map (λ (x : GroupContents). names_in x.descriptors)) at) in
-        subst (λ (ns : List (List ℕ)). FindsEntry ns name answer) names (finds_one (entry_names (built_of declared)) name answer (h.entry declared there));
-    no_group = λ none. h.no_group (none_behind (λ (x : GroupDeclaration). entry_names (built_of x)) (slice_get d.groups group) (sym (meant.groups group) ∙ ap (option_map (λ (x : GroupContents). names_in x.descriptors)) none));
+        let (declared, there, names) = mapped (λ (x : GroupDeclaration). entry_names (built_of x)) (slice_get d.groups group)
+        (names_in g.descriptors) (sym (meant.groups group) ∙ ap (option_map (λ (x : GroupContents). names_in x.descriptors)) at) in
+        subst (λ (ns : List (List ℕ)). FindsEntry ns name answer) names
+        (finds_one (entry_names (built_of declared)) name answer (h.entry declared there));
+    no_group = λ none. h.no_group (none_behind (λ (x : GroupDeclaration). entry_names (built_of x)) (slice_get d.groups group)
+        (sym (meant.groups group) ∙ ap (option_map (λ (x : GroupContents). names_in x.descriptors)) none));
   }
 
   pub finds_setting : AreValidGroups d.groups → (FindsSettingIn t group name answer ↔ FindsSetting d group name answer)

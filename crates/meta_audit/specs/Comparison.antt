@@ -3,7 +3,8 @@
 use Rattle.std.specs.Prelude.{◌≡◌, ◌↔◌, ◌⊎◌, ◌+◌, ◌<◌, ℕ, Bool, true, false, List, Option, Some, slice_get}
 use Rattle.meta_typevar.specs.declared.masks.Masks.{Masks}
 use Rattle.meta_inst.specs.Which.{Which, First, Second, both}
-use Rattle.meta_meaning.specs.Tables.{TableContents, OpcodeNumbers, NumberConstraint, ConcreteNumber, FreeOf, SameNumber, ByNumber, ControlNumberFits, PassesAt, result_count, value_count}
+use Rattle.meta_meaning.specs.Tables.{TableContents, OpcodeNumbers, NumberConstraint, ConcreteNumber, FreeOf, SameNumber, ByNumber}
+use Rattle.meta_meaning.specs.Tables.{ControlNumberFits, PassesAt, result_count, value_count}
 
 -- under these controlling numbers the same numbers pass at the place p of the one and at the place q of the other
 abbrev pub SameNumbers : TableContents → TableContents → (Which → Option ℕ) → ℕ → ℕ → Type 0
@@ -11,7 +12,8 @@ SameNumbers own other c p q = (n : ℕ) → (PassesAt own c p n ↔ PassesAt oth
 
 -- the same under all controlling numbers that fit these offsets of the one
 abbrev pub SamePlace : TableContents → TableContents → ℕ → ℕ → ℕ → ℕ → Type 0
-SamePlace own other first second p q = (c d : Option ℕ) → ControlNumberFits own first c → ControlNumberFits own second d → SameNumbers own other (both c d) p q
+SamePlace own other first second p q = (c d : Option ℕ) → ControlNumberFits own first c
+    → ControlNumberFits own second d → SameNumbers own other (both c d) p q
 
 -- the same numbers fit the offset of the one and that of the other
 abbrev pub SameControl : TableContents → TableContents → ℕ → ℕ → Type 0
@@ -23,7 +25,8 @@ pub record SameEntry (own other : TableContents) (e f : OpcodeNumbers) : Type 0 
   pub values : value_count f.flags ≡ value_count e.flags
   pub first : SameControl own other e.typeset_offset f.typeset_offset
   pub second : SameControl own other e.second_offset f.second_offset
-  pub passes : (k : ℕ) → k < result_count e.flags + value_count e.flags → SamePlace own other e.typeset_offset e.second_offset (e.constraint_offset + k) (f.constraint_offset + k)
+  pub passes : (k : ℕ) → k < result_count e.flags + value_count e.flags
+      → SamePlace own other e.typeset_offset e.second_offset (e.constraint_offset + k) (f.constraint_offset + k)
 
 -- the opcodes of place k have one name, and their entries mean the same
 pub record SameOpcode (own other : TableContents) (k : ℕ) : Type 0 where

@@ -2,4 +2,3 @@ pub mod Matching
 pub mod Comparison
 pub mod Verdict
 pub mod AuditLine
-pub mod AuditRun

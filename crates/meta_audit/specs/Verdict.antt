@@ -102,7 +102,9 @@ abbrev pub GroupsDiffer : WholeTables → WholeTables → ℕ → Type 0
 GroupsDiffer own other g = entries_at other.groups g ≢ entries_at own.groups g
 
 abbrev pub IsComparison : WholeTables → WholeTables → Verdict → Type 0
-IsComparison own other Yes = AreSameBelow own.opcodes other.opcodes (length own.opcodes.entries) × ((g : ℕ) → entries_at other.groups g ≡ entries_at own.groups g)
+IsComparison own other Yes = AreSameBelow own.opcodes other.opcodes (length own.opcodes.entries)
+    × ((g : ℕ) → entries_at other.groups g ≡ entries_at own.groups g)
 IsComparison own other Opcodes = length other.opcodes.entries ≢ length own.opcodes.entries
-IsComparison own other (Opcode n) = (k : ℕ) × (n ≡ k + 1) × AreSameBelow own.opcodes other.opcodes k × OpcodesDiffer own.opcodes other.opcodes k
+IsComparison own other (Opcode n) = (k : ℕ) × (n ≡ k + 1) × AreSameBelow own.opcodes other.opcodes k
+    × OpcodesDiffer own.opcodes other.opcodes k
 IsComparison own other (Group g) = AreSameBelow own.opcodes other.opcodes (length own.opcodes.entries) × IsFirst (GroupsDiffer own other) g

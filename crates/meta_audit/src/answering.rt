@@ -61,11 +61,12 @@ pub(crate) struct Auditor;
 
 impl Answerer for Auditor {
     ghost use Rattle.std.specs.Prelude.{true};
-    ghost use Rattle.meta_audit.specs.AuditRun.{audit_texts};
+    ghost use Rattle.meta_run.specs.Run.{never_rejecting};
+    ghost use Rattle.meta_audit.specs.AuditLine.{IsAuditLine};
 
     ghost reads = { λ _. true };
 
-    ghost texts = { λ _. audit_texts };
+    ghost texts = { λ _. never_rejecting IsAuditLine };
 
     /// There is always an input.
     fn has_input(&self) -> bool {

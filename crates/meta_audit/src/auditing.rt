@@ -70,9 +70,12 @@ pub fn audit(
     ensures own_tables { AreWholeTablesOf declarations.now tables.now → IfOk result (λ v. v ≡ Verdict.Yes) }
 
     // After a yes the tables allow exactly what the declarations accept, and a name finds in them what it finds in the declarations.
-    ensures acceptance { IfOk result (λ v. v ≡ Verdict.Yes → (op : ℕ) (c e : Option ℕ) (rs vs : List ℕ) → (Allows tables.now.opcodes op c e rs vs ↔ AcceptsOpcode declarations.now.set op c e rs vs)) }
-    ensures names { IfOk result (λ v. v ≡ Verdict.Yes → (name : List ℕ) (answer : Option ℕ) → (FindsOpcode tables.now.opcodes name answer ↔ FindsName declarations.now.set name answer)) }
-    ensures settings { IfOk result (λ v. v ≡ Verdict.Yes → (group : ℕ) (name : List ℕ) (answer : Option ℕ) → (FindsSettingIn tables.now group name answer ↔ FindsSetting declarations.now group name answer)) }
+    ensures acceptance { IfOk result (λ v. v ≡ Verdict.Yes → (op : ℕ) (c e : Option ℕ) (rs vs : List ℕ)
+        → (Allows tables.now.opcodes op c e rs vs ↔ AcceptsOpcode declarations.now.set op c e rs vs)) }
+    ensures names { IfOk result (λ v. v ≡ Verdict.Yes → (name : List ℕ) (answer : Option ℕ)
+        → (FindsOpcode tables.now.opcodes name answer ↔ FindsName declarations.now.set name answer)) }
+    ensures settings { IfOk result (λ v. v ≡ Verdict.Yes → (group : ℕ) (name : List ℕ) (answer : Option ℕ)
+        → (FindsSettingIn tables.now group name answer ↔ FindsSetting declarations.now group name answer)) }
 {
     one_verdict();
     tables_of_declarations_are_meant();

@@ -9,7 +9,7 @@ use meta_opcode_tables::OpcodeTables;
 /// The number from which the numbers of types count.
 pub(crate) const LEAST: u16 = 112;
 
-/// The number that is one above those of all types.
+/// A number above those of all types, of which the greatest is 380.
 pub(crate) const END: u16 = 384;
 
 /// A number that the control of this offset can have, or none where there is no such control. It is `None` where there is such a

@@ -1,7 +1,7 @@
 ghost use Rattle.std.specs.Prelude.{◌≡◌, ◌↔◌, IsTrue, IfSome, IfNone};
 ghost use Rattle.meta_meaning.specs.Tables.{FreeOf};
 ghost use Rattle.meta_opcode_tables.specs.Constraint.{number_constraint_of};
-ghost use Rattle.meta_opcode_tables.specs.Demand.{which_of};
+ghost use Rattle.meta_inst.specs.Controls.{which_of};
 ghost use Rattle.meta_audit.specs.Comparison.{SameMasks, NamesNoSet, AreOneForm, HaveOneForm, reads, ReadsAt};
 
 use meta_opcode_tables::{Constraint, Demand, OpcodeTables, Which, equal_constraints};

@@ -17,7 +17,9 @@ fn same_operands(
 ) -> bool
     requires own { IsWellFormedOpcodes own.now }
     requires other { IsWellFormedOpcodes other.now }
-    ensures { IsTrue result ↔ ((k : ℕ) → k < result_count entry.flags + value_count entry.flags → SamePlace own.now other.now entry.typeset_offset entry.second_offset (entry.constraint_offset + k) (other_entry.constraint_offset + k)) }
+    ensures { IsTrue result ↔ ((k : ℕ) → k < result_count entry.flags + value_count entry.flags
+        → SamePlace own.now other.now entry.typeset_offset entry.second_offset (entry.constraint_offset + k)
+        (other_entry.constraint_offset + k)) }
 {
     let start = entry.constraint_offset as usize;
     let other_start = other_entry.constraint_offset as usize;

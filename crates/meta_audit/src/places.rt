@@ -1,7 +1,7 @@
 ghost use Rattle.std.specs.Prelude.{◌≡◌, ◌↔◌, ℕ, Option, IsTrue, IfSome};
 ghost use Rattle.meta_inst.specs.Which.{both};
 ghost use Rattle.meta_meaning.specs.Tables.{ControlNumberFits};
-ghost use Rattle.meta_opcode_tables.specs.Demand.{which_of};
+ghost use Rattle.meta_inst.specs.Controls.{which_of};
 ghost use Rattle.meta_types.specs.TypeNumber.{IsTypeNumber};
 ghost use Rattle.meta_opcode_tables.specs.WellFormed.{IsWellFormedOpcodes};
 ghost use Rattle.meta_audit.specs.Comparison.{SameNumbers, SamePlace, paired};
@@ -44,7 +44,8 @@ impl<'t> Places<'t> {
         requires other { IsWellFormedOpcodes self.other.now }
         requires number { IfSome number IsTypeNumber }
         requires beside { IfSome beside IsTypeNumber }
-        ensures { IsTrue result ↔ SameNumbers self.entry.own.now self.entry.other.now (paired (which_of which) number beside) self.entry.at self.entry.other_at }
+        ensures { IsTrue result ↔ SameNumbers self.entry.own.now self.entry.other.now
+            (paired (which_of which) number beside) self.entry.at self.entry.other_at }
     {
         match which {
             Which::First => self.same_numbers(number, beside),
@@ -57,7 +58,8 @@ impl<'t> Places<'t> {
         requires own { IsWellFormedOpcodes self.own.now }
         requires other { IsWellFormedOpcodes self.other.now }
         requires beside { IfSome beside IsTypeNumber }
-        ensures { IsTrue result ↔ ((c : Option ℕ) → ControlNumberFits self.entry.own.now offset c → SameNumbers self.entry.own.now self.entry.other.now (paired (which_of which) c beside) self.entry.at self.entry.other_at) }
+        ensures { IsTrue result ↔ ((c : Option ℕ) → ControlNumberFits self.entry.own.now offset c
+            → SameNumbers self.entry.own.now self.entry.other.now (paired (which_of which) c beside) self.entry.at self.entry.other_at) }
     {
         if self.own.control_fits(offset, None) {
             return self.same_beside(which, None, beside);
@@ -76,7 +78,8 @@ impl<'t> Places<'t> {
         requires other { IsWellFormedOpcodes self.other.now }
         requires fits { ControlNumberFits self.own.now offset number }
         requires beside { IfSome beside IsTypeNumber }
-        ensures { IsTrue result ↔ ((c : Option ℕ) → ControlNumberFits self.entry.own.now offset c → SameNumbers self.entry.own.now self.entry.other.now (paired (which_of which) c beside) self.entry.at self.entry.other_at) }
+        ensures { IsTrue result ↔ ((c : Option ℕ) → ControlNumberFits self.entry.own.now offset c
+            → SameNumbers self.entry.own.now self.entry.other.now (paired (which_of which) c beside) self.entry.at self.entry.other_at) }
     {
         if reads_at(self.own, which, self.at) || reads_at(self.other, which, self.other_at) {
             return self.same_under_each(which, offset, beside);

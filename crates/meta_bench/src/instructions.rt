@@ -3,7 +3,7 @@ ghost use Rattle.meta_typevar.specs.declared.content.TypeVarContent.{TypeVarCont
 ghost use Rattle.meta_operands.specs.declared.format.InstructionFormat.{InstructionFormat};
 ghost use Rattle.meta_operands.specs.Operand.{variables_of};
 ghost use Rattle.meta_inst.specs.Operands.{AreOf};
-ghost use Rattle.meta_inst.specs.InstructionSet.{FitsBuilder, Fits};
+ghost use Rattle.meta_inst.specs.InstructionSet.{FitsBuilder, AreOfRegistries};
 
 use super::names::numbered;
 use meta_gen::Declarations;
@@ -60,7 +60,8 @@ fn instruction(
     format: FormatId,
     number: u16,
 ) -> Result<InstructionBuilder, AllocError>
-    ensures { IfOk result (λ b. (vars : List TypeVarContent) (formats : List InstructionFormat) → tv < length vars → format < length formats → FitsBuilder vars formats b) }
+    ensures { IfOk result (λ b. (vars : List TypeVarContent) (formats : List InstructionFormat) → tv < length vars
+        → format < length formats → FitsBuilder vars formats b) }
 {
     let (name, doc) = (numbered(alloc, number)?, Text::new(alloc, "")?);
     let (inputs, outputs) = (operands(alloc, tv, 7)?, operands(alloc, tv, 1)?);
@@ -88,7 +89,8 @@ fn add_instruction(
     number: u16,
 ) -> Result<(), AllocError>
     ensures added { OnOk result (length instructions.new ≡ length instructions.old + 1) }
-    ensures fits { OnOk result ((vars : List TypeVarContent) (formats : List InstructionFormat) → tv < length vars → format < length formats → Fits vars formats instructions.old → Fits vars formats instructions.new) }
+    ensures fits { OnOk result ((vars : List TypeVarContent) (formats : List InstructionFormat) → tv < length vars
+        → format < length formats → AreOfRegistries vars formats instructions.old → AreOfRegistries vars formats instructions.new) }
 {
     let builder = instruction(alloc, tv, format, number)?;
     push(instructions, builder)?;

@@ -1,4 +1,4 @@
-use meta_main::{Command, Manual, Range};
+use meta_main::{CommandForm, Manual, Range};
 
 const HELP: &str = "\
 Makes the tables of large declarations, or their text, again and again, and writes what they hold or the fault that they show.
@@ -54,28 +54,28 @@ const OF_VARIABLES: &[Range] = &[
 ];
 
 /// The subjects, as `Command::of` knows them.
-const COMMANDS: &[Command] = &[
-    Command {
+const COMMANDS: &[CommandForm] = &[
+    CommandForm {
         name: "instructions",
         numbers: OF_INSTRUCTIONS,
     },
-    Command {
+    CommandForm {
         name: "tables",
         numbers: OF_INSTRUCTIONS,
     },
-    Command {
+    CommandForm {
         name: "settings",
         numbers: OF_SETTINGS,
     },
-    Command {
+    CommandForm {
         name: "FormatMismatch",
         numbers: OF_VARIABLES,
     },
-    Command {
+    CommandForm {
         name: "NoControl",
         numbers: OF_VARIABLES,
     },
-    Command {
+    CommandForm {
         name: "TooManyOperands",
         numbers: OF_VARIABLES,
     },

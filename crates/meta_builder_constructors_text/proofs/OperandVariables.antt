@@ -7,7 +7,8 @@ use Rattle.meta_operands.specs.Operand.{variable_of, variables_of}
 use Rattle.meta_inst.specs.Operands.{AreOf}
 
 -- the variable of an operand is among those of all
-pub among : (xs : List Operand) (i : ℕ) (x : Operand) (tv : ℕ) → i < length xs → x ≡ get_or xs i x → variable_of x ≡ Some tv → (k : ℕ) × (slice_get (variables_of xs) k ≡ Some tv)
+pub among : (xs : List Operand) (i : ℕ) (x : Operand) (tv : ℕ) → i < length xs → x ≡ get_or xs i x → variable_of x ≡ Some tv
+    → (k : ℕ) × (slice_get (variables_of xs) k ≡ Some tv)
 among [] i x tv inside at has = absurd (omega (arith, inside))
 among (y ∷ ys) zero x tv inside at has = by (variable_of y) (ap variable_of (sym at) ∙ has)
   where
@@ -16,10 +17,12 @@ among (y ∷ ys) zero x tv inside at has = by (variable_of y) (ap variable_of (s
     by (Some v) e = (zero, e)
 among (y ∷ ys) (suc i) x tv inside at has = by (variable_of y) (among ys i x tv (omega (arith, inside)) at has)
   where
-    by : (o : Option ℕ) → (k : ℕ) × (slice_get (variables_of ys) k ≡ Some tv) → (k : ℕ) × (slice_get (cons_option o (variables_of ys)) k ≡ Some tv)
+    by : (o : Option ℕ) → (k : ℕ) × (slice_get (variables_of ys) k ≡ Some tv)
+        → (k : ℕ) × (slice_get (cons_option o (variables_of ys)) k ≡ Some tv)
     by None (k, e) = (k, e)
     by (Some v) (k, e) = (suc k, e)
 
 -- so it is of the registry, where all are
-pub of_registry : (vars : List TypeVarContent) (xs : List Operand) (i : ℕ) (x : Operand) (tv : ℕ) → AreOf vars (variables_of xs) → i < length xs → x ≡ get_or xs i x → variable_of x ≡ Some tv → tv < length vars
-of_registry vars xs i x tv all inside at has = let (k, e) = among xs i x tv inside at has in all k tv e
+pub operand_of_registry : (vars : List TypeVarContent) (xs : List Operand) (i : ℕ) (x : Operand) (tv : ℕ) → AreOf vars (variables_of xs)
+    → i < length xs → x ≡ get_or xs i x → variable_of x ≡ Some tv → tv < length vars
+operand_of_registry vars xs i x tv all inside at has = let (k, e) = among xs i x tv inside at has in all k tv e

@@ -1,13 +1,14 @@
 -- The methods of the builder that take the last value input of an instruction as an immediate.
 --     imm_method_text m method           the lines of one of the three methods
 --     imm_builders_text vars c           the lines of all three of an instruction
-use Rattle.std.specs.Prelude.{ℕ, ◌-◌, ◌==◌, ◌||◌, Bool, true, false, List, [], ◌∷◌, ◌++◌, length, slice_get, Option, None, Some, is_some, codes, if◌then◌else◌}
+use Rattle.std.specs.Prelude.{ℕ, ◌-◌, ◌==◌, ◌||◌, Bool, true, false, List, [], ◌∷◌, ◌++◌, length, slice_get, Option, None, Some, is_some}
+use Rattle.std.specs.Prelude.{codes, if◌then◌else◌}
 use Rattle.std.specs.List.{flat_map, enumerate_from}
 use Rattle.meta_typevar.specs.declared.content.TypeVarContent.{TypeVarContent}
 use Rattle.meta_operands.specs.Texts.{same_text}
 use Rattle.meta_operands.specs.Operand.{variable_of, doc_of}
 use Rattle.meta_operands.specs.declared.operand.Operand.{Operand}
-use Rattle.meta_inst.specs.Built.{Built}
+use Rattle.meta_inst.specs.Built.{BuiltInstruction}
 use Rattle.meta_inst.specs.Content.{names_text, snake_name_of}
 use Rattle.meta_text.specs.Lines.{at, text_of}
 use Rattle.meta_rust_lines.specs.Ends.{gap_text}
@@ -157,7 +158,7 @@ was_signed name =
     || same_text name (codes "icmp"))))
 
 -- what the methods of an instruction have in common, whose first and last value inputs stand at these places
-abbrev pub methods_of : List TypeVarContent → Built → ℕ → ℕ → ImmMethods
+abbrev pub methods_of : List TypeVarContent → BuiltInstruction → ℕ → ℕ → ImmMethods
 methods_of vars c first last = record {
   name = snake_name_of c.name;
   signed = was_signed c.name;
@@ -169,7 +170,7 @@ methods_of vars c first last = record {
 }
 
 -- its methods, where there are a first and a last value input
-abbrev pub methods_between : List TypeVarContent → Built → Option ℕ → Option ℕ → List ℕ
+abbrev pub methods_between : List TypeVarContent → BuiltInstruction → Option ℕ → Option ℕ → List ℕ
 methods_between vars c None last = []
 methods_between vars c (Some first) None = []
 methods_between vars c (Some first) (Some last) = three_methods_text (methods_of vars c first last)
@@ -179,5 +180,5 @@ methods_between vars c (Some first) (Some last) = three_methods_text (methods_of
 -- least two value inputs and no value list. Declarations that ask for them of another instruction are refused as `BadImmMethod`, so
 -- no built instruction asks for them that isn't of this shape. Whether they are asked for is not looked at. Of an instruction without
 -- value inputs nothing is written.
-unfoldable pub imm_builders_text : List TypeVarContent → Built → List ℕ
+unfoldable pub imm_builders_text : List TypeVarContent → BuiltInstruction → List ℕ
 imm_builders_text vars c = methods_between vars c (slice_get c.value_opnums 0) (slice_get c.value_opnums (length c.value_opnums - 1))

@@ -1,6 +1,7 @@
 ghost use Rattle.std.specs.Prelude.{◌≡◌, ◌++◌, IfOk, OnOk, string_bytes};
 ghost use Rattle.std.specs.Fmt.{decimal};
-ghost use Rattle.meta_builder_constructors_text.specs.Arguments.{argument_text, numbered_argument, numbered_arguments, field_arguments, numbered_names, value_arguments, constructor_arguments};
+ghost use Rattle.meta_builder_constructors_text.specs.Arguments.{argument_text, numbered_argument, numbered_arguments, field_arguments};
+ghost use Rattle.meta_builder_constructors_text.specs.Arguments.{numbered_names, value_arguments, constructor_arguments};
 
 use meta_operands::{FormatField, InstructionFormat};
 use std::alloc::{AllocError, Global};

@@ -1,5 +1,8 @@
 ghost use Rattle.std.specs.Prelude.{◌≡◌, ◌++◌, OnOk, string_bytes};
-ghost use Rattle.meta_builder_constructors_text.specs.Constructor.{member_text, array_member_text, field_members, value_member, destination_text, block_member, raw_block_member, members_text, needs_masking, mut_mark, head_text, data_end_text, masking_text, build_text, constructor_text};
+ghost use Rattle.meta_builder_constructors_text.specs.Constructor.{member_text, array_member_text, field_members, value_member};
+ghost use Rattle.meta_builder_constructors_text.specs.Constructor.{destination_text, block_member, raw_block_member, members_text};
+ghost use Rattle.meta_builder_constructors_text.specs.Constructor.{needs_masking, mut_mark, head_text, data_end_text, masking_text};
+ghost use Rattle.meta_builder_constructors_text.specs.Constructor.{build_text, constructor_text};
 
 use super::arguments::{constructor_arguments, numbered_names};
 use meta_operands::{FormatField, InstructionFormat};

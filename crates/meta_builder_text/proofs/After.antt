@@ -1,6 +1,6 @@
 -- What is added to a text after what was added before.
 use Rattle.std.proofs.Common.{◌≡◌, ◌+◌, ℕ, List, ◌++◌, codes, refl, ap, ◌∙◌, add-one}
-use Rattle.meta_rust_lines.proofs.Pieces.{two}
+use Rattle.meta_lists.proofs.Joined.{two}
 use Rattle.meta_builder_text.specs.MethodBody.{parted_to}
 
 pub after : (old now new part other rest : List ℕ) → now ≡ old ++ part → part ≡ other → new ≡ now ++ rest

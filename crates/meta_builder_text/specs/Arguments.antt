@@ -7,7 +7,7 @@ use Rattle.std.specs.Fmt.{decimal}
 use Rattle.meta_typevar.specs.declared.content.TypeVarContent.{TypeVarContent}
 use Rattle.meta_operands.specs.declared.operand.Operand.{Operand}
 use Rattle.meta_operands.specs.declared.format.InstructionFormat.{InstructionFormat}
-use Rattle.meta_inst.specs.Built.{Built}
+use Rattle.meta_inst.specs.Built.{BuiltInstruction}
 use Rattle.meta_inst.specs.FormatMatch.{is_block_operand, is_raw_block_operand}
 use Rattle.meta_inst.specs.declared.polymorphic.PolymorphicInfo.{PolymorphicInfo}
 use Rattle.meta_builder_constructors_text.specs.Arguments.{argument_text}
@@ -90,7 +90,7 @@ abbrev pub self_argument : List Operand → InstructionFormat → List ℕ
 self_argument inputs format = if changes_builder inputs format then codes "mut self" else codes "self"
 
 -- the builder, the control where it is an argument, and the inputs in order
-unfoldable pub arguments_text : List TypeVarContent → Built → InstructionFormat → List ℕ
+unfoldable pub arguments_text : List TypeVarContent → BuiltInstruction → InstructionFormat → List ℕ
 arguments_text vars c format =
     self_argument c.operands_in format
     ++ (control_argument vars (asked_control c.polymorphic_info) ++ each_with_before operand_arguments [] c.operands_in)

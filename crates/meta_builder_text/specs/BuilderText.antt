@@ -7,7 +7,7 @@ use Rattle.meta_rust_lines.specs.Ends.{gap_text, item_end}
 use Rattle.meta_typevar.specs.declared.content.TypeVarContent.{TypeVarContent}
 use Rattle.meta_operands.specs.Operand.{variables_of}
 use Rattle.meta_operands.specs.declared.format.InstructionFormat.{InstructionFormat}
-use Rattle.meta_inst.specs.Built.{Built}
+use Rattle.meta_inst.specs.Built.{BuiltInstruction}
 use Rattle.meta_inst.specs.Operands.{AreOf}
 use Rattle.meta_declared.specs.BuiltDeclarations.{BuiltDeclarations}
 use Rattle.meta_builder_constructors_text.specs.Constructor.{constructor_text}
@@ -15,27 +15,27 @@ use Rattle.meta_builder_constructors_text.specs.ImmBuilders.{imm_builders_text}
 use Rattle.meta_builder_text.specs.InstBuilder.{inst_builder_text}
 
 -- the variables of the instruction's operands are of the registry
-pub record HasVariablesOf (vars : List TypeVarContent) (c : Built) : Type 0 where
+pub record HasVariablesOf (vars : List TypeVarContent) (c : BuiltInstruction) : Type 0 where
   pub inputs : AreOf vars (variables_of c.operands_in)
   pub outputs : AreOf vars (variables_of c.operands_out)
 
 -- the same of each instruction
-abbrev pub HaveVariablesOf : List TypeVarContent → List Built → Type 0
-HaveVariablesOf vars instructions = (k : ℕ) (c : Built) → slice_get instructions k ≡ Some c → HasVariablesOf vars c
+abbrev pub HaveVariablesOf : List TypeVarContent → List BuiltInstruction → Type 0
+HaveVariablesOf vars instructions = (k : ℕ) (c : BuiltInstruction) → slice_get instructions k ≡ Some c → HasVariablesOf vars c
 
 -- ---- instructions
 
 -- the method that builds an instruction of this format, and an empty line; a built instruction has a format
-unfoldable pub method_text : List TypeVarContent → Built → Option InstructionFormat → List ℕ
+unfoldable pub method_text : List TypeVarContent → BuiltInstruction → Option InstructionFormat → List ℕ
 method_text vars c None = []
 method_text vars c (Some format) = inst_builder_text vars c format ++ gap_text
 
 -- the methods that take an immediate for its last value, and an empty line, where they are asked for
-unfoldable pub imm_methods_text : List TypeVarContent → Built → List ℕ
+unfoldable pub imm_methods_text : List TypeVarContent → BuiltInstruction → List ℕ
 imm_methods_text vars c = if c.marks.inst_builder_imm_method then (imm_builders_text vars c ++ gap_text) else []
 
 -- the methods that build an instruction
-unfoldable pub methods_text : List TypeVarContent → List InstructionFormat → Built → List ℕ
+unfoldable pub methods_text : List TypeVarContent → List InstructionFormat → BuiltInstruction → List ℕ
 methods_text vars formats c = method_text vars c (slice_get formats c.format) ++ imm_methods_text vars c
 
 -- ---- formats

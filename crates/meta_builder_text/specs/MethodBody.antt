@@ -1,6 +1,7 @@
 -- The body of the method that builds an instruction.
 --     body_text vars c format     its lines
-use Rattle.std.specs.Prelude.{ℕ, zero, suc, ◌-◌, ◌==◌, ◌&&◌, List, [], ◌∷◌, ◌++◌, length, slice_get, Option, None, Some, option_and_then, if◌then◌else◌, codes}
+use Rattle.std.specs.Prelude.{ℕ, zero, suc, ◌-◌, ◌==◌, ◌&&◌, List, [], ◌∷◌, ◌++◌, length, slice_get, Option, None, Some, option_and_then}
+use Rattle.std.specs.Prelude.{if◌then◌else◌, codes}
 use Rattle.std.specs.List.{flat_map}
 use Rattle.std.specs.Fmt.{decimal}
 use Rattle.meta_text.specs.Lines.{at, text_of}
@@ -8,7 +9,7 @@ use Rattle.meta_typevar.specs.declared.content.TypeVarContent.{TypeVarContent}
 use Rattle.meta_operands.specs.Operand.{is_varargs_operand, is_immediate_operand}
 use Rattle.meta_operands.specs.declared.operand.Operand.{Operand}
 use Rattle.meta_operands.specs.declared.format.InstructionFormat.{InstructionFormat}
-use Rattle.meta_inst.specs.Built.{Built}
+use Rattle.meta_inst.specs.Built.{BuiltInstruction}
 use Rattle.meta_inst.specs.FormatMatch.{is_value_operand, is_block_operand}
 use Rattle.meta_inst.specs.declared.polymorphic.PolymorphicInfo.{PolymorphicInfo}
 use Rattle.meta_builder_constructors_text.specs.Names.{operand_name}
@@ -49,12 +50,12 @@ block_call_of o = if is_block_operand o then block_call_text o.name else []
 -- ---- the control
 
 -- the name of the operand that the format designates, and nothing where it designates none
-abbrev pub designated_name : Built → Option ℕ → List ℕ
+abbrev pub designated_name : BuiltInstruction → Option ℕ → List ℕ
 designated_name c None = []
 designated_name c (Some place) = operand_name c.operands_in place
 
 -- the place among the inputs of the value that the format designates
-abbrev pub designated_place : Built → InstructionFormat → Option ℕ
+abbrev pub designated_place : BuiltInstruction → InstructionFormat → Option ℕ
 designated_place c format = option_and_then (slice_get c.value_opnums) format.typevar_operand
 
 -- the line that takes the control from the operand of this name
@@ -103,16 +104,16 @@ value_list_text inputs format = if format.has_value_list then (value_list_begin 
 -- ---- the call of the format's constructor
 
 -- the operands at these places as arguments, behind others
-abbrev pub passed : List Operand → List ℕ → List ℕ
-passed inputs places = flat_map (λ place. codes ", " ++ operand_name inputs place) places
+abbrev pub arguments_behind : List Operand → List ℕ → List ℕ
+arguments_behind inputs places = flat_map (λ place. codes ", " ++ operand_name inputs place) places
 
 -- the values as arguments: the list where the format has one, and else each
-unfoldable pub passed_values : Built → InstructionFormat → List ℕ
-passed_values c format = if format.has_value_list then codes ", vlist" else passed c.operands_in c.value_opnums
+unfoldable pub passed_values : BuiltInstruction → InstructionFormat → List ℕ
+passed_values c format = if format.has_value_list then codes ", vlist" else arguments_behind c.operands_in c.value_opnums
 
 -- what stands behind the control: the immediates and entities, and then the values
-unfoldable pub passed_operands : Built → InstructionFormat → List ℕ
-passed_operands c format = passed c.operands_in c.imm_opnums ++ passed_values c format
+unfoldable pub passed_operands : BuiltInstruction → InstructionFormat → List ℕ
+passed_operands c format = arguments_behind c.operands_in c.imm_opnums ++ passed_values c format
 
 -- the call of the constructor of this name, for the opcode of this name, and the line that traces it
 unfoldable pub call_text : List ℕ → List ℕ → List ℕ → List ℕ → List ℕ
@@ -162,7 +163,7 @@ result_type count =
 -- ---- the whole body
 
 -- what is made of the arguments, the control, the list of values, the call, and the results
-unfoldable pub body_text : List TypeVarContent → Built → InstructionFormat → List ℕ
+unfoldable pub body_text : List TypeVarContent → BuiltInstruction → InstructionFormat → List ℕ
 body_text vars c format =
     flat_map conversion_of c.operands_in
     ++ (flat_map mem_flags_of c.operands_in

@@ -5,7 +5,7 @@ use Rattle.std.specs.List.{flat_map}
 use Rattle.meta_text.specs.Lines.{at, text_of}
 use Rattle.meta_typevar.specs.declared.content.TypeVarContent.{TypeVarContent}
 use Rattle.meta_operands.specs.declared.operand.Operand.{Operand}
-use Rattle.meta_inst.specs.Built.{Built}
+use Rattle.meta_inst.specs.Built.{BuiltInstruction}
 use Rattle.meta_inst.specs.FormatMatch.{is_block_operand, is_raw_block_operand}
 use Rattle.meta_builder_constructors_text.specs.Docs.{first_line, doc_line_text, doc_heading_text, doc_item_text}
 use Rattle.meta_builder_text.specs.Operands.{variable_name, variable_doc, operand_doc}
@@ -41,11 +41,11 @@ docs_of_input vars o =
     else (if is_raw_block_operand o then raw_block_doc else operand_line vars o)
 
 -- the lines on all arguments but the builder
-unfoldable pub inputs_docs : List TypeVarContent → Built → List ℕ
+unfoldable pub inputs_docs : List TypeVarContent → BuiltInstruction → List ℕ
 inputs_docs vars c = control_doc vars (asked_control c.polymorphic_info) ++ flat_map (docs_of_input vars) c.operands_in
 
 -- the lines on the outputs
-unfoldable pub outputs_docs : List TypeVarContent → Built → List ℕ
+unfoldable pub outputs_docs : List TypeVarContent → BuiltInstruction → List ℕ
 outputs_docs vars c = flat_map (operand_line vars) c.operands_out
 
 -- a list of this title with these lines, where there are lines
@@ -53,7 +53,7 @@ unfoldable pub titled : List ℕ → List ℕ → List ℕ
 titled title lines = if length lines == 0 then [] else (doc_heading_text title ++ lines)
 
 -- the documentation of the instruction, of the arguments and of the outputs
-unfoldable pub method_docs : List TypeVarContent → Built → List ℕ
+unfoldable pub method_docs : List TypeVarContent → BuiltInstruction → List ℕ
 method_docs vars c =
     doc_line_text (first_line c.doc)
     ++ (titled (codes "Inputs") (inputs_docs vars c) ++ titled (codes "Outputs") (outputs_docs vars c))

@@ -1,5 +1,6 @@
 ghost use Rattle.std.specs.Prelude.{◌≡◌, ◌++◌, [], IfOk, OnOk, string_bytes};
-ghost use Rattle.meta_builder_text.specs.Arguments.{each_with_before, block_arguments, operand_arguments, asked_control, control_argument, changes_builder, self_argument, arguments_text};
+ghost use Rattle.meta_builder_text.specs.Arguments.{each_with_before, block_arguments, operand_arguments, asked_control, control_argument};
+ghost use Rattle.meta_builder_text.specs.Arguments.{changes_builder, self_argument, arguments_text};
 
 use super::operands::{has_block, has_mem_flags, is_converted, variable_name};
 use super::type_parameters::parameter_name;

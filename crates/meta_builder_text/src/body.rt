@@ -1,6 +1,9 @@
 ghost use Rattle.std.specs.Prelude.{◌≡◌, ◌++◌, OnOk, string_bytes};
 ghost use Rattle.std.specs.List.{flat_map};
-ghost use Rattle.meta_builder_text.specs.MethodBody.{conversion_text, conversion_of, mem_flags_text, mem_flags_of, block_call_text, block_call_of, designated_name, designated_place, inferred_text, control_text, value_list_begin, one_value_line, more_values_line, added_text, value_list_end, value_list_text, body_text};
+ghost use Rattle.meta_builder_text.specs.MethodBody.{conversion_text, conversion_of, mem_flags_text, mem_flags_of, block_call_text};
+ghost use Rattle.meta_builder_text.specs.MethodBody.{block_call_of, designated_name, designated_place, inferred_text, control_text};
+ghost use Rattle.meta_builder_text.specs.MethodBody.{value_list_begin, one_value_line, more_values_line, added_text, value_list_end};
+ghost use Rattle.meta_builder_text.specs.MethodBody.{value_list_text, body_text};
 
 use super::constructor_call::push_call;
 use super::operands::{is_converted, is_mem_flags};

@@ -1,8 +1,9 @@
 ghost use Rattle.std.specs.Prelude.{◌≡◌, ◌++◌, IfOk, OnOk, slice_get, string_bytes};
 ghost use Rattle.std.specs.List.{flat_map};
-ghost use Rattle.meta_inst.specs.InstructionSet.{Fits};
+ghost use Rattle.meta_inst.specs.InstructionSet.{AreOfRegistries};
 ghost use Rattle.meta_rust_lines.specs.Ends.{gap_text, item_end};
-ghost use Rattle.meta_builder_text.specs.BuilderText.{HasVariablesOf, HaveVariablesOf, method_text, imm_methods_text, methods_text, constructor_at, constructors_text, trait_head, builder_text};
+ghost use Rattle.meta_builder_text.specs.BuilderText.{HasVariablesOf, HaveVariablesOf, method_text, imm_methods_text, methods_text};
+ghost use Rattle.meta_builder_text.specs.BuilderText.{constructor_at, constructors_text, trait_head, builder_text};
 
 use super::inst_builder::push_inst_builder;
 use meta_builder_constructors_text::{push_constructor, push_imm_builders};
@@ -138,7 +139,7 @@ pub trait InstBuilder<'f>: InstBuilderBase<'f> {
 /// The type variables, which are those of the instructions.
 fn variables(declarations: &Declarations) -> &TypeVars
     ensures vars { result.now ≡ declarations.now.set.vars }
-    ensures fits { Fits declarations.now.set.vars declarations.now.set.formats declarations.now.set.instructions }
+    ensures fits { AreOfRegistries declarations.now.set.vars declarations.now.set.formats declarations.now.set.instructions }
 {
     // the instructions say whose variables they have
     let _instructions = declarations.instructions();

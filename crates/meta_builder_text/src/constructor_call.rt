@@ -1,5 +1,5 @@
 ghost use Rattle.std.specs.Prelude.{◌≡◌, ◌++◌, IfOk, OnOk, string_bytes};
-ghost use Rattle.meta_builder_text.specs.MethodBody.{passed_control, passed, passed_values, passed_operands, call_text};
+ghost use Rattle.meta_builder_text.specs.MethodBody.{passed_control, arguments_behind, passed_values, passed_operands, call_text};
 
 use super::operands::variable_name;
 use meta_builder_constructors_text::operand_name;
@@ -24,7 +24,7 @@ fn passed_control(vars: &TypeVars, info: Option<PolymorphicInfo>) -> &str
 
 /// Adds the operands at these places as arguments, behind others.
 fn push_passed(out: &mut String, inputs: &[Operand], places: &[usize]) -> Result<(), AllocError>
-    ensures { OnOk result (string_bytes out.new ≡ string_bytes out.old ++ passed inputs.now places.now) }
+    ensures { OnOk result (string_bytes out.new ≡ string_bytes out.old ++ arguments_behind inputs.now places.now) }
 {
     for place in places {
         let name = operand_name(inputs, *place);

@@ -2,7 +2,8 @@ ghost use Rattle.std.specs.Prelude.{◌≡◌, ◌++◌, ◌<◌, ℕ, Some, IfO
 ghost use Rattle.std.specs.List.{flat_map};
 ghost use Rattle.meta_operands.specs.Operand.{variable_of, variables_of};
 ghost use Rattle.meta_inst.specs.Operands.{AreOf};
-ghost use Rattle.meta_builder_text.specs.MethodDocs.{control_line, control_doc, block_docs, raw_block_doc, operand_line, docs_of_input, inputs_docs, outputs_docs, titled, method_docs};
+ghost use Rattle.meta_builder_text.specs.MethodDocs.{control_line, control_doc, block_docs, raw_block_doc, operand_line, docs_of_input};
+ghost use Rattle.meta_builder_text.specs.MethodDocs.{inputs_docs, outputs_docs, titled, method_docs};
 
 use super::arguments::asked_control;
 use super::operands::{operand_doc, variable_doc, variable_name};

@@ -1,5 +1,6 @@
 ghost use Rattle.std.specs.Prelude.{◌≡◌, ◌-◌, ◌++◌, IfOk, OnOk, codes, string_bytes};
-ghost use Rattle.meta_builder_text.specs.MethodBody.{parted_to, numbered_result, several_text, instruction_line, one_result_line, results_lines, result_type};
+ghost use Rattle.meta_builder_text.specs.MethodBody.{parted_to, numbered_result, several_text, instruction_line, one_result_line};
+ghost use Rattle.meta_builder_text.specs.MethodBody.{results_lines, result_type};
 
 use meta_rust_lines::push_text;
 use std::alloc::{AllocError, Global};

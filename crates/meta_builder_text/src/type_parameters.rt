@@ -1,6 +1,7 @@
 ghost use Rattle.std.specs.Prelude.{◌≡◌, ◌≤◌, ◌+◌, ◌++◌, ◌∷◌, [], IfOk, OnOk, length, map, count_by, string_bytes};
 ghost use Rattle.meta_builder_text.specs.Operands.{is_converted};
-ghost use Rattle.meta_builder_text.specs.Arguments.{each_with_before, parameter_count, parameter_name, taken_type, bound_text, bound_of, lifetime_of, in_angles, type_parameters};
+ghost use Rattle.meta_builder_text.specs.Arguments.{each_with_before, parameter_count, parameter_name, taken_type, bound_text, bound_of};
+ghost use Rattle.meta_builder_text.specs.Arguments.{lifetime_of, in_angles, type_parameters};
 
 use super::operands::{has_block, is_converted, is_mem_flags};
 use meta_operands::Operand;
@@ -81,7 +82,8 @@ fn push_bounds(
     bounds: &mut Vec<String>,
     operands: &[Operand],
 ) -> Result<(), AllocError>
-    ensures { OnOk result (map string_bytes bounds.new.items ≡ map string_bytes bounds.old.items ++ each_with_before bound_of [] operands.now) }
+    ensures { OnOk result (map string_bytes bounds.new.items ≡ map string_bytes bounds.old.items
+        ++ each_with_before bound_of [] operands.now) }
 {
     for place in 0..operands.len() {
         let (before, _) = operands.split_at(place);

@@ -1,5 +1,6 @@
 -- Texts in which a byte doesn't stand, and lines.
-use Rattle.std.proofs.Common.{◌≡◌, ℕ, zero, suc, ◌<◌, ◌/◌, ◌%◌, ◌==◌, cond, not, ◌&&◌, Bool, true, false, List, [], ◌∷◌, ◌++◌, All, refl, sym, ap, ◌∙◌, arith}
+use Rattle.std.proofs.Common.{◌≡◌, ℕ, zero, suc, ◌<◌, ◌/◌, ◌%◌, ◌==◌, cond, not, ◌&&◌, Bool, true, false, List, [], ◌∷◌, ◌++◌, All, refl}
+use Rattle.std.proofs.Common.{sym, ap, ◌∙◌, arith}
 use Rattle.std.proofs.lemmas.Bool.{eqb-true, false≢true}
 use Rattle.std.proofs.lemmas.List.Folds.{list_all-append}
 use Rattle.std.proofs.lemmas.List.Elements.{All-weaker}
@@ -12,7 +13,8 @@ use Rattle.meta_cursor.specs.Spans.{lacks, is_line, is_nothing}
 use Rattle.meta_cursor.proofs.Reading.{all_first, all_behind}
 
 -- what lacks the byte, and more that lacks it
-pub both_lack : (stop : ℕ) (front behind : List ℕ) → lacks stop front ≡ true → lacks stop behind ≡ true → lacks stop (front ++ behind) ≡ true
+pub both_lack : (stop : ℕ) (front behind : List ℕ) → lacks stop front ≡ true → lacks stop behind ≡ true
+    → lacks stop (front ++ behind) ≡ true
 both_lack stop front behind f b = list_all-append (λ c. not (c == stop)) front behind ∙ (λ i. f i && b i)
 
 -- behind what has no LF, a line ends one
@@ -20,7 +22,8 @@ pub line_behind : (front behind : List ℕ) → lacks 10 front ≡ true → is_l
 line_behind [] behind free is = is
 line_behind (c ∷ front) behind free is = by_test (c == 10) free (λ free. line_behind front behind free is)
   where
-    by_test : (b : Bool) → (not b && lacks 10 front) ≡ true → (lacks 10 front ≡ true → is_line (front ++ behind) ≡ true) → cond b (is_nothing (front ++ behind)) (is_line (front ++ behind)) ≡ true
+    by_test : (b : Bool) → (not b && lacks 10 front) ≡ true → (lacks 10 front ≡ true → is_line (front ++ behind) ≡ true)
+        → cond b (is_nothing (front ++ behind)) (is_line (front ++ behind)) ≡ true
     by_test true free below = absurd (cc)
     by_test false free below = below free
 
@@ -48,14 +51,18 @@ digit_other stop d other small = by_test (digit_glyph false d == stop) refl
     by_test false is = refl
     by_test true is = absurd (false≢true (sym other ∙ ap is_ascii_digit (sym (eqb-true (digit_glyph false d) stop is)) ∙ is_digit))
 
-digits_lack : (stop fuel n : ℕ) (behind : List ℕ) → is_ascii_digit stop ≡ false → lacks stop behind ≡ true → lacks stop (digits_onto fuel 10 false n behind) ≡ true
+digits_lack : (stop fuel n : ℕ) (behind : List ℕ) → is_ascii_digit stop ≡ false → lacks stop behind ≡ true
+    → lacks stop (digits_onto fuel 10 false n behind) ≡ true
 digits_lack stop zero n behind other free = free
-digits_lack stop (suc fuel) n behind other free = by_test (n / 10 == 0) (digits_lack stop fuel (n / 10) (digit_glyph false (n % 10) ∷ behind) other more)
+digits_lack stop (suc fuel) n behind other free =
+    by_test (n / 10 == 0) (digits_lack stop fuel (n / 10) (digit_glyph false (n % 10) ∷ behind) other more)
   where
     more : lacks stop (digit_glyph false (n % 10) ∷ behind) ≡ true
     more = (λ i. not (digit_other stop (n % 10) other (omega arith) i) && free i)
 
-    by_test : (b : Bool) → lacks stop (digits_onto fuel 10 false (n / 10) (digit_glyph false (n % 10) ∷ behind)) ≡ true → lacks stop (cond b (digit_glyph false (n % 10) ∷ behind) (digits_onto fuel 10 false (n / 10) (digit_glyph false (n % 10) ∷ behind))) ≡ true
+    by_test : (b : Bool) → lacks stop (digits_onto fuel 10 false (n / 10) (digit_glyph false (n % 10) ∷ behind)) ≡ true
+        → lacks stop (cond b (digit_glyph false (n % 10) ∷ behind)
+        (digits_onto fuel 10 false (n / 10) (digit_glyph false (n % 10) ∷ behind))) ≡ true
     by_test true above = more
     by_test false above = above
 

@@ -1,5 +1,6 @@
 -- Items that are read one after the other.
-use Rattle.std.proofs.Common.{◌≡◌, ℕ, suc, ◌+◌, ◌<◌, ◌≤◌, List, [], ◌∷◌, ◌++◌, length, get_or, slice_get, take, drop, Some, All, refl, sym, ap, ◌∙◌, append_assoc, add-one, arith}
+use Rattle.std.proofs.Common.{◌≡◌, ℕ, suc, ◌+◌, ◌<◌, ◌≤◌, List, [], ◌∷◌, ◌++◌, length, get_or, slice_get, take, drop, Some, All, refl, sym}
+use Rattle.std.proofs.Common.{ap, ◌∙◌, append_assoc, add-one, arith}
 use Rattle.std.specs.List.{flat_map}
 use Rattle.std.proofs.Math.Seq.{drop-cons}
 use Rattle.std.proofs.lemmas.List.{take_more, take_all, length-append}
@@ -14,11 +15,15 @@ pub record At {X : Type 0} (xs : List X) (i : ℕ) (x : X) : Type 0 where
   pub dropped : drop i xs ≡ x ∷ drop (i + 1) xs
 
 -- there is one below the length, and it has what all have
-pub at_place : {X : Type 0} (P : X → Type 0) (xs : List X) (i : ℕ) → All P xs → i < length xs → (x : X) × At xs i x × P x
-at_place P [] i all within = absurd (omega (arith, within))
-at_place P (x ∷ xs) i all within = (
+pub one_within : {X : Type 0} (P : X → Type 0) (xs : List X) (i : ℕ) → All P xs → i < length xs → (x : X) × At xs i x × P x
+one_within P [] i all within = absurd (omega (arith, within))
+one_within P (x ∷ xs) i all within = (
   get_or (x ∷ xs) i x,
-  record { there = slice_get-get_or (x ∷ xs) i x within; taken = take_more (x ∷ xs) i x within; dropped = drop-cons (x ∷ xs) i x within ∙ ap (λ k. get_or (x ∷ xs) i x ∷ drop k (x ∷ xs)) (sym (add-one i)) },
+  record {
+    there = slice_get-get_or (x ∷ xs) i x within;
+    taken = take_more (x ∷ xs) i x within;
+    dropped = drop-cons (x ∷ xs) i x within ∙ ap (λ k. get_or (x ∷ xs) i x ∷ drop k (x ∷ xs)) (sym (add-one i));
+  },
   All-get_or P (x ∷ xs) i x within all,
 )
 
@@ -28,17 +33,22 @@ pub record AreRead {X : Type 0} (text : X → List ℕ) (items : List X) (rest :
   pub left : now ≡ flat_map text (drop i items) ++ rest
 
 -- none is
-pub none_read : {X : Type 0} (text : X → List ℕ) (items : List X) (rest left : List ℕ) → left ≡ flat_map text items ++ rest → AreRead text items rest 0 [] left
-none_read text items rest left e = record { got = refl; left = e }
+pub none_read_yet : {X : Type 0} (text : X → List ℕ) (items : List X) (rest left : List ℕ)
+    → left ≡ flat_map text items ++ rest → AreRead text items rest 0 [] left
+none_read_yet text items rest left e = record { got = refl; left = e }
 
 -- the next one is at the front of what is left
-pub front : {X : Type 0} (text : X → List ℕ) (items : List X) (rest left : List ℕ) (i : ℕ) (x : X) → At items i x → left ≡ flat_map text (drop i items) ++ rest → left ≡ text x ++ (flat_map text (drop (i + 1) items) ++ rest)
-front text items rest left i x at e = e ∙ ap (λ xs. flat_map text xs ++ rest) at.dropped ∙ append_assoc (text x) (flat_map text (drop (i + 1) items)) rest
+pub front : {X : Type 0} (text : X → List ℕ) (items : List X) (rest left : List ℕ) (i : ℕ) (x : X) → At items i x
+    → left ≡ flat_map text (drop i items) ++ rest → left ≡ text x ++ (flat_map text (drop (i + 1) items) ++ rest)
+front text items rest left i x at e = e ∙ ap (λ xs. flat_map text xs ++ rest) at.dropped
+    ∙ append_assoc (text x) (flat_map text (drop (i + 1) items)) rest
 
 -- one more is
-pub one_more : {X : Type 0} (text : X → List ℕ) (items : List X) (rest : List ℕ) (i : ℕ) (x y : X) (got more : List X) (left behind : List ℕ)
-    → At items i x → AreRead text items rest i got left → more ≡ got ++ y ∷ [] → y ≡ x → behind ≡ flat_map text (drop (i + 1) items) ++ rest → AreRead text items rest (i + 1) more behind
-one_more text items rest i x y got more left behind at read pushed same e =
+pub one_more_read : {X : Type 0} (text : X → List ℕ) (items : List X) (rest : List ℕ) (i : ℕ) (x y : X)
+    (got more : List X) (left behind : List ℕ)
+    → At items i x → AreRead text items rest i got left → more ≡ got ++ y ∷ [] → y ≡ x
+    → behind ≡ flat_map text (drop (i + 1) items) ++ rest → AreRead text items rest (i + 1) more behind
+one_more_read text items rest i x y got more left behind at read pushed same e =
     record { got = pushed ∙ (λ k. read.got k ++ same k ∷ []) ∙ sym at.taken; left = e }
 
 -- what all have, the first has, and those behind it
@@ -49,15 +59,18 @@ pub all_behind : {X : Type 0} (P : X → Type 0) (x : X) (xs : List X) → All P
 all_behind P x xs all = λ k d within. all (suc k) d (omega (arith, within))
 
 -- nothing is left but the rest
-pub none_left : {X : Type 0} (text : X → List ℕ) (items : List X) (rest : List ℕ) (i : ℕ) (left : List ℕ) → length items ≤ i → left ≡ flat_map text (drop i items) ++ rest → left ≡ rest
-none_left text items rest i left past e = e ∙ ap (λ xs. flat_map text xs ++ rest) (drop_past items i (slice_get_past items i past))
+pub only_rest_left : {X : Type 0} (text : X → List ℕ) (items : List X) (rest : List ℕ) (i : ℕ) (left : List ℕ)
+    → length items ≤ i → left ≡ flat_map text (drop i items) ++ rest → left ≡ rest
+only_rest_left text items rest i left past e = e ∙ ap (λ xs. flat_map text xs ++ rest) (drop_past items i (slice_get_past items i past))
 
 -- all are
-pub all_read : {X : Type 0} (text : X → List ℕ) (items : List X) (rest : List ℕ) (i : ℕ) (got : List X) (left : List ℕ) → length items ≤ i → AreRead text items rest i got left → (got ≡ items) × (left ≡ rest)
-all_read text items rest i got left past read = (read.got ∙ take_all i items past, none_left text items rest i left past read.left)
+pub all_read : {X : Type 0} (text : X → List ℕ) (items : List X) (rest : List ℕ) (i : ℕ) (got : List X)
+    (left : List ℕ) → length items ≤ i → AreRead text items rest i got left → (got ≡ items) × (left ≡ rest)
+all_read text items rest i got left past read = (read.got ∙ take_all i items past, only_rest_left text items rest i left past read.left)
 
 -- there are no more items than bytes
-pub few_items : {X : Type 0} (text : X → List ℕ) (items : List X) → All (λ x. 1 ≤ length (text x)) items → (rest : List ℕ) → length items ≤ length (flat_map text items ++ rest)
+pub few_items : {X : Type 0} (text : X → List ℕ) (items : List X) → All (λ x. 1 ≤ length (text x)) items
+    → (rest : List ℕ) → length items ≤ length (flat_map text items ++ rest)
 few_items text [] some rest = omega arith
 few_items text (x ∷ items) some rest =
     let more = few_items text items (all_behind (λ x. 1 ≤ length (text x)) x items some) rest in

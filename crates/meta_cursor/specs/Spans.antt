@@ -2,8 +2,10 @@
 --     Lacks stop text        the byte doesn't stand in the text
 --     begins_with stop rest  the rest begins with the byte
 --     is_line text           the text is one line, with its end
-use Rattle.std.specs.Prelude.{ℕ, ◌==◌, Bool, true, false, List, [], ◌∷◌, if◌then◌else◌, not}
-use Rattle.std.specs.List.{list_all}
+--     from_byte stop text    what a text has from the first such byte on
+--     behind_lines n text    what it has behind so many lines
+use Rattle.std.specs.Prelude.{ℕ, zero, suc, ◌==◌, Bool, true, false, List, [], ◌∷◌, drop, if◌then◌else◌, not}
+use Rattle.std.specs.List.{list_all, position_or_len}
 
 -- the byte doesn't stand in the text
 abbrev pub lacks : ℕ → List ℕ → Bool
@@ -23,3 +25,16 @@ is_nothing (c ∷ cs) = false
 abbrev pub is_line : List ℕ → Bool
 is_line [] = false
 is_line (c ∷ cs) = if c == 10 then is_nothing cs else is_line cs
+
+-- what the text has from the first such byte on, and nothing where it has none
+abbrev pub from_byte : ℕ → List ℕ → List ℕ
+from_byte stop text = drop (position_or_len (λ c. c == stop) text) text
+
+-- what it has behind its first LF, and nothing where it has none
+abbrev pub behind_line : List ℕ → List ℕ
+behind_line text = drop 1 (from_byte 10 text)
+
+-- what it has behind so many LFs
+abbrev pub behind_lines : ℕ → List ℕ → List ℕ
+behind_lines zero text = text
+behind_lines (suc count) text = behind_lines count (behind_line text)

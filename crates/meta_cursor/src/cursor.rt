@@ -1,9 +1,10 @@
-ghost use Rattle.std.specs.Prelude.{◌≡◌, ◌<◌, ◌^◌, ◌/◌, ◌%◌, ◌+◌, ◌*◌, ℕ, List, [], ◌∷◌, ◌++◌, IsTrue, IfOk, All, false, length, map, drop, slice_index};
+ghost use Rattle.std.specs.Prelude.{◌≡◌, ◌<◌, ◌^◌, ◌/◌, ◌%◌, ◌+◌, ◌*◌, ℕ, List, [], ◌∷◌, ◌++◌, IsTrue, IfOk, All, false, length, map, drop};
+ghost use Rattle.std.specs.Prelude.{slice_index};
 ghost use Rattle.std.specs.Char.{is_ascii_digit};
 ghost use Rattle.std.specs.Fmt.{decimal, digit_glyph};
 ghost use Rattle.std.specs.List.{flat_map};
 ghost use Rattle.std.specs.Str.{IsAscii, IsUtf8};
-ghost use Rattle.meta_cursor.specs.Spans.{lacks, begins_with, is_line};
+ghost use Rattle.meta_cursor.specs.Spans.{lacks, begins_with, is_line, from_byte, behind_line, behind_lines};
 
 use meta_types::Text;
 use meta_words::{end_of, number_in};
@@ -50,14 +51,17 @@ impl<'t> Cursor<'t> {
 
     /// Skips as many bytes as the text has.
     pub fn pass(&mut self, text: &str)
-        ensures { (rest : List ℕ) → self.old ≡ text.now ++ rest → self.new ≡ rest }
+        ensures item { (rest : List ℕ) → self.old ≡ text.now ++ rest → self.new ≡ rest }
+        ensures left { self.new ≡ drop (length text.now) self.old }
     {
         self.skip(text.len());
     }
 
     /// Reads what stands up to the next byte `stop`, which stays, behind as many bytes as the text has.
     pub fn until(&mut self, before: &str, stop: u8) -> &'t [u8]
-        ensures { (item rest : List ℕ) → IsTrue (lacks stop item) → IsTrue (begins_with stop rest) → self.old ≡ before.now ++ (item ++ rest) → (result.now ≡ item) × (self.new ≡ rest) }
+        ensures item { (item rest : List ℕ) → IsTrue (lacks stop item) → IsTrue (begins_with stop rest)
+            → self.old ≡ before.now ++ (item ++ rest) → (result.now ≡ item) × (self.new ≡ rest) }
+        ensures left { self.new ≡ from_byte stop (drop (length before.now) self.old) }
     {
         self.pass(before);
         let (item, left) = self.left.split_at(end_of(self.left, stop));
@@ -111,35 +115,45 @@ impl<'t> Cursor<'t> {
 
     /// Reads the number up to the next byte `stop`, which isn't a digit and stays, behind as many bytes as the text has.
     pub fn number(&mut self, before: &str, stop: u8) -> usize
-        ensures { (n : ℕ) (rest : List ℕ) → n < 2 ^ 64 → is_ascii_digit stop ≡ false → IsTrue (begins_with stop rest) → self.old ≡ before.now ++ (decimal n ++ rest) → (result ≡ n) × (self.new ≡ rest) }
+        ensures item { (n : ℕ) (rest : List ℕ) → n < 2 ^ 64 → is_ascii_digit stop ≡ false → IsTrue (begins_with stop rest)
+            → self.old ≡ before.now ++ (decimal n ++ rest) → (result ≡ n) × (self.new ≡ rest) }
+        ensures left { self.new ≡ from_byte stop (drop (length before.now) self.old) }
     {
         number_of(self.until(before, stop))
     }
 
     /// As `number`, where the number has 8 bits.
     pub fn number_u8(&mut self, before: &str, stop: u8) -> u8
-        ensures { (n : ℕ) (rest : List ℕ) → n < 2 ^ 8 → is_ascii_digit stop ≡ false → IsTrue (begins_with stop rest) → self.old ≡ before.now ++ (decimal n ++ rest) → (result ≡ n) × (self.new ≡ rest) }
+        ensures item { (n : ℕ) (rest : List ℕ) → n < 2 ^ 8 → is_ascii_digit stop ≡ false → IsTrue (begins_with stop rest)
+            → self.old ≡ before.now ++ (decimal n ++ rest) → (result ≡ n) × (self.new ≡ rest) }
+        ensures left { self.new ≡ from_byte stop (drop (length before.now) self.old) }
     {
         u8::try_from(self.number(before, stop)).unwrap_or(0)
     }
 
     /// As `number`, where the number has 16 bits.
     pub fn number_u16(&mut self, before: &str, stop: u8) -> u16
-        ensures { (n : ℕ) (rest : List ℕ) → n < 2 ^ 16 → is_ascii_digit stop ≡ false → IsTrue (begins_with stop rest) → self.old ≡ before.now ++ (decimal n ++ rest) → (result ≡ n) × (self.new ≡ rest) }
+        ensures item { (n : ℕ) (rest : List ℕ) → n < 2 ^ 16 → is_ascii_digit stop ≡ false → IsTrue (begins_with stop rest)
+            → self.old ≡ before.now ++ (decimal n ++ rest) → (result ≡ n) × (self.new ≡ rest) }
+        ensures left { self.new ≡ from_byte stop (drop (length before.now) self.old) }
     {
         u16::try_from(self.number(before, stop)).unwrap_or(0)
     }
 
     /// As `number`, where the number has 32 bits.
     pub fn number_u32(&mut self, before: &str, stop: u8) -> u32
-        ensures { (n : ℕ) (rest : List ℕ) → n < 2 ^ 32 → is_ascii_digit stop ≡ false → IsTrue (begins_with stop rest) → self.old ≡ before.now ++ (decimal n ++ rest) → (result ≡ n) × (self.new ≡ rest) }
+        ensures item { (n : ℕ) (rest : List ℕ) → n < 2 ^ 32 → is_ascii_digit stop ≡ false → IsTrue (begins_with stop rest)
+            → self.old ≡ before.now ++ (decimal n ++ rest) → (result ≡ n) × (self.new ≡ rest) }
+        ensures left { self.new ≡ from_byte stop (drop (length before.now) self.old) }
     {
         u32::try_from(self.number(before, stop)).unwrap_or(0)
     }
 
     /// Reads the text up to the next byte `stop`, which stays, behind as many bytes as the text before has.
     pub fn text(&mut self, alloc: Global, before: &str, stop: u8) -> Result<Text, AllocError>
-        ensures { IfOk result (λ t. (item rest : List ℕ) → IsAscii item → IsTrue (lacks stop item) → IsTrue (begins_with stop rest) → self.old ≡ before.now ++ (item ++ rest) → (t ≡ item) × (self.new ≡ rest)) }
+        ensures item { IfOk result (λ t. (item rest : List ℕ) → IsAscii item → IsTrue (lacks stop item) → IsTrue (begins_with stop rest)
+            → self.old ≡ before.now ++ (item ++ rest) → (t ≡ item) × (self.new ≡ rest)) }
+        ensures left { self.new ≡ from_byte stop (drop (length before.now) self.old) }
     {
         text_of(alloc, self.until(before, stop))
     }
@@ -147,6 +161,7 @@ impl<'t> Cursor<'t> {
     /// Reads a digit up to `f`.
     fn digit(&mut self) -> u8
         ensures value { (d : ℕ) (rest : List ℕ) → d < 16 → self.old ≡ digit_glyph false d ∷ rest → (result ≡ d) × (self.new ≡ rest) }
+        ensures left { self.new ≡ drop 1 self.old }
         ensures small { result < 16 }
     {
         let digit = value_of(self.byte_at(0));
@@ -156,7 +171,9 @@ impl<'t> Cursor<'t> {
 
     /// Reads a byte of two hexadecimal digits, behind as many bytes as the text has.
     pub fn hex(&mut self, before: &str) -> u8
-        ensures { (n : ℕ) (rest : List ℕ) → n < 256 → self.old ≡ before.now ++ digit_glyph false (n / 16) ∷ (digit_glyph false (n % 16) ∷ rest) → (result ≡ n) × (self.new ≡ rest) }
+        ensures item { (n : ℕ) (rest : List ℕ) → n < 256
+            → self.old ≡ before.now ++ digit_glyph false (n / 16) ∷ digit_glyph false (n % 16) ∷ rest → (result ≡ n) × (self.new ≡ rest) }
+        ensures left { self.new ≡ drop 2 (drop (length before.now) self.old) }
     {
         self.pass(before);
         let high = self.digit();
@@ -167,6 +184,7 @@ impl<'t> Cursor<'t> {
     /// Reads a binary digit.
     fn bit(&mut self) -> u8
         ensures value { (d : ℕ) (rest : List ℕ) → d < 2 → self.old ≡ digit_glyph false d ∷ rest → (result ≡ d) × (self.new ≡ rest) }
+        ensures left { self.new ≡ drop 1 self.old }
         ensures small { result < 2 }
     {
         self.digit() % 2
@@ -174,7 +192,10 @@ impl<'t> Cursor<'t> {
 
     /// Reads four binary digits.
     fn four_bits(&mut self) -> u8
-        ensures value { (a b c d : ℕ) (rest : List ℕ) → a < 2 → b < 2 → c < 2 → d < 2 → self.old ≡ digit_glyph false a ∷ (digit_glyph false b ∷ (digit_glyph false c ∷ (digit_glyph false d ∷ rest))) → (result ≡ 8 * a + 4 * b + 2 * c + d) × (self.new ≡ rest) }
+        ensures value { (a b c d : ℕ) (rest : List ℕ) → a < 2 → b < 2 → c < 2 → d < 2
+            → self.old ≡ digit_glyph false a ∷ digit_glyph false b ∷ digit_glyph false c ∷ digit_glyph false d ∷ rest
+            → (result ≡ 8 * a + 4 * b + 2 * c + d) × (self.new ≡ rest) }
+        ensures left { self.new ≡ drop 4 self.old }
         ensures small { result < 16 }
     {
         let eight = self.bit();
@@ -186,7 +207,10 @@ impl<'t> Cursor<'t> {
 
     /// Reads a byte of eight binary digits, behind as many bytes as the text has.
     pub fn binary(&mut self, before: &str) -> u8
-        ensures { (n : ℕ) (rest : List ℕ) → n < 256 → self.old ≡ before.now ++ (map (λ place. digit_glyph false (n / place % 2)) (128 ∷ (64 ∷ (32 ∷ (16 ∷ (8 ∷ (4 ∷ (2 ∷ (1 ∷ [])))))))) ++ rest) → (result ≡ n) × (self.new ≡ rest) }
+        ensures item { (n : ℕ) (rest : List ℕ) → n < 256
+            → self.old ≡ before.now ++ (map (λ place. digit_glyph false (n / place % 2)) (128 ∷ 64 ∷ 32 ∷ 16 ∷ 8 ∷ 4 ∷ 2 ∷ 1 ∷ []) ++ rest)
+            → (result ≡ n) × (self.new ≡ rest) }
+        ensures left { self.new ≡ drop 8 (drop (length before.now) self.old) }
     {
         self.pass(before);
         let high = self.four_bits();
@@ -196,7 +220,8 @@ impl<'t> Cursor<'t> {
 
     /// Skips the next line, with its end.
     pub fn skip_line(&mut self)
-        ensures { (line rest : List ℕ) → IsTrue (is_line line) → self.old ≡ line ++ rest → self.new ≡ rest }
+        ensures item { (line rest : List ℕ) → IsTrue (is_line line) → self.old ≡ line ++ rest → self.new ≡ rest }
+        ensures left { self.new ≡ behind_line self.old }
     {
         let end = end_of(self.left, b'\n');
         self.skip(end);
@@ -205,7 +230,9 @@ impl<'t> Cursor<'t> {
 
     /// Skips so many lines, with their ends, or all where fewer are left.
     pub fn skip_lines(&mut self, count: usize)
-        ensures { (lines : List (List ℕ)) (rest : List ℕ) → All (λ line. IsTrue (is_line line)) lines → count ≡ length lines → self.old ≡ flat_map (λ line. line) lines ++ rest → self.new ≡ rest }
+        ensures item { (lines : List (List ℕ)) (rest : List ℕ) → All (λ line. IsTrue (is_line line)) lines → count ≡ length lines
+            → self.old ≡ flat_map (λ line. line) lines ++ rest → self.new ≡ rest }
+        ensures left { self.new ≡ behind_lines count self.old }
     {
         for _ in 0..self.len().min(count) {
             self.skip_line();

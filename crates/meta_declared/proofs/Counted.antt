@@ -1,5 +1,6 @@
 -- Two lists that hold the same sets, each once, are of one length.
-use Rattle.std.proofs.Common.{◌≡◌, ◌≢◌, ◌<◌, ◌≤◌, ◌⊎◌, inl, inr, ⊎_elim, ℕ, zero, suc, true, false, cond, eqb, List, length, get_or, slice_get, Some, sym, ap, ◌∙◌, subst, arith}
+use Rattle.std.proofs.Common.{◌≡◌, ◌≢◌, ◌<◌, ◌≤◌, ◌⊎◌, inl, inr, ⊎_elim, ℕ, zero, suc, true, false, cond, eqb, List, length, get_or}
+use Rattle.std.proofs.Common.{slice_get, Some, sym, ap, ◌∙◌, subst, arith}
 use Rattle.std.proofs.lemmas.Option.{slice_get_within, slice_get-get_or}
 use Rattle.std.proofs.lemmas.Bool.{cases_lt}
 use Rattle.std.proofs.lemmas.Bool.Decides.{nat_tests}
@@ -18,7 +19,9 @@ without m n f k = cond (eqb (f k) n) (f m) (f k)
 
 -- what is equal to n, or not
 equal_or_not : (a b : ℕ) → ((a ≡ b) × (eqb a b ≡ true)) ⊎ ((a ≢ b) × (eqb a b ≡ false))
-equal_or_not a b = ⊎_elim (λ l. inr ((λ e. omega (arith, e, l)), grind (arith, nat_tests))) (λ l. ⊎_elim (λ g. inr ((λ e. omega (arith, e, g)), grind (arith, nat_tests))) (λ g. inl (omega (arith, l, g), grind (arith, nat_tests))) (cases_lt b a)) (cases_lt a b)
+equal_or_not a b = ⊎_elim (λ l. inr ((λ e. omega (arith, e, l)), grind (arith, nat_tests)))
+    (λ l. ⊎_elim (λ g. inr ((λ e. omega (arith, e, g)), grind (arith, nat_tests)))
+    (λ g. inl (omega (arith, l, g), grind (arith, nat_tests))) (cases_lt b a)) (cases_lt a b)
 
 -- one less goes to one less
 one_less : (m n : ℕ) (f : ℕ → ℕ) → Injects (suc m) (suc n) f → Injects m n (without m n f)
@@ -88,7 +91,11 @@ module _ (d : InstructionSet) (xs ys : List TypeSetParts) (hx : AreNeededSets d 
 
   -- the first list isn't longer
   no_longer : length xs ≤ length ys
-  no_longer = injected (length xs) (length ys) goes (record { within = λ k l. slice_get_within ys (goes k) (get_or xs k no_types) (reached k l); apart = goes_apart })
+  no_longer = injected (length xs) (length ys) goes (record {
+    within =
+        λ k l. slice_get_within ys (goes k) (get_or xs k no_types) (reached k l);
+    apart = goes_apart;
+  })
 
 -- the sets that are needed are so many
 pub one_count : (d : InstructionSet) (xs ys : List TypeSetParts) → AreNeededSets d xs → AreNeededSets d ys → length xs ≡ length ys

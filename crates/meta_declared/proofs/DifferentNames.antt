@@ -7,4 +7,5 @@ use Rattle.meta_inst.specs.InstructionFaults.{DuplicateRule}
 use Rattle.meta_inst.specs.Faults.{OfInstruction, names_of, IsValid}
 
 pub different_names : (d : InstructionSet) → IsValid d → AreDifferentNames (names_of d)
-different_names d valid = distinct_differ (names_of d) (λ k j shared. valid (OfInstruction k DuplicateRule) _ (inr (record { second = refl; earlier = j; duplicate = shared; tells = refl })))
+different_names d valid = distinct_differ (names_of d)
+    (λ k j shared. valid (OfInstruction k DuplicateRule) _ (inr (record { second = refl; earlier = j; duplicate = shared; tells = refl })))

@@ -21,7 +21,8 @@ module _ (d : InstructionSet) where
     first_of_type_sets many = record { position = OfTypeSets; shows = (_, refl, (sets, needed, refl, many)); first = clean }
 
     pub valid : length sets ≤ 4095 → IsValid d
-    valid few = none_left (searchable d) (next_part (searchable d) 3 (next_place (searchable d) 3 0 (passed (searchable d) OfTypeSets clean (λ e s.
+    valid few = none_left (searchable d)
+        (next_part (searchable d) 3 (next_place (searchable d) 3 0 (passed (searchable d) OfTypeSets clean (λ e s.
         let counted = one_count d s.2.0 sets s.2.1 needed in
         let is = s.2.2 in
         let many = s.2.3 in

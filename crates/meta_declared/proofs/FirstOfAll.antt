@@ -16,7 +16,8 @@ abbrev pub NoneOfValidGroup : Type 0
 NoneOfValidGroup = (d : GroupDeclaration) (g : ℕ) (e : DefinitionError) → IsValidGroup d → IsFirstGroupFault d g e → ⊥
 
 module _ (one : OneGroupFault) (none : NoneOfValidGroup) where
-  not_later : (groups : List GroupDeclaration) (e f : DefinitionError) (h : IsFirstOfGroups groups e) (g : IsFirstOfGroups groups f) → h.place < g.place → ⊥
+  not_later : (groups : List GroupDeclaration) (e f : DefinitionError) (h : IsFirstOfGroups groups e) (g : IsFirstOfGroups groups f)
+      → h.place < g.place → ⊥
   not_later groups e f h g l = none h.group h.place e (g.earlier h.place h.group l h.at) h.first
 
   one_of_groups : (groups : List GroupDeclaration) (e f : DefinitionError) → IsFirstOfGroups groups e → IsFirstOfGroups groups f → e ≡ f
@@ -25,7 +26,8 @@ module _ (one : OneGroupFault) (none : NoneOfValidGroup) where
       here : h.place ≡ g.place → e ≡ f
       here same =
           let group : h.group ≡ g.group = same_Some h.group g.group (sym h.at ∙ ap (slice_get groups) same ∙ g.at) in
-          one g.group g.place e f (subst (λ (d : GroupDeclaration). IsFirstGroupFault d g.place e) group (subst (λ n. IsFirstGroupFault h.group n e) same h.first)) g.first
+          one g.group g.place e f (subst (λ (d : GroupDeclaration). IsFirstGroupFault d g.place e) group
+          (subst (λ n. IsFirstGroupFault h.group n e) same h.first)) g.first
 
       places : (h.place < g.place) ⊎ (g.place ≤ h.place) → (g.place < h.place) ⊎ (h.place ≤ g.place) → e ≡ f
       places (inl l) r = absurd (not_later groups e f h g l)
@@ -40,4 +42,5 @@ module _ (one : OneGroupFault) (none : NoneOfValidGroup) where
 
   pub none_of_all : (d : Declared) (e : DefinitionError) → AreValid d → ShowsFirst d e → ⊥
   none_of_all d e valid (inl h) = none_where_valid d.set e valid.set h
-  none_of_all d e valid (inr h) = let first = h.1 in none first.group first.place e (valid.groups first.place first.group first.at) first.first
+  none_of_all d e valid (inr h) = let first = h.1
+      in none first.group first.place e (valid.groups first.place first.group first.at) first.first

@@ -1,5 +1,6 @@
 -- Formats in use are found by their marks, their names and their structures.
-use Rattle.std.proofs.Common.{Ordering, ◌≡◌, ◌≢◌, ℕ, ◌<◌, ◌⊎◌, inl, inr, zero, suc, Bool, true, false, cond, MatchBool, List, [], ◌∷◌, ◌++◌, length, replicate, set, slice_get, Option, Some, None, Bor, refl, sym, ap, ◌∙◌, subst, arith, length-set}
+use Rattle.std.proofs.Common.{Ordering, ◌≡◌, ◌≢◌, ℕ, ◌<◌, ◌⊎◌, inl, inr, zero, suc, Bool, true, false, cond, MatchBool, List, [], ◌∷◌, ◌++◌}
+use Rattle.std.proofs.Common.{length, replicate, set, slice_get, Option, Some, None, Bor, refl, sym, ap, ◌∙◌, subst, arith, length-set}
 use Rattle.std.proofs.lemmas.List.{length-replicate}
 use Rattle.std.proofs.lemmas.Option.{slice_get_within, same_Some}
 use Rattle.std.specs.Ordering.{nat_cmp, is_eq}
@@ -25,7 +26,8 @@ copies zero x k y e = absurd (cc)
 copies (suc n) x zero y e = same_Some x y e
 copies (suc n) x (suc k) y e = copies n x k y e
 
-written : {X : Type 0} (xs : List X) (i : ℕ) (x : X) (k : ℕ) (y : X) → slice_get (set xs i x) k ≡ Some y → ((k ≡ i) × (x ≡ y)) ⊎ ((k ≢ i) × (slice_get xs k ≡ Some y))
+written : {X : Type 0} (xs : List X) (i : ℕ) (x : X) (k : ℕ) (y : X) → slice_get (set xs i x) k ≡ Some y
+    → ((k ≡ i) × (x ≡ y)) ⊎ ((k ≢ i) × (slice_get xs k ≡ Some y))
 written [] i x k y e = absurd (cc)
 written (z ∷ xs) zero x zero y e = inl (refl, same_Some x y e)
 written (z ∷ xs) zero x (suc k) y e = inr (λ h. absurd (omega (arith, h)), e)
@@ -35,25 +37,36 @@ written (z ∷ xs) (suc i) x (suc k) y e = elim (written xs i x k y e) [
   | inr h ↦ inr (λ s. h.0 (omega (arith, s)), h.1)
 ]
 
-pub none_marked : (formats : List InstructionFormat) (used : List UsedFormat) (marks : List Bool) → used ≡ [] → marks ≡ replicate (length formats) false → AreMarked formats used marks
+pub none_marked : (formats : List InstructionFormat) (used : List UsedFormat) (marks : List Bool) → used ≡ []
+    → marks ≡ replicate (length formats) false → AreMarked formats used marks
 none_marked formats used marks none e = record {
   one_each = ap length e ∙ length-replicate (length formats) false;
   told = λ f mark at.
       let is = copies (length formats) false f mark (ap (λ xs. slice_get xs f) (sym e) ∙ at) in
-      subst (λ (b : Bool). MatchBool b (IsAmong used f) (IsNotAmong used f)) is (λ k g there. let there' : slice_get [] k ≡ Some g = ap (λ xs. slice_get xs k) (sym none) ∙ there in absurd (cc));
+      subst (λ (b : Bool). MatchBool b (IsAmong used f) (IsNotAmong used f)) is (λ k g there. let there' : slice_get [] k ≡ Some g =
+      ap (λ xs. slice_get xs k) (sym none) ∙ there in absurd (cc));
 }
 
-pub one_marked : (formats : List InstructionFormat) (used more : List UsedFormat) (new : UsedFormat) (marks : List Bool) (i : ℕ) → more ≡ used ++ new ∷ [] → i ≡ new.id → AreMarked formats used marks → AreMarked formats more (set marks i true)
+pub one_marked : (formats : List InstructionFormat) (used more : List UsedFormat) (new : UsedFormat) (marks : List Bool) (i : ℕ)
+    → more ≡ used ++ new ∷ [] → i ≡ new.id → AreMarked formats used marks → AreMarked formats more (set marks i true)
 one_marked formats used more new marks i pushed own m = record {
   one_each = length-set marks i true ∙ m.one_each;
   told = λ f mark at. elim (written marks i true f mark at) [
-    | inl h ↦ subst (λ (b : Bool). MatchBool b (IsAmong more f) (IsNotAmong more f)) h.1 (record { place = length used; format = new; at = last used more new pushed (length used) refl; is = sym own ∙ sym h.0 })
+    | inl h ↦ subst (λ (b : Bool). MatchBool b (IsAmong more f) (IsNotAmong more f)) h.1
+        (record { place = length used; format = new; at = last used more new pushed (length used) refl; is = sym own ∙ sym h.0 })
     | inr h ↦ before f mark h.0 (m.told f mark h.1)
   ];
 }
   where
-    before : (f : ℕ) (mark : Bool) → f ≢ i → MatchBool mark (IsAmong used f) (IsNotAmong used f) → MatchBool mark (IsAmong more f) (IsNotAmong more f)
-    before f true other among = record { place = among.place; format = among.format; at = stays used more new pushed among.place among.format among.at; is = among.is }
+    before : (f : ℕ) (mark : Bool) → f ≢ i → MatchBool mark (IsAmong used f) (IsNotAmong used f)
+        → MatchBool mark (IsAmong more f) (IsNotAmong more f)
+    before f true other among = record {
+      place = among.place;
+      format = among.format;
+      at =
+          stays used more new pushed among.place among.format among.at;
+      is = among.is;
+    }
     before f false other none = λ k g there same. elim (get_pushed used new k g (ap (λ xs. slice_get xs k) (sym pushed) ∙ there)) [
       | inl h ↦ none k g h same
       | inr h ↦ other (sym same ∙ ap (λ (u : UsedFormat). u.id) (sym h.1) ∙ sym own)
@@ -61,14 +74,16 @@ one_marked formats used more new marks i pushed own m = record {
 
 -- ---- places
 
-pub no_places : {K : Type 0} (has : UsedFormat → K → Type 0) (used : List UsedFormat) (look_up : K → Option ℕ) → used ≡ [] → ((key : K) → look_up key ≡ None) → ArePlaces has used look_up
+pub no_places : {K : Type 0} (has : UsedFormat → K → Type 0) (used : List UsedFormat) (look_up : K → Option ℕ) → used ≡ []
+    → ((key : K) → look_up key ≡ None) → ArePlaces has used look_up
 no_places has used look_up none nothing = record {
   sound = λ key place e. let f = nothing key in absurd (cc);
   complete = λ key place h. let there : slice_get [] place ≡ Some h.format = ap (λ xs. slice_get xs place) (sym none) ∙ h.at in absurd (cc);
 }
 
 -- a key that no format has isn't found
-pub not_found : {K : Type 0} (has : UsedFormat → K → Type 0) (used : List UsedFormat) (look_up : K → Option ℕ) (key : K) → ArePlaces has used look_up → ((place : ℕ) → IsPlaceOf has used key place → ⊥) → look_up key ≡ None
+pub not_found : {K : Type 0} (has : UsedFormat → K → Type 0) (used : List UsedFormat) (look_up : K → Option ℕ) (key : K)
+    → ArePlaces has used look_up → ((place : ℕ) → IsPlaceOf has used key place → ⊥) → look_up key ≡ None
 not_found has used look_up key places none = by (look_up key) refl
   where
     by : (found : Option ℕ) → look_up key ≡ found → found ≡ None
@@ -76,8 +91,10 @@ not_found has used look_up key places none = by (look_up key) refl
     by (Some place) e = absurd (none place (places.sound key place e))
 
 -- a look-up that gained the key of one format more
-module _ {K : Type 0} (has : UsedFormat → K → Type 0) (same : K → K → Bool) (used more : List UsedFormat) (new : UsedFormat) (pushed : more ≡ used ++ new ∷ []) (key : K)
-    (own : (q : K) → same key q ≡ true → has new q) (only : (q : K) → has new q → same key q ≡ true) (back : (g : UsedFormat) (q : K) → has g q → same key q ≡ true → has g key)
+module _ {K : Type 0} (has : UsedFormat → K → Type 0) (same : K → K
+    → Bool) (used more : List UsedFormat) (new : UsedFormat) (pushed : more ≡ used ++ new ∷ []) (key : K)
+    (own : (q : K) → same key q ≡ true → has new q) (only : (q : K) → has new q → same key q ≡ true) (back : (g : UsedFormat) (q : K)
+    → has g q → same key q ≡ true → has g key)
     (n : ℕ) (len : n ≡ length used) (look_up look_up' : K → Option ℕ) (places : ArePlaces has used look_up) (absent : look_up key ≡ None)
     (gains : (q : K) → look_up' q ≡ cond (same key q) (Some n) (look_up q)) where
   answer : (q : K) (b : Bool) → same key q ≡ b → look_up' q ≡ cond b (Some n) (look_up q)
@@ -114,7 +131,11 @@ same_name a b = same_text a.now b.now
 abbrev pub name_order : Bor (List ℕ) → Bor (List ℕ) → Ordering
 name_order a b = slice_cmp nat_cmp a.now b.now
 
-pub one_named : (formats : List InstructionFormat) (used more : List UsedFormat) (new : UsedFormat) (x : InstructionFormat) (key : Bor (List ℕ)) (n : ℕ) (look_up look_up' : Bor (List ℕ) → Option ℕ) → more ≡ used ++ new ∷ [] → slice_get formats new.id ≡ Some x → key.now ≡ x.name → n ≡ length used → look_up key ≡ None → ((q : Bor (List ℕ)) → look_up' q ≡ cond (is_eq (name_order key q)) (Some n) (look_up q)) → ArePlaces (HasName formats) used look_up → ArePlaces (HasName formats) more look_up'
+pub one_named : (formats : List InstructionFormat) (used more : List UsedFormat) (new : UsedFormat) (x : InstructionFormat)
+    (key : Bor (List ℕ)) (n : ℕ) (look_up look_up' : Bor (List ℕ) → Option ℕ) → more ≡ used ++ new ∷ [] → slice_get formats new.id ≡ Some x
+    → key.now ≡ x.name → n ≡ length used → look_up key ≡ None
+    → ((q : Bor (List ℕ)) → look_up' q ≡ cond (is_eq (name_order key q)) (Some n) (look_up q)) → ArePlaces (HasName formats) used look_up
+    → ArePlaces (HasName formats) more look_up'
 one_named formats used more new x key n look_up look_up' pushed at is len absent gains places =
     places_more (HasName formats) same_name used more new pushed key
     (λ q h. record { format = x; at = at; is = sym is ∙ (texts_Decides key.now q.now).0 h })
@@ -122,7 +143,10 @@ one_named formats used more new x key n look_up look_up' pushed at is len absent
     (λ g q h e. record { format = h.format; at = h.at; is = h.is ∙ sym ((texts_Decides key.now q.now).0 e) })
     n len look_up look_up' places absent (λ q. gains q ∙ ap (λ b. cond b (Some n) (look_up q)) (is_eq-slice_cmp key.now q.now))
 
-pub one_structured : (used more : List UsedFormat) (new : UsedFormat) (key : FormatStructure) (n : ℕ) (look_up look_up' : FormatStructure → Option ℕ) → more ≡ used ++ new ∷ [] → new.structure ≡ key → n ≡ length used → look_up key ≡ None → ((q : FormatStructure) → look_up' q ≡ cond (same_structure key q) (Some n) (look_up q)) → ArePlaces HasStructure used look_up → ArePlaces HasStructure more look_up'
+pub one_structured : (used more : List UsedFormat) (new : UsedFormat) (key : FormatStructure) (n : ℕ) (look_up look_up' : FormatStructure
+    → Option ℕ) → more ≡ used ++ new ∷ [] → new.structure ≡ key → n ≡ length used → look_up key ≡ None
+    → ((q : FormatStructure) → look_up' q ≡ cond (same_structure key q) (Some n) (look_up q)) → ArePlaces HasStructure used look_up
+    → ArePlaces HasStructure more look_up'
 one_structured used more new key n look_up look_up' pushed is len absent gains places =
     places_more HasStructure same_structure used more new pushed key
     (λ q h. is ∙ (structures_Decides key q).0 h)
@@ -132,9 +156,17 @@ one_structured used more new key n look_up look_up' pushed is len absent gains p
 
 -- ---- the formats that share a name or a structure with a format of the table
 
-module _ (f : FormatsInUse) (i : AreIndexed f) (new : UsedFormat) (t : IsOfTable f.formats.now new) (name : Bor (List ℕ)) (named : name.now ≡ t.format.name) where
+module _ (f : FormatsInUse) (i : AreIndexed f) (new : UsedFormat) (t : IsOfTable f.formats.now new) (name : Bor (List ℕ)) (named : name.now
+    ≡ t.format.name) where
   clash_by_name : (place : ℕ) (h : IsPlaceOf (HasName f.formats.now) f.used.items name place) → ClashIn f.formats.now new.id h.format.id
-  clash_by_name place h = record { one = t.format; other = h.is.format; is_one = t.at; is_other = h.is.at; shares = inl (sym named ∙ sym h.is.is) }
+  clash_by_name place h = record {
+    one = t.format;
+    other = h.is.format;
+    is_one = t.at;
+    is_other = h.is.at;
+    shares =
+        inl (sym named ∙ sym h.is.is);
+  }
 
   clash_by_structure : (place : ℕ) (h : IsPlaceOf HasStructure f.used.items new.structure place) → ClashIn f.formats.now new.id h.format.id
   clash_by_structure place h =
@@ -142,10 +174,21 @@ module _ (f : FormatsInUse) (i : AreIndexed f) (new : UsedFormat) (t : IsOfTable
       record { one = t.format; other = o.format; is_one = t.at; is_other = o.at; shares = inr (sym t.structure ∙ sym h.is ∙ o.structure) }
 
   -- what clashes shares one of the two
-  shared : (place : ℕ) (g : UsedFormat) → slice_get f.used.items place ≡ Some g → ClashIn f.formats.now new.id g.id → IsPlaceOf (HasName f.formats.now) f.used.items name place ⊎ IsPlaceOf HasStructure f.used.items new.structure place
+  shared : (place : ℕ) (g : UsedFormat) → slice_get f.used.items place ≡ Some g → ClashIn f.formats.now new.id g.id
+      → IsPlaceOf (HasName f.formats.now) f.used.items name place ⊎ IsPlaceOf HasStructure f.used.items new.structure place
   shared place g at c = elim c.shares [
-    | inl e ↦ inl (record { format = g; at = at; is = record { format = c.other; at = c.is_other; is = sym e ∙ ap (λ (x : InstructionFormat). x.name) own ∙ sym named } })
-    | inr e ↦ inr (record { format = g; at = at; is = o.structure ∙ ap structure_of (same_Some o.format c.other (sym o.at ∙ c.is_other)) ∙ sym e ∙ ap structure_of own ∙ sym t.structure })
+    | inl e ↦ inl (record {
+      format = g;
+      at = at;
+      is =
+          record { format = c.other; at = c.is_other; is = sym e ∙ ap (λ (x : InstructionFormat). x.name) own ∙ sym named };
+    })
+    | inr e ↦ inr (record {
+      format = g;
+      at = at;
+      is = o.structure ∙ ap structure_of (same_Some o.format c.other (sym o.at ∙ c.is_other))
+          ∙ sym e ∙ ap structure_of own ∙ sym t.structure;
+    })
   ]
     where
       own : c.one ≡ t.format
@@ -156,12 +199,15 @@ module _ (f : FormatsInUse) (i : AreIndexed f) (new : UsedFormat) (t : IsOfTable
 
   -- one that clashes with none has a name and a structure of its own
   pub new_name : ClashesWithNone f.formats.now f.used.items new.id → get_ordered name_order f.by_name name ≡ None
-  new_name none = not_found (HasName f.formats.now) f.used.items (get_ordered name_order f.by_name) name i.named (λ place h. none place h.format h.at (clash_by_name place h))
+  new_name none = not_found (HasName f.formats.now) f.used.items (get_ordered name_order f.by_name) name i.named
+      (λ place h. none place h.format h.at (clash_by_name place h))
 
   pub new_structure : ClashesWithNone f.formats.now f.used.items new.id → get same_structure f.by_structure new.structure ≡ None
-  new_structure none = not_found HasStructure f.used.items (get same_structure f.by_structure) new.structure i.structured (λ place h. none place h.format h.at (clash_by_structure place h))
+  new_structure none = not_found HasStructure f.used.items (get same_structure f.by_structure) new.structure i.structured
+      (λ place h. none place h.format h.at (clash_by_structure place h))
 
-  module _ (one other : Option ℕ) (one_is : one ≡ get_ordered name_order f.by_name name) (other_is : other ≡ get same_structure f.by_structure new.structure) where
+  module _ (one other : Option ℕ) (one_is : one ≡ get_ordered name_order f.by_name name) (other_is : other
+      ≡ get same_structure f.by_structure new.structure) where
     pub none_clashes : (one ≡ None) × (other ≡ None) → ClashesWithNone f.formats.now f.used.items new.id
     none_clashes none k g at c = elim (shared k g at c) [
       | inl h ↦ let e = i.named.complete name k h in let a = none.0 in absurd (cc)
@@ -176,15 +222,19 @@ module _ (f : FormatsInUse) (i : AreIndexed f) (new : UsedFormat) (t : IsOfTable
     ]
 
     -- and it is the first that clashes
-    pub first_clashes : (place : ℕ) → IsFirstOf one other place → (g : UsedFormat) → slice_get f.used.items place ≡ Some g → IsFirstToClash f.formats.now f.used.items new.id g.id
+    pub first_clashes : (place : ℕ) → IsFirstOf one other place → (g : UsedFormat) → slice_get f.used.items place ≡ Some g
+        → IsFirstToClash f.formats.now f.used.items new.id g.id
     first_clashes place first g at = record {
       place = place;
       format = g;
       at = at;
       is = refl;
       clashes = elim first.is [
-        | inl e ↦ let h = i.named.sound name place (sym one_is ∙ e) in subst (λ (u : UsedFormat). ClashIn f.formats.now new.id u.id) (same_Some h.format g (sym h.at ∙ at)) (clash_by_name place h)
-        | inr e ↦ let h = i.structured.sound new.structure place (sym other_is ∙ e) in subst (λ (u : UsedFormat). ClashIn f.formats.now new.id u.id) (same_Some h.format g (sym h.at ∙ at)) (clash_by_structure place h)
+        | inl e ↦ let h = i.named.sound name place (sym one_is ∙ e)
+            in subst (λ (u : UsedFormat). ClashIn f.formats.now new.id u.id) (same_Some h.format g (sym h.at ∙ at)) (clash_by_name place h)
+        | inr e ↦ let h = i.structured.sound new.structure place (sym other_is ∙ e)
+            in subst (λ (u : UsedFormat). ClashIn f.formats.now new.id u.id) (same_Some h.format g (sym h.at ∙ at))
+            (clash_by_structure place h)
       ];
       first = λ k u before at_u c. elim (shared k u at_u c) [
         | inl h ↦ let not_behind = first.not_behind_one k (one_is ∙ i.named.complete name k h) in absurd (omega arith)

@@ -10,10 +10,12 @@ use Rattle.meta_typevar.specs.declared.content.TypeVarContent.{TypeVarContent}
 use Rattle.meta_operands.specs.declared.format.InstructionFormat.{InstructionFormat}
 use Rattle.meta_inst.specs.Builder.{Builder}
 use Rattle.meta_inst.specs.InstructionSet.{InstructionSet}
-use Rattle.meta_inst.specs.Faults.{IsAt, IsFirstUse, HasBadFormatName, HasTooManyBlocks, AreClashing, IsFirstClash, FormatNameRule, BlocksRule, ClashRule, OfFormat}
+use Rattle.meta_inst.specs.Faults.{IsAt, IsFirstUse, HasBadFormatName, HasTooManyBlocks, AreClashing, IsFirstClash, FormatNameRule}
+use Rattle.meta_inst.specs.Faults.{BlocksRule, ClashRule, OfFormat}
 use Rattle.meta_declared.specs.declared.formats.UsedFormat.{UsedFormat}
 use Rattle.meta_declared.specs.Searched.{IsCleanBefore}
-use Rattle.meta_declared.specs.FormatsUsed.{AreUsedBefore, AreApart, IsAmong, IsNotAmong, IsOfTable, AreOfTable, ClashIn, ClashesWithNone, IsFirstToClash}
+use Rattle.meta_declared.specs.FormatsUsed.{AreUsedBefore, AreApart, IsAmong, IsNotAmong, IsOfTable, AreOfTable, ClashIn, ClashesWithNone}
+use Rattle.meta_declared.specs.FormatsUsed.{IsFirstToClash}
 use Rattle.meta_declared.proofs.OneFault.{searchable}
 use Rattle.meta_types.proofs.FirstFault.{passed, next_place}
 
@@ -87,16 +89,34 @@ module _ (d : InstructionSet) (k : ℕ) (b : Builder) (used : List UsedFormat) (
   pub used_new : (new : UsedFormat) → new.id ≡ b.format → IsNotAmong used b.format → AreUsedBefore d (k + 1) (used ++ new ∷ [])
   used_new new own not_among = record {
     uses = λ j f is.
-        ⊎_elim (λ (e : slice_get used j ≡ Some f). let u = before.uses j f e in record { place = u.place; before = omega (arith, u.before); first_use = u.first_use })
-        (λ (e : (j ≡ length used) × (new ≡ f)). record { place = k; before = omega arith; first_use = subst (λ (z : UsedFormat). IsFirstUse d z.id k) e.1 here })
+        ⊎_elim (λ (e : slice_get used j ≡ Some f). let u = before.uses j f e
+        in record { place = u.place; before = omega (arith, u.before); first_use = u.first_use })
+        (λ (e : (j ≡ length used) × (new ≡ f)). record {
+          place = k;
+          before = omega arith;
+          first_use =
+              subst (λ (z : UsedFormat). IsFirstUse d z.id k) e.1 here;
+        })
         (get_pushed used new j f is);
     all = λ i other l is.
         ⊎_elim (λ (m : i < k).
         let among = before.all i other m is in
-        record { place = among.place; format = among.format; at = get_before used new among.place (slice_get_within used among.place among.format among.at) ∙ among.at; is = among.is })
+        record {
+          place = among.place;
+          format = among.format;
+          at =
+              get_before used new among.place (slice_get_within used among.place among.format among.at) ∙ among.at;
+          is = among.is;
+        })
         (λ (m : k ≤ i).
         let s : i ≡ k = omega arith in
-        record { place = length used; format = new; at = get_end used new; is = own ∙ one_format d k b other at (ap (slice_get d.instructions) (sym s) ∙ is) })
+        record {
+          place = length used;
+          format = new;
+          at = get_end used new;
+          is = own
+              ∙ one_format d k b other at (ap (slice_get d.instructions) (sym s) ∙ is);
+        })
         (cases_lt i k);
     in_order = λ i j f g p q l is_f is_g u v.
         ⊎_elim (λ (e : slice_get used i ≡ Some f).
@@ -121,10 +141,12 @@ module _ (d : InstructionSet) (k : ℕ) (b : Builder) (used : List UsedFormat) (
   -- ---- its rules, one after another
 
   pub good_name : IsCleanBefore d (OfFormat k FormatNameRule) → (HasBadFormatName d b.format → ⊥) → IsCleanBefore d (OfFormat k BlocksRule)
-  good_name clean good = passed (searchable d) (OfFormat k FormatNameRule) clean (λ e s. good (subst (HasBadFormatName d) (format_at d s.format k b s.first_use at) s.breaks.1))
+  good_name clean good = passed (searchable d) (OfFormat k FormatNameRule) clean
+      (λ e s. good (subst (HasBadFormatName d) (format_at d s.format k b s.first_use at) s.breaks.1))
 
   pub few_blocks : IsCleanBefore d (OfFormat k BlocksRule) → (HasTooManyBlocks d b.format → ⊥) → IsCleanBefore d (OfFormat k ClashRule)
-  few_blocks clean few = passed (searchable d) (OfFormat k BlocksRule) clean (λ e s. few (subst (HasTooManyBlocks d) (format_at d s.format k b s.first_use at) s.breaks.1))
+  few_blocks clean few = passed (searchable d) (OfFormat k BlocksRule) clean
+      (λ e s. few (subst (HasTooManyBlocks d) (format_at d s.format k b s.first_use at) s.breaks.1))
 
   -- it clashes with one that is used before
   clash_here : ClashesWithNone d.formats used b.format → (f g : ℕ) → IsFirstUse d f k → IsFirstClash d f k g → ⊥
@@ -132,26 +154,33 @@ module _ (d : InstructionSet) (k : ℕ) (b : Builder) (used : List UsedFormat) (
       let among = before.all c.place c.first_use.user c.earlier c.first_use.at in
       let e = format_at d f k b u at in
       let same = sym (among.is ∙ c.first_use.uses) in
-      none among.place among.format among.at (subst (ClashIn d.formats b.format) same (subst (λ (z : ℕ). ClashIn d.formats z g) e (clash_in d f g c.clashes)))
+      none among.place among.format among.at (subst (ClashIn d.formats b.format) same
+      (subst (λ (z : ℕ). ClashIn d.formats z g) e (clash_in d f g c.clashes)))
 
-  pub no_clash : IsCleanBefore d (OfFormat k ClashRule) → ClashesWithNone d.formats used b.format → IsCleanBefore d (OfFormat (k + 1) FormatNameRule)
-  no_clash clean none = next_place (searchable d) 2 k (passed (searchable d) (OfFormat k ClashRule) clean (λ e s. clash_here none s.format s.breaks.0 s.first_use s.breaks.2))
+  pub no_clash : IsCleanBefore d (OfFormat k ClashRule) → ClashesWithNone d.formats used b.format
+      → IsCleanBefore d (OfFormat (k + 1) FormatNameRule)
+  no_clash clean none = next_place (searchable d) 2 k
+      (passed (searchable d) (OfFormat k ClashRule) clean (λ e s. clash_here none s.format s.breaks.0 s.first_use s.breaks.2))
 
   -- the formats that are first used before the first that clashes don't clash
-  none_before : (g : ℕ) (c : IsFirstToClash d.formats used b.format g) (i h : ℕ) → i < (before.uses c.place c.format c.at).place → IsFirstUse d h i → AreClashing d b.format h → ⊥
+  none_before : (g : ℕ) (c : IsFirstToClash d.formats used b.format g) (i h : ℕ) → i < (before.uses c.place c.format c.at).place
+      → IsFirstUse d h i → AreClashing d b.format h → ⊥
   none_before g c i h l u clashes =
       let user = before.uses c.place c.format c.at in
       let m = user.before in
       let among = before.all i u.user (omega arith) u.at in
       let own : h ≡ among.format.id = sym (among.is ∙ u.uses) in
       let first_use = subst (λ (z : ℕ). IsFirstUse d z i) own u in
-      ⊎_elim (λ (n : among.place < c.place). c.first among.place among.format n among.at (subst (ClashIn d.formats b.format) own (clash_in d b.format h clashes)))
+      ⊎_elim (λ (n : among.place < c.place). c.first among.place among.format n among.at
+      (subst (ClashIn d.formats b.format) own (clash_in d b.format h clashes)))
       (λ (n : c.place ≤ among.place).
-      ⊎_elim (λ (o : c.place < among.place). let after = before.in_order c.place among.place c.format among.format user.place i o c.at among.at user.first_use first_use in omega arith)
+      ⊎_elim (λ (o : c.place < among.place). let after =
+      before.in_order c.place among.place c.format among.format user.place i o c.at among.at user.first_use first_use in omega arith)
       (λ (o : among.place ≤ c.place).
       let s : c.place ≡ among.place = omega arith in
       let same : c.format ≡ among.format = same_Some c.format among.format (sym c.at ∙ ap (slice_get used) s ∙ among.at) in
-      let one = one_first_use d among.format.id user.place i (subst (λ (z : UsedFormat). IsFirstUse d z.id user.place) same user.first_use) first_use in
+      let one = one_first_use d among.format.id user.place i (subst (λ (z : UsedFormat). IsFirstUse d z.id user.place) same user.first_use)
+      first_use in
       omega arith)
       (cases_lt c.place among.place))
       (cases_lt among.place c.place)
@@ -159,11 +188,19 @@ module _ (d : InstructionSet) (k : ℕ) (b : Builder) (used : List UsedFormat) (
   pub first_clash : (g : ℕ) → IsFirstToClash d.formats used b.format g → IsFirstClash d b.format k g
   first_clash g c =
       let user = before.uses c.place c.format c.at in
-      record { place = user.place; first_use = subst (λ (z : ℕ). IsFirstUse d z user.place) c.is user.first_use; earlier = user.before; clashes = are_clashing d b.format g c.clashes; first = none_before g c }
+      record {
+        place = user.place;
+        first_use = subst (λ (z : ℕ). IsFirstUse d z user.place) c.is user.first_use;
+        earlier =
+            user.before;
+        clashes = are_clashing d b.format g c.clashes;
+        first = none_before g c;
+      }
 
 -- ---- a format's name
 
-pub has_name : (d : InstructionSet) (f : ℕ) (x : InstructionFormat) → slice_get d.formats f ≡ Some x → IsName x.name → HasBadFormatName d f → ⊥
+pub has_name : (d : InstructionSet) (f : ℕ) (x : InstructionFormat) → slice_get d.formats f ≡ Some x → IsName x.name → HasBadFormatName d f
+    → ⊥
 has_name d f x at is bad = bad.2 (subst (λ (z : InstructionFormat). IsName z.name) (same_Some x bad.0 (sym at ∙ bad.1)) is)
 
 -- ---- its blocks
@@ -171,7 +208,8 @@ has_name d f x at is bad = bad.2 (subst (λ (z : InstructionFormat). IsName z.na
 abbrev pub HasMany : InstructionFormat → Type 0
 HasMany x = (2 < x.num_block_operands) ⊎ (1 < x.num_raw_block_operands)
 
-pub has_few : (d : InstructionSet) (f : ℕ) (x : InstructionFormat) → slice_get d.formats f ≡ Some x → (HasMany x → ⊥) → HasTooManyBlocks d f → ⊥
+pub has_few : (d : InstructionSet) (f : ℕ) (x : InstructionFormat) → slice_get d.formats f ≡ Some x → (HasMany x → ⊥)
+    → HasTooManyBlocks d f → ⊥
 has_few d f x at few many = few (subst HasMany (same_Some many.0 x (sym many.1 ∙ at)) many.2)
 
 -- what holds of equal tables and numbers
@@ -179,14 +217,16 @@ pub of_here : (P : List InstructionFormat → ℕ → Type 0) (xs ys : List Inst
 of_here P xs ys f g e h p = subst (λ (z : List InstructionFormat). P z g) e (subst (P xs) h p)
 
 -- one more format of the table
-pub of_table_more : (formats : List InstructionFormat) (used more : List UsedFormat) (new : UsedFormat) → AreOfTable formats used → IsOfTable formats new → more ≡ used ++ new ∷ [] → AreOfTable formats more
+pub of_table_more : (formats : List InstructionFormat) (used more : List UsedFormat) (new : UsedFormat) → AreOfTable formats used
+    → IsOfTable formats new → more ≡ used ++ new ∷ [] → AreOfTable formats more
 of_table_more formats used more new all one l k f at =
     ⊎_elim (λ (h : slice_get used k ≡ Some f). all k f h)
     (λ (h : (k ≡ length used) × (new ≡ f)). subst (IsOfTable formats) h.1 one)
     (get_pushed used new k f (ap (λ xs. slice_get xs k) (sym l) ∙ at))
 
 -- one more that clashes with none of these
-pub apart_more : (formats : List InstructionFormat) (used more : List UsedFormat) (new : UsedFormat) → AreApart formats used → ClashesWithNone formats used new.id → more ≡ used ++ new ∷ [] → AreApart formats more
+pub apart_more : (formats : List InstructionFormat) (used more : List UsedFormat) (new : UsedFormat) → AreApart formats used
+    → ClashesWithNone formats used new.id → more ≡ used ++ new ∷ [] → AreApart formats more
 apart_more formats used more new apart none l i j f g before at_i at_j clash =
     let at_f = ap (λ xs. slice_get xs i) (sym l) ∙ at_i in
     let at_g = ap (λ xs. slice_get xs j) (sym l) ∙ at_j in

@@ -12,7 +12,7 @@ mod OneFault
 mod FirstOfAll
 -- what is built of the instructions
 pub mod BuiltOperands
-mod OneBuilt
+pub mod OneBuilt
 -- the needed type sets
 pub mod Interning
 pub mod Needing

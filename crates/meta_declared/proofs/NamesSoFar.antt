@@ -8,11 +8,13 @@ use Rattle.meta_inst.specs.InstructionSet.{InstructionSet}
 use Rattle.meta_inst.specs.Faults.{IsAt, names_of}
 
 -- the instruction that was read
-pub read : (instructions all : List Builder) (k : ℕ) (b : Builder) → instructions ≡ all → slice_get instructions k ≡ Some b → slice_get all k ≡ Some b
+pub read : (instructions all : List Builder) (k : ℕ) (b : Builder) → instructions ≡ all
+    → slice_get instructions k ≡ Some b → slice_get all k ≡ Some b
 read instructions all k b e at = sym (ap (λ xs. slice_get xs k) e) ∙ at
 
 -- what the names before an instruction and its own tell of all names
-module _ (d : InstructionSet) (k : ℕ) (b : Builder) (at : IsAt d k b) (name : List ℕ) (is : name ≡ b.name) (kept : List (List ℕ)) (are : kept ≡ take k (names_of d)) where
+module _ (d : InstructionSet) (k : ℕ) (b : Builder) (at : IsAt d k b) (name : List ℕ) (is : name ≡ b.name)
+    (kept : List (List ℕ)) (are : kept ≡ take k (names_of d)) where
   named : slice_get (names_of d) k ≡ Some name
   named = get_map (λ (b : Builder). b.name) d.instructions k b at ∙ ap Some (sym is)
 

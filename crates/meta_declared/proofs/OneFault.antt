@@ -1,5 +1,6 @@
 -- Declarations show one first fault at most.
-use Rattle.std.proofs.Common.{◌≡◌, ◌<◌, ◌≤◌, ◌+◌, inl, inr, ⊎_elim, ℕ, List, [], ◌∷◌, length, get_or, if◌then◌else◌, ◌==◌, refl, sym, ap, ◌∙◌, subst, arith}
+use Rattle.std.proofs.Common.{◌≡◌, ◌<◌, ◌≤◌, ◌+◌, inl, inr, ⊎_elim, ℕ, List, [], ◌∷◌, length, get_or, if◌then◌else◌, ◌==◌, refl, sym, ap}
+use Rattle.std.proofs.Common.{◌∙◌, subst, arith}
 use Rattle.std.proofs.lemmas.Option.{same_Some, slice_get_within}
 use Rattle.std.proofs.lemmas.Bool.{cases_lt}
 use Rattle.std.proofs.lemmas.List.{length-map}
@@ -8,11 +9,13 @@ use Rattle.meta_types.specs.declared.fault.DefinitionError.{DefinitionError}
 use Rattle.meta_types.specs.declared.fault.DefinitionError.TheVariants.{DuplicateName, TooManyTypeSets, FormatClash}
 use Rattle.meta_types.specs.FirstFault.{Key}
 use Rattle.meta_types.proofs.SharedNames.{one_earlier}
-use Rattle.meta_types.proofs.FirstFault.{IsIn, IsSearchable, one_first}
+use Rattle.meta_types.proofs.FirstFault.{IsIn, IsSearchable, one_first_shown}
 use Rattle.meta_inst.specs.Builder.{Builder}
 use Rattle.meta_inst.specs.InstructionSet.{InstructionSet}
 use Rattle.meta_inst.specs.InstructionFaults.{Rule, Breaks}
-use Rattle.meta_inst.specs.Faults.{names_of, IsFirstUse, IsFirstClash, FormatRule, FormatNameRule, BlocksRule, ClashRule, format_rule_number, Position, OfOpcodes, OfInstruction, OfFormat, OfTypeSets, position_key, FormatBreaks, ShowsAt, IsFirstFault, IsValid}
+use Rattle.meta_inst.specs.Faults.{names_of, IsFirstUse, IsFirstClash, FormatRule, FormatNameRule, BlocksRule, ClashRule}
+use Rattle.meta_inst.specs.Faults.{format_rule_number, Position, OfOpcodes, OfInstruction, OfFormat, OfTypeSets, position_key, FormatBreaks}
+use Rattle.meta_inst.specs.Faults.{ShowsAt, IsFirstFault, IsValid}
 use Rattle.meta_inst.proofs.OneOwnFault.{rule_of, rule_count, few_rules, one_broken}
 use Rattle.meta_inst.proofs.OneOwnFault as own
 use Rattle.meta_declared.proofs.Counted.{one_count}
@@ -45,12 +48,16 @@ known OfTypeSets = refl
 module _ (d : InstructionSet) where
   -- ---- at a position one fault is shown
 
-  one_at_instruction : (k : ℕ) (rule : Rule) (e f : DefinitionError) → ShowsAt d (OfInstruction k rule) e → ShowsAt d (OfInstruction k rule) f → e ≡ f
+  one_at_instruction : (k : ℕ) (rule : Rule) (e f : DefinitionError) → ShowsAt d (OfInstruction k rule) e
+      → ShowsAt d (OfInstruction k rule) f → e ≡ f
   one_at_instruction k rule e f (inl h) (inl g) =
-      one_broken d.vars d.formats g.builder (k + 1) rule e f (subst (λ (b : Builder). Breaks d.vars d.formats b (k + 1) rule e) (same_Some h.builder g.builder (sym h.at ∙ g.at)) h.breaks) g.breaks
+      one_broken d.vars d.formats g.builder (k + 1) rule e f (subst (λ (b : Builder). Breaks d.vars d.formats b (k + 1) rule e)
+      (same_Some h.builder g.builder (sym h.at ∙ g.at)) h.breaks) g.breaks
   one_at_instruction k rule e f (inl h) (inr g) = absurd (subst (λ r. Breaks d.vars d.formats h.builder (k + 1) r e) g.second h.breaks)
   one_at_instruction k rule e f (inr h) (inl g) = absurd (subst (λ r. Breaks d.vars d.formats g.builder (k + 1) r f) h.second g.breaks)
-  one_at_instruction k rule e f (inr h) (inr g) = h.tells ∙ ap (λ j. DuplicateName (AtInstruction (k + 1)) (j + 1)) (one_earlier (names_of d) k h.earlier g.earlier h.duplicate g.duplicate) ∙ sym g.tells
+  one_at_instruction k rule e f (inr h) (inr g) = h.tells
+      ∙ ap (λ j. DuplicateName (AtInstruction (k + 1)) (j + 1)) (one_earlier (names_of d) k h.earlier g.earlier h.duplicate g.duplicate)
+      ∙ sym g.tells
 
   -- the format that an instruction is the first to use
   one_use : (f g k : ℕ) → IsFirstUse d f k → IsFirstUse d g k → f ≡ g
@@ -78,7 +85,9 @@ module _ (d : InstructionSet) where
   one_shown : (p : Position) (e f : DefinitionError) → ShowsAt d p e → ShowsAt d p f → e ≡ f
   one_shown OfOpcodes e f h g = h.0 ∙ sym g.0
   one_shown (OfInstruction k rule) e f h g = one_at_instruction k rule e f h g
-  one_shown (OfFormat k rule) e f h g = one_of_format k g.format rule e f (subst (λ n. FormatBreaks d k n rule e) (one_use h.format g.format k h.first_use g.first_use) h.breaks) g.breaks
+  one_shown (OfFormat k rule) e f h g =
+      one_of_format k g.format rule e f (subst (λ n. FormatBreaks d k n rule e)
+      (one_use h.format g.format k h.first_use g.first_use) h.breaks) g.breaks
   one_shown OfTypeSets e f (m, he, h) (n, ge, g) = he ∙ ap TooManyTypeSets (h.2 ∙ one_count d h.0 g.0 h.1 g.1 ∙ sym g.2) ∙ sym ge
 
   -- ---- what is shown is shown of what there is
@@ -98,7 +107,11 @@ module _ (d : InstructionSet) where
   within : (p : Position) (e : DefinitionError) → ShowsAt d p e → IsIn 4 places_of rules_of (position_key p)
   within OfOpcodes e s = record { part = omega arith; place = omega arith; rule = omega arith }
   within (OfInstruction k rule) e s = record { part = omega arith; place = of_instruction k rule e s; rule = few_rules rule }
-  within (OfFormat k rule) e s = record { part = omega arith; place = slice_get_within d.instructions k s.first_use.user s.first_use.at; rule = few_format_rules rule }
+  within (OfFormat k rule) e s = record {
+    part = omega arith;
+    place = slice_get_within d.instructions k s.first_use.user s.first_use.at;
+    rule = few_format_rules rule;
+  }
   within OfTypeSets e s = record { part = omega arith; place = omega arith; rule = omega arith }
 
   pub searchable : IsSearchable position_key (ShowsAt d) 4 places_of rules_of
@@ -106,7 +119,7 @@ module _ (d : InstructionSet) where
 
 -- Declarations show one first fault at most.
 pub one_fault : (d : InstructionSet) (e f : DefinitionError) → IsFirstFault d e → IsFirstFault d f → e ≡ f
-one_fault d = one_first (searchable d)
+one_fault d = one_first_shown (searchable d)
 
 -- Valid declarations show none.
 pub none_where_valid : (d : InstructionSet) (e : DefinitionError) → IsValid d → IsFirstFault d e → ⊥

@@ -4,12 +4,8 @@ use Rattle.std.specs.Result.{IfErr, IsErrAnd}
 use Rattle.meta_types.specs.declared.fault.DefinitionError.{DefinitionError}
 use Rattle.meta_types.specs.declared.fault.DefinitionError.TheVariants.{OutOfMemory}
 
--- an error that says that memory ran out shows no fault
-pub no_fault : {T : Type 0} (r : Result T DefinitionError) (Shows : DefinitionError → Type 0) → IsErrAnd r (λ e. e ≡ OutOfMemory) → IfErr r (λ e. e ≢ OutOfMemory → Shows e)
-no_fault (Ok t) Shows h = tt
-no_fault (Err e) Shows h = λ other. absurd (other h)
-
--- any other shows what it showed
-pub handed_on : {T : Type 0} (f : DefinitionError) (r : Result T DefinitionError) (Shows : DefinitionError → Type 0) → IsErrAnd r (λ e. e ≡ f) → (f ≢ OutOfMemory → Shows f) → IfErr r (λ e. e ≢ OutOfMemory → Shows e)
+-- an error that is no want of memory shows what it showed
+pub handed_on : {T : Type 0} (f : DefinitionError) (r : Result T DefinitionError) (Shows : DefinitionError → Type 0)
+    → IsErrAnd r (λ e. e ≡ f) → (f ≢ OutOfMemory → Shows f) → IfErr r (λ e. e ≢ OutOfMemory → Shows e)
 handed_on f (Ok t) Shows is shows = tt
 handed_on f (Err e) Shows is shows = λ other. subst Shows (sym is) (shows (λ same. other (is ∙ same)))

@@ -3,8 +3,8 @@
 use Rattle.std.specs.Prelude.{◌≡◌, ◌≤◌, ℕ, List, length, map}
 use Rattle.meta_typevar.specs.Registry.{IsRegistry}
 use Rattle.meta_typevar.specs.TypeSetParts.{TypeSetParts}
-use Rattle.meta_inst.specs.Built.{Built}
-use Rattle.meta_inst.specs.InstructionSet.{Fits}
+use Rattle.meta_inst.specs.Built.{BuiltInstruction}
+use Rattle.meta_inst.specs.InstructionSet.{AreOfRegistries}
 use Rattle.meta_settings.specs.Layout.{Layout}
 use Rattle.meta_settings.specs.LaidOut.{built_of}
 use Rattle.meta_declared.specs.AllDeclared.{Declared, AreValid}
@@ -16,7 +16,7 @@ use Rattle.meta_declared.specs.Needed.{AreSetsByNeed}
 -- of settings, and the type sets that are needed
 pub record BuiltDeclarations : Type 0 where
   pub declared : Declared
-  pub instructions : List Built
+  pub instructions : List BuiltInstruction
   pub formats : List ℕ
   pub groups : List Layout
   pub type_sets : List TypeSetParts
@@ -26,7 +26,7 @@ pub record BuiltDeclarations : Type 0 where
 -- that the instructions need, each once, in order of first need, at most 4,095
 pub record AreBuilt (b : BuiltDeclarations) : Type 0 where
   pub registry : IsRegistry b.declared.set.vars
-  pub fits : Fits b.declared.set.vars b.declared.set.formats b.declared.set.instructions
+  pub fits : AreOfRegistries b.declared.set.vars b.declared.set.formats b.declared.set.instructions
   pub valid : AreValid b.declared
   pub instructions : AreInstructionsOf b.declared.set b.instructions
   pub formats : AreFormatsByName b.declared.set b.formats

@@ -14,7 +14,8 @@ use Rattle.meta_declared.specs.declared.formats.UsedFormat.{UsedFormat}
 
 -- the name of the format f comes before that of the format g, byte by byte
 abbrev pub IsNamedBefore : List InstructionFormat → ℕ → ℕ → Type 0
-IsNamedBefore formats f g = (a b : InstructionFormat) → slice_get formats f ≡ Some a → slice_get formats g ≡ Some b → slice_cmp nat_cmp a.name b.name ≡ Less
+IsNamedBefore formats f g = (a b : InstructionFormat) → slice_get formats f ≡ Some a → slice_get formats g ≡ Some b
+    → slice_cmp nat_cmp a.name b.name ≡ Less
 
 -- an instruction uses the format f
 pub record IsInUse (d : InstructionSet) (f : ℕ) : Type 0 where

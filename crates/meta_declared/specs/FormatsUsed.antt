@@ -59,8 +59,10 @@ pub record IsUsedBefore (d : InstructionSet) (k f : ℕ) : Type 0 where
 pub record AreUsedBefore (d : InstructionSet) (k : ℕ) (used : List UsedFormat) : Type 0 where
   pub uses : (j : ℕ) (f : UsedFormat) → slice_get used j ≡ Some f → IsUsedBefore d k f.id
   pub all : (i : ℕ) (b : Builder) → i < k → IsAt d i b → IsAmong used b.format
-  pub in_order : (i j : ℕ) (f g : UsedFormat) (p q : ℕ) → i < j → slice_get used i ≡ Some f → slice_get used j ≡ Some g → IsFirstUse d f.id p → IsFirstUse d g.id q → p < q
+  pub in_order : (i j : ℕ) (f g : UsedFormat) (p q : ℕ) → i < j → slice_get used i ≡ Some f → slice_get used j ≡ Some g
+      → IsFirstUse d f.id p → IsFirstUse d g.id q → p < q
 
 -- no two of these clash
 abbrev pub AreApart : List InstructionFormat → List UsedFormat → Type 0
-AreApart formats used = (i j : ℕ) (f g : UsedFormat) → i < j → slice_get used i ≡ Some f → slice_get used j ≡ Some g → ClashIn formats g.id f.id → ⊥
+AreApart formats used = (i j : ℕ) (f g : UsedFormat) → i < j → slice_get used i ≡ Some f → slice_get used j ≡ Some g
+    → ClashIn formats g.id f.id → ⊥

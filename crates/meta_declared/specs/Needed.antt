@@ -1,11 +1,9 @@
 -- The type sets that tables need, as masks.
 --     AreSetsByNeed d sets      the needed sets, in the order in which they are first needed
 --     AreNeededMasks d masks    their masks
-use Rattle.std.specs.Prelude.{◌≡◌, ◌<◌, ◌⊎◌, ℕ, zero, suc, List, length, slice_get, Option, Some, option_map}
+use Rattle.std.specs.Prelude.{◌≡◌, ◌<◌, ◌⊎◌, ℕ, zero, suc, List, length, slice_get, Option, Some}
 use Rattle.meta_typevar.specs.TypeSetParts.{TypeSetParts}
 use Rattle.meta_typevar.specs.Masks.{AreMasksOf}
-use Rattle.meta_typevar.specs.Registry.{variable_at}
-use Rattle.meta_typevar.specs.declared.content.TypeVarContent.{TypeVarContent}
 use Rattle.meta_typevar.specs.declared.masks.Masks.{Masks}
 use Rattle.meta_inst.specs.Builder.{Builder}
 use Rattle.meta_typevar.specs.Variable.{Variable, Sets}
@@ -14,14 +12,6 @@ use Rattle.meta_inst.specs.Instruction.{Instruction, controls_of}
 use Rattle.meta_inst.specs.Control.{IsControl}
 use Rattle.meta_inst.specs.InstructionSet.{InstructionSet, root_sets, instruction_in_set}
 use Rattle.meta_inst.specs.Faults.{IsAt, IsControlSet, IsFreeSet, AreNeededSets}
-
--- the control of an instruction, by its number
-abbrev pub control_at : List TypeVarContent → Option ℕ → Option Variable
-control_at vars control = option_map (variable_at vars) control
-
--- the control, if there is one, is of the registry
-abbrev pub IsOfRegistry : List TypeVarContent → Option ℕ → Type 0
-IsOfRegistry vars control = (v : ℕ) → control ≡ Some v → v < length vars
 
 -- the masks are those of the sets, place by place
 pub record StandForSets (masks : List Masks) (sets : List TypeSetParts) : Type 0 where

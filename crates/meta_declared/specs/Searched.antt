@@ -7,7 +7,7 @@ use Rattle.meta_types.specs.declared.fault.Place.{Place}
 use Rattle.meta_types.specs.declared.fault.Place.TheVariants.{Instruction}
 use Rattle.meta_types.specs.declared.fault.DefinitionError.TheVariants.{BadName, DuplicateName, OutOfMemory}
 use Rattle.meta_inst.specs.Builder.{Builder}
-use Rattle.meta_inst.specs.Built.{Built}
+use Rattle.meta_inst.specs.Built.{BuiltInstruction}
 use Rattle.meta_inst.specs.InstructionSet.{InstructionSet}
 use Rattle.meta_inst.specs.Faults.{IsAt, FormatNameRule, OfFormat, Position, position_key, names_of, ShowsAt}
 use Rattle.meta_declared.specs.declared.formats.UsedFormat.{UsedFormat}
@@ -18,7 +18,7 @@ abbrev pub IsCleanBefore : InstructionSet → Position → Type 0
 IsCleanBefore d p = ShowsNoneBefore position_key (ShowsAt d) (position_key p)
 
 -- building was refused by what comes before shared names: a bad name, or want of memory
-abbrev pub IsRefusedFirst : Result Built DefinitionError → Type 0
+abbrev pub IsRefusedFirst : Result BuiltInstruction DefinitionError → Type 0
 IsRefusedFirst built = ((p : Place) × (built ≡ Err (BadName p))) ⊎ (built ≡ Err OutOfMemory)
 
 -- the name of the instruction at place k is shared by no earlier one

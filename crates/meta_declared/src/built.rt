@@ -119,9 +119,21 @@ impl<'d> Model for Built<'d> {
 
     ghost Value = { BuiltDeclarations };
 
-    ghost view = { λ b. record { declared = b.declarations.now; instructions = b.set.instructions.items; formats = b.set.formats.items; groups = b.groups.items; type_sets = b.set.type_sets } };
+    ghost view = { λ b. record {
+      declared = b.declarations.now;
+      instructions = b.set.instructions.items;
+      formats = b.set.formats.items;
+      groups = b.groups.items;
+      type_sets = b.set.type_sets;
+    } };
 
-    ghost invariant = { λ b. AreBuilt (record { declared = b.declarations.now; instructions = b.set.instructions.items; formats = b.set.formats.items; groups = b.groups.items; type_sets = b.set.type_sets }) };
+    ghost invariant = { λ b. AreBuilt (record {
+      declared = b.declarations.now;
+      instructions = b.set.instructions.items;
+      formats = b.set.formats.items;
+      groups = b.groups.items;
+      type_sets = b.set.type_sets;
+    }) };
 }
 
 impl<'d> Built<'d> {

@@ -1,6 +1,6 @@
 ghost use Rattle.std.specs.Prelude.{◌≡◌, ◌↔◌, IsTrue};
 ghost use Rattle.meta_typevar.specs.Registry.{HoldTypeSets, IsRegistry};
-ghost use Rattle.meta_inst.specs.InstructionSet.{Fits};
+ghost use Rattle.meta_inst.specs.InstructionSet.{AreOfRegistries};
 
 use super::declared_set::DeclaredSet;
 use meta_inst::AllInstructions;
@@ -29,7 +29,7 @@ impl Model for Declarations {
 impl Declarations {
     /// Whether each instruction's format is of the formats, and the variable of each of its value operands of the variables.
     pub fn fits(vars: &TypeVars, formats: &FormatTable, instructions: &AllInstructions) -> bool
-        ensures { IsTrue result ↔ Fits vars.now formats.now instructions.now }
+        ensures { IsTrue result ↔ AreOfRegistries vars.now formats.now instructions.now }
     {
         DeclaredSet::fits(vars, formats, instructions)
     }
@@ -42,7 +42,7 @@ impl Declarations {
         instructions: AllInstructions,
         groups: Vec<SettingGroupBuilder>,
     ) -> Declarations
-        requires { Fits vars formats instructions }
+        requires { AreOfRegistries vars formats instructions }
         ensures { result ≡ record { set = record { vars = vars; formats = formats; instructions = instructions }; groups = groups.items } }
     {
         Declarations {
@@ -77,7 +77,7 @@ impl Declarations {
     /// The instructions, each of which is of the variables and formats.
     pub fn instructions(&self) -> &AllInstructions
         ensures instructions { result.now ≡ self.now.set.instructions }
-        ensures fits { Fits self.now.set.vars self.now.set.formats self.now.set.instructions }
+        ensures fits { AreOfRegistries self.now.set.vars self.now.set.formats self.now.set.instructions }
     {
         self.set.instructions()
     }

@@ -1,6 +1,6 @@
 ghost use Rattle.std.specs.Prelude.{◌≡◌, ◌↔◌, IsTrue};
 ghost use Rattle.meta_typevar.specs.Registry.{HoldTypeSets, IsRegistry};
-ghost use Rattle.meta_inst.specs.InstructionSet.{Fits};
+ghost use Rattle.meta_inst.specs.InstructionSet.{AreOfRegistries};
 
 use meta_inst::AllInstructions;
 use meta_operands::FormatTable;
@@ -17,13 +17,13 @@ pub(crate) struct DeclaredSet {
 }
 
 impl Model for DeclaredSet {
-    ghost use Rattle.meta_inst.specs.InstructionSet.{InstructionSet, Fits};
+    ghost use Rattle.meta_inst.specs.InstructionSet.{InstructionSet, AreOfRegistries};
 
     ghost Value = { InstructionSet };
 
     ghost view = { λ d. record { vars = d.vars; formats = d.formats; instructions = d.instructions } };
 
-    ghost invariant = { λ d. Fits d.vars d.formats d.instructions };
+    ghost invariant = { λ d. AreOfRegistries d.vars d.formats d.instructions };
 }
 
 impl DeclaredSet {
@@ -33,7 +33,7 @@ impl DeclaredSet {
         formats: &FormatTable,
         instructions: &AllInstructions,
     ) -> bool
-        ensures { IsTrue result ↔ Fits vars.now formats.now instructions.now }
+        ensures { IsTrue result ↔ AreOfRegistries vars.now formats.now instructions.now }
     {
         for k in 0..instructions.len() {
             if !instructions.get(k).fits(vars, formats) {
@@ -49,7 +49,7 @@ impl DeclaredSet {
         formats: FormatTable,
         instructions: AllInstructions,
     ) -> DeclaredSet
-        requires { Fits vars formats instructions }
+        requires { AreOfRegistries vars formats instructions }
         ensures { result ≡ record { vars = vars; formats = formats; instructions = instructions } }
     {
         DeclaredSet {
@@ -80,7 +80,7 @@ impl DeclaredSet {
     /// The instructions, each of which is of the variables and formats.
     pub(crate) fn instructions(&self) -> &AllInstructions
         ensures instructions { result.now ≡ self.now.instructions }
-        ensures fits { Fits self.now.vars self.now.formats self.now.instructions }
+        ensures fits { AreOfRegistries self.now.vars self.now.formats self.now.instructions }
     {
         &self.instructions
     }

@@ -48,8 +48,12 @@ fn next_used(
     requires below { id < length formats.now }
     requires table { used.now.formats.now ≡ formats.now }
     requires indexed { AreIndexed used.now }
-    ensures refused { (vars : List TypeVarContent) (instructions : List Builder) (place : ℕ) → let d : InstructionSet = record { vars = vars; formats = formats.now; instructions = instructions } in IsNextUse d place used.now.used.items id → IfErr result (λ e. e ≢ OutOfMemory → IsFirstFault d e) }
-    ensures clean { (vars : List TypeVarContent) (instructions : List Builder) (place : ℕ) → let d : InstructionSet = record { vars = vars; formats = formats.now; instructions = instructions } in IsNextUse d place used.now.used.items id → OnOk result (IsCleanBefore d (OfFormat (place + 1) FormatNameRule)) }
+    ensures refused { (vars : List TypeVarContent) (instructions : List Builder) (place : ℕ)
+        → let d : InstructionSet = record { vars = vars; formats = formats.now; instructions = instructions } in
+        IsNextUse d place used.now.used.items id → IfErr result (λ e. e ≢ OutOfMemory → IsFirstFault d e) }
+    ensures clean { (vars : List TypeVarContent) (instructions : List Builder) (place : ℕ)
+        → let d : InstructionSet = record { vars = vars; formats = formats.now; instructions = instructions } in
+        IsNextUse d place used.now.used.items id → OnOk result (IsCleanBefore d (OfFormat (place + 1) FormatNameRule)) }
     ensures id { IfOk result (λ f. f.id ≡ id) }
     ensures of_table { IfOk result (IsOfTable formats.now) }
     ensures apart { OnOk result (ClashesWithNone formats.now used.now.used.items id) }
@@ -79,9 +83,15 @@ pub(crate) fn used_formats(
     instructions: &AllInstructions,
 ) -> Result<Vec<UsedFormat>, DefinitionError>
     requires { (k : ℕ) (b : Builder) → slice_get instructions.now k ≡ Some b → b.format < length formats.now }
-    ensures refused { (vars : List TypeVarContent) → let d : InstructionSet = record { vars = vars; formats = formats.now; instructions = instructions.now } in IsCleanBefore d (OfFormat 0 FormatNameRule) → IfErr result (λ e. e ≢ OutOfMemory → IsFirstFault d e) }
-    ensures clean { (vars : List TypeVarContent) → let d : InstructionSet = record { vars = vars; formats = formats.now; instructions = instructions.now } in IsCleanBefore d (OfFormat 0 FormatNameRule) → OnOk result (IsCleanBefore d OfTypeSets) }
-    ensures used { (vars : List TypeVarContent) → let d : InstructionSet = record { vars = vars; formats = formats.now; instructions = instructions.now } in IfOk result (λ v. AreUsedBefore d (length instructions.now) v.items) }
+    ensures refused { (vars : List TypeVarContent)
+        → let d : InstructionSet = record { vars = vars; formats = formats.now; instructions = instructions.now } in
+        IsCleanBefore d (OfFormat 0 FormatNameRule) → IfErr result (λ e. e ≢ OutOfMemory → IsFirstFault d e) }
+    ensures clean { (vars : List TypeVarContent)
+        → let d : InstructionSet = record { vars = vars; formats = formats.now; instructions = instructions.now } in
+        IsCleanBefore d (OfFormat 0 FormatNameRule) → OnOk result (IsCleanBefore d OfTypeSets) }
+    ensures used { (vars : List TypeVarContent)
+        → let d : InstructionSet = record { vars = vars; formats = formats.now; instructions = instructions.now } in
+        IfOk result (λ v. AreUsedBefore d (length instructions.now) v.items) }
     ensures of_table { IfOk result (λ v. AreOfTable formats.now v.items) }
     ensures apart { IfOk result (λ v. AreApart formats.now v.items) }
 {

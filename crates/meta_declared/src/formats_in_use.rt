@@ -42,7 +42,9 @@ fn put_structure(
     format: &InstructionFormat,
     place: usize,
 ) -> Result<(), AllocError>
-    ensures { OnOk result ((s : FormatStructure) → get same_structure places.new s ≡ cond (same_structure (structure_of format.now) s) (Some place) (get same_structure places.old s)) }
+    ensures { OnOk result ((s : FormatStructure)
+        → get same_structure places.new s ≡ cond (same_structure (structure_of format.now) s) (Some place)
+        (get same_structure places.old s)) }
 {
     places.insert(format.structure(alloc)?, place)?;
     Ok(())

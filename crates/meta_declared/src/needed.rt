@@ -1,15 +1,17 @@
-ghost use Rattle.std.specs.Prelude.{◌≡◌, ◌<◌, ◌≤◌, ℕ, IfOk, OnOk, length, Some};
+ghost use Rattle.std.specs.Prelude.{◌<◌, ◌≤◌, IfOk, OnOk, length};
 ghost use Rattle.meta_typevar.specs.Registry.{sets_of, variable_at, IsRegistry};
-ghost use Rattle.meta_inst.specs.Operands.{AreOf, instruction_of_operands, SecondIsOf};
+ghost use Rattle.meta_inst.specs.Which.{First};
+ghost use Rattle.meta_inst.specs.Controls.{which_of, AreControlsOf, controls_at};
+ghost use Rattle.meta_inst.specs.Operands.{AreOf, instruction_of_operands};
 ghost use Rattle.meta_inst.specs.Control.{IsControl};
-ghost use Rattle.meta_inst.specs.InstructionSet.{Fits};
-ghost use Rattle.meta_inst.specs.Content.{ctrl_number};
+ghost use Rattle.meta_inst.specs.InstructionSet.{AreOfRegistries};
+ghost use Rattle.meta_inst.specs.Content.{control_numbers};
 ghost use Rattle.meta_declared.specs.BuiltInstructions.{AreInstructionsOf};
 ghost use Rattle.meta_declared.specs.Interned.{Adds, AddsSome, AddsEach, AddsNeeded, IsControlSetOf, IsFreeSetOf, IsFreeSetAt};
-ghost use Rattle.meta_declared.specs.Needed.{control_at, IsOfRegistry, AreSetsByNeed};
+ghost use Rattle.meta_declared.specs.Needed.{AreSetsByNeed};
 
 use super::declared_set::DeclaredSet;
-use meta_inst::InstructionContent;
+use meta_inst::{Controls, InstructionContent, Which};
 use meta_typevar::{TypeSet, TypeVar, TypeVars};
 use meta_unique::UniqueTable;
 use std::alloc::{AllocError, Global};
@@ -28,16 +30,17 @@ fn intern_set<'d>(
     Ok(())
 }
 
-/// Adds the set of the variable that controls, if one does.
+/// Adds the set of this control, if it is there.
 fn intern_control<'d>(
     type_sets: &mut UniqueTable<'d, TypeSet>,
     vars: &'d TypeVars,
-    control: &Option<TypeVar>,
+    controls: &Controls,
+    which: Which,
 ) -> Result<(), AllocError>
-    requires { IsOfRegistry vars.now control.now }
-    ensures { OnOk result (AddsSome (IsControlSetOf vars.now control.now) type_sets.old type_sets.new) }
+    requires { AreControlsOf vars.now controls.now }
+    ensures { OnOk result (AddsSome (IsControlSetOf vars.now controls.now (which_of which)) type_sets.old type_sets.new) }
 {
-    match control {
+    match controls.get(which) {
         Some(v) => intern_set(type_sets, vars, *v),
         None => Ok(()),
     }
@@ -47,17 +50,13 @@ fn intern_control<'d>(
 fn intern_operand<'d>(
     type_sets: &mut UniqueTable<'d, TypeSet>,
     vars: &'d TypeVars,
-    control: &Option<TypeVar>,
-    second: &Option<TypeVar>,
+    controls: &Controls,
     tv: TypeVar,
 ) -> Result<(), AllocError>
     requires { tv < length vars.now }
-    ensures { OnOk result (AddsSome (IsFreeSetOf vars.now control.now second.now tv) type_sets.old type_sets.new) }
+    ensures { OnOk result (AddsSome (IsFreeSetOf vars.now controls.now tv) type_sets.old type_sets.new) }
 {
-    if *control == Some(tv) {
-        return Ok(());
-    }
-    if *second == Some(tv) {
+    if controls.is_control(tv) {
         return Ok(());
     }
     if vars.content(tv).base.is_some() {
@@ -73,20 +72,20 @@ fn intern_operand<'d>(
 fn intern_free<'d>(
     type_sets: &mut UniqueTable<'d, TypeSet>,
     vars: &'d TypeVars,
-    control: &Option<TypeVar>,
-    second: &Option<TypeVar>,
+    controls: &Controls,
     variables: &[TypeVar],
 ) -> Result<(), AllocError>
     requires { AreOf vars.now variables.now }
-    ensures { OnOk result (AddsEach (IsFreeSetAt vars.now control.now second.now variables.now) (length variables.now) type_sets.old type_sets.new) }
+    ensures { OnOk result (AddsEach (IsFreeSetAt vars.now controls.now variables.now) (length variables.now) type_sets.old type_sets.new) }
 {
     for place in 0..variables.len() {
-        intern_operand(type_sets, vars, control, second, variables[place])?;
+        intern_operand(type_sets, vars, controls, variables[place])?;
     }
     Ok(())
 }
 
-/// Adds the sets that the built instruction needs: first that of its control, then that of its second control, and then those of its operands.
+/// Adds the sets that the built instruction needs: first that of its control, then that of its second control, and then those of its
+/// operands.
 fn intern_instruction<'d>(
     type_sets: &mut UniqueTable<'d, TypeSet>,
     vars: &'d TypeVars,
@@ -95,22 +94,17 @@ fn intern_instruction<'d>(
     requires variables { AreOf vars.now instruction.now.value_operands.variables }
     requires within { instruction.now.value_operands.result_count ≤ length instruction.now.value_operands.variables }
     requires registry { IsRegistry vars.now }
-    requires control { IsControl (sets_of vars.now) (instruction_of_operands vars.now instruction.now.value_operands) (control_at vars.now (ctrl_number instruction.now.polymorphic_info)) }
-    requires of_registry { IsOfRegistry vars.now (ctrl_number instruction.now.polymorphic_info) }
-    requires second { SecondIsOf vars.now instruction.now.value_operands.second }
-    ensures { OnOk result (AddsNeeded (sets_of vars.now) (instruction_of_operands vars.now instruction.now.value_operands) type_sets.old type_sets.new) }
+    requires control { IsControl (sets_of vars.now) (instruction_of_operands vars.now instruction.now.value_operands)
+        (controls_at vars.now (control_numbers instruction.now) First) }
+    requires controls { AreControlsOf vars.now (control_numbers instruction.now) }
+    ensures { OnOk result (AddsNeeded (sets_of vars.now)
+        (instruction_of_operands vars.now instruction.now.value_operands) type_sets.old type_sets.new) }
 {
-    let control = instruction.ctrl_typevar();
+    let controls = instruction.controls();
+    intern_control(type_sets, vars, &controls, Which::First)?;
+    intern_control(type_sets, vars, &controls, Which::Second)?;
     let operands = instruction.value_operands();
-    intern_control(type_sets, vars, &control)?;
-    intern_control(type_sets, vars, operands.second())?;
-    intern_free(
-        type_sets,
-        vars,
-        &control,
-        operands.second(),
-        operands.variables(),
-    )
+    intern_free(type_sets, vars, &controls, operands.variables())
 }
 
 /// The type sets that the instructions need, each once, in order of first need, where these are built of them.
@@ -120,7 +114,7 @@ pub(crate) fn needed_sets<'d>(
     instructions: &[InstructionContent],
 ) -> Result<UniqueTable<'d, TypeSet>, AllocError>
     requires built { AreInstructionsOf set.now instructions.now }
-    requires fits { Fits set.now.vars set.now.formats set.now.instructions }
+    requires fits { AreOfRegistries set.now.vars set.now.formats set.now.instructions }
     ensures { IfOk result (AreSetsByNeed set.now) }
 {
     let mut type_sets = UniqueTable::new(alloc);

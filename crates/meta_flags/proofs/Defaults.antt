@@ -1,8 +1,10 @@
 -- The defaults of entries, one entry after another.
-use Rattle.std.proofs.Common.{◌≡◌, ℕ, ◌+◌, ◌≤◌, List, [], ◌∷◌, ◌++◌, append_assoc, append-nil, length, take, drop, slice_get, Option, None, Some, sym, ap, ◌∙◌, subst, arith}
+use Rattle.std.proofs.Common.{◌≡◌, ℕ, ◌+◌, ◌≤◌, List, [], ◌∷◌, ◌++◌, append_assoc, append-nil, length, take, drop, slice_get, Option, None}
+use Rattle.std.proofs.Common.{Some, sym, ap, ◌∙◌, subst, arith}
 use Rattle.std.specs.Prelude.{slice_index_or}
 use Rattle.std.proofs.lemmas.List.{length-drop, length-take}
 use Rattle.std.proofs.lemmas.Option.{slice_get_past, same_Some, none-some}
+use Rattle.meta_lists.proofs.Everywhere.{at_place}
 use Rattle.meta_lists.proofs.Places.{drop_next, drop_past}
 use Rattle.meta_setting_tables.specs.declared.descriptor.Descriptor.{Descriptor}
 use Rattle.meta_setting_tables.specs.declared.descriptor.Detail.{Detail}
@@ -10,34 +12,40 @@ use Rattle.meta_setting_tables.specs.declared.descriptor.Detail.TheVariants.{Enu
 use Rattle.meta_setting_tables.specs.EntryValues.{values_in}
 use Rattle.meta_setting_tables.specs.GroupTables.{GroupContents, default_in}
 use Rattle.meta_setting_tables.specs.WellFormed.{HasValues, HasItsValues, IsWellFormedGroup}
-use Rattle.meta_setting_tables.proofs.Everywhere.{at_place}
 use Rattle.meta_flags.specs.Served.{NumValue, EnumValue, State, default_of, kind_in}
 use Rattle.meta_flags.specs.Held.{AreHeld}
 use Rattle.meta_flags.proofs.Places.{defaults, counted, settings_first, setting_count}
 
 -- the default of one more entry is added
-pub default_added : (t : GroupContents) (ds : List Descriptor) (i : ℕ) (d : Descriptor) (old new own all : State) → slice_get ds i ≡ Some d → own ≡ default_of (kind_in t d.offset d.detail) → new ≡ old ++ own
+pub default_added : (t : GroupContents) (ds : List Descriptor) (i : ℕ) (d : Descriptor) (old new own all : State) → slice_get ds i ≡ Some d
+    → own ≡ default_of (kind_in t d.offset d.detail) → new ≡ old ++ own
     → old ++ defaults t (drop i ds) ≡ all → new ++ defaults t (drop (i + 1) ds) ≡ all
 default_added t ds i d old new own all at is more before =
     let rest = defaults t (drop (i + 1) ds) in
-    ap (λ (s : State). s ++ rest) more ∙ append_assoc old own rest ∙ ap (λ (s : State). old ++ (s ++ rest)) is ∙ ap (λ (xs : List Descriptor). old ++ defaults t xs) (sym (drop_next ds i d at)) ∙ before
+    ap (λ (s : State). s ++ rest) more ∙ append_assoc old own rest ∙ ap (λ (s : State). old ++ (s ++ rest)) is
+    ∙ ap (λ (xs : List Descriptor). old ++ defaults t xs) (sym (drop_next ds i d at)) ∙ before
 
 -- behind the last there are no more
-pub all_defaults : (t : GroupContents) (ds : List Descriptor) (i : ℕ) (old all : State) → length ds ≤ i → old ++ defaults t (drop i ds) ≡ all → old ≡ all
+pub all_defaults : (t : GroupContents) (ds : List Descriptor) (i : ℕ) (old all : State) → length ds ≤ i
+    → old ++ defaults t (drop i ds) ≡ all → old ≡ all
 all_defaults t ds i old all past before =
     sym (append-nil old) ∙ ap (λ (xs : List Descriptor). old ++ defaults t xs) (sym (drop_past ds i (slice_get_past ds i past))) ∙ before
 
 -- the defaults are held
-pub held : (t : GroupContents) (state : State) → IsWellFormedGroup t → setting_count t.descriptors ≤ length t.descriptors → state ≡ defaults t t.descriptors → AreHeld (record { group = t; state = state })
+pub held : (t : GroupContents) (state : State) → IsWellFormedGroup t → setting_count t.descriptors ≤ length t.descriptors
+    → state ≡ defaults t t.descriptors → AreHeld (record { group = t; state = state })
 held t state well few is =
-    let count : length state ≡ setting_count t.descriptors = ap length is ∙ counted t t.descriptors (setting_count t.descriptors) few (settings_first t well) in
+    let count : length state ≡ setting_count t.descriptors = ap length is
+    ∙ counted t t.descriptors (setting_count t.descriptors) few (settings_first t well) in
     record {
       within = omega (arith, count, few);
-      settings = λ e d at. let f = settings_first t well e d at in ((λ s. let l = f.0 s in omega (arith, l, count)), (λ l. f.1 (omega (arith, l, count))));
+      settings = λ e d at. let f = settings_first t well e d at
+          in ((λ s. let l = f.0 s in omega (arith, l, count)), (λ l. f.1 (omega (arith, l, count))));
     }
 
 -- the values of an enum are some
-pub some_values : (values enumerators : List (List ℕ)) (last place : ℕ) → values ≡ take (last + 1) (drop place enumerators) → place + (last + 1) ≤ length enumerators → length values ≡ 0 → ⊥
+pub some_values : (values enumerators : List (List ℕ)) (last place : ℕ) → values ≡ take (last + 1) (drop place enumerators)
+    → place + (last + 1) ≤ length enumerators → length values ≡ 0 → ⊥
 some_values values enumerators last place is inside none =
     let count : length (take (last + 1) (drop place enumerators)) ≡ 0 = ap length (sym is) ∙ none in
     let taken = length-take (last + 1) (drop place enumerators) in
@@ -51,24 +59,32 @@ module _ (t : GroupContents) (index : ℕ) (d : Descriptor) (there : slice_get t
   own_default = default_of (kind_in t d.offset d.detail)
 
   -- a number has one
-  pub num_default : (answer : Option ℕ) (default : ℕ) → d.detail ≡ NumDetail → answer ≡ default_in (slice_index_or t.defaults d.offset 0) d.detail → answer ≡ Some default → NumValue default ∷ [] ≡ own_default
+  pub num_default : (answer : Option ℕ) (default : ℕ) → d.detail ≡ NumDetail
+      → answer ≡ default_in (slice_index_or t.defaults d.offset 0) d.detail → answer ≡ Some default → NumValue default ∷ [] ≡ own_default
   num_default answer default is e given =
-      let byte : default ≡ slice_index_or t.defaults d.offset 0 = same_Some _ _ (sym given ∙ e ∙ ap (default_in (slice_index_or t.defaults d.offset 0)) is) in
+      let byte : default ≡ slice_index_or t.defaults d.offset 0 =
+      same_Some _ _ (sym given ∙ e ∙ ap (default_in (slice_index_or t.defaults d.offset 0)) is) in
       ap (λ n. NumValue n ∷ []) byte ∙ sym (ap (λ (x : Detail). default_of (kind_in t d.offset x)) is)
 
-  pub no_num_default : (answer : Option ℕ) → d.detail ≡ NumDetail → answer ≡ default_in (slice_index_or t.defaults d.offset 0) d.detail → answer ≡ None → ⊥
-  no_num_default answer is e none = none-some (slice_index_or t.defaults d.offset 0) (sym none ∙ e ∙ ap (default_in (slice_index_or t.defaults d.offset 0)) is)
+  pub no_num_default : (answer : Option ℕ) → d.detail ≡ NumDetail → answer ≡ default_in (slice_index_or t.defaults d.offset 0) d.detail
+      → answer ≡ None → ⊥
+  no_num_default answer is e none = none-some (slice_index_or t.defaults d.offset 0) (sym none ∙ e
+      ∙ ap (default_in (slice_index_or t.defaults d.offset 0)) is)
 
-  module _ (last place : ℕ) (is : d.detail ≡ EnumDetail last place) (values : List (List ℕ)) (given : values ≡ values_in t.enumerators d.detail) where
+  module _ (last place : ℕ) (is : d.detail ≡ EnumDetail last place) (values : List (List ℕ)) (given : values
+      ≡ values_in t.enumerators d.detail) where
     own_values : values ≡ take (last + 1) (drop place t.enumerators)
     own_values = given ∙ ap (values_in t.enumerators) is
 
     -- an enum has its first value
     pub enum_default : (first : List ℕ) → first ≡ slice_index_or values 0 [] → EnumValue first ∷ [] ≡ own_default
-    enum_default first e = ap (λ (v : List ℕ). EnumValue v ∷ []) (e ∙ ap (λ (vs : List (List ℕ)). slice_index_or vs 0 []) own_values) ∙ sym (ap (λ (x : Detail). default_of (kind_in t d.offset x)) is)
+    enum_default first e = ap (λ (v : List ℕ). EnumValue v ∷ []) (e ∙ ap (λ (vs : List (List ℕ)). slice_index_or vs 0 []) own_values)
+        ∙ sym (ap (λ (x : Detail). default_of (kind_in t d.offset x)) is)
 
     -- which it has
     pub has_values : IsWellFormedGroup t → length values ≡ 0 → ⊥
     has_values well none =
-        let has : HasValues t.enumerators last place = subst (HasItsValues t.enumerators) is (at_place (λ (x : Descriptor). HasItsValues t.enumerators x.detail) t.descriptors index d well.values there) in
+        let has : HasValues t.enumerators last place =
+        subst (HasItsValues t.enumerators) is
+        (at_place (λ (x : Descriptor). HasItsValues t.enumerators x.detail) t.descriptors index d well.values there) in
         some_values values t.enumerators last place own_values has.inside none

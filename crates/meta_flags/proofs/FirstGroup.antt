@@ -11,7 +11,7 @@ use Rattle.meta_declared.specs.AllDeclared.{Declared}
 use Rattle.meta_gen.specs.WholeTables.{WholeTables, AreWholeTablesOf, HasNoGroup}
 use Rattle.meta_flags.specs.Served.{served_in, served_of, initial}
 use Rattle.meta_flags.specs.FlagAnswers.{initial_of}
-use Rattle.meta_flags.specs.FlagsOutput.{first_of}
+use Rattle.meta_flags.specs.FlagsOutput.{first_served}
 use Rattle.meta_flags.specs.Held.{FlagContents, served_by, state_of}
 
 -- where the lists are as long, and one has no first element, neither has the other
@@ -24,15 +24,19 @@ no_first {X} xs ys same none = slice_get_past ys 0 (empty (length xs) refl)
       | inr few ↦ omega (arith, few, e, same)
     ]
 
-module _ (d : Declared) (t : WholeTables) (made : AreWholeTablesOf d t) (law : (g : GroupDeclaration) (s : GroupContents) → AreTablesOfGroup (built_of g) s → served_in s ≡ served_of (built_of g)) where
+module _ (d : Declared) (t : WholeTables) (made : AreWholeTablesOf d t) (law : (g : GroupDeclaration) (s : GroupContents)
+    → AreTablesOfGroup (built_of g) s → served_in s ≡ served_of (built_of g)) where
   -- what the first group of the tables serves is what is declared
-  pub same_first : (o : Option FlagContents) → IfSome o (λ f. slice_get t.groups 0 ≡ Some f.group) → IfNone o (HasNoGroup t 0) → served_by o ≡ first_of d.groups
-  same_first None there none = sym (ap (option_map (λ (g : GroupDeclaration). served_of (built_of g))) (no_first t.groups d.groups made.groups.count none))
+  pub same_first : (o : Option FlagContents) → IfSome o (λ f. slice_get t.groups 0 ≡ Some f.group) → IfNone o (HasNoGroup t 0)
+      → served_by o ≡ first_served d.groups
+  same_first None there none =
+      sym (ap (option_map (λ (g : GroupDeclaration). served_of (built_of g))) (no_first t.groups d.groups made.groups.count none))
   same_first (Some f) there none =
       let count = made.groups.count in
       let within = slice_get_within t.groups 0 f.group there in
       let (g, at) = get_there d.groups 0 (omega (arith, count, within)) in
-      ap Some (law g f.group (made.groups.each 0 g f.group at there)) ∙ sym (ap (option_map (λ (g : GroupDeclaration). served_of (built_of g))) at)
+      ap Some (law g f.group (made.groups.each 0 g f.group at there))
+      ∙ sym (ap (option_map (λ (g : GroupDeclaration). served_of (built_of g))) at)
 
 -- the values are the defaults of what is served
 pub same_initial : (o : Option FlagContents) → IfSome o (λ f. f.state ≡ initial (served_in f.group)) → state_of o ≡ initial_of (served_by o)

@@ -3,7 +3,8 @@ use Rattle.std.proofs.Common.{◌≡◌, ℕ, ◌<◌, ◌≤◌, Bool, true, fa
 use Rattle.std.proofs.lemmas.Bool.{false≢true}
 use Rattle.meta_lists.proofs.Mapped.{get_mapped}
 use Rattle.meta_setting_tables.specs.declared.descriptor.Detail.{Detail}
-use Rattle.meta_setting_tables.specs.declared.descriptor.Detail.TheVariants.{Bool as BoolDetail, Enum as EnumDetail, Num as NumDetail, Preset as PresetDetail}
+use Rattle.meta_setting_tables.specs.declared.descriptor.Detail.TheVariants.{Bool as BoolDetail, Enum as EnumDetail, Num as NumDetail}
+use Rattle.meta_setting_tables.specs.declared.descriptor.Detail.TheVariants.{Preset as PresetDetail}
 use Rattle.meta_setting_tables.specs.declared.descriptor.Descriptor.{Descriptor}
 use Rattle.meta_setting_tables.specs.FoundSetting.{FindsEntry}
 use Rattle.meta_setting_tables.specs.GroupTables.{GroupContents, names_in}
@@ -34,7 +35,8 @@ a_preset t offset (EnumDetail last place) other = absurd (other refl)
 a_preset t offset NumDetail other = absurd (other refl)
 a_preset t offset PresetDetail other = (_, refl)
 
-module _ (t : GroupContents) (name : List ℕ) (state : State) (settings : AreSettings t.descriptors (length state)) (e : ℕ) (found : FindsEntry (names_in t.descriptors) name (Some e)) where
+module _ (t : GroupContents) (name : List ℕ) (state : State) (settings : AreSettings t.descriptors (length state)) (e : ℕ)
+    (found : FindsEntry (names_in t.descriptors) name (Some e)) where
   -- the entry that is found
   descriptor : (d : Descriptor) × (slice_get t.descriptors e ≡ Some d) × (d.name ≡ name)
   descriptor = get_mapped (λ (x : Descriptor). x.name) t.descriptors e name found.holds
@@ -43,10 +45,23 @@ module _ (t : GroupContents) (name : List ℕ) (state : State) (settings : AreSe
   pub has_value : (v : SettingValue) → slice_get state e ≡ Some v → e < length state → HasValue (served_in t) name state v
   has_value v there less =
       let (d, at, _) = descriptor in
-      record { place = e; kind = kind_in t d.offset d.detail; entry = is_entry t name e d found at; setting = no_preset t d.offset d.detail ((settings e d at).1 less); there = there }
+      record {
+        place = e;
+        kind = kind_in t d.offset d.detail;
+        entry = is_entry t name e d found at;
+        setting =
+            no_preset t d.offset d.detail ((settings e d at).1 less);
+        there = there;
+      }
 
   -- and else it is a preset
   pub of_preset : length state ≤ e → IsOfPreset (served_in t) name
   of_preset past =
       let (d, at, _) = descriptor in
-      record { place = e; kind = kind_in t d.offset d.detail; entry = is_entry t name e d found at; is_preset = a_preset t d.offset d.detail (λ is. let less = (settings e d at).0 is in omega (arith, less, past)) }
+      record {
+        place = e;
+        kind = kind_in t d.offset d.detail;
+        entry = is_entry t name e d found at;
+        is_preset =
+            a_preset t d.offset d.detail (λ is. let less = (settings e d at).0 is in omega (arith, less, past));
+      }

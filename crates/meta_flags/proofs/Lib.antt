@@ -1,14 +1,13 @@
-pub mod Entries
-pub mod Places
-pub mod GetLemmas
-pub mod SetLemmas
-pub mod SameServed
-pub mod Defaults
-pub mod TurningOn
-pub mod RequestLemmas
-pub mod AnswerLemmas
-pub mod Tomls
-pub mod Runs
-pub mod OneChange
-pub mod OneOutput
-pub mod FirstGroup
+mod Entries
+mod Places
+mod GetLemmas
+mod SetLemmas
+mod SameServed
+mod Defaults
+mod TurningOn
+mod RequestLemmas
+mod AnswerLemmas
+mod Tomls
+mod OneChange
+mod OneOutput
+mod FirstGroup

@@ -4,7 +4,8 @@ use Rattle.std.proofs.lemmas.Bool.{cases_lt}
 use Rattle.std.proofs.lemmas.Fmt.{decimal_injective}
 use Rattle.std.proofs.lemmas.Option.{same_Some}
 use Rattle.meta_flags.specs.Served.{SettingValue, NumValue, EntryKind, BoolKind, NumKind, EnumKind, PresetKind, ServedEntry, Served, State}
-use Rattle.meta_flags.specs.Changes.{HasNone, IsEntry, IsPresetKind, IsText, IsSet, IsOfPreset, IsNoValue, Sets, IsEnabled, IsNoSwitch, Enabled, IsOfNoSwitch, Enables, HasValue, Gets}
+use Rattle.meta_flags.specs.Changes.{HasNone, IsEntry, IsPresetKind, IsText, IsSet, IsOfPreset, IsNoValue, Sets, IsEnabled, IsNoSwitch}
+use Rattle.meta_flags.specs.Changes.{Enabled, IsOfNoSwitch, Enables, HasValue, Gets}
 use Rattle.meta_flags.specs.declared.flag_error.FlagError.{FlagError}
 use Rattle.meta_flags.specs.declared.flag_error.FlagError.TheVariants.{Unknown, Kind, Value}
 
@@ -23,7 +24,8 @@ module _ (g : Served) (name : List ℕ) where
   ]
 
   one_kind : (p q : ℕ) (k l : EntryKind) → IsEntry g name p k → IsEntry g name q l → k ≡ l
-  one_kind p q k l one other = ap (λ (e : ServedEntry). e.kind) (same_Some _ _ (sym one.at ∙ ap (slice_get g.entries) (one_place p q k l one other) ∙ other.at))
+  one_kind p q k l one other =
+      ap (λ (e : ServedEntry). e.kind) (same_Some _ _ (sym one.at ∙ ap (slice_get g.entries) (one_place p q k l one other) ∙ other.at))
 
   -- a name that an entry has is that of some
   not_none : (p : ℕ) (k : EntryKind) → IsEntry g name p k → HasNone g name → ⊥
@@ -35,7 +37,8 @@ module _ (g : Served) (name : List ℕ) where
   one_text (BoolKind default) text v w (inl (t, a)) (inr (s, b)) = let e = ap length (sym t ∙ s) in absurd (omega (arith, e))
   one_text (BoolKind default) text v w (inr (t, a)) (inl (s, b)) = let e = ap length (sym t ∙ s) in absurd (omega (arith, e))
   one_text (BoolKind default) text v w (inr (t, a)) (inr (s, b)) = a ∙ sym b
-  one_text (NumKind default) text v w (m, few, t, a) (n, less, s, b) = a ∙ ap NumValue (decimal_injective m n (omega (arith, few)) (omega (arith, less)) (sym t ∙ s)) ∙ sym b
+  one_text (NumKind default) text v w (m, few, t, a) (n, less, s, b) = a
+      ∙ ap NumValue (decimal_injective m n (omega (arith, few)) (omega (arith, less)) (sym t ∙ s)) ∙ sym b
   one_text (EnumKind values) text v w (has, a) (had, b) = a ∙ sym b
   one_text (PresetKind marks) text v w h k = absurd h
 
@@ -54,15 +57,18 @@ module _ (g : Served) (name : List ℕ) where
         a.changed ∙ (λ i. slice_set old (place i) (value i)) ∙ sym b.changed
 
     set_no_preset : (new : State) → IsSet g name text old new → IsOfPreset g name → ⊥
-    set_no_preset new a b = no_text b.kind text a.value (subst (λ (k : EntryKind). IsText k text a.value) (one_kind a.place b.place a.kind b.kind a.entry b.entry) a.is_text) b.is_preset
+    set_no_preset new a b = no_text b.kind text a.value
+        (subst (λ (k : EntryKind). IsText k text a.value) (one_kind a.place b.place a.kind b.kind a.entry b.entry) a.is_text) b.is_preset
 
     set_value : (new : State) → IsSet g name text old new → IsNoValue g name text → ⊥
-    set_value new a b = b.none a.value (subst (λ (k : EntryKind). IsText k text a.value) (one_kind a.place b.place a.kind b.kind a.entry b.entry) a.is_text)
+    set_value new a b = b.none a.value (subst (λ (k : EntryKind). IsText k text a.value)
+        (one_kind a.place b.place a.kind b.kind a.entry b.entry) a.is_text)
 
     preset_setting : IsOfPreset g name → IsNoValue g name text → ⊥
     preset_setting a b = b.setting (subst IsPresetKind (one_kind a.place b.place a.kind b.kind a.entry b.entry) a.is_preset)
 
-    pub one_set : (r s : Result (Unit {0}) FlagError) (new next : State) → Sets g name text old r new → Sets g name text old s next → (r ≡ s) × (new ≡ next)
+    pub one_set : (r s : Result (Unit {0}) FlagError) (new next : State) → Sets g name text old r new
+        → Sets g name text old s next → (r ≡ s) × (new ≡ next)
     one_set (Ok done) (Ok set) new next a b = (refl, set_once new next a b)
     one_set (Ok done) (Err Unknown) new next a b = absurd (not_none a.place a.kind a.entry b.0)
     one_set (Ok done) (Err Kind) new next a b = absurd (set_no_preset new a b.0)
@@ -83,7 +89,8 @@ module _ (g : Served) (name : List ℕ) where
   -- ---- `enable`
 
   module _ (old : State) where
-    enabled_once : (kind : EntryKind) (place : ℕ) (new next : State) → IsEnabled kind place old new → IsEnabled kind place old next → new ≡ next
+    enabled_once : (kind : EntryKind) (place : ℕ) (new next : State) → IsEnabled kind place old new
+        → IsEnabled kind place old next → new ≡ next
     enabled_once (BoolKind default) place new next a b = a ∙ sym b
     enabled_once (NumKind default) place new next a b = absurd a
     enabled_once (EnumKind values) place new next a b = absurd a
@@ -94,15 +101,18 @@ module _ (g : Served) (name : List ℕ) where
     no_switch kind place new is (inr (values, e)) = subst (λ (k : EntryKind). IsEnabled k place old new) e is
 
     enabled_switch : (new : State) → Enabled g name old new → IsOfNoSwitch g name → ⊥
-    enabled_switch new a b = no_switch a.kind a.place new a.changed (subst IsNoSwitch (sym (one_kind a.place b.place a.kind b.kind a.entry b.entry)) b.no_switch)
+    enabled_switch new a b = no_switch a.kind a.place new a.changed
+        (subst IsNoSwitch (sym (one_kind a.place b.place a.kind b.kind a.entry b.entry)) b.no_switch)
 
     enable_once : (new next : State) → Enabled g name old new → Enabled g name old next → new ≡ next
     enable_once new next a b =
         let place = one_place a.place b.place a.kind b.kind a.entry b.entry in
         let kind = one_kind a.place b.place a.kind b.kind a.entry b.entry in
-        enabled_once b.kind b.place new next (subst (λ (p : ℕ). IsEnabled b.kind p old new) place (subst (λ (k : EntryKind). IsEnabled k a.place old new) kind a.changed)) b.changed
+        enabled_once b.kind b.place new next (subst (λ (p : ℕ). IsEnabled b.kind p old new) place
+        (subst (λ (k : EntryKind). IsEnabled k a.place old new) kind a.changed)) b.changed
 
-    pub one_enable : (r s : Result (Unit {0}) FlagError) (new next : State) → Enables g name old r new → Enables g name old s next → (r ≡ s) × (new ≡ next)
+    pub one_enable : (r s : Result (Unit {0}) FlagError) (new next : State) → Enables g name old r new
+        → Enables g name old s next → (r ≡ s) × (new ≡ next)
     one_enable (Ok done) (Ok set) new next a b = (refl, enable_once new next a b)
     one_enable (Ok done) (Err Unknown) new next a b = absurd (not_none a.place a.kind a.entry b.0)
     one_enable (Ok done) (Err Kind) new next a b = absurd (enabled_switch new a b.0)
@@ -121,7 +131,8 @@ module _ (g : Served) (name : List ℕ) where
 
   module _ (state : State) where
     get_once : (v w : SettingValue) → HasValue g name state v → HasValue g name state w → v ≡ w
-    get_once v w a b = same_Some v w (sym a.there ∙ ap (slice_get state) (one_place a.place b.place a.kind b.kind a.entry b.entry) ∙ b.there)
+    get_once v w a b = same_Some v w
+        (sym a.there ∙ ap (slice_get state) (one_place a.place b.place a.kind b.kind a.entry b.entry) ∙ b.there)
 
     get_setting : (v : SettingValue) → HasValue g name state v → IsOfPreset g name → ⊥
     get_setting v a b = a.setting (subst IsPresetKind (sym (one_kind a.place b.place a.kind b.kind a.entry b.entry)) b.is_preset)

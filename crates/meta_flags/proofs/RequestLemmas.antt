@@ -4,21 +4,21 @@ use Rattle.std.proofs.lemmas.List.Elements.{All-head, All-tail, All-cons, All-ni
 use Rattle.meta_words.specs.Words.{IsWord, pieces_of}
 use Rattle.meta_words.proofs.WordLemmas.{words_pieces, are_words}
 use Rattle.meta_flags.specs.Request.{Request, Set, Enable, Get, Toml, request_words, Requests, command_word}
-use Rattle.meta_flags.specs.declared.request.Command.{Command}
-use Rattle.meta_flags.specs.declared.request.Command.TheVariants as command
+use Rattle.meta_flags.specs.declared.request.RequestWord.{RequestWord}
+use Rattle.meta_flags.specs.declared.request.RequestWord.TheVariants as command
 
 -- the word has bytes
 abbrev pub HasBytes : List ℕ → Type 0
 HasBytes word = 0 < length word
 
 -- the first letter of the first word, by which commands differ
-abbrev letter : List (List ℕ) → ℕ
-letter words = get_or (get_or words 0 []) 0 0
+abbrev first_letter : List (List ℕ) → ℕ
+first_letter words = get_or (get_or words 0 []) 0 0
 
 -- ---- the words of a request
 
 -- the command of a request, and the words behind it
-abbrev pub command_in : Request → Command
+abbrev pub command_in : Request → RequestWord
 command_in (Set name value) = command.Set
 command_in (Enable name) = command.Enable
 command_in (Get name) = command.Get
@@ -36,7 +36,7 @@ first_word (Enable name) = refl
 first_word (Get name) = refl
 first_word Toml = refl
 
-command_has_bytes : (c : Command) → HasBytes (command_word c)
+command_has_bytes : (c : RequestWord) → HasBytes (command_word c)
 command_has_bytes command.Set = omega arith
 command_has_bytes command.Enable = omega arith
 command_has_bytes command.Get = omega arith
@@ -60,26 +60,36 @@ request_pieces line r h = words_pieces line (request_words r) h (some r)
 
 module _ (words : List (List ℕ)) where
   -- `set` asks where two words stand behind it
-  pub asks_set : (r : Request) → All HasBytes (request_words r) → codes "set" ∷ words ≡ request_words r → (name value : List ℕ) × HasBytes name × HasBytes value × (words ≡ name ∷ value ∷ [])
+  pub asks_set : (r : Request) → All HasBytes (request_words r) → codes "set" ∷ words ≡ request_words r
+      → (name value : List ℕ) × HasBytes name × HasBytes value × (words ≡ name ∷ value ∷ [])
   asks_set (Set name value) some e =
       let behind = All-tail HasBytes (codes "set") (name ∷ value ∷ []) some in
-      let same : words ≡ name ∷ value ∷ [] = cc in
-      (name, value, All-head HasBytes name (value ∷ []) behind, All-head HasBytes value [] (All-tail HasBytes name (value ∷ []) behind), same)
-  asks_set (Enable name) some e = absurd (omega (arith, ap letter e))
-  asks_set (Get name) some e = absurd (omega (arith, ap letter e))
-  asks_set Toml some e = absurd (omega (arith, ap letter e))
+      let same : words ≡ name ∷ value ∷ [] = cc in (
+        name,
+        value,
+        All-head HasBytes name (value ∷ []) behind,
+        All-head HasBytes value [] (All-tail HasBytes name (value ∷ []) behind),
+        same,
+      )
+  asks_set (Enable name) some e = absurd (omega (arith, ap first_letter e))
+  asks_set (Get name) some e = absurd (omega (arith, ap first_letter e))
+  asks_set Toml some e = absurd (omega (arith, ap first_letter e))
 
-  pub asks_enable : (r : Request) → All HasBytes (request_words r) → codes "enable" ∷ words ≡ request_words r → (name : List ℕ) × HasBytes name × (words ≡ name ∷ [])
-  asks_enable (Enable name) some e = let same : words ≡ name ∷ [] = cc in (name, All-head HasBytes name [] (All-tail HasBytes (codes "enable") (name ∷ []) some), same)
-  asks_enable (Set name value) some e = absurd (omega (arith, ap letter e))
-  asks_enable (Get name) some e = absurd (omega (arith, ap letter e))
-  asks_enable Toml some e = absurd (omega (arith, ap letter e))
+  pub asks_enable : (r : Request) → All HasBytes (request_words r) → codes "enable" ∷ words ≡ request_words r
+      → (name : List ℕ) × HasBytes name × (words ≡ name ∷ [])
+  asks_enable (Enable name) some e =
+      let same : words ≡ name ∷ [] = cc in (name, All-head HasBytes name [] (All-tail HasBytes (codes "enable") (name ∷ []) some), same)
+  asks_enable (Set name value) some e = absurd (omega (arith, ap first_letter e))
+  asks_enable (Get name) some e = absurd (omega (arith, ap first_letter e))
+  asks_enable Toml some e = absurd (omega (arith, ap first_letter e))
 
-  pub asks_get : (r : Request) → All HasBytes (request_words r) → codes "get" ∷ words ≡ request_words r → (name : List ℕ) × HasBytes name × (words ≡ name ∷ [])
-  asks_get (Get name) some e = let same : words ≡ name ∷ [] = cc in (name, All-head HasBytes name [] (All-tail HasBytes (codes "get") (name ∷ []) some), same)
-  asks_get (Set name value) some e = absurd (omega (arith, ap letter e))
-  asks_get (Enable name) some e = absurd (omega (arith, ap letter e))
-  asks_get Toml some e = absurd (omega (arith, ap letter e))
+  pub asks_get : (r : Request) → All HasBytes (request_words r) → codes "get" ∷ words ≡ request_words r
+      → (name : List ℕ) × HasBytes name × (words ≡ name ∷ [])
+  asks_get (Get name) some e =
+      let same : words ≡ name ∷ [] = cc in (name, All-head HasBytes name [] (All-tail HasBytes (codes "get") (name ∷ []) some), same)
+  asks_get (Set name value) some e = absurd (omega (arith, ap first_letter e))
+  asks_get (Enable name) some e = absurd (omega (arith, ap first_letter e))
+  asks_get Toml some e = absurd (omega (arith, ap first_letter e))
 
 -- no request is another with more words
 no_longer : (q r : Request) (word : List ℕ) (rest : List (List ℕ)) → request_words q ++ word ∷ rest ≡ request_words r → ⊥
@@ -87,17 +97,17 @@ no_longer (Set n v) (Set m w) word rest e = absurd (omega (arith, ap length e))
 no_longer (Set n v) (Enable m) word rest e = absurd (omega (arith, ap length e))
 no_longer (Set n v) (Get m) word rest e = absurd (omega (arith, ap length e))
 no_longer (Set n v) Toml word rest e = absurd (omega (arith, ap length e))
-no_longer (Enable n) (Set m w) word rest e = absurd (omega (arith, ap letter e))
+no_longer (Enable n) (Set m w) word rest e = absurd (omega (arith, ap first_letter e))
 no_longer (Enable n) (Enable m) word rest e = absurd (omega (arith, ap length e))
 no_longer (Enable n) (Get m) word rest e = absurd (omega (arith, ap length e))
 no_longer (Enable n) Toml word rest e = absurd (omega (arith, ap length e))
-no_longer (Get n) (Set m w) word rest e = absurd (omega (arith, ap letter e))
+no_longer (Get n) (Set m w) word rest e = absurd (omega (arith, ap first_letter e))
 no_longer (Get n) (Enable m) word rest e = absurd (omega (arith, ap length e))
 no_longer (Get n) (Get m) word rest e = absurd (omega (arith, ap length e))
 no_longer (Get n) Toml word rest e = absurd (omega (arith, ap length e))
-no_longer Toml (Set m w) word rest e = absurd (omega (arith, ap letter e))
-no_longer Toml (Enable m) word rest e = absurd (omega (arith, ap letter e))
-no_longer Toml (Get m) word rest e = absurd (omega (arith, ap letter e))
+no_longer Toml (Set m w) word rest e = absurd (omega (arith, ap first_letter e))
+no_longer Toml (Enable m) word rest e = absurd (omega (arith, ap first_letter e))
+no_longer Toml (Get m) word rest e = absurd (omega (arith, ap first_letter e))
 no_longer Toml Toml word rest e = absurd (omega (arith, ap length e))
 
 -- requests of the same words are one
@@ -108,10 +118,10 @@ same_request (Set n v) (Get m) e = absurd (omega (arith, ap length e))
 same_request (Set n v) Toml e = absurd (omega (arith, ap length e))
 same_request (Enable n) (Set m w) e = absurd (omega (arith, ap length e))
 same_request (Enable n) (Enable m) e = let name : n ≡ m = cc in ap Enable name
-same_request (Enable n) (Get m) e = absurd (omega (arith, ap letter e))
+same_request (Enable n) (Get m) e = absurd (omega (arith, ap first_letter e))
 same_request (Enable n) Toml e = absurd (omega (arith, ap length e))
 same_request (Get n) (Set m w) e = absurd (omega (arith, ap length e))
-same_request (Get n) (Enable m) e = absurd (omega (arith, ap letter e))
+same_request (Get n) (Enable m) e = absurd (omega (arith, ap first_letter e))
 same_request (Get n) (Get m) e = let name : n ≡ m = cc in ap Get name
 same_request (Get n) Toml e = absurd (omega (arith, ap length e))
 same_request Toml (Set m w) e = absurd (omega (arith, ap length e))
@@ -123,29 +133,33 @@ same_request Toml Toml e = refl
 
 module _ (line : List ℕ) where
   -- a line without a first word asks nothing
-  pub no_first_word : ((word : List ℕ) (rest : List (List ℕ)) → 0 < length word → pieces_of 32 line ≢ word ∷ rest) → (r : Request) → Requests line r → ⊥
-  no_first_word none r h = none (command_word (command_in r)) (behind_in r) (command_has_bytes (command_in r)) (request_pieces line r h ∙ first_word r)
+  pub no_first_word : ((word : List ℕ) (rest : List (List ℕ)) → 0 < length word → pieces_of 32 line ≢ word ∷ rest)
+      → (r : Request) → Requests line r → ⊥
+  no_first_word none r h = none (command_word (command_in r)) (behind_in r) (command_has_bytes (command_in r))
+      (request_pieces line r h ∙ first_word r)
 
   module _ (word : List ℕ) (rest : List (List ℕ)) (pieces : pieces_of 32 line ≡ word ∷ rest) where
     -- nor does one whose first word is no command
-    pub no_command : ((c : Command) → word ≢ command_word c) → (r : Request) → Requests line r → ⊥
+    pub no_command : ((c : RequestWord) → word ≢ command_word c) → (r : Request) → Requests line r → ⊥
     no_command none r h =
         let both : word ∷ rest ≡ command_word (command_in r) ∷ behind_in r = sym pieces ∙ request_pieces line r h ∙ first_word r in
         let same : word ≡ command_word (command_in r) = cc in
         none (command_in r) same
 
-    module _ (c : Command) (is : word ≡ command_word c) where
+    module _ (c : RequestWord) (is : word ≡ command_word c) where
       own : pieces_of 32 line ≡ command_word c ∷ rest
       own = pieces ∙ ap (λ w. w ∷ rest) is
 
       -- nor one behind whose command other words stand
-      pub no_request : ((r : Request) → All HasBytes (request_words r) → command_word c ∷ rest ≢ request_words r) → (r : Request) → Requests line r → ⊥
+      pub no_request : ((r : Request) → All HasBytes (request_words r) → command_word c ∷ rest ≢ request_words r)
+          → (r : Request) → Requests line r → ⊥
       no_request none r h = none r (words_have_bytes line r h) (sym own ∙ request_pieces line r h)
 
       module _ (q : Request) (left : List (List ℕ)) (taken : command_word c ∷ rest ≡ request_words q ++ left) where
         -- nor one with more words
         pub no_more : (more : List ℕ) (others : List (List ℕ)) → left ≡ more ∷ others → (r : Request) → Requests line r → ⊥
-        no_more more others e r h = no_longer q r more others (ap (λ ws. request_words q ++ ws) (sym e) ∙ sym taken ∙ sym own ∙ request_pieces line r h)
+        no_more more others e r h = no_longer q r more others (ap (λ ws. request_words q ++ ws) (sym e) ∙ sym taken
+            ∙ sym own ∙ request_pieces line r h)
 
         -- and one with these words asks
         pub asks : All HasBytes (request_words q) → left ≡ [] → Requests line q
@@ -160,7 +174,8 @@ module _ (line : List ℕ) where
 -- ---- the words of requests have bytes
 
 pub set_words : (name value : List ℕ) → HasBytes name → HasBytes value → All HasBytes (request_words (Set name value))
-set_words name value n v = All-cons HasBytes (codes "set") (name ∷ value ∷ []) (omega arith) (All-cons HasBytes name (value ∷ []) n (All-cons HasBytes value [] v (All-nil HasBytes)))
+set_words name value n v = All-cons HasBytes (codes "set") (name ∷ value ∷ []) (omega arith)
+    (All-cons HasBytes name (value ∷ []) n (All-cons HasBytes value [] v (All-nil HasBytes)))
 
 pub enable_words : (name : List ℕ) → HasBytes name → All HasBytes (request_words (Enable name))
 enable_words name n = All-cons HasBytes (codes "enable") (name ∷ []) (omega arith) (All-cons HasBytes name [] n (All-nil HasBytes))

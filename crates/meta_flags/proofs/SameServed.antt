@@ -1,5 +1,6 @@
 -- What is served by the tables of a declared group is what is served by the layout of the group.
-use Rattle.std.proofs.Common.{◌≡◌, ℕ, suc, ◌+◌, ◌-◌, ◌*◌, ◌<◌, ◌≤◌, ◌==◌, inl, inr, Bool, true, false, not, List, [], ◌∷◌, length, map, take, drop, slice_get, get_or, Some, refl, sym, ap, ap₂, ◌∙◌, arith}
+use Rattle.std.proofs.Common.{◌≡◌, ℕ, suc, ◌+◌, ◌-◌, ◌*◌, ◌<◌, ◌≤◌, ◌==◌, inl, inr, Bool, true, false, not, List, [], ◌∷◌, length, map}
+use Rattle.std.proofs.Common.{take, drop, slice_get, get_or, Some, refl, sym, ap, ap₂, ◌∙◌, arith}
 use Rattle.std.specs.Option.{option_map}
 use Rattle.std.specs.Int.{bit_at}
 use Rattle.std.proofs.lemmas.Bool.{cond-true, cond-false, cases_lt}
@@ -18,29 +19,37 @@ use Rattle.meta_setting_tables.specs.Descriptor.{IsDetailOf}
 use Rattle.meta_setting_tables.specs.GroupTables.{GroupContents, AreTablesOfGroup}
 use Rattle.meta_setting_tables.specs.EntryValues.{is_on, masks_from, is_one_of}
 use Rattle.meta_setting_tables.specs.WellFormed.{is_preset}
-use Rattle.meta_setting_tables.proofs.Enabled.{AreAlike, alike, default_back}
-use Rattle.meta_flags.specs.Served.{BoolKind, NumKind, EnumKind, PresetKind, kind_in, kind_of_setting, served_setting, served_preset, settings_in, marks_in, served_entry, served_in, served_of}
+use Rattle.meta_setting_tables.proofs.Enabled.{AreNamedAlike, alike, default_back}
+use Rattle.meta_flags.specs.Served.{BoolKind, NumKind, EnumKind, PresetKind, kind_in, kind_of_setting, served_setting, served_preset}
+use Rattle.meta_flags.specs.Served.{settings_in, marks_in, served_entry, served_in, served_of}
 
 -- a setting is of the same kind by its detail, the enumerators and the defaults
-same_kind : (t : GroupContents) (before : List PlacedSetting) (byte : ℕ) (specific : SpecificSetting) (detail : Detail) (value : ℕ) → IsDetailOf t.enumerators before specific detail → slice_get t.defaults byte ≡ Some value → HoldsDefault value specific → kind_in t byte detail ≡ kind_of_setting specific
+same_kind : (t : GroupContents) (before : List PlacedSetting) (byte : ℕ) (specific : SpecificSetting)
+    (detail : Detail) (value : ℕ) → IsDetailOf t.enumerators before specific detail
+    → slice_get t.defaults byte ≡ Some value → HoldsDefault value specific → kind_in t byte detail ≡ kind_of_setting specific
 same_kind t before byte (ABool b) detail value is there holds =
     let read : get_or t.defaults byte 0 ≡ value = get_or_from_slice_get t.defaults byte value 0 there in
-    ap (kind_in t byte) is ∙ ap BoolKind (ap (λ n. bit_at n b.bit_offset == 1) read ∙ default_back b.default (bit_at value b.bit_offset) holds)
+    ap (kind_in t byte) is ∙ ap BoolKind (ap (λ n. bit_at n b.bit_offset == 1) read
+    ∙ default_back b.default (bit_at value b.bit_offset) holds)
 same_kind t before byte (AnEnum values) detail value is there holds =
     ap (kind_in t byte) is.is ∙ ap EnumKind (ap (λ n. take n (drop is.place t.enumerators)) (sym is.count) ∙ is.stand.values_are)
 same_kind t before byte (ANum default) detail value is there holds =
     ap (kind_in t byte) is ∙ ap NumKind (get_or_from_slice_get t.defaults byte value 0 there ∙ holds)
 
 -- a setting's detail is no preset's
-no_preset : (enumerators : List (List ℕ)) (before : List PlacedSetting) (specific : SpecificSetting) (detail : Detail) → IsDetailOf enumerators before specific detail → is_preset detail ≡ false
+no_preset : (enumerators : List (List ℕ)) (before : List PlacedSetting) (specific : SpecificSetting) (detail : Detail)
+    → IsDetailOf enumerators before specific detail → is_preset detail ≡ false
 no_preset enumerators before (ABool b) detail is = ap is_preset is
 no_preset enumerators before (AnEnum values) detail is = ap is_preset is.is
 no_preset enumerators before (ANum default) detail is = ap is_preset is
 
 module _ (marked : Descriptor → Bool) (is_named : PlacedSetting → Bool) where
   -- settings and their descriptors, behind which presets stand, are marked the same
-  same_marks : (ss : List PlacedSetting) (ds : List Descriptor) → ((k : ℕ) (s : PlacedSetting) (d : Descriptor) → slice_get ss k ≡ Some s → slice_get ds k ≡ Some d → AreAlike marked is_named s d × (is_preset d.detail ≡ false)) → length ss ≤ length ds
-      → ((k : ℕ) (d : Descriptor) → length ss ≤ k → slice_get ds k ≡ Some d → is_preset d.detail ≡ true) → map marked (settings_in ds) ≡ map is_named ss
+  same_marks : (ss : List PlacedSetting) (ds : List Descriptor)
+      → ((k : ℕ) (s : PlacedSetting) (d : Descriptor) → slice_get ss k ≡ Some s → slice_get ds k ≡ Some d
+      → AreNamedAlike marked is_named s d × (is_preset d.detail ≡ false)) → length ss ≤ length ds
+      → ((k : ℕ) (d : Descriptor) → length ss ≤ k → slice_get ds k ≡ Some d → is_preset d.detail ≡ true)
+      → map marked (settings_in ds) ≡ map is_named ss
   same_marks [] [] same few behind = refl
   same_marks [] (d ∷ ds) same few behind =
       ap (map marked) (cond-false (not (is_preset d.detail)) _ _ (ap not (behind 0 d (omega arith) refl)))
@@ -56,21 +65,29 @@ module _ (g : GroupDeclaration) (t : GroupContents) (made : AreTablesOfGroup (bu
   layout = built_of g
 
   -- a setting is served the same
-  setting_at : (e : ℕ) (d : Descriptor) (s : PlacedSetting) → slice_get t.descriptors e ≡ Some d → slice_get layout.settings e ≡ Some s → served_entry t d ≡ served_setting s
+  setting_at : (e : ℕ) (d : Descriptor) (s : PlacedSetting) → slice_get t.descriptors e ≡ Some d
+      → slice_get layout.settings e ≡ Some s → served_entry t d ≡ served_setting s
   setting_at e d s at s_at =
       let says = (made.entries e d at).setting s s_at in
       let held = made.defaults.hold e s s_at in
       let name = says.name in
-      let kind = ap (λ offset. kind_in t offset d.detail) says.offset ∙ same_kind t (take e layout.settings) s.byte_offset s.specific d.detail held.byte says.detail held.there held.holds in
+      let kind = ap (λ offset. kind_in t offset d.detail) says.offset
+      ∙ same_kind t (take e layout.settings) s.byte_offset s.specific d.detail held.byte says.detail held.there held.holds in
       λ i. record { name = name i; kind = kind i }
 
   -- the marks of a preset are the same
-  marks_at : (k : ℕ) (p : BuiltPreset) → slice_get layout.presets k ≡ Some p → marks_in t (k * layout.settings_size) ≡ map (λ (s : PlacedSetting). is_one_of p.booleans s.specific) layout.settings
+  marks_at : (k : ℕ) (p : BuiltPreset) → slice_get layout.presets k ≡ Some p
+      → marks_in t (k * layout.settings_size) ≡ map (λ (s : PlacedSetting). is_one_of p.booleans s.specific) layout.settings
   marks_at k p p_at = let count = made.count in same_marks _ _ layout.settings t.descriptors like (omega (arith, count)) behind
     where
       like : (j : ℕ) (s : PlacedSetting) (d : Descriptor) → slice_get layout.settings j ≡ Some s → slice_get t.descriptors j ≡ Some d
-          → AreAlike (λ (x : Descriptor). is_on (masks_from (length t.defaults) t.preset_masks (k * layout.settings_size)) x.offset x.detail) (λ (s : PlacedSetting). is_one_of p.booleans s.specific) s d × (is_preset d.detail ≡ false)
-      like j s d s_at d_at = (alike g t made k p p_at j s d s_at d_at, no_preset t.enumerators (take j layout.settings) s.specific d.detail ((made.entries j d d_at).setting s s_at).detail)
+          → AreNamedAlike (λ (x : Descriptor). is_on
+          (masks_from (length t.defaults) t.preset_masks (k * layout.settings_size)) x.offset x.detail)
+          (λ (s : PlacedSetting). is_one_of p.booleans s.specific) s d × (is_preset d.detail ≡ false)
+      like j s d s_at d_at = (
+        alike g t made k p p_at j s d s_at d_at,
+        no_preset t.enumerators (take j layout.settings) s.specific d.detail ((made.entries j d d_at).setting s s_at).detail,
+      )
 
       behind : (j : ℕ) (d : Descriptor) → length layout.settings ≤ j → slice_get t.descriptors j ≡ Some d → is_preset d.detail ≡ true
       behind j d past d_at =
@@ -82,16 +99,21 @@ module _ (g : GroupDeclaration) (t : GroupContents) (made : AreTablesOfGroup (bu
           ap (λ (x : Descriptor). is_preset x.detail) ((made.entries j d d_at).preset n q place q_at)
 
   -- so is a preset
-  preset_at : (e k : ℕ) (d : Descriptor) (p : BuiltPreset) → slice_get t.descriptors e ≡ Some d → e ≡ length layout.settings + k → slice_get layout.presets k ≡ Some p → served_entry t d ≡ served_preset layout p
+  preset_at : (e k : ℕ) (d : Descriptor) (p : BuiltPreset) → slice_get t.descriptors e ≡ Some d
+      → e ≡ length layout.settings + k → slice_get layout.presets k ≡ Some p → served_entry t d ≡ served_preset layout p
   preset_at e k d p at behind p_at =
-      ap (served_entry t) ((made.entries e d at).preset k p behind p_at) ∙ ap (λ (bs : List Bool). record { name = p.name; kind = PresetKind bs }) (marks_at k p p_at)
+      ap (served_entry t) ((made.entries e d at).preset k p behind p_at)
+      ∙ ap (λ (bs : List Bool). record { name = p.name; kind = PresetKind bs }) (marks_at k p p_at)
 
   -- the entry at a place
-  entry_at : (e : ℕ) (d : Descriptor) → slice_get t.descriptors e ≡ Some d → slice_get (served_of layout).entries e ≡ Some (served_entry t d)
+  entry_at : (e : ℕ) (d : Descriptor) → slice_get t.descriptors e ≡ Some d
+      → slice_get (served_of layout).entries e ≡ Some (served_entry t d)
   entry_at e d at = elim (cases_lt e (length layout.settings)) [
     | inl setting ↦
         let (s, s_at) = get_there layout.settings e setting in
-        get_stays (map served_setting layout.settings) (map (served_preset layout) layout.presets) e (served_setting s) (slice_get-map served_setting layout.settings e ∙ ap (option_map served_setting) s_at) ∙ ap Some (sym (setting_at e d s at s_at))
+        get_stays (map served_setting layout.settings) (map (served_preset layout) layout.presets) e
+        (served_setting s) (slice_get-map served_setting layout.settings e ∙ ap (option_map served_setting) s_at)
+        ∙ ap Some (sym (setting_at e d s at s_at))
     | inr preset ↦
         let k = e - length layout.settings in
         let behind : e ≡ length layout.settings + k = omega (arith, preset) in
@@ -100,7 +122,8 @@ module _ (g : GroupDeclaration) (t : GroupContents) (made : AreTablesOfGroup (bu
         let (p, p_at) = get_there layout.presets k (omega (arith, within, count, behind)) in
         ap (slice_get (served_of layout).entries) (behind ∙ ap (λ n. n + k) (sym (length-map layout.settings served_setting)))
         ∙ get_right (map served_setting layout.settings) (map (served_preset layout) layout.presets) k
-        ∙ slice_get-map (served_preset layout) layout.presets k ∙ ap (option_map (served_preset layout)) p_at ∙ ap Some (sym (preset_at e k d p at behind p_at))
+        ∙ slice_get-map (served_preset layout) layout.presets k ∙ ap (option_map (served_preset layout)) p_at
+        ∙ ap Some (sym (preset_at e k d p at behind p_at))
   ]
 
   -- What is served is the same.

@@ -1,7 +1,8 @@
 -- What is known of an entry by its detail.
 use Rattle.std.proofs.Common.{◌≡◌, ℕ, false, List, refl, sym, subst}
 use Rattle.meta_setting_tables.specs.declared.descriptor.Detail.{Detail}
-use Rattle.meta_setting_tables.specs.declared.descriptor.Detail.TheVariants.{Bool as BoolDetail, Enum as EnumDetail, Num as NumDetail, Preset as PresetDetail}
+use Rattle.meta_setting_tables.specs.declared.descriptor.Detail.TheVariants.{Bool as BoolDetail, Enum as EnumDetail, Num as NumDetail}
+use Rattle.meta_setting_tables.specs.declared.descriptor.Detail.TheVariants.{Preset as PresetDetail}
 use Rattle.meta_setting_tables.specs.GroupTables.{GroupContents}
 use Rattle.meta_setting_tables.specs.WellFormed.{is_preset}
 use Rattle.meta_flags.specs.Served.{SettingValue, kind_in}
@@ -20,12 +21,15 @@ setting_detail NumDetail other = refl
 setting_detail PresetDetail other = absurd (other refl)
 
 -- and of no preset's kind
-pub setting_kind : (t : GroupContents) (offset : ℕ) (detail : Detail) → (detail ≡ PresetDetail → ⊥) → IsPresetKind (kind_in t offset detail) → ⊥
+pub setting_kind : (t : GroupContents) (offset : ℕ) (detail : Detail) → (detail ≡ PresetDetail → ⊥)
+    → IsPresetKind (kind_in t offset detail) → ⊥
 setting_kind t offset detail other = no_preset t offset detail (setting_detail detail other)
 
 -- what a word writes for a detail, it writes for the entry that has it
-pub is_text_of : (t : GroupContents) (offset : ℕ) (detail other : Detail) (word : List ℕ) (v : SettingValue) → detail ≡ other → IsText (kind_in t offset other) word v → IsText (kind_in t offset detail) word v
+pub is_text_of : (t : GroupContents) (offset : ℕ) (detail other : Detail) (word : List ℕ) (v : SettingValue)
+    → detail ≡ other → IsText (kind_in t offset other) word v → IsText (kind_in t offset detail) word v
 is_text_of t offset detail other word v is text = subst (λ (x : Detail). IsText (kind_in t offset x) word v) (sym is) text
 
-pub no_text_of : (t : GroupContents) (offset : ℕ) (detail other : Detail) (word : List ℕ) → detail ≡ other → ((v : SettingValue) → IsText (kind_in t offset other) word v → ⊥) → (v : SettingValue) → IsText (kind_in t offset detail) word v → ⊥
+pub no_text_of : (t : GroupContents) (offset : ℕ) (detail other : Detail) (word : List ℕ) → detail ≡ other
+    → ((v : SettingValue) → IsText (kind_in t offset other) word v → ⊥) → (v : SettingValue) → IsText (kind_in t offset detail) word v → ⊥
 no_text_of t offset detail other word is none v text = none v (subst (λ (x : Detail). IsText (kind_in t offset x) word v) is text)

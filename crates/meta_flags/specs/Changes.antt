@@ -1,8 +1,10 @@
 -- What a service does to its values, and what it answers.
 --     Sets, Enables, Gets
-use Rattle.std.specs.Prelude.{◌≡◌, ◌≢◌, ◌⊎◌, ℕ, ◌<◌, Bool, true, false, List, [], ◌∷◌, slice_get, slice_set, Contains, Some, Result, Ok, Err, codes, if◌then◌else◌}
+use Rattle.std.specs.Prelude.{◌≡◌, ◌≢◌, ◌⊎◌, ℕ, ◌<◌, Bool, true, false, List, [], ◌∷◌, slice_get, slice_set, Contains, Some, Result, Ok}
+use Rattle.std.specs.Prelude.{Err, codes, if◌then◌else◌}
 use Rattle.std.specs.Fmt.{decimal}
-use Rattle.meta_flags.specs.Served.{SettingValue, BoolValue, NumValue, EnumValue, EntryKind, BoolKind, NumKind, EnumKind, PresetKind, ServedEntry, Served, State}
+use Rattle.meta_flags.specs.Served.{SettingValue, BoolValue, NumValue, EnumValue, EntryKind, BoolKind, NumKind, EnumKind, PresetKind}
+use Rattle.meta_flags.specs.Served.{ServedEntry, Served, State}
 use Rattle.meta_flags.specs.declared.flag_error.FlagError.{FlagError}
 use Rattle.meta_flags.specs.declared.flag_error.FlagError.TheVariants.{Unknown, Kind, Value}
 
@@ -60,17 +62,17 @@ Sets g name text old (Err Kind) new = IsOfPreset g name × (new ≡ old)
 Sets g name text old (Err Value) new = IsNoValue g name text × (new ≡ old)
 
 -- the values with each marked setting true
-abbrev pub turned_on : List Bool → State → State
-turned_on [] state = state
-turned_on (mark ∷ marks) [] = []
-turned_on (mark ∷ marks) (v ∷ vs) = (if mark then BoolValue true else v) ∷ turned_on marks vs
+abbrev pub with_marked_true : List Bool → State → State
+with_marked_true [] state = state
+with_marked_true (mark ∷ marks) [] = []
+with_marked_true (mark ∷ marks) (v ∷ vs) = (if mark then BoolValue true else v) ∷ with_marked_true marks vs
 
 -- what becomes of the values where the entry of this kind at e is enabled: a boolean is true, and of a preset what it marks
 abbrev pub IsEnabled : EntryKind → ℕ → State → State → Type 0
 IsEnabled (BoolKind default) e old new = new ≡ slice_set old e (BoolValue true)
 IsEnabled (NumKind default) e old new = ⊥
 IsEnabled (EnumKind values) e old new = ⊥
-IsEnabled (PresetKind marks) e old new = new ≡ turned_on marks old
+IsEnabled (PresetKind marks) e old new = new ≡ with_marked_true marks old
 
 -- the entry is a number or an enum
 abbrev pub IsNoSwitch : EntryKind → Type 0

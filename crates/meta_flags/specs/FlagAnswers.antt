@@ -43,7 +43,8 @@ IsAnswered g (c ∷ cs) old new out = IsLineServed g (c ∷ cs) old new out
 -- the answers to the lines, in order, each from the values that the lines before it left
 abbrev pub AreFlagAnswers : Option Served → State → List (List ℕ) → List ℕ → Type 0
 AreFlagAnswers g state [] out = out ≡ []
-AreFlagAnswers g state (line ∷ lines) out = (next : State) × (first : List ℕ) × (rest : List ℕ) × IsAnswered g line state next first × AreFlagAnswers g next lines rest × (out ≡ first ++ rest)
+AreFlagAnswers g state (line ∷ lines) out = (next : State) × (first : List ℕ) × (rest : List ℕ) × IsAnswered g line state next first
+    × AreFlagAnswers g next lines rest × (out ≡ first ++ rest)
 
 -- the values at the beginning; none where there is no group
 abbrev pub initial_of : Option Served → State

@@ -6,4 +6,3 @@ pub mod Request
 pub mod Replies
 pub mod FlagAnswers
 pub mod FlagsOutput
-pub mod FlagsRun

@@ -2,8 +2,8 @@
 --     Requests line r        the line asks r
 use Rattle.std.specs.Prelude.{ℕ, List, [], ◌∷◌, codes}
 use Rattle.meta_words.specs.Words.{AreWords}
-use Rattle.meta_flags.specs.declared.request.Command.{Command}
-use Rattle.meta_flags.specs.declared.request.Command.TheVariants as command
+use Rattle.meta_flags.specs.declared.request.RequestWord.{RequestWord}
+use Rattle.meta_flags.specs.declared.request.RequestWord.TheVariants as command
 use Rattle.meta_flags.specs.declared.request.Request as code
 use Rattle.meta_flags.specs.declared.request.Request.TheVariants as asked
 
@@ -34,7 +34,7 @@ request_of (asked.Get name) = Get name.now
 request_of asked.Toml = Toml
 
 -- the word of a command
-abbrev pub command_word : Command → List ℕ
+abbrev pub command_word : RequestWord → List ℕ
 command_word command.Set = codes "set"
 command_word command.Enable = codes "enable"
 command_word command.Get = codes "get"

@@ -8,7 +8,8 @@ use Rattle.meta_settings.specs.declared.setting.SpecificSetting.{SpecificSetting
 use Rattle.meta_settings.specs.declared.setting.SpecificSetting.TheVariants.{Bool as ABool, Enum as AnEnum, Num as ANum}
 use Rattle.meta_settings.specs.Layout.{PlacedSetting, BuiltPreset, Layout}
 use Rattle.meta_setting_tables.specs.declared.descriptor.Detail.{Detail}
-use Rattle.meta_setting_tables.specs.declared.descriptor.Detail.TheVariants.{Bool as BoolDetail, Enum as EnumDetail, Num as NumDetail, Preset as PresetDetail}
+use Rattle.meta_setting_tables.specs.declared.descriptor.Detail.TheVariants.{Bool as BoolDetail, Enum as EnumDetail, Num as NumDetail}
+use Rattle.meta_setting_tables.specs.declared.descriptor.Detail.TheVariants.{Preset as PresetDetail}
 use Rattle.meta_setting_tables.specs.declared.descriptor.Descriptor.{Descriptor}
 use Rattle.meta_setting_tables.specs.EntryValues.{values_in, is_on, masks_from, is_one_of}
 use Rattle.meta_setting_tables.specs.GroupTables.{GroupContents}
@@ -80,7 +81,8 @@ settings_in entries = filter (λ (d : Descriptor). not (is_preset d.detail)) ent
 
 -- for each setting, whether the preset with this offset turns it on
 abbrev pub marks_in : GroupContents → ℕ → List Bool
-marks_in t offset = map (λ (d : Descriptor). is_on (masks_from (length t.defaults) t.preset_masks offset) d.offset d.detail) (settings_in t.descriptors)
+marks_in t offset = map (λ (d : Descriptor). is_on (masks_from (length t.defaults) t.preset_masks offset) d.offset
+    d.detail) (settings_in t.descriptors)
 
 -- the entry with this offset and this detail
 abbrev pub kind_in : GroupContents → ℕ → Detail → EntryKind

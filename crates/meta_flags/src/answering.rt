@@ -53,7 +53,8 @@ fn push_served(
     flags: &mut Flags<'_>,
     request: Request<'_>,
 ) -> Result<(), AllocError>
-    ensures served { OnOk result ((text : List ℕ) × IsServed (served_in flags.old.group) (request_of request.entry) flags.old.state flags.new.state text × (string_bytes out.new ≡ string_bytes out.old ++ text)) }
+    ensures served { OnOk result ((text : List ℕ) × IsServed (served_in flags.old.group)
+        (request_of request.entry) flags.old.state flags.new.state text × (string_bytes out.new ≡ string_bytes out.old ++ text)) }
     ensures group { flags.new.group ≡ flags.old.group }
 {
     match request {
@@ -82,7 +83,8 @@ fn push_answer(
     flags: &mut Option<Flags<'_>>,
     line: &[u8],
 ) -> Result<(), AllocError>
-    ensures answered { OnOk result ((text : List ℕ) × IsAnswered (served_by flags.old) line.now (state_of flags.old) (state_of flags.new) text × (string_bytes out.new ≡ string_bytes out.old ++ text)) }
+    ensures answered { OnOk result ((text : List ℕ) × IsAnswered (served_by flags.old) line.now (state_of flags.old)
+        (state_of flags.new) text × (string_bytes out.new ≡ string_bytes out.old ++ text)) }
     ensures served { served_by flags.new ≡ served_by flags.old }
 {
     if line.is_empty() {

@@ -2,7 +2,7 @@ ghost use Rattle.std.specs.Prelude.{◌≡◌, ◌++◌, IfOk, OnOk, string_byte
 ghost use Rattle.meta_setting_tables.specs.declared.descriptor.Descriptor.{Descriptor};
 ghost use Rattle.meta_setting_tables.specs.GroupTables.{IsPresetIn};
 ghost use Rattle.meta_flags.specs.Served.{served_in, initial, marks_in};
-ghost use Rattle.meta_flags.specs.Changes.{Sets, Enables, Gets, turned_on};
+ghost use Rattle.meta_flags.specs.Changes.{Sets, Enables, Gets, with_marked_true};
 ghost use Rattle.meta_flags.specs.Held.{got};
 ghost use Rattle.meta_flags.specs.Toml.{toml_text};
 
@@ -105,7 +105,8 @@ impl<'t> Flags<'t> {
 
     /// Makes each boolean true that the preset with this number among the entries turns on.
     fn turn_on_by(&mut self, preset: u16)
-        ensures on { (d : Descriptor) → IsPresetIn self.old.group.descriptors preset d → self.new.state ≡ turned_on (marks_in self.old.group d.offset) self.old.state }
+        ensures on { (d : Descriptor) → IsPresetIn self.old.group.descriptors preset d
+            → self.new.state ≡ with_marked_true (marks_in self.old.group d.offset) self.old.state }
         ensures group { self.new.group ≡ self.old.group }
     {
         let Some(masks) = self.group.masks_of(preset) else {

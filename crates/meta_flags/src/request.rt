@@ -1,7 +1,7 @@
 ghost use Rattle.std.specs.Prelude.{◌≡◌, ◌≢◌, ◌<◌, ◌∷◌, ◌++◌, length, All, IfSome, IfNone};
 ghost use Rattle.meta_flags.specs.Request.{request_of, request_words, Requests, command_word};
 ghost use Rattle.meta_flags.specs.Request as spec;
-ghost use Rattle.meta_flags.specs.declared.request.Command as declared;
+ghost use Rattle.meta_flags.specs.declared.request.RequestWord as declared;
 
 use meta_words::Pieces;
 
@@ -20,7 +20,7 @@ pub(crate) enum Request<'l> {
 
 /// The first word of a line that asks.
 #[derive(Clone, Copy)]
-enum Command {
+enum RequestWord {
     Set,
     Enable,
     Get,
@@ -28,46 +28,47 @@ enum Command {
 }
 
 /// The command that the word is.
-fn command_of(word: &[u8]) -> Option<Command>
+fn command_of(word: &[u8]) -> Option<RequestWord>
     ensures some { IfSome result (λ c. word.now ≡ command_word c) }
-    ensures none { IfNone result ((c : declared.Command) → word.now ≢ command_word c) }
+    ensures none { IfNone result ((c : declared.RequestWord) → word.now ≢ command_word c) }
 {
     if word == b"set".as_slice() {
-        return Some(Command::Set);
+        return Some(RequestWord::Set);
     }
     if word == b"enable".as_slice() {
-        return Some(Command::Enable);
+        return Some(RequestWord::Enable);
     }
     if word == b"get".as_slice() {
-        return Some(Command::Get);
+        return Some(RequestWord::Get);
     }
     if word == b"toml".as_slice() {
-        return Some(Command::Toml);
+        return Some(RequestWord::Toml);
     }
     None
 }
 
 /// What a command asks with the words behind it, which are taken.
-fn request_in<'l>(command: Command, words: &mut Pieces<'l>) -> Option<Request<'l>>
+fn request_in<'l>(command: RequestWord, words: &mut Pieces<'l>) -> Option<Request<'l>>
     ensures taken { IfSome result (λ r. command_word command ∷ words.old ≡ request_words (request_of r) ++ words.new) }
     ensures some { IfSome result (λ r. All (λ word. 0 < length word) (request_words (request_of r))) }
-    ensures none { IfNone result ((r : spec.Request) → All (λ word. 0 < length word) (request_words r) → command_word command ∷ words.old ≢ request_words r) }
+    ensures none { IfNone result ((r : spec.Request) → All (λ word. 0 < length word) (request_words r)
+        → command_word command ∷ words.old ≢ request_words r) }
 {
     match command {
-        Command::Set => {
+        RequestWord::Set => {
             let name = words.word()?;
             let value = words.word()?;
             Some(Request::Set { name, value })
         }
-        Command::Enable => {
+        RequestWord::Enable => {
             let name = words.word()?;
             Some(Request::Enable(name))
         }
-        Command::Get => {
+        RequestWord::Get => {
             let name = words.word()?;
             Some(Request::Get(name))
         }
-        Command::Toml => Some(Request::Toml),
+        RequestWord::Toml => Some(Request::Toml),
     }
 }
 

@@ -1,9 +1,10 @@
-ghost use Rattle.std.specs.Prelude.{◌≡◌, ◌≢◌, ◌≤◌, ◌⊎◌, []};
+ghost use Rattle.std.specs.Prelude.{◌≡◌, ◌≢◌, ◌≤◌, true, false, []};
 ghost use Rattle.meta_text.specs.Outside.{Rose, longest_input, GaveMore, GaveAtMost};
 ghost use Rattle.meta_declared.specs.AllDeclared.{AreValid};
-ghost use Rattle.meta_run.specs.Run.{IsRefusedWhole, IsRefusedInPart, NeverRises};
-ghost use Rattle.meta_run.specs.Status.{WritesNothing};
-ghost use Rattle.meta_flags.specs.FlagsRun.{IsServedWhole, IsServedInPart, IsRun, ServesLines, RefusesDeclarations, Completes};
+ghost use Rattle.meta_run.specs.Ending.{WritesNothing, ending_of};
+ghost use Rattle.meta_run.specs.Run.{never_rejecting, IsWordlessRun, IsAnsweredWhole, IsRefusedWhole, IsCutShort, NeverRises, WritesOutput};
+ghost use Rattle.meta_run.specs.Run.{RefusesDeclarations, Completes};
+ghost use Rattle.meta_flags.specs.FlagsOutput.{IsFlagsOutput};
 
 use super::answering::answers;
 use super::held::Flags;
@@ -20,11 +21,12 @@ struct Service;
 
 impl Answerer for Service {
     ghost use Rattle.std.specs.Prelude.{true};
-    ghost use Rattle.meta_flags.specs.FlagsOutput.{flags_texts};
+    ghost use Rattle.meta_run.specs.Run.{never_rejecting};
+    ghost use Rattle.meta_flags.specs.FlagsOutput.{IsFlagsOutput};
 
     ghost reads = { λ _. true };
 
-    ghost texts = { λ _. flags_texts };
+    ghost texts = { λ _. never_rejecting IsFlagsOutput };
 
     /// There is always an input.
     fn has_input(&self) -> bool {
@@ -51,7 +53,8 @@ fn run_words<S: Source, K: Sink>(
     source: &mut S,
     sink: &mut K,
 ) -> Ending
-    ensures { IsRun S.left S.faults K.taken K.faults declarations.now source.old source.new sink.old sink.new words.now result }
+    ensures { IsWordlessRun S.left S.faults K.taken K.faults declarations.now source.old source.new sink.old sink.new
+        words.now (never_rejecting IsFlagsOutput) result }
 {
     if !words.is_empty() {
         return Ending::Usage;
@@ -81,25 +84,31 @@ pub fn flags<S: Source, K: Sink>(
     sink: &mut K,
 ) -> Status
     // The lines get their answers over valid declarations, and others are refused.
-    ensures headline { ServesLines declarations.now words.now (S.left source.old) (S.faults source.old) (S.faults source.new) (K.taken sink.old) (K.taken sink.new) (K.faults sink.old) (K.faults sink.new) result }
-    ensures refuses { RefusesDeclarations declarations.now words.now (K.taken sink.old) (K.taken sink.new) (K.faults sink.old) (K.faults sink.new) result }
-    ensures complete { Completes declarations.now words.now (S.left source.old) (S.left source.new) (S.faults source.old) (S.faults source.new) (K.faults sink.old) (K.faults sink.new) result }
+    ensures headline { words.now ≡ [] → WritesOutput S.left S.faults K.taken K.faults declarations.now source.old
+        source.new sink.old sink.new true IsFlagsOutput (ending_of result) }
+    ensures refuses { words.now ≡ [] → RefusesDeclarations S.left S.faults K.taken K.faults declarations.now
+        source.old source.new sink.old sink.new (ending_of result) }
+    ensures complete { words.now ≡ [] → Completes S.left S.faults K.taken K.faults declarations.now source.old
+        source.new sink.old sink.new true (ending_of result) }
 
     // It is a usage error exactly where there are words, and then nothing was read or written.
     ensures usage { result ≡ Status.Usage → words.now ≢ [] }
     ensures some_words { words.now ≢ [] → result ≡ Status.Usage }
 
-    ensures done { result ≡ Status.Done → IsServedWhole S.left S.faults K.taken K.faults declarations.now source.old source.new sink.old sink.new }
+    ensures done { result ≡ Status.Done
+        → IsAnsweredWhole S.left S.faults K.taken K.faults declarations.now source.old source.new sink.old sink.new
+        true (never_rejecting IsFlagsOutput) false }
     ensures refused { result ≡ Status.Refused → IsRefusedWhole declarations.now (K.taken sink.old) (K.taken sink.new) }
     ensures read_fault { result ≡ Status.ReadFault → AreValid declarations.now × Rose (S.faults source.old) (S.faults source.new) }
     ensures write_fault { result ≡ Status.WriteFault → Rose (K.faults sink.old) (K.faults sink.new) }
     ensures written_in_part { result ≡ Status.WriteFault
-        → IsRefusedInPart declarations.now (K.taken sink.old) (K.taken sink.new)
-        ⊎ IsServedInPart S.left S.faults K.taken K.faults declarations.now source.old source.new sink.old sink.new }
-    ensures too_long { result ≡ Status.TooLong → AreValid declarations.now × GaveMore longest_input (S.left source.old) (S.left source.new) }
+        → IsCutShort S.left S.faults K.taken K.faults declarations.now source.old source.new sink.old sink.new true
+        (never_rejecting IsFlagsOutput) }
+    ensures too_long { result ≡ Status.TooLong → AreValid declarations.now
+        × GaveMore longest_input (S.left source.old) (S.left source.new) }
     ensures else_within { result ≢ Status.TooLong → GaveAtMost longest_input (S.left source.old) (S.left source.new) }
 
-    ensures untouched { WritesNothing result → sink.new ≡ sink.old }
+    ensures untouched { WritesNothing (ending_of result) → sink.new ≡ sink.old }
     ensures usage_unread { result ≡ Status.Usage → source.new ≡ source.old }
     ensures refused_unread { result ≡ Status.Refused → source.new ≡ source.old }
     ensures read_counted { S.faults source.old ≤ S.faults source.new }

@@ -46,7 +46,8 @@ impl<'t> Flags<'t> {
     /// front of the text.
     pub fn write_toml<K: Sink>(&self, alloc: Global, sink: &mut K) -> Result<(), WriteError>
         ensures ok { OnOk result (K.taken sink.new ≡ with_more (K.taken sink.old) (toml_text (served_in self.now.group) self.now.state)) }
-        ensures in_part { IsErrOf result WriteError.WriteFault → TookPart (toml_text (served_in self.now.group) self.now.state) (K.taken sink.old) (K.taken sink.new) }
+        ensures in_part { IsErrOf result WriteError.WriteFault
+            → TookPart (toml_text (served_in self.now.group) self.now.state) (K.taken sink.old) (K.taken sink.new) }
         ensures memory { IsErrOf result WriteError.OutOfMemory → sink.new ≡ sink.old }
         ensures fault { IsErrOf result WriteError.WriteFault → Rose (K.faults sink.old) (K.faults sink.new) }
         ensures counted { K.faults sink.old ≤ K.faults sink.new }

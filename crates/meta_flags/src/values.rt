@@ -3,7 +3,7 @@ ghost use Rattle.std.specs.Option.{option_map_or};
 ghost use Rattle.meta_setting_tables.specs.EntryValues.{is_on};
 ghost use Rattle.meta_setting_tables.specs.WellFormed.{IsWellFormedGroup};
 ghost use Rattle.meta_flags.specs.Served.{SettingValue, BoolValue, BoolKind, default_of, kind_in};
-ghost use Rattle.meta_flags.specs.Changes.{IsText, turned_on};
+ghost use Rattle.meta_flags.specs.Changes.{IsText, with_marked_true};
 ghost use Rattle.meta_flags.specs.Held.{value_of};
 
 use super::flag_value::FlagValue;
@@ -93,7 +93,8 @@ pub(crate) fn value_in<'t>(
 /// Makes those of the values true whose entries are booleans that are on in the setting bytes.
 pub(crate) fn turn_on(values: &mut [FlagValue<'_>], entries: &[Descriptor], bytes: &[u8])
     requires { length values.old ≡ length entries.now }
-    ensures { map value_of values.new ≡ turned_on (map (λ d. is_on bytes.now d.offset d.detail) entries.now) (map value_of values.old) }
+    ensures { map value_of values.new ≡ with_marked_true (map (λ d. is_on bytes.now d.offset d.detail) entries.now)
+        (map value_of values.old) }
 {
     for k in 0..values.len() {
         if entries[k].is_on(bytes) {

@@ -14,9 +14,11 @@ use Rattle.meta_setting_tables.proofs.BuiltNames.{built_names}
 
 -- the answer is the number of the one entry with the name, in each group that has the tables and whose names are apart
 abbrev pub FindsIn : List ℕ → Option ℕ → GroupContents → Type 0
-FindsIn name answer t = (g : Layout) → AreTablesOfGroup g t → AreDifferentNames (entry_names g) → (e : ℕ) → ((answer ≡ Some e) ↔ (slice_get (entry_names g) e ≡ Some name))
+FindsIn name answer t = (g : Layout) → AreTablesOfGroup g t → AreDifferentNames (entry_names g) → (e : ℕ)
+    → ((answer ≡ Some e) ↔ (slice_get (entry_names g) e ≡ Some name))
 
-pub finds_declared_setting : (d : Declared) (t : WholeTables) (group : ℕ) (name : List ℕ) (answer : Option ℕ) → OfGroup t group (FindsIn name answer) → (HasNoGroup t group → answer ≡ None) → AreWholeTablesOf d t → FindsSetting d group name answer
+pub finds_declared_setting : (d : Declared) (t : WholeTables) (group : ℕ) (name : List ℕ) (answer : Option ℕ)
+    → OfGroup t group (FindsIn name answer) → (HasNoGroup t group → answer ≡ None) → AreWholeTablesOf d t → FindsSetting d group name answer
 finds_declared_setting d t group name answer here absent h = record {
   entry = λ g at.
       let inside = slice_get_within d.groups group g at in

@@ -1,14 +1,15 @@
 -- The tables of groups from their parts, one after another.
-use Rattle.std.proofs.Common.{◌≡◌, ◌<◌, ◌+◌, ⊎_elim, ℕ, List, [], ◌∷◌, ◌++◌, All, length, get_or, slice_get, Some, refl, sym, ap, ◌∙◌, subst, length-append, arith}
+use Rattle.std.proofs.Common.{◌≡◌, ◌<◌, ◌+◌, ⊎_elim, ℕ, List, [], ◌∷◌, ◌++◌, All, length, get_or, slice_get, Some, refl, sym, ap, ◌∙◌}
+use Rattle.std.proofs.Common.{subst, length-append, arith}
 use Rattle.std.proofs.lemmas.List.Elements.{All-nil, All-push, All-same}
 use Rattle.std.proofs.lemmas.Option.{same_Some, slice_get_read}
+use Rattle.meta_lists.proofs.Everywhere.{at_place}
 use Rattle.meta_lists.proofs.Places.{get_beside}
 use Rattle.meta_lists.proofs.Pushed.{get_before, get_pushed_below, last, one_longer}
 use Rattle.meta_setting_tables.specs.declared.parts.GroupParts.{GroupParts}
 use Rattle.meta_setting_tables.specs.GroupTables.{GroupContents}
 use Rattle.meta_setting_tables.specs.WellFormed.{IsWellFormedGroup}
-use Rattle.meta_setting_tables.specs.Parts.{HasParts as GroupHasParts}
-use Rattle.meta_opcode_tables.proofs.ValidNames.{at_place}
+use Rattle.meta_setting_tables.specs.Parts.{HasGroupParts}
 use Rattle.meta_gen.specs.Parts.{HaveGroupParts}
 
 -- the tables are made of these parts, and well-formed
@@ -20,22 +21,26 @@ pub none_made : MadeOf [] []
 none_made = record { have = record { count = refl; each = λ k p g at at_g. absurd (cc) }; well_formed = All-nil IsWellFormedGroup }
 
 -- one more group
-pub one_made : (front : List GroupParts) (p : GroupParts) (old new : List GroupContents) (g : GroupContents) → new ≡ old ++ g ∷ [] → GroupHasParts p g → IsWellFormedGroup g → MadeOf front old → MadeOf (front ++ p ∷ []) new
+pub one_made : (front : List GroupParts) (p : GroupParts) (old new : List GroupContents) (g : GroupContents) → new ≡ old ++ g ∷ []
+    → HasGroupParts p g → IsWellFormedGroup g → MadeOf front old → MadeOf (front ++ p ∷ []) new
 one_made front p old new g pushed has good h = record {
   have = record {
     count = one_longer old new g pushed ∙ ap (λ n. n + 1) h.have.count ∙ sym (length-append front (p ∷ []));
     each = λ k q t at there. ⊎_elim
-        (λ before. h.have.each k q t before.1 (sym (get_before old g k (omega (arith, before.0, h.have.count))) ∙ (ap (λ xs. slice_get xs k) (sym pushed) ∙ there)))
+        (λ before. h.have.each k q t before.1 (sym (get_before old g k (omega (arith, before.0, h.have.count)))
+        ∙ (ap (λ xs. slice_get xs k) (sym pushed) ∙ there)))
         (λ here.
         let same : g ≡ t = same_Some g t (sym (last old new g pushed k (here.0 ∙ sym h.have.count)) ∙ there) in
-        subst (GroupHasParts q) same (subst (λ (x : GroupParts). GroupHasParts x g) here.1 has))
+        subst (HasGroupParts q) same (subst (λ (x : GroupParts). HasGroupParts x g) here.1 has))
         (get_pushed_below front p k q at);
   };
   well_formed = All-same IsWellFormedGroup new (old ++ g ∷ []) pushed (All-push IsWellFormedGroup old g h.well_formed good);
 }
 
 -- where no well-formed tables have one group's parts, none have all
-pub refused : (parts : List GroupParts) (k : ℕ) (p : GroupParts) → (k < length parts) × (p ≡ get_or parts k p) → ((t : GroupContents) → IsWellFormedGroup t → GroupHasParts p t → ⊥) → (groups : List GroupContents) → All IsWellFormedGroup groups → HaveGroupParts parts groups → ⊥
+pub refused : (parts : List GroupParts) (k : ℕ) (p : GroupParts) → (k < length parts) × (p ≡ get_or parts k p)
+    → ((t : GroupContents) → IsWellFormedGroup t → HasGroupParts p t → ⊥) → (groups : List GroupContents) → All IsWellFormedGroup groups
+    → HaveGroupParts parts groups → ⊥
 refused parts k p (below, is) none groups good have =
     let at : slice_get parts k ≡ Some p = slice_get_read parts (length parts) k p refl below is in
     let (g, at_g) = get_beside parts groups k p (sym have.count) at in

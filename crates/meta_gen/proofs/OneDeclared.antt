@@ -21,7 +21,8 @@ abbrev OneOfGroup : Type 0
 OneOfGroup = (g : Layout) (one other : GroupContents) → AreTablesOfGroup g one → AreTablesOfGroup g other → one ≡ other
 
 -- so have groups
-one_groups : OneOfGroup → (groups : List GroupDeclaration) (one other : List GroupContents) → AreTablesOfGroups groups one → AreTablesOfGroups groups other → one ≡ other
+one_groups : OneOfGroup → (groups : List GroupDeclaration) (one other : List GroupContents) → AreTablesOfGroups groups one
+    → AreTablesOfGroups groups other → one ≡ other
 one_groups law groups one other a b =
     same_places one other (a.count ∙ sym b.count) (λ k l.
     let (s, at_s) = get_there one k l in
@@ -30,6 +31,8 @@ one_groups law groups one other a b =
     at_s ∙ ap Some (law (built_of g) s t (a.each k g s at_g at_s) (b.each k g t at_g at_t)) ∙ sym at_t)
 
 -- and declarations
-pub one_declared : OneOfSet → OneOfGroup → (d : Declared) (one other : WholeTables) → HoldTypeSets d.set.vars → AreWholeTablesOf d one → AreWholeTablesOf d other → one ≡ other
+pub one_declared : OneOfSet → OneOfGroup → (d : Declared) (one other : WholeTables) → HoldTypeSets d.set.vars → AreWholeTablesOf d one
+    → AreWholeTablesOf d other → one ≡ other
 one_declared set_law group_law d one other typed a b =
-    same_whole one other (set_law d.set one.opcodes other.opcodes typed a.opcodes b.opcodes) (one_groups group_law d.groups one.groups other.groups a.groups b.groups)
+    same_whole one other (set_law d.set one.opcodes other.opcodes typed a.opcodes b.opcodes)
+    (one_groups group_law d.groups one.groups other.groups a.groups b.groups)

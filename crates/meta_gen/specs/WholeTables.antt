@@ -31,7 +31,8 @@ part_in t group part = option_map part (slice_get t.groups group)
 pub record AreTablesOfGroups (groups : List GroupDeclaration) (tables : List GroupContents) : Type 0 where
   pub valid : AreValidGroups groups
   pub count : length tables ≡ length groups
-  pub each : (k : ℕ) (g : GroupDeclaration) (t : GroupContents) → slice_get groups k ≡ Some g → slice_get tables k ≡ Some t → AreTablesOfGroup (built_of g) t
+  pub each : (k : ℕ) (g : GroupDeclaration) (t : GroupContents) → slice_get groups k ≡ Some g → slice_get tables k ≡ Some t
+      → AreTablesOfGroup (built_of g) t
 
 -- the tables are those of the declarations: of their instruction set, and of each of their groups
 pub record AreWholeTablesOf (d : Declared) (t : WholeTables) : Type 0 where
@@ -41,5 +42,6 @@ pub record AreWholeTablesOf (d : Declared) (t : WholeTables) : Type 0 where
 -- the answer is the number of the one entry of the group that has the name, and none exactly where the group has no such entry or
 -- there is no such group
 pub record FindsSetting (d : Declared) (group : ℕ) (name : List ℕ) (answer : Option ℕ) : Type 0 where
-  pub entry : (g : GroupDeclaration) → slice_get d.groups group ≡ Some g → (e : ℕ) → ((answer ≡ Some e) ↔ (slice_get (entry_names (built_of g)) e ≡ Some name))
+  pub entry : (g : GroupDeclaration) → slice_get d.groups group ≡ Some g → (e : ℕ)
+      → ((answer ≡ Some e) ↔ (slice_get (entry_names (built_of g)) e ≡ Some name))
   pub no_group : slice_get d.groups group ≡ None → answer ≡ None

@@ -24,7 +24,8 @@ use std::alloc::{AllocError, Global};
 fn group_tables(alloc: Global, groups: &[SettingGroup]) -> Result<Vec<GroupTables>, AllocError>
     requires { (k : ℕ) (g : Layout) → slice_get groups.now k ≡ Some g → IsBuiltLayout g }
     ensures count { IfOk result (λ v. length v.items ≡ length groups.now) }
-    ensures tables { IfOk result (λ v. (k : ℕ) (g : Layout) (t : GroupContents) → slice_get groups.now k ≡ Some g → slice_get v.items k ≡ Some t → AreTablesOfGroup g t) }
+    ensures tables { IfOk result (λ v. (k : ℕ) (g : Layout) (t : GroupContents) → slice_get groups.now k ≡ Some g
+        → slice_get v.items k ≡ Some t → AreTablesOfGroup g t) }
     ensures well_formed { IfOk result (λ v. All IsWellFormedGroup v.items) }
 {
     let mut tables = Vec::with_capacity(alloc, groups.len())?;
@@ -43,8 +44,10 @@ fn group_tables(alloc: Global, groups: &[SettingGroup]) -> Result<Vec<GroupTable
 pub fn tables_of(alloc: Global, built: &Built<'_>) -> Result<Tables, AllocError>
     ensures tables { IfOk result (λ t. AreWholeTablesOf built.now.declared t) }
     ensures well_formed { IfOk result IsWellFormed }
-    ensures acceptance { IfOk result (λ t. (op : ℕ) (c e : Option ℕ) (rs vs : List ℕ) → (Allows t.opcodes op c e rs vs ↔ AcceptsOpcode built.now.declared.set op c e rs vs)) }
-    ensures inference { IfOk result (λ t. (op : ℕ) (c e : Option ℕ) (numbers : List ℕ) → (GivesResults t.opcodes op c e numbers ↔ InfersOpcode built.now.declared.set op c e numbers)) }
+    ensures acceptance { IfOk result (λ t. (op : ℕ) (c e : Option ℕ) (rs vs : List ℕ)
+        → (Allows t.opcodes op c e rs vs ↔ AcceptsOpcode built.now.declared.set op c e rs vs)) }
+    ensures inference { IfOk result (λ t. (op : ℕ) (c e : Option ℕ) (numbers : List ℕ)
+        → (GivesResults t.opcodes op c e numbers ↔ InfersOpcode built.now.declared.set op c e numbers)) }
 {
     built_groups_have_tables();
     let _declarations = built.declarations();
@@ -60,8 +63,10 @@ pub fn generate(alloc: Global, declarations: &Declarations) -> Result<Tables, De
     ensures valid { OnOk result (AreValid declarations.now) }
     ensures tables { IfOk result (λ t. AreWholeTablesOf declarations.now t) }
     ensures well_formed { IfOk result IsWellFormed }
-    ensures acceptance { IfOk result (λ t. (op : ℕ) (c e : Option ℕ) (rs vs : List ℕ) → (Allows t.opcodes op c e rs vs ↔ AcceptsOpcode declarations.now.set op c e rs vs)) }
-    ensures inference { IfOk result (λ t. (op : ℕ) (c e : Option ℕ) (numbers : List ℕ) → (GivesResults t.opcodes op c e numbers ↔ InfersOpcode declarations.now.set op c e numbers)) }
+    ensures acceptance { IfOk result (λ t. (op : ℕ) (c e : Option ℕ) (rs vs : List ℕ)
+        → (Allows t.opcodes op c e rs vs ↔ AcceptsOpcode declarations.now.set op c e rs vs)) }
+    ensures inference { IfOk result (λ t. (op : ℕ) (c e : Option ℕ) (numbers : List ℕ)
+        → (GivesResults t.opcodes op c e numbers ↔ InfersOpcode declarations.now.set op c e numbers)) }
 {
     let built = build_all(alloc, declarations)?;
     Ok(tables_of(alloc, &built)?)

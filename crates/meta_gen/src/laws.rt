@@ -9,7 +9,8 @@ use meta_setting_tables::one_table_of_a_group;
 /// Declarations have one value of tables: two that are those of the same declarations are the same in all their parts. The variables
 /// have sets of types, as those of `Declarations` always do.
 pub fn one_table_of_declarations()
-    ensures { (d : Declared) (one other : WholeTables) → HoldTypeSets d.set.vars → AreWholeTablesOf d one → AreWholeTablesOf d other → one ≡ other }
+    ensures { (d : Declared) (one other : WholeTables) → HoldTypeSets d.set.vars → AreWholeTablesOf d one
+        → AreWholeTablesOf d other → one ≡ other }
 {
     one_table_of_an_instruction_set();
     one_table_of_a_group();

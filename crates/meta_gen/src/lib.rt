@@ -16,8 +16,9 @@ pub use laws::one_table_of_declarations;
 pub use meta_declared::{Built, Declarations, build_all, one_first_fault};
 pub use meta_opcode_tables::{
     Constraint, Demand, MAX_CONSTRAINTS, MAX_OPCODES, MAX_TYPE_SETS, NO_TYPE_SET,
-    OpcodeConstraints, OpcodeTables, Which, designated_values_have_the_controlling_type,
-    equal_constraints, tables_mean_the_declarations, tables_of_valid_declarations_are_well_formed,
+    OpcodeConstraints, OpcodeTables, Which, constraints_from,
+    designated_values_have_the_controlling_type, equal_constraints, tables_mean_the_declarations,
+    tables_of_valid_declarations_are_well_formed,
 };
 pub use meta_setting_tables::{
     Descriptor, Detail, GroupParts, GroupTables, built_groups_have_tables,

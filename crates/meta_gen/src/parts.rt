@@ -39,7 +39,8 @@ fn groups_from_parts(
 ) -> Result<Option<Vec<GroupTables>>, AllocError>
     ensures some { IfOk result (λ o. IfSome o (λ v. HaveGroupParts parts.items v.items)) }
     ensures well_formed { IfOk result (λ o. IfSome o (λ v. All IsWellFormedGroup v.items)) }
-    ensures none { IfOk result (λ o. IfNone o ((groups : List GroupContents) → All IsWellFormedGroup groups → ¬ HaveGroupParts parts.items groups)) }
+    ensures none { IfOk result (λ o. IfNone o ((groups : List GroupContents) → All IsWellFormedGroup groups
+        → ¬ HaveGroupParts parts.items groups)) }
 {
     let mut groups = Vec::with_capacity(alloc, parts.len())?;
     for part in parts {
@@ -77,7 +78,8 @@ pub fn tables_from_parts(alloc: Global, parts: TableParts) -> Result<Option<Tabl
 
 /// Slots follow from names, so that parts have one well-formed table at most.
 pub fn one_table_has_all_parts()
-    ensures { (parts : TableParts) (one other : WholeTables) → IsWellFormed one → IsWellFormed other → HasParts parts one → HasParts parts other → one ≡ other }
+    ensures { (parts : TableParts) (one other : WholeTables) → IsWellFormed one → IsWellFormed other
+        → HasParts parts one → HasParts parts other → one ≡ other }
 {
     one_table_has_the_parts();
     one_group_has_the_parts();

@@ -1,4 +1,5 @@
-ghost use Rattle.std.specs.Prelude.{◌≡◌, ◌≢◌, ◌↔◌, ◌≤◌, ◌+◌, ◌<◌, ℕ, List, Option, All, IsTrue, IsSome, IfSome, IfNone, length, map, take, drop, slice_get, slice_index_or, None, Some, false};
+ghost use Rattle.std.specs.Prelude.{◌≡◌, ◌≢◌, ◌↔◌, ◌≤◌, ◌+◌, ◌<◌, ℕ, List, Option, All, IsTrue, IsSome, IfSome, IfNone, length, map, take};
+ghost use Rattle.std.specs.Prelude.{drop, slice_get, slice_index_or, None, Some, false};
 ghost use Rattle.std.specs.Option.{option_map};
 ghost use Rattle.meta_lists.specs.First.{IsFirst};
 ghost use Rattle.meta_typevar.specs.Registry.{HoldTypeSets};
@@ -14,7 +15,7 @@ ghost use Rattle.meta_opcode_tables.specs.Inferred.{InfersControl, InfersOpcode,
 ghost use Rattle.meta_setting_tables.specs.declared.descriptor.Descriptor.{Descriptor};
 ghost use Rattle.meta_setting_tables.specs.Descriptor.{DescribesEntry};
 ghost use Rattle.meta_unique.specs.NameSlots.{AreNameSlots, IsNameLookup};
-ghost use Rattle.meta_setting_tables.specs.FoundSetting.{entry_count, FindsEntry};
+ghost use Rattle.meta_setting_tables.specs.FoundSetting.{laid_entry_count, FindsEntry};
 ghost use Rattle.meta_setting_tables.specs.PresetMasks.{AreJoined};
 ghost use Rattle.meta_setting_tables.specs.GroupTables.{names_in, IsPresetIn, AreTablesOfGroup, default_in, AnswersDefault, Applies};
 ghost use Rattle.meta_declared.specs.AllDeclared.{Declared};
@@ -112,7 +113,8 @@ impl Tables {
     pub fn constraints(&self, opcode: u16) -> Option<OpcodeConstraints>
         ensures opcode { IsSome result ↔ IsOpcode self.now.opcodes opcode }
         ensures entry { IfSome result (λ e. at_opcode self.now.opcodes.entries opcode ≡ Some (entry_of e)) }
-        ensures meaning { (d : InstructionSet) → AreTablesOf d self.now.opcodes → IfSome result (λ e. IsDeclaredAs d self.now.opcodes opcode (entry_of e)) }
+        ensures meaning { (d : InstructionSet) → AreTablesOf d self.now.opcodes
+            → IfSome result (λ e. IsDeclaredAs d self.now.opcodes opcode (entry_of e)) }
     {
         self.opcodes.constraints(opcode)
     }
@@ -161,7 +163,8 @@ impl Tables {
         ensures finds { (op : ℕ) → at_opcode self.now.opcodes.names op ≡ Some name.now → result ≡ Some op }
         ensures none { IfNone result ((k : ℕ) → at_opcode self.now.opcodes.names k ≢ Some name.now) }
         ensures findings { (d : InstructionSet) → AreTablesOf d self.now.opcodes → FindsName d name.now result }
-        ensures steps { (last : ℕ) × IsNameLookup 1 self.now.opcodes.names self.now.opcodes.opcode_slots name.now result last × (steps.new ≡ steps.old + (last + 1)) }
+        ensures steps { (last : ℕ) × IsNameLookup 1 self.now.opcodes.names self.now.opcodes.opcode_slots name.now
+            result last × (steps.new ≡ steps.old + (last + 1)) }
         ensures most { steps.new ≤ steps.old + length self.now.opcodes.opcode_slots }
     {
         self.opcodes.find_opcode_counted(name, steps)
@@ -172,7 +175,8 @@ impl Tables {
     /// opcode that there isn't.
     pub fn accepts(&self, opcode: u16, ctrl: Option<u16>, results: &[u16], values: &[u16]) -> bool
         ensures decoding { IsTrue result ↔ Allows self.now.opcodes opcode ctrl None results.now values.now }
-        ensures meaning { (d : InstructionSet) → HoldTypeSets d.vars → AreTablesOf d self.now.opcodes → (IsTrue result ↔ AcceptsOpcode d opcode ctrl None results.now values.now) }
+        ensures meaning { (d : InstructionSet) → HoldTypeSets d.vars → AreTablesOf d self.now.opcodes
+            → (IsTrue result ↔ AcceptsOpcode d opcode ctrl None results.now values.now) }
     {
         self.opcodes.accepts(opcode, ctrl, results, values)
     }
@@ -187,7 +191,8 @@ impl Tables {
         values: &[u16],
     ) -> bool
         ensures decoding { IsTrue result ↔ Allows self.now.opcodes opcode ctrl second results.now values.now }
-        ensures meaning { (d : InstructionSet) → HoldTypeSets d.vars → AreTablesOf d self.now.opcodes → (IsTrue result ↔ AcceptsOpcode d opcode ctrl second results.now values.now) }
+        ensures meaning { (d : InstructionSet) → HoldTypeSets d.vars → AreTablesOf d self.now.opcodes
+            → (IsTrue result ↔ AcceptsOpcode d opcode ctrl second results.now values.now) }
     {
         self.opcodes.accepts2(opcode, ctrl, second, results, values)
     }
@@ -197,7 +202,9 @@ impl Tables {
     pub fn infer_control(&self, opcode: u16, value: u16) -> Option<u16>
         ensures value { IfSome result (λ n. n ≡ value) }
         ensures some { IsSome result ↔ InfersControl self.now.opcodes opcode value }
-        ensures meaning { (d : InstructionSet) → HoldTypeSets d.vars → AreTablesOf d self.now.opcodes → IfSome result (λ n. (c e : Option ℕ) (rs vs : List ℕ) → Allows self.now.opcodes opcode c e rs vs → HasControlType d opcode c vs) }
+        ensures meaning { (d : InstructionSet) → HoldTypeSets d.vars → AreTablesOf d self.now.opcodes
+            → IfSome result (λ n. (c e : Option ℕ) (rs vs : List ℕ) → Allows self.now.opcodes opcode c e rs vs
+            → HasControlType d opcode c vs) }
     {
         self.opcodes.infer_control(opcode, value)
     }
@@ -209,9 +216,12 @@ impl Tables {
         ensures rest { IfSome result (λ count. drop count out.new ≡ drop count out.old) }
         ensures none { IfNone result ((numbers : List ℕ) → ¬ GivesResults self.now.opcodes opcode ctrl None numbers) }
         ensures unchanged { IfNone result (out.new ≡ out.old) }
-        ensures meaning { (d : InstructionSet) → HoldTypeSets d.vars → AreTablesOf d self.now.opcodes → IfSome result (λ count. InfersOpcode d opcode ctrl None (take count out.new)) }
-        ensures refused { (d : InstructionSet) → HoldTypeSets d.vars → AreTablesOf d self.now.opcodes → IfNone result ((numbers : List ℕ) → ¬ InfersOpcode d opcode ctrl None numbers) }
-        ensures accepted { IfSome result (λ count. (rs vs : List ℕ) → Allows self.now.opcodes opcode ctrl None rs vs → (k m n : ℕ) → slice_get (take count out.new) k ≡ Some n → n ≢ 0 → slice_get rs k ≡ Some m → m ≡ n) }
+        ensures meaning { (d : InstructionSet) → HoldTypeSets d.vars → AreTablesOf d self.now.opcodes
+            → IfSome result (λ count. InfersOpcode d opcode ctrl None (take count out.new)) }
+        ensures refused { (d : InstructionSet) → HoldTypeSets d.vars → AreTablesOf d self.now.opcodes
+            → IfNone result ((numbers : List ℕ) → ¬ InfersOpcode d opcode ctrl None numbers) }
+        ensures accepted { IfSome result (λ count. (rs vs : List ℕ) → Allows self.now.opcodes opcode ctrl None rs vs
+            → (k m n : ℕ) → slice_get (take count out.new) k ≡ Some n → n ≢ 0 → slice_get rs k ≡ Some m → m ≡ n) }
         ensures unaccepted { IfNone result ((rs vs : List ℕ) → ¬ Allows self.now.opcodes opcode ctrl None rs vs) }
     {
         self.opcodes.infer_results(opcode, ctrl, out)
@@ -232,9 +242,12 @@ impl Tables {
         ensures rest { IfSome result (λ count. drop count out.new ≡ drop count out.old) }
         ensures none { IfNone result ((numbers : List ℕ) → ¬ GivesResults self.now.opcodes opcode ctrl second numbers) }
         ensures unchanged { IfNone result (out.new ≡ out.old) }
-        ensures meaning { (d : InstructionSet) → HoldTypeSets d.vars → AreTablesOf d self.now.opcodes → IfSome result (λ count. InfersOpcode d opcode ctrl second (take count out.new)) }
-        ensures refused { (d : InstructionSet) → HoldTypeSets d.vars → AreTablesOf d self.now.opcodes → IfNone result ((numbers : List ℕ) → ¬ InfersOpcode d opcode ctrl second numbers) }
-        ensures accepted { IfSome result (λ count. (rs vs : List ℕ) → Allows self.now.opcodes opcode ctrl second rs vs → (k m n : ℕ) → slice_get (take count out.new) k ≡ Some n → n ≢ 0 → slice_get rs k ≡ Some m → m ≡ n) }
+        ensures meaning { (d : InstructionSet) → HoldTypeSets d.vars → AreTablesOf d self.now.opcodes
+            → IfSome result (λ count. InfersOpcode d opcode ctrl second (take count out.new)) }
+        ensures refused { (d : InstructionSet) → HoldTypeSets d.vars → AreTablesOf d self.now.opcodes
+            → IfNone result ((numbers : List ℕ) → ¬ InfersOpcode d opcode ctrl second numbers) }
+        ensures accepted { IfSome result (λ count. (rs vs : List ℕ) → Allows self.now.opcodes opcode ctrl second rs vs
+            → (k m n : ℕ) → slice_get (take count out.new) k ≡ Some n → n ≢ 0 → slice_get rs k ≡ Some m → m ≡ n) }
         ensures unaccepted { IfNone result ((rs vs : List ℕ) → ¬ Allows self.now.opcodes opcode ctrl second rs vs) }
     {
         self.opcodes.infer_results2(opcode, ctrl, second, out)
@@ -306,8 +319,9 @@ impl Tables {
     pub fn descriptor(&self, group: usize, index: u16) -> Option<&Descriptor>
         ensures entry { OfGroup self.now group (λ t. option_map (λ d. d.now) result ≡ slice_get t.descriptors index) }
         ensures no_group { HasNoGroup self.now group → result ≡ None }
-        ensures none { OfGroup self.now group (λ t. (g : Layout) → AreTablesOfGroup g t → (IsSome result ↔ (index < entry_count g))) }
-        ensures meaning { OfGroup self.now group (λ t. (g : Layout) → AreTablesOfGroup g t → IfSome result (λ d. DescribesEntry g t.enumerators index d.now)) }
+        ensures none { OfGroup self.now group (λ t. (g : Layout) → AreTablesOfGroup g t → (IsSome result ↔ (index < laid_entry_count g))) }
+        ensures meaning { OfGroup self.now group (λ t. (g : Layout) → AreTablesOfGroup g t
+            → IfSome result (λ d. DescribesEntry g t.enumerators index d.now)) }
     {
         let tables = self.group(group)?;
         tables.descriptor(index)
@@ -316,7 +330,8 @@ impl Tables {
     /// What the setting of a group with this number is by default: 0 or 1 for a boolean, 0 for an enum, which is its first
     /// value, and the number. It is `None` exactly for a preset and where there is no such group or entry.
     pub fn default_value(&self, group: usize, index: u16) -> Option<u8>
-        ensures entry { OfGroup self.now group (λ t. (d : Descriptor) → slice_get t.descriptors index ≡ Some d → result ≡ default_in (slice_index_or t.defaults d.offset 0) d.detail) }
+        ensures entry { OfGroup self.now group (λ t. (d : Descriptor) → slice_get t.descriptors index ≡ Some d
+            → result ≡ default_in (slice_index_or t.defaults d.offset 0) d.detail) }
         ensures absent { OfGroup self.now group (λ t. slice_get t.descriptors index ≡ None → result ≡ None) }
         ensures no_group { HasNoGroup self.now group → result ≡ None }
         ensures meaning { OfGroup self.now group (λ t. (g : Layout) → AreTablesOfGroup g t → AnswersDefault g index result) }
@@ -354,7 +369,9 @@ impl Tables {
         ensures found { OfGroup self.now group (λ t. FindsEntry (names_in t.descriptors) name.now result) }
         ensures no_group { HasNoGroup self.now group → (result ≡ None) × (steps.new ≡ steps.old) }
         ensures findings { (d : Declared) → AreWholeTablesOf d self.now → FindsSetting d group name.now result }
-        ensures counted { OfGroup self.now group (λ t. (last : ℕ) × IsNameLookup 0 (names_in t.descriptors) t.slots name.now result last × (steps.new ≡ steps.old + (last + 1))) }
+        ensures counted { OfGroup self.now group
+            (λ t. (last : ℕ) × IsNameLookup 0 (names_in t.descriptors) t.slots name.now result last
+            × (steps.new ≡ steps.old + (last + 1))) }
         ensures most { OfGroup self.now group (λ t. steps.new ≤ steps.old + length t.slots) }
     {
         let tables = self.group(group)?;
@@ -365,8 +382,10 @@ impl Tables {
     /// answers false and changes nothing exactly where that is no preset of the group, there is no such group, or there aren't
     /// `settings_size` bytes.
     pub fn apply_preset(&self, group: usize, preset: u16, bytes: &mut [u8]) -> bool
-        ensures answer { OfGroup self.now group (λ t. (IsTrue result ↔ (((d : Descriptor) × IsPresetIn t.descriptors preset d) × (length bytes.old ≡ length t.defaults)))) }
-        ensures joined { OfGroup self.now group (λ t. IsTrue result → (d : Descriptor) → IsPresetIn t.descriptors preset d → AreJoined bytes.old (take (length t.defaults) (drop d.offset t.preset_masks)) bytes.new) }
+        ensures answer { OfGroup self.now group
+            (λ t. (IsTrue result ↔ (((d : Descriptor) × IsPresetIn t.descriptors preset d) × (length bytes.old ≡ length t.defaults)))) }
+        ensures joined { OfGroup self.now group (λ t. IsTrue result → (d : Descriptor)
+            → IsPresetIn t.descriptors preset d → AreJoined bytes.old (take (length t.defaults) (drop d.offset t.preset_masks)) bytes.new) }
         ensures no_group { HasNoGroup self.now group → result ≡ false }
         ensures unchanged { result ≡ false → bytes.new ≡ bytes.old }
         ensures meaning { OfGroup self.now group (λ t. (g : Layout) → AreTablesOfGroup g t → Applies g preset bytes.old bytes.new result) }

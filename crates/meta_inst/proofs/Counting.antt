@@ -1,5 +1,7 @@
 -- How often a number stands in a list, and whether it stands at one place alone.
-use Rattle.std.proofs.Common.{◌≡◌, ◌<◌, ◌≤◌, ◌+◌, ◌-◌, ◌==◌, ◌⊎◌, inl, inr, ⊎_elim, ℕ, zero, suc, Bool, true, false, cond, IsTrue, ◌↔◌, List, [], ◌∷◌, length, get_or, take, drop, Option, None, Some, unwrap_or, slice_get, refl, sym, ap, ◌∙◌, arith, zero-add, add-zero}
+use Rattle.std.proofs.Common.{◌≡◌, ◌<◌, ◌≤◌, ◌+◌, ◌-◌, ◌==◌, ◌⊎◌, inl, inr, ⊎_elim, ℕ, zero, suc, Bool, true, false, cond, IsTrue, ◌↔◌}
+use Rattle.std.proofs.Common.{List, [], ◌∷◌, length, get_or, take, drop, Option, None, Some, unwrap_or, slice_get, refl, sym, ap, ◌∙◌}
+use Rattle.std.proofs.Common.{arith, zero-add, add-zero}
 use Rattle.std.specs.List.{count_by}
 use Rattle.std.proofs.lemmas.Bool.{eq-eqb, eqb-true, eqb-false}
 use Rattle.std.proofs.lemmas.Option.{same_Some}
@@ -48,7 +50,8 @@ only n (y ∷ ys) one zero zero a b = refl
 only n (y ∷ ys) one zero (suc j) a b = absurd (omega (arith, one, here n y ys (same_Some y n a), present n ys j b))
 only n (y ∷ ys) one (suc k) zero a b = absurd (omega (arith, one, here n y ys (same_Some y n b), present n ys k a))
 only n (y ∷ ys) one (suc k) (suc j) a b =
-    let rest : count n ys ≡ 1 = ⊎_elim (λ same. absurd (omega (arith, one, here n y ys same, present n ys k a))) (λ other. sym (elsewhere n y ys other) ∙ one) (same_or_not y n) in
+    let rest : count n ys ≡ 1 = ⊎_elim (λ same. absurd (omega (arith, one, here n y ys same, present n ys k a)))
+    (λ other. sym (elsewhere n y ys other) ∙ one) (same_or_not y n) in
     ap suc (only n ys rest k j a b)
 
 -- what stands nowhere doesn't count
@@ -64,7 +67,8 @@ once n (y ∷ ys) (suc k) a all =
     elsewhere n y ys (λ e. absurd (omega (arith, all zero (ap Some e)))) ∙ once n ys k a (λ j b. let e = all (suc j) b in omega arith)
 
 -- one more input is counted
-pub more_counted : (xs : List ℕ) (i x : ℕ) (old new : ℕ → Option ℕ) → i < length xs → x ≡ get_or xs i x → AreInputCounts (take i xs) old → ((q : ℕ) → new q ≡ cond (x == q) (Some (unwrap_or (old x) 0 + 1)) (old q)) → AreInputCounts (take (i + 1) xs) new
+pub more_counted : (xs : List ℕ) (i x : ℕ) (old new : ℕ → Option ℕ) → i < length xs → x ≡ get_or xs i x → AreInputCounts (take i xs) old
+    → ((q : ℕ) → new q ≡ cond (x == q) (Some (unwrap_or (old x) 0 + 1)) (old q)) → AreInputCounts (take (i + 1) xs) new
 more_counted xs i x old new l is are put n = told (x == n) refl
   where
     step : count n (take (i + 1) xs) ≡ count n (take i xs) + cond (x == n) 1 0
@@ -92,7 +96,8 @@ one_counted None e = absurd (cc)
 one_counted (Some c) e = ap Some e
 
 -- so what is counted of the inputs tells whether one of them stands alone
-pub alone_told : (xs : List ℕ) (from place n : ℕ) (counts : ℕ → Option ℕ) (r : Bool) → from ≤ place → slice_get xs place ≡ Some n → AreInputCounts (drop from xs) counts → (IsTrue r ↔ (counts n ≡ Some 1)) → (IsTrue r ↔ IsAlone xs from place)
+pub alone_told : (xs : List ℕ) (from place n : ℕ) (counts : ℕ → Option ℕ) (r : Bool) → from ≤ place → slice_get xs place ≡ Some n
+    → AreInputCounts (drop from xs) counts → (IsTrue r ↔ (counts n ≡ Some 1)) → (IsTrue r ↔ IsAlone xs from place)
 alone_told xs from place n counts r l at are told =
     let behind : (j m : ℕ) → from ≤ j → slice_get xs j ≡ Some m → slice_get (drop from xs) (j - from) ≡ Some m =
     λ j m l e. get_drop xs from (j - from) ∙ ap (slice_get xs) (omega (arith, l)) ∙ e in (
@@ -100,7 +105,8 @@ alone_told xs from place n counts r l at are told =
         is_input = l;
         alone = λ j m lj b a.
             let same : m ≡ n = same_Some m n (sym a ∙ at) in
-            let e = only n (drop from xs) (sym (are n) ∙ counted_one (counts n) (told.0 t)) (place - from) (j - from) (behind place n l at) (behind j n lj (b ∙ ap Some same)) in
+            let e = only n (drop from xs) (sym (are n) ∙ counted_one (counts n) (told.0 t)) (place - from) (j - from) (behind place n l at)
+            (behind j n lj (b ∙ ap Some same)) in
             omega (arith, e, l, lj);
       }),
       (λ h. told.1 (one_counted (counts n) (are n ∙ once n (drop from xs) (place - from) (behind place n l at)

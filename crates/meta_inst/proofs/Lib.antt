@@ -1,16 +1,18 @@
 pub mod OneType
 pub mod Meaning
 mod Underived
+pub mod ControlLemmas
 pub mod Derived
-pub mod Placing
+mod Placing
 pub mod Listed
-pub mod OperandsOf
+mod OperandsOf
 pub mod OneControl
-pub mod Searching
+mod Searching
 pub mod OneOwnFault
 mod OwnFaults
 mod KeptControl
 mod Matching
 mod Counting
-mod Writing
-mod OnlyMemory
+pub mod OnlyMemory
+-- valid declarations
+pub mod ValidControls

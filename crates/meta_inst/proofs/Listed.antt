@@ -18,8 +18,15 @@ module _ (vars : List TypeVarContent) (formats : List InstructionFormat) (b : Bu
   listed =
       let results = ap (map (variable_at vars)) (take-append_seam (variables_of (outputs_of b)) (variables_of (inputs_of b))) in
       let values = ap (map (variable_at vars)) (drop-append_seam (variables_of (outputs_of b)) (variables_of (inputs_of b))) in
-      λ i. record { results = results i; values = values i; designated = designated_in (slice_get formats b.format); begins_with_value = begins_with_value (outputs_of b); second = second_in vars b.second }
+      λ i. record {
+        results = results i;
+        values = values i;
+        designated = designated_in (slice_get formats b.format);
+        begins_with_value = begins_with_value (outputs_of b);
+        second = second_in vars b.second;
+      }
 
   -- and of the registry, if the instruction is
   pub listed_of : FitsBuilder vars formats b → AreOf vars (operand_list formats b).variables
-  listed_of fits k n at = ⊎_elim (λ e. fits.outputs k n e) (λ e. fits.inputs e.0 n e.2) (get_cases (variables_of (outputs_of b)) (variables_of (inputs_of b)) k n at)
+  listed_of fits k n at = ⊎_elim (λ e. fits.outputs k n e) (λ e. fits.inputs e.0 n e.2)
+      (get_cases (variables_of (outputs_of b)) (variables_of (inputs_of b)) k n at)

@@ -11,11 +11,13 @@ not_both sets i one p = p.several (one p.place p.variable p.operand)
 
 -- one variable is designated
 one_designated : (i : Instruction) (v w : Variable) → IsDesignated i v → IsDesignated i w → v ≡ w
-one_designated i v w a b = same_Some v w (sym a.is_value ∙ (ap (slice_get i.values) (same_Some a.place b.place (sym a.designates ∙ b.designates)) ∙ b.is_value))
+one_designated i v w a b =
+    same_Some v w (sym a.is_value ∙ (ap (slice_get i.values) (same_Some a.place b.place (sym a.designates ∙ b.designates)) ∙ b.is_value))
 
 -- two controls, by what chose them
 one_chosen : (sets : Sets) (i : Instruction) (v w : Variable) → MayControl sets i v → MayControl sets i w
-    → IsDesignated i v ⊎ (DesignatesNone sets i × IsFirstOutput i v) → IsDesignated i w ⊎ (DesignatesNone sets i × IsFirstOutput i w) → v ≡ w
+    → IsDesignated i v ⊎ (DesignatesNone sets i × IsFirstOutput i v) → IsDesignated i w ⊎ (DesignatesNone sets i × IsFirstOutput i w)
+    → v ≡ w
 one_chosen sets i v w may_v may_w (inl d) (inl e) = one_designated i v w d e
 one_chosen sets i v w may_v may_w (inl d) (inr (nothing, f)) = absurd (nothing v d may_v)
 one_chosen sets i v w may_v may_w (inr (nothing, f)) (inl e) = absurd (nothing w e may_w)
@@ -29,7 +31,8 @@ same_control sets i (Some v) None h k = absurd (not_both sets i k h.polymorphic)
 same_control sets i (Some v) (Some w) h k = ap Some (one_chosen sets i v w h.may k.may h.chosen k.chosen)
 
 -- what chose a control isn't missing
-chosen_not_missing : (sets : Sets) (i : Instruction) (v : Variable) → MayControl sets i v → HasNoControl sets i → IsDesignated i v ⊎ (DesignatesNone sets i × IsFirstOutput i v) → ⊥
+chosen_not_missing : (sets : Sets) (i : Instruction) (v : Variable) → MayControl sets i v → HasNoControl sets i
+    → IsDesignated i v ⊎ (DesignatesNone sets i × IsFirstOutput i v) → ⊥
 chosen_not_missing sets i v may missing (inl d) = missing.designated v d may
 chosen_not_missing sets i v may missing (inr (_, f)) = missing.first v f may
 

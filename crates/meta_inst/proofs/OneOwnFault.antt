@@ -15,7 +15,8 @@ use Rattle.meta_inst.specs.Instruction.{Instruction}
 use Rattle.meta_inst.specs.InstructionSet.{instruction_of_builder}
 use Rattle.meta_typevar.specs.Registry.{sets_of}
 use Rattle.meta_inst.specs.Control.{IsFirstBadDerivation, DerivesBadly}
-use Rattle.meta_inst.specs.InstructionFaults.{AreTooMany, Rule, NameRule, DuplicateRule, OutputRule, MismatchRule, ControlRule, SecondRule, DerivationRule, CountRule, MethodRule, rule_number, rule_key, Breaks, IsFirstOwnFault}
+use Rattle.meta_inst.specs.InstructionFaults.{AreTooMany, Rule, NameRule, DuplicateRule, OutputRule, MismatchRule, ControlRule, SecondRule}
+use Rattle.meta_inst.specs.InstructionFaults.{DerivationRule, CountRule, MethodRule, rule_number, rule_key, Breaks, IsFirstOwnFault}
 use Rattle.meta_inst.proofs.OneControl.{same_control}
 
 -- two places of the first operand that is badly derived are one
@@ -23,7 +24,8 @@ pub one_bad : (sets : Sets) (i : Instruction) (m n : ℕ) → DerivesBadly sets 
 one_bad sets i m n h g =
     let same = same_control sets i h.control g.control h.is_control g.is_control in
     let f : IsFirstBadDerivation sets i g.control m = subst (λ (x : Option Variable). IsFirstBadDerivation sets i x m) same h.first in
-    ⊎_elim (λ l. absurd (g.first.first m l f.bad)) (λ l. ⊎_elim (λ b. absurd (f.first n b g.first.bad)) (λ b. omega (arith, l, b)) (cases_lt n m)) (cases_lt m n)
+    ⊎_elim (λ l. absurd (g.first.first m l f.bad))
+    (λ l. ⊎_elim (λ b. absurd (f.first n b g.first.bad)) (λ b. omega (arith, l, b)) (cases_lt n m)) (cases_lt m n)
 
 -- so are two counts of too many operands
 one_many : (results values m n : ℕ) → AreTooMany results values m → AreTooMany results values n → m ≡ n
@@ -57,7 +59,8 @@ module _ (vars : List TypeVarContent) (formats : List InstructionFormat) (b : Bu
   one_broken MismatchRule e f h g = h.0 ∙ sym g.0
   one_broken ControlRule e f h g = h.0 ∙ sym g.0
   one_broken SecondRule e f h g = h.0 ∙ sym g.0
-  one_broken DerivationRule e f h g = h.1 ∙ ap (BadDerivation n) (one_bad (sets_of vars) (instruction_of_builder vars formats b) h.0 g.0 h.2 g.2) ∙ sym g.1
+  one_broken DerivationRule e f h g = h.1
+      ∙ ap (BadDerivation n) (one_bad (sets_of vars) (instruction_of_builder vars formats b) h.0 g.0 h.2 g.2) ∙ sym g.1
   one_broken CountRule e f h g = h.1 ∙ ap (TooManyOperands n) (one_many _ _ h.0 g.0 h.2 g.2) ∙ sym g.1
   one_broken MethodRule e f h g = h.0 ∙ sym g.0
 
@@ -78,5 +81,5 @@ module _ (vars : List TypeVarContent) (formats : List InstructionFormat) (b : Bu
   }
 
   -- the first fault that an instruction shows is one
-  pub one_first : (e f : DefinitionError) → IsFirstOwnFault vars formats b n e → IsFirstOwnFault vars formats b n f → e ≡ f
-  one_first = first.one_first searchable
+  pub one_own_first : (e f : DefinitionError) → IsFirstOwnFault vars formats b n e → IsFirstOwnFault vars formats b n f → e ≡ f
+  one_own_first = first.one_first_shown searchable

@@ -32,7 +32,9 @@ module _ (vars : List TypeVarContent) (i : Instruction) where
     pub search_found : (k : ℕ) → IsFirstBadDerivation (sets_of vars) i (control_in vars c) k → DerivesBadly (sets_of vars) i k
     search_found k f = record { control = control_in vars c; is_control = is_found c found controlled; first = f }
 
-    pub search_clean : ((k : ℕ) → HasBadDerivation (sets_of vars) i (control_in vars c) k → ⊥) → (place : ℕ) → DerivesBadly (sets_of vars) i place → ⊥
+    pub search_clean : ((k : ℕ) → HasBadDerivation (sets_of vars) i (control_in vars c) k → ⊥) → (place : ℕ)
+        → DerivesBadly (sets_of vars) i place → ⊥
     search_clean none place h =
-        let same : h.control ≡ control_in vars c = same_control (sets_of vars) i h.control (control_in vars c) h.is_control (is_found c found controlled) in
+        let same : h.control ≡ control_in vars c = same_control (sets_of vars) i h.control
+        (control_in vars c) h.is_control (is_found c found controlled) in
         none place (subst (λ (x : Option Variable). HasBadDerivation (sets_of vars) i x place) same h.first.bad)

@@ -13,7 +13,8 @@ none_is (Some x) true e = absurd (cc)
 none_is (Some x) false e = (λ h. absurd (cc), λ h. absurd (cc))
 
 -- what a test of the parent tells
-pub none_told : (vars : List TypeVarContent) (n : ℕ) (c : TypeVarContent) (r : Bool) → IsRegistry vars → IsKept vars n c → is_some c.base ≡ not r → (IsTrue r ↔ ((variable_at vars n).chain ≡ []))
+pub none_told : (vars : List TypeVarContent) (n : ℕ) (c : TypeVarContent) (r : Bool) → IsRegistry vars
+    → IsKept vars n c → is_some c.base ≡ not r → (IsTrue r ↔ ((variable_at vars n).chain ≡ []))
 none_told vars n c r registry kept e =
     let told = underived_told vars n c registry kept in
     let none = none_is c.base r e in

@@ -7,7 +7,7 @@ use Rattle.meta_inst.specs.declared.polymorphic.PolymorphicInfo.{PolymorphicInfo
 
 -- The name, also in camel case, the doc, the operands, the number of the format, the control, the places among the inputs of
 -- values and of immediates and entity references, the places among the outputs of values, the marks, and the value operands.
-pub record Built : Type 0 where
+pub record BuiltInstruction : Type 0 where
   pub name : List ℕ
   pub camel_name : List ℕ
   pub doc : List ℕ

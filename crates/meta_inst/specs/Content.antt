@@ -2,7 +2,8 @@
 --     operand_list formats b                         the value operands of the declared instruction b
 --     content_of formats b info                      what is built of it
 --     IsPolymorphicInfoOf vars formats b info        info is what is kept of its control
-use Rattle.std.specs.Prelude.{◌≡◌, ◌↔◌, ◌<◌, ℕ, Bool, List, [], ◌∷◌, ◌++◌, length, slice_get, Option, None, Some, option_map, codes, flat_map, if◌then◌else◌, IsTrue}
+use Rattle.std.specs.Prelude.{◌≡◌, ◌↔◌, ◌<◌, ℕ, Bool, List, [], ◌∷◌, ◌++◌, length, slice_get, Option, None, Some, option_map, codes}
+use Rattle.std.specs.Prelude.{flat_map, if◌then◌else◌, IsTrue}
 use Rattle.std.specs.List.{filter_map, enumerate_from}
 use Rattle.meta_types.specs.CamelCase.{camel_case_of}
 use Rattle.meta_typevar.specs.Variable.{Variable}
@@ -13,8 +14,9 @@ use Rattle.meta_operands.specs.Operand.{is_immediate_or_entityref_operand, varia
 use Rattle.meta_operands.specs.declared.operand.Operand.{Operand}
 use Rattle.meta_operands.specs.declared.format.InstructionFormat.{InstructionFormat}
 use Rattle.meta_inst.specs.declared.polymorphic.PolymorphicInfo.{PolymorphicInfo}
+use Rattle.meta_inst.specs.Which.{Which, both}
 use Rattle.meta_inst.specs.Builder.{Builder, inputs_of, outputs_of}
-use Rattle.meta_inst.specs.Built.{Built}
+use Rattle.meta_inst.specs.Built.{BuiltInstruction}
 use Rattle.meta_inst.specs.FormatMatch.{is_value_operand}
 use Rattle.meta_inst.specs.Instruction.{IsDesignated}
 use Rattle.meta_inst.specs.Control.{IsControl}
@@ -37,13 +39,20 @@ control_kept vars info = option_map (λ (p : PolymorphicInfo). variable_at vars 
 abbrev pub ctrl_number : Option PolymorphicInfo → Option ℕ
 ctrl_number info = option_map (λ (p : PolymorphicInfo). p.ctrl_typevar) info
 
+-- the numbers of the controls of what is built
+abbrev pub control_numbers : BuiltInstruction → Which → Option ℕ
+control_numbers c = both (ctrl_number c.polymorphic_info) c.value_operands.second
+
 -- what is kept of an instruction's control: it is that of the declaration, or none where the instruction isn't polymorphic;
--- its variable is of the registry; the second control is that which was named; and the mark says whether it is the designated operand's variable
-pub record IsPolymorphicInfoOf (vars : List TypeVarContent) (formats : List InstructionFormat) (b : Builder) (info : Option PolymorphicInfo) : Type 0 where
+-- its variable is of the registry; the second control is that which was named; and the mark says whether it is the designated operand's
+-- variable
+pub record IsPolymorphicInfoOf (vars : List TypeVarContent) (formats : List InstructionFormat) (b : Builder)
+    (info : Option PolymorphicInfo) : Type 0 where
   pub control : IsControl (sets_of vars) (instruction_of_builder vars formats b) (control_kept vars info)
   pub of_registry : (p : PolymorphicInfo) → info ≡ Some p → p.ctrl_typevar < length vars
   pub second : (p : PolymorphicInfo) → info ≡ Some p → p.second_typevar ≡ b.second
-  pub designated : (p : PolymorphicInfo) → info ≡ Some p → (IsTrue p.use_typevar_operand ↔ IsDesignated (instruction_of_builder vars formats b) (variable_at vars p.ctrl_typevar))
+  pub designated : (p : PolymorphicInfo) → info ≡ Some p
+      → (IsTrue p.use_typevar_operand ↔ IsDesignated (instruction_of_builder vars formats b) (variable_at vars p.ctrl_typevar))
 
 -- the value operands of a declared instruction: the variables of its results and then of its values, how many are results, the
 -- place that its format designates, and whether its first output is a value
@@ -58,7 +67,7 @@ operand_list formats b = record {
 
 -- What is built of a declared instruction, with what is kept of its control: its texts, operands, format and marks are those
 -- that it was given, and with these stand the name in camel case, the places of the operands, and the value operands.
-abbrev pub content_of : List InstructionFormat → Builder → Option PolymorphicInfo → Built
+abbrev pub content_of : List InstructionFormat → Builder → Option PolymorphicInfo → BuiltInstruction
 content_of formats b info = record {
   name = b.name;
   camel_name = camel_case_of b.name;
@@ -98,5 +107,5 @@ inputs_text [] = []
 inputs_text (o ∷ others) = codes " " ++ names_text (o ∷ others)
 
 -- an instruction as it is written: `a = iadd x, y`
-abbrev pub instruction_text : Built → List ℕ
+abbrev pub instruction_text : BuiltInstruction → List ℕ
 instruction_text c = outputs_text c.operands_out ++ (c.name ++ inputs_text c.operands_in)

@@ -8,7 +8,8 @@ use Rattle.meta_types.specs.SharedNames.{IsDuplicate}
 use Rattle.meta_types.specs.FirstFault.{Key, key_at, IsFirstShown, ShowsNone}
 use Rattle.meta_types.specs.declared.fault.Place.TheVariants.{Instruction as AtInstruction, Format as AtFormat}
 use Rattle.meta_types.specs.declared.fault.DefinitionError.{DefinitionError}
-use Rattle.meta_types.specs.declared.fault.DefinitionError.TheVariants.{BadName, DuplicateName, TooManyOpcodes, BadFormat, FormatClash, TooManyTypeSets}
+use Rattle.meta_types.specs.declared.fault.DefinitionError.TheVariants.{BadName, DuplicateName, TooManyOpcodes, BadFormat, FormatClash}
+use Rattle.meta_types.specs.declared.fault.DefinitionError.TheVariants.{TooManyTypeSets}
 use Rattle.meta_typevar.specs.TypeSetParts.{TypeSetParts, HasOne}
 use Rattle.meta_typevar.specs.Variable.{Variable, Sets}
 use Rattle.meta_operands.specs.declared.format.InstructionFormat.{InstructionFormat}
@@ -45,7 +46,8 @@ HasBadFormatName d f = (format : InstructionFormat) × (slice_get d.formats f �
 
 -- the format has more than two blocks, or more than one raw block
 abbrev pub HasTooManyBlocks : InstructionSet → ℕ → Type 0
-HasTooManyBlocks d f = (format : InstructionFormat) × (slice_get d.formats f ≡ Some format) × ((2 < format.num_block_operands) ⊎ (1 < format.num_raw_block_operands))
+HasTooManyBlocks d f = (format : InstructionFormat) × (slice_get d.formats f ≡ Some format)
+    × ((2 < format.num_block_operands) ⊎ (1 < format.num_raw_block_operands))
 
 -- two formats that can't both be in use: they share their name or their structure
 abbrev pub SharesFormat : InstructionFormat → InstructionFormat → Type 0
@@ -53,7 +55,8 @@ SharesFormat a b = (a.name ≡ b.name) ⊎ SharesStructure a b
 
 -- the same of the formats with these numbers
 abbrev pub AreClashing : InstructionSet → ℕ → ℕ → Type 0
-AreClashing d f g = (a : InstructionFormat) × (b : InstructionFormat) × (slice_get d.formats f ≡ Some a) × (slice_get d.formats g ≡ Some b) × SharesFormat a b
+AreClashing d f g = (a : InstructionFormat) × (b : InstructionFormat) × (slice_get d.formats f ≡ Some a) × (slice_get d.formats g ≡ Some b)
+    × SharesFormat a b
 
 -- g is the format, of those used before place k, that clashes with f, and the first used of them
 pub record IsFirstClash (d : InstructionSet) (f k g : ℕ) : Type 0 where
@@ -86,7 +89,8 @@ pub record NeedsSetAt (d : InstructionSet) (k : ℕ) (s : TypeSetParts) : Type 0
   pub at : IsAt d k user
   pub control : Option Variable
   pub is_control : IsControl (root_sets d) (instruction_in_set d user) control
-  pub needs : ((a : Which) × IsControlSet (root_sets d) (controls_of (instruction_in_set d user) control) a s) ⊎ IsFreeSet (root_sets d) (instruction_in_set d user) control s
+  pub needs : ((a : Which) × IsControlSet (root_sets d) (controls_of (instruction_in_set d user) control) a s)
+      ⊎ IsFreeSet (root_sets d) (instruction_in_set d user) control s
 
 -- an instruction needs the set
 abbrev pub NeedsSet : InstructionSet → TypeSetParts → Type 0

@@ -8,7 +8,8 @@ use Rattle.meta_types.specs.Name.{IsName}
 use Rattle.meta_types.specs.FirstFault.{Key, key_at, IsFirstShown, ShowsNone, ShowsNoneBefore}
 use Rattle.meta_types.specs.declared.fault.Place.TheVariants.{Instruction as AtInstruction}
 use Rattle.meta_types.specs.declared.fault.DefinitionError.{DefinitionError}
-use Rattle.meta_types.specs.declared.fault.DefinitionError.TheVariants.{BadName, BadOutput, FormatMismatch, NoControl, BadSecond, BadDerivation, TooManyOperands, BadImmMethod}
+use Rattle.meta_types.specs.declared.fault.DefinitionError.TheVariants.{BadName, BadOutput, FormatMismatch, NoControl, BadSecond}
+use Rattle.meta_types.specs.declared.fault.DefinitionError.TheVariants.{BadDerivation, TooManyOperands, BadImmMethod}
 use Rattle.meta_typevar.specs.Registry.{sets_of}
 use Rattle.meta_typevar.specs.declared.content.TypeVarContent.{TypeVarContent}
 use Rattle.meta_operands.specs.Operand.{variable_of, variables_of, is_varargs_operand}
@@ -61,7 +62,8 @@ HasBadOutput b place = position is_bad_output (outputs_of b) ≡ Some place
 
 -- the inputs aren't stored as the format says
 abbrev pub HasFormatMismatch : List InstructionFormat → Builder → Type 0
-HasFormatMismatch formats b = (format : InstructionFormat) × (slice_get formats b.format ≡ Some format) × (MatchesFormat format (inputs_of b) → ⊥)
+HasFormatMismatch formats b = (format : InstructionFormat) × (slice_get formats b.format ≡ Some format)
+    × (MatchesFormat format (inputs_of b) → ⊥)
 
 -- the instruction is polymorphic, and nothing controls it
 abbrev pub LacksItsControl : List TypeVarContent → List InstructionFormat → Builder → Type 0

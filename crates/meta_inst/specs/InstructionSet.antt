@@ -53,5 +53,5 @@ pub record FitsBuilder (vars : List TypeVarContent) (formats : List InstructionF
   pub second : SecondIsOf vars b.second
 
 -- each instruction is of the registries
-abbrev pub Fits : List TypeVarContent → List InstructionFormat → List Builder → Type 0
-Fits vars formats instructions = (k : ℕ) (b : Builder) → slice_get instructions k ≡ Some b → FitsBuilder vars formats b
+abbrev pub AreOfRegistries : List TypeVarContent → List InstructionFormat → List Builder → Type 0
+AreOfRegistries vars formats instructions = (k : ℕ) (b : Builder) → slice_get instructions k ≡ Some b → FitsBuilder vars formats b

@@ -1,4 +1,5 @@
 pub mod Which
+pub mod Controls
 pub mod Instruction
 pub mod Control
 pub mod Marks

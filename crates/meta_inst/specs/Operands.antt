@@ -1,9 +1,12 @@
 -- The value operands of an instruction, as the checks of its declaration see them.
-use Rattle.std.specs.Prelude.{◌≡◌, ◌≢◌, ◌<◌, ◌≤◌, ◌⊎◌, ℕ, Bool, List, [], length, ◌==◌, count_by, unwrap_or, map, take, drop, Option, slice_get, None, Some, option_map, option_and_then, if◌then◌else◌}
+use Rattle.std.specs.Prelude.{◌≡◌, ◌≢◌, ◌<◌, ◌≤◌, ◌⊎◌, ℕ, Bool, List, [], length, ◌==◌, count_by, unwrap_or, map, take, drop, Option}
+use Rattle.std.specs.Prelude.{slice_get, None, Some, option_map, option_and_then, if◌then◌else◌}
 use Rattle.meta_typevar.specs.Variable.{Variable}
 use Rattle.meta_typevar.specs.Registry.{variable_at, sets_of}
 use Rattle.meta_typevar.specs.TypeSetParts.{HasOne}
 use Rattle.meta_typevar.specs.declared.content.TypeVarContent.{TypeVarContent}
+use Rattle.meta_inst.specs.Which.{Which, both}
+use Rattle.meta_inst.specs.Controls.{IsOneOf}
 use Rattle.meta_inst.specs.Instruction.{Instruction}
 
 -- the numbers of the variables of the results and then of the values, and how many are results; the designated place among
@@ -70,15 +73,16 @@ pub record IsLone (vars : List TypeVarContent) (numbers : List ℕ) (from place 
   pub underived : (variable_at vars n).chain ≡ []
   pub alone : IsAlone numbers from place
 
--- the variable n at this place lets v control: v is its root, the second control is, its root has one type, or it is a lone input
-abbrev pub LetsControl : List TypeVarContent → Option ℕ → List ℕ → ℕ → ℕ → ℕ → ℕ → Type 0
-LetsControl vars second numbers from v place n = ((variable_at vars n).root ≡ v) ⊎ (second ≡ Some (variable_at vars n).root) ⊎ HasOneType vars n ⊎ IsLone vars numbers from place n
+-- the variable n at this place lets these be the controls: one of them is its root, its root has one type, or it is a lone input
+abbrev pub LetsControl : List TypeVarContent → (Which → Option ℕ) → List ℕ → ℕ → ℕ → ℕ → Type 0
+LetsControl vars controls numbers from place n = IsOneOf controls (variable_at vars n).root ⊎ HasOneType vars n
+    ⊎ IsLone vars numbers from place n
 
--- v is underived and isn't the second control, and each variable lets it control
+-- v is underived and isn't the second control, and each variable lets it control beside that
 pub record CanControl (vars : List TypeVarContent) (second : Option ℕ) (numbers : List ℕ) (from v : ℕ) : Type 0 where
   pub underived : (variable_at vars v).chain ≡ []
   pub not_second : second ≢ Some v
-  pub all : (place n : ℕ) → slice_get numbers place ≡ Some n → LetsControl vars second numbers from v place n
+  pub all : (place n : ℕ) → slice_get numbers place ≡ Some n → LetsControl vars (both (Some v) second) numbers from place n
 
 -- some variable has the root of s
 pub record Uses (vars : List TypeVarContent) (numbers : List ℕ) (s : ℕ) : Type 0 where

@@ -1,4 +1,5 @@
-ghost use Rattle.std.specs.Prelude.{◌≡◌, ◌≢◌, ◌↔◌, ◌<◌, ◌∷◌, [], List, length, true, IsTrue, IsSome, IfSome, IfNone, IfOk, IfErr, OnOk, Some, None};
+ghost use Rattle.std.specs.Prelude.{◌≡◌, ◌≢◌, ◌↔◌, ◌<◌, ◌∷◌, [], List, length, true, IsTrue, IsSome, IfSome, IfNone, IfOk, IfErr, OnOk};
+ghost use Rattle.std.specs.Prelude.{Some, None};
 ghost use Rattle.meta_inst.specs.Builder.{inputs_of, outputs_of};
 ghost use Rattle.meta_types.specs.declared.fault.DefinitionError.TheVariants.{OutOfMemory};
 ghost use Rattle.meta_typevar.specs.declared.content.TypeVarContent.{TypeVarContent};
@@ -67,13 +68,29 @@ impl Model for InstructionBuilder {
 
     ghost Value = { Builder };
 
-    ghost view = { λ b. record { name = b.name; doc = b.doc; format = b.format; operands_in = option_map (λ v. v.items) b.operands_in; operands_out = option_map (λ v. v.items) b.operands_out; marks = b.marks; second = b.second } };
+    ghost view = { λ b. record {
+      name = b.name;
+      doc = b.doc;
+      format = b.format;
+      operands_in = option_map (λ v. v.items) b.operands_in;
+      operands_out = option_map (λ v. v.items) b.operands_out;
+      marks = b.marks;
+      second = b.second;
+    } };
 }
 
 impl InstructionBuilder {
     /// An instruction of this name, doc and format, without operands.
     pub fn new(_alloc: Global, name: Text, doc: Text, format: FormatId) -> Self
-        ensures { result ≡ record { name = name; doc = doc; format = format; operands_in = None; operands_out = None; marks = no_marks; second = None } }
+        ensures { result ≡ record {
+          name = name;
+          doc = doc;
+          format = format;
+          operands_in = None;
+          operands_out = None;
+          marks = no_marks;
+          second = None;
+        } }
     {
         InstructionBuilder {
             name,
@@ -383,7 +400,8 @@ impl InstructionBuilder {
         value_operands: Operands,
         polymorphic_info: Option<PolymorphicInfo>,
     ) -> Result<InstructionContent, AllocError>
-        ensures { (formats : List InstructionFormat) → value_operands ≡ operand_list formats self.now → IfOk result (λ c. c ≡ content_of formats self.now polymorphic_info) }
+        ensures { (formats : List InstructionFormat) → value_operands ≡ operand_list formats self.now
+            → IfOk result (λ c. c ≡ content_of formats self.now polymorphic_info) }
     {
         let texts = self.texts(alloc)?;
         let places = self.places(alloc)?;

@@ -3,8 +3,10 @@ ghost use Rattle.std.specs.Option.{option_copied};
 ghost use Rattle.std.specs.Fmt.{DisplaysOnOk};
 ghost use Rattle.meta_operands.specs.Operand.{is_immediate_or_entityref_operand};
 ghost use Rattle.meta_inst.specs.FormatMatch.{is_value_operand};
-ghost use Rattle.meta_inst.specs.Content.{ctrl_number, places_where, snake_name_of, names_text, more_names_text, outputs_text, inputs_text};
+ghost use Rattle.meta_inst.specs.Content.{ctrl_number, control_numbers, places_where, snake_name_of, names_text, more_names_text};
+ghost use Rattle.meta_inst.specs.Content.{outputs_text, inputs_text};
 
+use super::controls::Controls;
 use super::marks::Marks;
 use super::operands::Operands;
 use super::polymorphic::PolymorphicInfo;
@@ -36,11 +38,24 @@ pub struct InstructionContent {
 pub type Instruction = InstructionContent;
 
 impl Model for InstructionContent {
-    ghost use Rattle.meta_inst.specs.Built.{Built};
+    ghost use Rattle.meta_inst.specs.Built.{BuiltInstruction};
 
-    ghost Value = { Built };
+    ghost Value = { BuiltInstruction };
 
-    ghost view = { λ c. record { name = c.name; camel_name = c.camel_name; doc = c.doc; operands_in = c.operands_in.items; operands_out = c.operands_out.items; format = c.format; polymorphic_info = c.polymorphic_info; value_opnums = c.value_opnums.items; imm_opnums = c.imm_opnums.items; value_results = c.value_results.items; marks = c.marks; value_operands = c.value_operands } };
+    ghost view = { λ c. record {
+      name = c.name;
+      camel_name = c.camel_name;
+      doc = c.doc;
+      operands_in = c.operands_in.items;
+      operands_out = c.operands_out.items;
+      format = c.format;
+      polymorphic_info = c.polymorphic_info;
+      value_opnums = c.value_opnums.items;
+      imm_opnums = c.imm_opnums.items;
+      value_results = c.value_results.items;
+      marks = c.marks;
+      value_operands = c.value_operands;
+    } };
 }
 
 /// Adds the place, where the test holds.
@@ -154,6 +169,14 @@ impl InstructionContent {
             Some(info) => Some(info.ctrl_typevar),
             None => None,
         }
+    }
+
+    /// The variables that control the instruction: its control and its second control (this project's own).
+    pub fn controls(&self) -> Controls
+        ensures { result ≡ control_numbers self.now }
+    {
+        let control = self.ctrl_typevar();
+        self.value_operands().controls(control)
     }
 
     /// The places among the inputs, from 0, of the values.

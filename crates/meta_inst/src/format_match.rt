@@ -1,7 +1,8 @@
 ghost use Rattle.std.specs.Prelude.{◌≡◌, ◌↔◌, ◌++◌, ◌∷◌, [], ℕ, List, IsTrue, IfSome, IfNone, count_by, map};
 ghost use Rattle.std.specs.List.{list_any};
 ghost use Rattle.meta_operands.specs.Operand.{is_varargs_operand};
-ghost use Rattle.meta_inst.specs.FormatMatch.{is_value_operand, is_block_operand, is_raw_block_operand, is_field_operand, field_names, format_field_name, MatchesFormat};
+ghost use Rattle.meta_inst.specs.FormatMatch.{is_value_operand, is_block_operand, is_raw_block_operand, is_field_operand, field_names};
+ghost use Rattle.meta_inst.specs.FormatMatch.{format_field_name, MatchesFormat};
 
 use meta_operands::{FormatField, InstructionFormat, Operand};
 
@@ -62,8 +63,10 @@ fn is_field(operand: &Operand) -> bool
 /// The fields that are left behind the one that holds the operand, all where none does; `None` where the first of them isn't
 /// the one that holds it.
 fn fields_after<'a>(fields: &'a [FormatField], operand: &Operand) -> Option<&'a [FormatField]>
-    ensures left { IfSome result (λ rest. map format_field_name fields.now ≡ field_names (operand.now ∷ []) ++ map format_field_name rest.now) }
-    ensures other { IfNone result ((names : List (List ℕ)) → field_names (operand.now ∷ []) ++ names ≡ map format_field_name fields.now → ⊥) }
+    ensures left { IfSome result (λ rest. map format_field_name fields.now
+        ≡ field_names (operand.now ∷ []) ++ map format_field_name rest.now) }
+    ensures other { IfNone result ((names : List (List ℕ))
+        → field_names (operand.now ∷ []) ++ names ≡ map format_field_name fields.now → ⊥) }
 {
     if !is_field(operand) {
         return Some(fields);

@@ -7,6 +7,8 @@ ghost use Rattle.meta_inst.specs.InstructionFaults.{IsFirstOwnFault, IsWellMade}
 
 /// An instruction shows one first fault by itself at most, and none where it is well made (this project's own).
 pub fn one_own_fault()
-    ensures same { (vars : List TypeVarContent) (formats : List InstructionFormat) (b : Builder) (n : ℕ) (e f : DefinitionError) → IsFirstOwnFault vars formats b n e → IsFirstOwnFault vars formats b n f → e ≡ f }
-    ensures well_made { (vars : List TypeVarContent) (formats : List InstructionFormat) (b : Builder) (n : ℕ) (e : DefinitionError) → IsWellMade vars formats b → IsFirstOwnFault vars formats b n e → ⊥ }
+    ensures same { (vars : List TypeVarContent) (formats : List InstructionFormat) (b : Builder) (n : ℕ)
+        (e f : DefinitionError) → IsFirstOwnFault vars formats b n e → IsFirstOwnFault vars formats b n f → e ≡ f }
+    ensures well_made { (vars : List TypeVarContent) (formats : List InstructionFormat) (b : Builder) (n : ℕ)
+        (e : DefinitionError) → IsWellMade vars formats b → IsFirstOwnFault vars formats b n e → ⊥ }
 {}

@@ -1,4 +1,5 @@
-ghost use Rattle.std.specs.Prelude.{◌≡◌, ◌↔◌, ◌⊎◌, ◌≤◌, List, ◌++◌, ◌∷◌, [], ◌<◌, ℕ, IsTrue, MatchBool, OnOk, IfOk, IfSome, IfNone, length, slice_get, take, Some};
+ghost use Rattle.std.specs.Prelude.{◌≡◌, ◌↔◌, ◌⊎◌, ◌≤◌, List, ◌++◌, ◌∷◌, [], ◌<◌, ℕ, IsTrue, MatchBool, OnOk, IfOk, IfSome, IfNone, length};
+ghost use Rattle.std.specs.Prelude.{slice_get, take, Some};
 ghost use Rattle.meta_typevar.specs.declared.content.TypeVarContent.{TypeVarContent};
 ghost use Rattle.meta_typevar.specs.Registry.{sets_of, variable_at, IsRegistry};
 ghost use Rattle.meta_operands.specs.Operand.{variables_of};
@@ -8,13 +9,17 @@ ghost use Rattle.meta_inst.specs.Instruction.{IsDesignated};
 ghost use Rattle.meta_inst.specs.Content.{control_kept, operand_list};
 ghost use Rattle.meta_inst.specs.Control.{IsBadlyDerived};
 ghost use Rattle.meta_inst.specs.Which.{both};
-ghost use Rattle.meta_inst.specs.FoundControl.{IsFoundIn, MayNot, control_in, IsBadAt, IsFirstBadAt, IsOf};
+ghost use Rattle.meta_inst.specs.Controls.{AreControlsOf, controls_at};
+ghost use Rattle.meta_inst.specs.FoundControl.{IsFoundIn, MayNot, control_number, control_in, IsBadAt, IsFirstBadAt, IsOf};
 ghost use Rattle.std.specs.Ordering.{nat_cmp};
 ghost use Rattle.std.specs.BTreeMap.{get};
-ghost use Rattle.meta_inst.specs.Operands.{AreInputCounts, AreOf, SecondIsOf, second_in, IsAlone, HasOneType, LetsControl, CanControl, Uses, UsesNowhere, IsNoSecond, HasSeveralTypes, AllHaveOneType, instruction_of_operands, designated_number, first_number};
+ghost use Rattle.meta_inst.specs.Operands.{AreInputCounts, AreOf, SecondIsOf, IsAlone, HasOneType, LetsControl, CanControl, Uses};
+ghost use Rattle.meta_inst.specs.Operands.{UsesNowhere, IsNoSecond, HasSeveralTypes, AllHaveOneType, instruction_of_operands};
+ghost use Rattle.meta_inst.specs.Operands.{designated_number, first_number};
 
 use super::builder::InstructionBuilder;
 use super::checks::MAX_OPERANDS;
+use super::controls::Controls;
 use super::input_counts::InputCounts;
 use super::polymorphic::PolymorphicInfo;
 use meta_operands::{FormatTable, Operand};
@@ -95,31 +100,15 @@ fn counted_inputs(alloc: Global, inputs: &[TypeVar]) -> Result<Option<InputCount
     Ok(Some(InputCounts::of(alloc, inputs)?))
 }
 
-/// Whether the variable is the second control.
-fn is_second(second: &Option<TypeVar>, tv: TypeVar) -> bool
-    ensures { IsTrue result ↔ (second.now ≡ Some tv) }
-{
-    match second {
-        Some(s) => *s == tv,
-        None => false,
-    }
-}
-
-/// Whether the root is `v` or the second control.
-fn rules(second: &Option<TypeVar>, v: TypeVar, root: TypeVar) -> bool
-    ensures { IsTrue result ↔ ((root ≡ v) ⊎ (second.now ≡ Some root)) }
-{
-    root == v || is_second(second, root)
-}
-
-/// Whether the variable at this place lets `v` control.
-fn lets_control(vars: &TypeVars, operands: &Operands, v: TypeVar, place: usize) -> bool
+/// Whether the variable at this place lets these be the controls.
+fn lets_control(vars: &TypeVars, operands: &Operands, controls: &Controls, place: usize) -> bool
     requires variables { AreOf vars.now operands.now.variables }
     requires within { place < length operands.now.variables }
-    ensures { (n : ℕ) → slice_get operands.now.variables place ≡ Some n → (IsTrue result ↔ LetsControl vars.now operands.now.second operands.now.variables operands.now.result_count v place n) }
+    ensures { (n : ℕ) → slice_get operands.now.variables place ≡ Some n
+        → (IsTrue result ↔ LetsControl vars.now controls.now operands.now.variables operands.now.result_count place n) }
 {
     let tv = operands.variables()[place];
-    if rules(operands.second(), v, tv.root(vars)) {
+    if controls.is_control(tv.root(vars)) {
         return true;
     }
     if has_one_type(vars, tv) {
@@ -128,7 +117,7 @@ fn lets_control(vars: &TypeVars, operands: &Operands, v: TypeVar, place: usize) 
     is_underived(vars, tv) && operands.is_alone(place)
 }
 
-/// Whether `v` may control: it is underived, and each variable lets it.
+/// Whether `v` may control: it is underived and not the second control, and each variable lets it control beside that.
 fn may_control(vars: &TypeVars, operands: &Operands, v: TypeVar) -> bool
     requires variables { AreOf vars.now operands.now.variables }
     requires of { v < length vars.now }
@@ -137,11 +126,12 @@ fn may_control(vars: &TypeVars, operands: &Operands, v: TypeVar) -> bool
     if !is_underived(vars, v) {
         return false;
     }
-    if is_second(operands.second(), v) {
+    let controls = operands.controls(Some(v));
+    if controls.is_second(v) {
         return false;
     }
     for place in 0..operands.variables().len() {
-        if !lets_control(vars, operands, v, place) {
+        if !lets_control(vars, operands, &controls, place) {
             return false;
         }
     }
@@ -195,7 +185,8 @@ fn is_no_second(vars: &TypeVars, variables: &[TypeVar], s: TypeVar) -> bool
 fn eligible(vars: &TypeVars, operands: &Operands, candidate: Option<TypeVar>) -> Option<TypeVar>
     requires variables { AreOf vars.now operands.now.variables }
     requires of { IfSome candidate (λ v. v < length vars.now) }
-    ensures some { IfSome result (λ v. (candidate ≡ Some v) × CanControl vars.now operands.now.second operands.now.variables operands.now.result_count v) }
+    ensures some { IfSome result (λ v. (candidate ≡ Some v)
+        × CanControl vars.now operands.now.second operands.now.variables operands.now.result_count v) }
     ensures none { IfNone result (MayNot vars.now operands.now.second operands.now.variables operands.now.result_count candidate) }
 {
     let v = candidate?;
@@ -227,6 +218,16 @@ impl Controlling {
             Controlling::Missing => true,
         }
     }
+
+    /// The variable that controls, if one does.
+    fn variable(&self) -> Option<TypeVar>
+        ensures { result ≡ control_number self.now }
+    {
+        match self {
+            Controlling::By(v) => Some(*v),
+            Controlling::NotPolymorphic | Controlling::Missing => None,
+        }
+    }
 }
 
 /// What controls an instruction with these operands: the designated variable, if it may control, and else the first.
@@ -253,55 +254,30 @@ fn control_of(
     Controlling::Missing
 }
 
-/// Whether the variable controls.
-fn is_by(control: &Controlling, tv: TypeVar) -> bool
-    ensures { IsTrue result ↔ (control.now ≡ Controlling.By tv) }
-{
-    match control {
-        Controlling::By(v) => *v == tv,
-        Controlling::NotPolymorphic | Controlling::Missing => false,
-    }
-}
-
-/// Whether the variable is derived, no type is fixed for it, and its parent isn't the control.
-fn is_badly_derived(
-    vars: &TypeVars,
-    control: &Controlling,
-    second: &Option<TypeVar>,
-    tv: TypeVar,
-) -> bool
+/// Whether the variable is derived, no type is fixed for it, and its parent is none of the controls.
+fn is_badly_derived(vars: &TypeVars, controls: &Controls, tv: TypeVar) -> bool
     requires of { tv < length vars.now }
-    requires control { IsOf vars.now control.now }
-    requires second { SecondIsOf vars.now second.now }
-    ensures { IsTrue result ↔ IsBadlyDerived (sets_of vars.now) (both (control_in vars.now control.now) (second_in vars.now second.now)) (variable_at vars.now tv) }
+    requires controls { AreControlsOf vars.now controls.now }
+    ensures { IsTrue result ↔ IsBadlyDerived (sets_of vars.now) (controls_at vars.now controls.now) (variable_at vars.now tv) }
 {
     let Some(parent) = vars.content(tv).base else {
         return false;
     };
-    if is_by(control, parent.type_var) {
-        return false;
-    }
-    if is_second(second, parent.type_var) {
+    if controls.is_control(parent.type_var) {
         return false;
     }
     tv.fixed_type(vars).is_none()
 }
 
 /// The place of the first of the variables that is badly derived.
-fn first_bad(
-    vars: &TypeVars,
-    control: &Controlling,
-    second: &Option<TypeVar>,
-    variables: &[TypeVar],
-) -> Option<usize>
+fn first_bad(vars: &TypeVars, controls: &Controls, variables: &[TypeVar]) -> Option<usize>
     requires variables { AreOf vars.now variables.now }
-    requires control { IsOf vars.now control.now }
-    requires second { SecondIsOf vars.now second.now }
-    ensures found { IfSome result (IsFirstBadAt vars.now control.now second.now variables.now) }
-    ensures none { IfNone result ((k : ℕ) → IsBadAt vars.now control.now second.now variables.now k → ⊥) }
+    requires controls { AreControlsOf vars.now controls.now }
+    ensures found { IfSome result (IsFirstBadAt vars.now controls.now variables.now) }
+    ensures none { IfNone result ((k : ℕ) → IsBadAt vars.now controls.now variables.now k → ⊥) }
 {
     for place in 0..variables.len() {
-        if is_badly_derived(vars, control, second, variables[place]) {
+        if is_badly_derived(vars, controls, variables[place]) {
             return Some(place);
         }
     }
@@ -329,9 +305,16 @@ impl Model for Operands {
 
     ghost Value = { OperandList };
 
-    ghost view = { λ o. record { variables = o.variables.items; result_count = o.result_count; designated = o.designated; begins_with_value = o.begins_with_value; second = o.second } };
+    ghost view = { λ o. record {
+      variables = o.variables.items;
+      result_count = o.result_count;
+      designated = o.designated;
+      begins_with_value = o.begins_with_value;
+      second = o.second;
+    } };
 
-    ghost invariant = { λ o. (o.result_count ≤ length o.variables.items) × IfSome o.input_counts (λ c. AreInputCounts (drop o.result_count o.variables.items) (get nat_cmp c.counts)) };
+    ghost invariant = { λ o. (o.result_count ≤ length o.variables.items)
+        × IfSome o.input_counts (λ c. AreInputCounts (drop o.result_count o.variables.items) (get nat_cmp c.counts)) };
 }
 
 impl Operands {
@@ -348,7 +331,8 @@ impl Operands {
     ) -> Result<Operands, AllocError>
         requires { builder.now.format < length formats.now }
         ensures operands { IfOk result (λ o. o ≡ operand_list formats.now builder.now) }
-        ensures meaning { IfOk result (λ o. (vars : List TypeVarContent) → instruction_of_operands vars o ≡ instruction_of_builder vars formats.now builder.now) }
+        ensures meaning { IfOk result (λ o. (vars : List TypeVarContent)
+            → instruction_of_operands vars o ≡ instruction_of_builder vars formats.now builder.now) }
         ensures fits { IfOk result (λ o. (vars : List TypeVarContent) → FitsBuilder vars formats.now builder.now → AreOf vars o.variables) }
         ensures variables { IfOk result (λ o. o.variables ≡ variables_of (outputs_of builder.now) ++ variables_of (inputs_of builder.now)) }
         ensures result_count { IfOk result (λ o. o.result_count ≡ length (variables_of (outputs_of builder.now))) }
@@ -385,10 +369,17 @@ impl Operands {
     }
 
     /// The second control, where one is named.
-    pub fn second(&self) -> &Option<TypeVar>
+    fn second(&self) -> &Option<TypeVar>
         ensures { result.now ≡ self.now.second }
     {
         &self.second
+    }
+
+    /// The controls, of which this is the first.
+    pub(crate) fn controls(&self, control: Option<TypeVar>) -> Controls
+        ensures { result ≡ both control self.now.second }
+    {
+        Controls::new(control, self.second)
     }
 
     /// The variable of the value input that the format designates.
@@ -468,17 +459,21 @@ impl Operands {
     }
 
     /// The place, among results and then values, of the first operand that is derived, has no fixed type, and whose parent
-    /// isn't the control, which is of the registry as the variables are; `None` exactly where there is none.
+    /// is none of the controls, which are of the registry as the variables are; `None` exactly where there is none.
     pub fn bad_derivation(&self, vars: &TypeVars, control: &Controlling) -> Option<usize>
         requires variables { AreOf vars.now self.now.variables }
         requires control { IsOf vars.now control.now }
         requires second { SecondIsOf vars.now self.now.second }
-        ensures found { IfSome result (IsFirstBadDerivation (sets_of vars.now) (instruction_of_operands vars.now self.now) (control_in vars.now control.now)) }
-        ensures none { IfNone result ((k : ℕ) → HasBadDerivation (sets_of vars.now) (instruction_of_operands vars.now self.now) (control_in vars.now control.now) k → ⊥) }
+        ensures found { IfSome result (IsFirstBadDerivation (sets_of vars.now)
+            (instruction_of_operands vars.now self.now) (control_in vars.now control.now)) }
+        ensures none { IfNone result ((k : ℕ) → HasBadDerivation (sets_of vars.now)
+            (instruction_of_operands vars.now self.now) (control_in vars.now control.now) k → ⊥) }
     {
         self.holds_with(vars);
-        first_bad(vars, control, self.second(), self.variables())
+        let controls = self.controls(control.variable());
+        first_bad(vars, &controls, self.variables())
     }
+
     /// Whether the variable is that of the designated operand.
     fn is_designated(&self, tv: TypeVar) -> bool
         ensures { IsTrue result ↔ (designated_number self.now ≡ Some tv) }
@@ -498,7 +493,8 @@ impl Operands {
         ensures kept { control_kept vars.now result ≡ control_in vars.now control.now }
         ensures of_registry { IfSome result (λ p. p.ctrl_typevar < length vars.now) }
         ensures second { IfSome result (λ p. p.second_typevar ≡ self.now.second) }
-        ensures designated { IfSome result (λ p. IsTrue p.use_typevar_operand ↔ IsDesignated (instruction_of_operands vars.now self.now) (variable_at vars.now p.ctrl_typevar)) }
+        ensures designated { IfSome result (λ p. IsTrue p.use_typevar_operand
+            ↔ IsDesignated (instruction_of_operands vars.now self.now) (variable_at vars.now p.ctrl_typevar)) }
     {
         self.holds_with(vars);
         match control {

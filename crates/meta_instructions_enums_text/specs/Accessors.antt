@@ -5,9 +5,11 @@ use Rattle.std.specs.Prelude.{ℕ, Bool, List, [], ◌∷◌, ◌++◌, if◌the
 use Rattle.std.specs.List.{flat_map}
 use Rattle.meta_text.specs.Lines.{at, empty_line, text_of}
 use Rattle.meta_inst.specs.declared.marks.Marks.{Marks}
-use Rattle.meta_inst.specs.Built.{Built}
+use Rattle.meta_inst.specs.Built.{BuiltInstruction}
 use Rattle.meta_instructions_enums_text.specs.declared.accessors.Mark.{Mark}
-use Rattle.meta_instructions_enums_text.specs.declared.accessors.Mark.TheVariants.{IsTerminator, IsBranch, IsCall, IsReturn, CanLoad, CanStore, CanTrap, OtherSideEffects, SideEffectsIdempotent}
+use Rattle.meta_instructions_enums_text.specs.declared.accessors.Mark.TheVariants.{IsTerminator, IsBranch, IsCall, IsReturn, CanLoad}
+use Rattle.meta_instructions_enums_text.specs.declared.accessors.Mark.TheVariants.{CanStore, CanTrap, OtherSideEffects}
+use Rattle.meta_instructions_enums_text.specs.declared.accessors.Mark.TheVariants.{SideEffectsIdempotent}
 
 -- the marks that are told, in order
 abbrev pub told_marks : List Mark
@@ -61,7 +63,7 @@ unfoldable pub true_arm : List ℕ → List ℕ
 true_arm name = text_of (at 3 (codes "Self::" ∷ name ∷ codes " => true," ∷ []) ∷ [])
 
 -- an instruction has an arm where it has the mark
-unfoldable pub mark_arm : Mark → Built → List ℕ
+unfoldable pub mark_arm : Mark → BuiltInstruction → List ℕ
 mark_arm mark c = if has_mark mark c.marks then true_arm c.camel_name else []
 
 -- the arm of the others, the last lines, and an empty one
@@ -73,9 +75,9 @@ accessor_end = text_of (
     ∷ empty_line ∷ [])
 
 -- the method that tells which of the instructions have the mark
-unfoldable pub accessor_text : Mark → List Built → List ℕ
+unfoldable pub accessor_text : Mark → List BuiltInstruction → List ℕ
 accessor_text mark cs = accessor_head (mark_doc mark) (mark_name mark) ++ (flat_map (mark_arm mark) cs ++ accessor_end)
 
 -- the methods of all marks
-unfoldable pub accessors_text : List Built → List ℕ
+unfoldable pub accessors_text : List BuiltInstruction → List ℕ
 accessors_text cs = flat_map (λ mark. accessor_text mark cs) told_marks

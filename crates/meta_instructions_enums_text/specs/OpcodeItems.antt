@@ -8,7 +8,7 @@ use Rattle.meta_text.specs.Lines.{at, text_of}
 use Rattle.meta_operands.specs.declared.operand.Operand.{Operand}
 use Rattle.meta_operands.specs.declared.format.InstructionFormat.{InstructionFormat}
 use Rattle.meta_inst.specs.declared.polymorphic.PolymorphicInfo.{PolymorphicInfo}
-use Rattle.meta_inst.specs.Built.{Built}
+use Rattle.meta_inst.specs.Built.{BuiltInstruction}
 use Rattle.meta_inst.specs.Content.{instruction_text}
 
 -- ---- an instruction in the enum
@@ -18,11 +18,11 @@ unfoldable pub shown_line : List ℕ → List ℕ → List ℕ
 shown_line shown format = text_of (at 1 (codes "/// `" ∷ shown ∷ codes "`. (" ∷ format ∷ codes ")" ∷ []) ∷ [])
 
 -- the input that holds the value which its format designates
-abbrev pub designated_input : InstructionFormat → Built → Option Operand
+abbrev pub designated_input : InstructionFormat → BuiltInstruction → Option Operand
 designated_input f c = option_and_then (slice_get c.operands_in) (option_and_then (slice_get c.value_opnums) f.typevar_operand)
 
 -- the input from whose type the control is inferred: the designated one, where the control is its variable
-abbrev pub inferring_input : InstructionFormat → Built → Option Operand
+abbrev pub inferring_input : InstructionFormat → BuiltInstruction → Option Operand
 inferring_input f c =
     option_and_then (λ (info : PolymorphicInfo). if info.use_typevar_operand then designated_input f c else None)
     c.polymorphic_info
@@ -37,11 +37,11 @@ inferred_line None = []
 inferred_line (Some input) = inferred_from input.name
 
 -- the documentation of the instruction, by its format
-abbrev pub docs_with : Option InstructionFormat → Built → List ℕ
+abbrev pub docs_with : Option InstructionFormat → BuiltInstruction → List ℕ
 docs_with None c = []
 docs_with (Some f) c = shown_line (instruction_text c) f.name ++ inferred_line (inferring_input f c)
 
-unfoldable pub docs_text : List InstructionFormat → Built → List ℕ
+unfoldable pub docs_text : List InstructionFormat → BuiltInstruction → List ℕ
 docs_text formats c = docs_with (slice_get formats c.format) c
 
 -- the opcode of this name; the first one's number is 1
@@ -52,11 +52,11 @@ unfoldable pub first_opcode_line : List ℕ → List ℕ
 first_opcode_line name = text_of (at 1 (name ∷ codes " = 1," ∷ []) ∷ [])
 
 -- the instruction, where there is one before it
-unfoldable pub opcode_text : List InstructionFormat → Built → List ℕ
+unfoldable pub opcode_text : List InstructionFormat → BuiltInstruction → List ℕ
 opcode_text formats c = docs_text formats c ++ opcode_line c.camel_name
 
 -- the first instruction
-unfoldable pub first_opcode_text : List InstructionFormat → Built → List ℕ
+unfoldable pub first_opcode_text : List InstructionFormat → BuiltInstruction → List ℕ
 first_opcode_text formats c = docs_text formats c ++ first_opcode_line c.camel_name
 
 -- ---- elsewhere

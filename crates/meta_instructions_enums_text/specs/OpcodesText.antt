@@ -5,14 +5,14 @@ use Rattle.std.specs.List.{flat_map}
 use Rattle.meta_text.specs.Lines.{at, empty_line, text_of}
 use Rattle.meta_rust_lines.specs.Ends.{spaced_item_end}
 use Rattle.meta_operands.specs.declared.format.InstructionFormat.{InstructionFormat}
-use Rattle.meta_inst.specs.Built.{Built}
+use Rattle.meta_inst.specs.Built.{BuiltInstruction}
 use Rattle.meta_declared.specs.BuiltDeclarations.{BuiltDeclarations}
 use Rattle.meta_instructions_enums_text.specs.OpcodeItems.{opcode_text, first_opcode_text, listed_line, named_arm}
 use Rattle.meta_instructions_enums_text.specs.Accessors.{accessors_text}
 
 -- the format of each of the instructions is of the table
-abbrev pub HaveFormats : List InstructionFormat → List Built → Type 0
-HaveFormats formats cs = (k : ℕ) (c : Built) → slice_get cs k ≡ Some c → c.format < length formats
+abbrev pub HaveFormats : List InstructionFormat → List BuiltInstruction → Type 0
+HaveFormats formats cs = (k : ℕ) (c : BuiltInstruction) → slice_get cs k ≡ Some c → c.format < length formats
 
 -- ---- the enum
 
@@ -29,11 +29,11 @@ opcodes_head repr = text_of (
     ∷ at 0 (codes "pub enum Opcode {" ∷ []) ∷ [])
 
 -- the instructions
-unfoldable pub each_opcode : List InstructionFormat → List Built → List ℕ
+unfoldable pub each_opcode : List InstructionFormat → List BuiltInstruction → List ℕ
 each_opcode formats [] = []
 each_opcode formats (c ∷ cs) = first_opcode_text formats c ++ flat_map (opcode_text formats) cs
 
-unfoldable pub opcodes_enum_text : List InstructionFormat → List Built → List ℕ
+unfoldable pub opcodes_enum_text : List InstructionFormat → List BuiltInstruction → List ℕ
 opcodes_enum_text formats cs = opcodes_head (number_type (length cs)) ++ (each_opcode formats cs ++ spaced_item_end)
 
 -- ---- its methods
@@ -59,10 +59,10 @@ list_end = text_of (
     ∷ empty_line ∷ [])
 
 -- the method that lists all opcodes, and the end of the methods
-unfoldable pub list_text : List Built → List ℕ
+unfoldable pub list_text : List BuiltInstruction → List ℕ
 list_text cs = list_head ++ (flat_map (λ c. listed_line c.camel_name) cs ++ list_end)
 
-unfoldable pub methods_text : List Built → List ℕ
+unfoldable pub methods_text : List BuiltInstruction → List ℕ
 methods_text cs = methods_head ++ (accessors_text cs ++ list_text cs)
 
 -- ---- the names
@@ -77,13 +77,13 @@ names_head = text_of (
 unfoldable pub names_end : List ℕ
 names_end = text_of (at 1 (codes "}" ∷ []) ∷ at 0 (codes "}" ∷ []) ∷ empty_line ∷ [])
 
-unfoldable pub opcode_names_text : List Built → List ℕ
+unfoldable pub opcode_names_text : List BuiltInstruction → List ℕ
 opcode_names_text cs = names_head ++ (flat_map (λ c. named_arm c.camel_name c.name) cs ++ names_end)
 
 -- ---- all parts
 
 -- the text of these instructions, whose formats are of the table
-unfoldable pub opcodes_part : List InstructionFormat → List Built → List ℕ
+unfoldable pub opcodes_part : List InstructionFormat → List BuiltInstruction → List ℕ
 opcodes_part formats cs = opcodes_enum_text formats cs ++ (methods_text cs ++ opcode_names_text cs)
 
 -- the text of the instructions, in order. It ends with an empty line.

@@ -1,6 +1,7 @@
 ghost use Rattle.std.specs.Prelude.{◌≡◌, ◌++◌, OnOk, string_bytes};
 ghost use Rattle.std.specs.List.{flat_map};
-ghost use Rattle.meta_instructions_enums_text.specs.Accessors.{has_mark, mark_name, mark_doc, accessor_head, true_arm, mark_arm, accessor_end, accessor_text, accessors_text};
+ghost use Rattle.meta_instructions_enums_text.specs.Accessors.{has_mark, mark_name, mark_doc, accessor_head, true_arm, mark_arm};
+ghost use Rattle.meta_instructions_enums_text.specs.Accessors.{accessor_end, accessor_text, accessors_text};
 
 use meta_inst::InstructionContent;
 use meta_rust_lines::push_text;

@@ -1,7 +1,8 @@
 ghost use Rattle.std.specs.Prelude.{◌≡◌, ◌++◌, OnOk, string_bytes};
 ghost use Rattle.std.specs.List.{flat_map};
 ghost use Rattle.meta_instructions_enums_text.specs.OpcodeItems.{listed_line, named_arm};
-ghost use Rattle.meta_instructions_enums_text.specs.OpcodesText.{methods_head, list_head, list_end, list_text, methods_text, names_head, names_end, opcode_names_text};
+ghost use Rattle.meta_instructions_enums_text.specs.OpcodesText.{methods_head, list_head, list_end, list_text, methods_text, names_head};
+ghost use Rattle.meta_instructions_enums_text.specs.OpcodesText.{names_end, opcode_names_text};
 
 use super::accessors::push_accessors;
 use super::opcode_items::{push_listed, push_named};

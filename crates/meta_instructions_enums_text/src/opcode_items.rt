@@ -1,7 +1,9 @@
 ghost use Rattle.std.specs.Prelude.{◌≡◌, ◌<◌, ◌++◌, OnOk, length, string_bytes};
 ghost use Rattle.std.specs.Option.{option_copied};
 ghost use Rattle.meta_inst.specs.Content.{instruction_text};
-ghost use Rattle.meta_instructions_enums_text.specs.OpcodeItems.{shown_line, inferring_input, inferred_from, inferred_line, docs_text, opcode_line, first_opcode_line, opcode_text, first_opcode_text, listed_line, named_arm};
+ghost use Rattle.meta_instructions_enums_text.specs.OpcodeItems.{shown_line, inferring_input, inferred_from, inferred_line, docs_text};
+ghost use Rattle.meta_instructions_enums_text.specs.OpcodeItems.{opcode_line, first_opcode_line, opcode_text, first_opcode_text};
+ghost use Rattle.meta_instructions_enums_text.specs.OpcodeItems.{listed_line, named_arm};
 
 use meta_inst::InstructionContent;
 use meta_operands::{FormatTable, InstructionFormat, Operand};

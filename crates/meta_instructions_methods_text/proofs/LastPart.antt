@@ -1,5 +1,6 @@
 -- What stands behind the last `::` of a text.
-use Rattle.std.proofs.Common.{◌≡◌, ℕ, zero, suc, ◌<◌, ◌≤◌, Bool, true, false, cond, List, [], ◌∷◌, ◌++◌, length, take, drop, codes, ap, sym, ◌∙◌, refl, arith}
+use Rattle.std.proofs.Common.{◌≡◌, ℕ, zero, suc, ◌<◌, ◌≤◌, Bool, true, false, cond, List, [], ◌∷◌, ◌++◌, length, take, drop, codes, ap, sym}
+use Rattle.std.proofs.Common.{◌∙◌, refl, arith}
 use Rattle.std.specs.Str.Pattern.{LacksTextAt}
 use Rattle.std.proofs.lemmas.List.{take-append-drop}
 use Rattle.meta_operands.specs.Laws.{texts_Decides}
@@ -27,11 +28,13 @@ lacking (c ∷ cs) other lacks =
     ∙ lacking cs other (λ i within. lacks (suc i) (omega (arith, within)))
 
 -- where the last one stands at a place, what is behind it
-pub found : (i : ℕ) (s back other : List ℕ) → drop i s ≡ mark ++ back → ((k : ℕ) → i < k → k ≤ length s → LacksTextAt mark s k) → behind_last other s ≡ back
+pub found : (i : ℕ) (s back other : List ℕ) → drop i s ≡ mark ++ back → ((k : ℕ) → i < k → k ≤ length s → LacksTextAt mark s k)
+    → behind_last other s ≡ back
 found zero [] back other at beyond = let bad : ⊥ = omega (arith, ap length at) in absurd bad
 found zero (c ∷ cs) back other at beyond =
     ap (λ b. behind_last (cond b (drop 2 (c ∷ cs)) other) cs) (begins (c ∷ cs) back at)
     ∙ (lacking cs (drop 2 (c ∷ cs)) (λ k within. beyond (suc k) (omega arith) (omega (arith, within)))
     ∙ ap (drop 2) at)
 found (suc i) [] back other at beyond = let bad : ⊥ = omega (arith, ap length at) in absurd bad
-found (suc i) (c ∷ cs) back other at beyond = found i cs back _ at (λ k past within. beyond (suc k) (omega (arith, past)) (omega (arith, within)))
+found (suc i) (c ∷ cs) back other at beyond =
+    found i cs back _ at (λ k past within. beyond (suc k) (omega (arith, past)) (omega (arith, within)))

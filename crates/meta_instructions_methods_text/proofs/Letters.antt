@@ -1,14 +1,14 @@
 -- The snake case of a text, character by character.
-use Rattle.std.proofs.Common.{◌≡◌, ℕ, ◌/◌, ◌+◌, ◌<◌, ◌≤◌, ◌||◌, Bool, true, false, cond, ltb, List, [], ◌∷◌, ◌++◌, length, ap}
+use Rattle.std.proofs.Common.{◌≡◌, ℕ, ◌<◌, ◌≤◌, ◌||◌, Bool, true, false, List, [], ◌∷◌, ◌++◌, length, ap}
 use Rattle.std.proofs.Common.{◌∙◌, sym, refl, arith, ⊎_elim, append_assoc}
-use Rattle.std.specs.Prelude.{⊤}
 use Rattle.std.proofs.lemmas.List.{append-nil, nil_from_length}
 use Rattle.std.proofs.lemmas.Str.{encode_ascii}
 use Rattle.std.proofs.lemmas.Str.Ascii.{lowercase_ascii}
 use Rattle.std.proofs.lemmas.Bool.Decides.{nat_tests}
 use Rattle.std.proofs.lemmas.Bool.{cases_lt}
 use Rattle.std.specs.Char.{is_ascii_uppercase, to_ascii_lowercase}
-use lib.Utf8.{encode, next}
+use lib.Utf8.{encode}
+use Rattle.meta_types.proofs.Characters.{ArePast, all_past, past_ascii}
 use Rattle.meta_instructions_methods_text.specs.EntityWord.{mark_before, snake_from}
 
 -- a byte past ASCII stays as it is
@@ -16,33 +16,14 @@ high : (b : ℕ) (later : Bool) (rest : List ℕ) → 128 ≤ b → snake_from l
 high b true rest h = grind (arith, nat_tests)
 high b false rest h = grind (arith, nat_tests)
 
--- bytes past ASCII
-abbrev ArePast : List ℕ → Type 0
-ArePast [] = ⊤
-ArePast (b ∷ bs) = (128 ≤ b) × ArePast bs
-
+-- so do bytes past ASCII
 stay : (bs : List ℕ) (later : Bool) (rest : List ℕ) → ArePast bs → snake_from later (bs ++ rest) ≡ bs ++ snake_from later rest
 stay [] later rest h = refl
 stay (b ∷ bs) later rest (h, hs) = high b later (bs ++ rest) h ∙ ap (◌∷◌ b) (stay bs later rest hs)
 
--- the bytes of a character past ASCII are so, whether they are two, three or four
-either : (b : Bool) (xs ys : List ℕ) → ArePast xs → ArePast ys → ArePast (cond b xs ys)
-either true xs ys p q = p
-either false xs ys p q = q
-
-past_ascii : (c : ℕ) → 128 ≤ c → ArePast (encode c)
-unfolding encode
-past_ascii c h =
-    let more : ltb c 128 ≡ false = grind (arith, nat_tests) in
-    rw more
-    (either (ltb c 2048) ((192 + c / 64) ∷ next c ∷ []) _ (omega arith, (omega arith, tt))
-    (either (ltb c 65536) ((224 + c / 4096) ∷ next (c / 64) ∷ next c ∷ [])
-    ((240 + c / 262144) ∷ next (c / 4096) ∷ next (c / 64) ∷ next c ∷ [])
-    (omega arith, (omega arith, (omega arith, tt))) (omega arith, (omega arith, (omega arith, (omega arith, tt))))))
-
--- so such a character stays as it is
+-- and a character past ASCII
 snake_from-high : (c : ℕ) (later : Bool) (rest : List ℕ) → 128 ≤ c → snake_from later (encode c ++ rest) ≡ encode c ++ snake_from later rest
-snake_from-high c later rest h = stay (encode c) later rest (past_ascii c h)
+snake_from-high c later rest h = stay (encode c) later rest (all_past (encode c) (past_ascii c h))
 
 -- a character past ASCII is neither a capital nor has a small letter
 none_before : (later : Bool) (c : ℕ) → 128 ≤ c → mark_before later c ≡ []

@@ -2,7 +2,8 @@
 use Rattle.std.specs.Prelude.{ℕ, List}
 use Rattle.meta_operands.specs.declared.format.InstructionFormat.{InstructionFormat}
 use Rattle.meta_instructions_methods_text.specs.declared.method.Method.{Method}
-use Rattle.meta_instructions_methods_text.specs.declared.method.Method.TheVariants.{Opcode, TypevarOperand, Arguments, ArgumentsMut, Eq, Hash, DeepClone, Map}
+use Rattle.meta_instructions_methods_text.specs.declared.method.Method.TheVariants.{Opcode, TypevarOperand, Arguments, ArgumentsMut, Eq}
+use Rattle.meta_instructions_methods_text.specs.declared.method.Method.TheVariants.{Hash, DeepClone, Map}
 use Rattle.meta_instructions_methods_text.specs.declared.read_methods.Access.TheVariants.{Shared, Mutable}
 use Rattle.meta_instructions_methods_text.specs.Held.{values_of}
 use Rattle.meta_instructions_methods_text.specs.ReadMethods.{opcode_arm, typevar_arm, arguments_arm}

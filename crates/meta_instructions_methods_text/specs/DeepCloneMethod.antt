@@ -30,14 +30,14 @@ clone_pattern f =
     f.imm_fields
 
 -- a list of values is copied
-unfoldable pub cloned_values : Values → List ℕ
+abbrev pub cloned_values : Values → List ℕ
 cloned_values values.Absent = []
 cloned_values values.One = kept (codes "arg")
 cloned_values (values.Several count) = kept (codes "args")
 cloned_values values.Listed = text_of (at 5 (codes "args: args.deep_clone(pool)," ∷ []) ∷ [])
 
 -- blocks are copied with the lists of their arguments
-unfoldable pub cloned_blocks : Blocks → List ℕ
+abbrev pub cloned_blocks : Blocks → List ℕ
 cloned_blocks blocks.Absent = []
 cloned_blocks blocks.One = text_of (at 5 (codes "destination: destination.deep_clone(pool)," ∷ []) ∷ [])
 cloned_blocks blocks.Two = text_of (at 5 (codes "blocks: [blocks[0].deep_clone(pool), blocks[1].deep_clone(pool)]," ∷ []) ∷ [])

@@ -53,7 +53,7 @@ unfoldable pub equal_member : List ℕ → List ℕ
 equal_member member = text_of (at 4 (codes "&& " ∷ member ∷ codes "1 == " ∷ member ∷ codes "2" ∷ []) ∷ [])
 
 -- the values are equal
-unfoldable pub equal_values : Values → List ℕ
+abbrev pub equal_values : Values → List ℕ
 equal_values values.Absent = []
 equal_values values.One = equal_member (codes "arg")
 equal_values (values.Several count) = text_of (at 4 (codes "&& args1.iter().zip(args2.iter()).all(|(a, b)| a == b)" ∷ []) ∷ [])
@@ -61,7 +61,7 @@ equal_values values.Listed =
     text_of (at 4 (codes "&& args1.as_slice(pool).iter().zip(args2.as_slice(pool).iter()).all(|(a, b)| a == b)" ∷ []) ∷ [])
 
 -- the blocks are equal: one with its arguments, and two without
-unfoldable pub equal_blocks : Blocks → List ℕ
+abbrev pub equal_blocks : Blocks → List ℕ
 equal_blocks blocks.Absent = []
 equal_blocks blocks.One = equal_member (codes "destination")
 equal_blocks blocks.Two =

@@ -43,7 +43,7 @@ hashed_each_value count args = text_of (
     )
 
 -- the values
-unfoldable pub hashed_values : Values → List ℕ
+abbrev pub hashed_values : Values → List ℕ
 hashed_values values.Absent = hashed (codes "0")
 hashed_values values.One = hashed_each_value (codes "1") (codes "core::slice::from_ref(arg)")
 hashed_values (values.Several count) = hashed_each_value (codes "args.len()") (codes "args")
@@ -62,7 +62,7 @@ hashed_each_block count blocks = text_of (
     )
 
 -- the blocks
-unfoldable pub hashed_blocks : Blocks → List ℕ
+abbrev pub hashed_blocks : Blocks → List ℕ
 hashed_blocks blocks.Absent = []
 hashed_blocks blocks.One = hashed_each_block (codes "1") (codes "core::slice::from_ref(destination)")
 hashed_blocks blocks.Two = hashed_each_block (codes "blocks.len()") (codes "blocks")

@@ -59,7 +59,7 @@ mapped_values (values.Several count) = mapped_array (mapped_below count)
 mapped_values values.Listed = mapped (codes "args") (codes "value_list")
 
 -- the blocks
-unfoldable pub mapped_blocks : Blocks → List ℕ
+abbrev pub mapped_blocks : Blocks → List ℕ
 mapped_blocks blocks.Absent = []
 mapped_blocks blocks.One = mapped (codes "destination") (codes "block_call")
 mapped_blocks blocks.Two = text_of (at 5 (codes "blocks: [mapper.map_block_call(blocks[0]), mapper.map_block_call(blocks[1])]," ∷ []) ∷ [])

@@ -32,7 +32,7 @@ opcode_method formats = opcode_head ++ (flat_map (λ f. opcode_arm f.name) forma
 -- ---- the operand whose type may control
 
 -- where an operand is designated it is the value at its place: in a list, alone, or in an array
-unfoldable pub typevar_arm : List ℕ → Option ℕ → Values → List ℕ
+abbrev pub typevar_arm : List ℕ → Option ℕ → Values → List ℕ
 typevar_arm name None held = text_of (at 3 (codes "Self::" ∷ name ∷ codes " { .. } => None," ∷ []) ∷ [])
 typevar_arm name (Some place) values.Absent = text_of (at 3 (codes "Self::" ∷ name ∷ codes " { .. } => None," ∷ []) ∷ [])
 typevar_arm name (Some place) values.One = text_of (at 3 (codes "Self::" ∷ name ∷ codes " { arg, .. } => Some(arg)," ∷ []) ∷ [])
@@ -80,7 +80,7 @@ abbrev pub list_as_slice : Access → List ℕ
 list_as_slice Shared = codes "as_slice"
 list_as_slice Mutable = codes "as_mut_slice"
 
-unfoldable pub values_arm : List ℕ → Values → List ℕ → List ℕ → List ℕ → List ℕ
+abbrev pub values_arm : List ℕ → Values → List ℕ → List ℕ → List ℕ → List ℕ
 values_arm name values.Absent mark one list = text_of (at 3 (codes "Self::" ∷ name ∷ codes " { .. } => &" ∷ mark ∷ codes "[]," ∷ []) ∷ [])
 values_arm name values.One mark one list = text_of (
     at 3 (codes "Self::" ∷ name ∷ codes " { ref " ∷ mark ∷ codes "arg, .. } => " ∷ one ∷ codes "(arg)," ∷ []) ∷ []

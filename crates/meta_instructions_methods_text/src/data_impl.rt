@@ -1,6 +1,6 @@
 ghost use Rattle.std.specs.Prelude.{◌≡◌, ◌++◌, OnOk, map, string_bytes};
-ghost use Rattle.meta_rust_lines.specs.Ends.{item_end};
-ghost use Rattle.meta_instructions_methods_text.specs.ReadMethods.{opcode_method, typevar_operand_method, arguments_method, arguments_mut_method};
+ghost use Rattle.meta_instructions_methods_text.specs.ReadMethods.{opcode_method, typevar_operand_method, arguments_method};
+ghost use Rattle.meta_instructions_methods_text.specs.ReadMethods.{arguments_mut_method};
 ghost use Rattle.meta_instructions_methods_text.specs.EqMethod.{eq_method};
 ghost use Rattle.meta_instructions_methods_text.specs.HashMethod.{hash_method};
 ghost use Rattle.meta_instructions_methods_text.specs.DeepCloneMethod.{deep_clone_method};

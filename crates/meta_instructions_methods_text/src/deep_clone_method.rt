@@ -2,7 +2,8 @@ ghost use Rattle.std.specs.Prelude.{◌≡◌, ◌++◌, OnOk, IfOk, string_byte
 ghost use Rattle.std.specs.List.{flat_map};
 ghost use Rattle.meta_instructions_methods_text.specs.Held.{values_of, blocks_of, has_raw_block};
 ghost use Rattle.meta_instructions_methods_text.specs.Rebuilt.{kept};
-ghost use Rattle.meta_instructions_methods_text.specs.DeepCloneMethod.{clone_head, list_mark, clone_pattern, cloned_values, cloned_blocks, cloned_raw_block, clone_arm};
+ghost use Rattle.meta_instructions_methods_text.specs.DeepCloneMethod.{clone_head, list_mark, clone_pattern, cloned_values, cloned_blocks};
+ghost use Rattle.meta_instructions_methods_text.specs.DeepCloneMethod.{cloned_raw_block, clone_arm};
 
 use super::held::{Blocks, Values, blocks_of, has_raw_block, raw_block_member, values_of};
 use super::members::{push_further, push_further_fields};
@@ -36,7 +37,6 @@ fn clone_pattern(alloc: Global, format: &InstructionFormat) -> Result<String, Al
 }
 
 /// Adds the values: a list is copied.
-#[tactic(auto, unfolding(crate::specs::DeepCloneMethod::cloned_values))]
 fn push_cloned_values(out: &mut String, values: Values) -> Result<(), AllocError>
     ensures { OnOk result (string_bytes out.new ≡ string_bytes out.old ++ cloned_values values) }
 {
@@ -49,7 +49,6 @@ fn push_cloned_values(out: &mut String, values: Values) -> Result<(), AllocError
 }
 
 /// Adds the blocks, which are copied with the lists of their arguments.
-#[tactic(auto, unfolding(crate::specs::DeepCloneMethod::cloned_blocks))]
 fn push_cloned_blocks(out: &mut String, blocks: Blocks) -> Result<(), AllocError>
     ensures { OnOk result (string_bytes out.new ≡ string_bytes out.old ++ cloned_blocks blocks) }
 {

@@ -2,7 +2,8 @@ ghost use Rattle.std.specs.Prelude.{◌≡◌, ◌++◌, OnOk, IfOk, codes, stri
 ghost use Rattle.std.specs.List.{flat_map};
 ghost use Rattle.std.specs.Option.{option_copied};
 ghost use Rattle.meta_instructions_methods_text.specs.Held.{values_of, blocks_of, has_raw_block};
-ghost use Rattle.meta_instructions_methods_text.specs.EqMethod.{marked_member, marked_fields, eq_pattern, eq_arm_head, equal_member, equal_values, equal_blocks, equal_raw_block, eq_arm, eq_head, eq_last_arm};
+ghost use Rattle.meta_instructions_methods_text.specs.EqMethod.{marked_member, marked_fields, eq_pattern, eq_arm_head, equal_member};
+ghost use Rattle.meta_instructions_methods_text.specs.EqMethod.{equal_values, equal_blocks, equal_raw_block, eq_arm, eq_head, eq_last_arm};
 
 use super::held::{Blocks, Values, blocks_of, has_raw_block, raw_block_member, values_of};
 use super::method_lines::push_arm_end;
@@ -80,7 +81,6 @@ fn push_equal_fields(out: &mut String, fields: &[FormatField]) -> Result<(), All
 }
 
 /// Adds that the values are equal.
-#[tactic(auto, unfolding(crate::specs::EqMethod::equal_values))]
 fn push_equal_values(out: &mut String, values: Values) -> Result<(), AllocError>
     ensures { OnOk result (string_bytes out.new ≡ string_bytes out.old ++ equal_values values) }
 {
@@ -101,7 +101,6 @@ fn push_equal_values(out: &mut String, values: Values) -> Result<(), AllocError>
 }
 
 /// Adds that the blocks are equal.
-#[tactic(auto, unfolding(crate::specs::EqMethod::equal_blocks))]
 fn push_equal_blocks(out: &mut String, blocks: Blocks) -> Result<(), AllocError>
     ensures { OnOk result (string_bytes out.new ≡ string_bytes out.old ++ equal_blocks blocks) }
 {

@@ -1,7 +1,9 @@
 ghost use Rattle.std.specs.Prelude.{◌≡◌, ◌++◌, OnOk, IfOk, string_bytes};
 ghost use Rattle.std.specs.List.{flat_map};
 ghost use Rattle.meta_instructions_methods_text.specs.Held.{values_of, blocks_of, has_raw_block};
-ghost use Rattle.meta_instructions_methods_text.specs.HashMethod.{hash_head, hash_pattern, hash_arm_head, hashed, hashed_each_value, hashed_values, hashed_each_block, hashed_blocks, hashed_raw_block, hash_arm};
+ghost use Rattle.meta_instructions_methods_text.specs.HashMethod.{hash_head, hash_pattern, hash_arm_head, hashed, hashed_each_value};
+ghost use Rattle.meta_instructions_methods_text.specs.HashMethod.{hashed_values, hashed_each_block, hashed_blocks, hashed_raw_block};
+ghost use Rattle.meta_instructions_methods_text.specs.HashMethod.{hash_arm};
 
 use super::held::{Blocks, Values, blocks_of, has_raw_block, raw_block_member, values_of};
 use super::members::{push_further, push_further_fields};
@@ -74,7 +76,6 @@ fn push_each_value(out: &mut String, count: &str, args: &str) -> Result<(), Allo
 }
 
 /// Adds that the values are hashed.
-#[tactic(auto, unfolding(crate::specs::HashMethod::hashed_values))]
 fn push_hashed_values(out: &mut String, values: Values) -> Result<(), AllocError>
     ensures { OnOk result (string_bytes out.new ≡ string_bytes out.old ++ hashed_values values) }
 {
@@ -105,7 +106,6 @@ fn push_each_block(out: &mut String, count: &str, blocks: &str) -> Result<(), Al
 }
 
 /// Adds that the blocks are hashed.
-#[tactic(auto, unfolding(crate::specs::HashMethod::hashed_blocks))]
 fn push_hashed_blocks(out: &mut String, blocks: Blocks) -> Result<(), AllocError>
     ensures { OnOk result (string_bytes out.new ≡ string_bytes out.old ++ hashed_blocks blocks) }
 {

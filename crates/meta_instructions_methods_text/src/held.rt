@@ -1,6 +1,7 @@
 ghost use Rattle.std.specs.Prelude.{◌≡◌};
 ghost use Rattle.std.specs.Option.{option_copied};
-ghost use Rattle.meta_instructions_methods_text.specs.Held.{values_of, blocks_of, has_raw_block, values_member, blocks_member, raw_block_member};
+ghost use Rattle.meta_instructions_methods_text.specs.Held.{values_of, blocks_of, has_raw_block, values_member, blocks_member};
+ghost use Rattle.meta_instructions_methods_text.specs.Held.{raw_block_member};
 
 use meta_operands::InstructionFormat;
 

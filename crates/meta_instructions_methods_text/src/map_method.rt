@@ -2,7 +2,9 @@ ghost use Rattle.std.specs.Prelude.{◌≡◌, ◌++◌, OnOk, IfOk, string_byte
 ghost use Rattle.std.specs.List.{flat_map};
 ghost use Rattle.meta_instructions_methods_text.specs.Held.{values_of, blocks_of, has_raw_block};
 ghost use Rattle.meta_instructions_methods_text.specs.EntityWord.{entity_word};
-ghost use Rattle.meta_instructions_methods_text.specs.MapMethod.{map_head, mapped_or_kept, immediate_mapper, map_pattern, mapped_value, mapped_below, mapped, mapped_array, mapped_values, mapped_blocks, mapped_raw_block, mapped_field, map_arm};
+ghost use Rattle.meta_instructions_methods_text.specs.MapMethod.{map_head, mapped_or_kept, immediate_mapper, map_pattern, mapped_value};
+ghost use Rattle.meta_instructions_methods_text.specs.MapMethod.{mapped_below, mapped, mapped_array, mapped_values, mapped_blocks};
+ghost use Rattle.meta_instructions_methods_text.specs.MapMethod.{mapped_raw_block, mapped_field, map_arm};
 
 use super::entity_word::entity_word;
 use super::held::{Blocks, Values, blocks_of, has_raw_block, raw_block_member, values_of};
@@ -83,7 +85,6 @@ fn push_mapped_values(alloc: Global, out: &mut String, values: Values) -> Result
 }
 
 /// Adds the blocks.
-#[tactic(auto, unfolding(crate::specs::MapMethod::mapped_blocks))]
 fn push_mapped_blocks(out: &mut String, blocks: Blocks) -> Result<(), AllocError>
     ensures { OnOk result (string_bytes out.new ≡ string_bytes out.old ++ mapped_blocks blocks) }
 {

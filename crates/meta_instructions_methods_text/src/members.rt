@@ -1,9 +1,9 @@
-ghost use Rattle.std.specs.Prelude.{◌≡◌, ◌++◌, OnOk, IfOk, string_bytes};
+ghost use Rattle.std.specs.Prelude.{◌≡◌, ◌++◌, OnOk, string_bytes};
 ghost use Rattle.std.specs.Option.{option_copied};
-ghost use Rattle.meta_instructions_methods_text.specs.Members.{further, further_fields, pattern_text};
+ghost use Rattle.meta_instructions_methods_text.specs.Members.{further, further_fields};
 
 use meta_operands::FormatField;
-use std::alloc::{AllocError, Global};
+use std::alloc::AllocError;
 
 /// Adds a further member with this before it, and nothing of none.
 pub(crate) fn push_further(

@@ -1,6 +1,8 @@
-ghost use Rattle.std.specs.Prelude.{◌≡◌, ◌++◌, OnOk, map, string_bytes};
+ghost use Rattle.std.specs.Prelude.{◌≡◌, ◌++◌, OnOk, string_bytes};
 ghost use Rattle.meta_instructions_methods_text.specs.Held.{values_of};
-ghost use Rattle.meta_instructions_methods_text.specs.ReadMethods.{arguments_mut_head, arguments_head, typevar_operand_head, opcode_head, opcode_arm, typevar_arm, reference_mark, one_as_slice, list_as_slice, values_arm, arguments_arm};
+ghost use Rattle.meta_instructions_methods_text.specs.ReadMethods.{arguments_mut_head, arguments_head, typevar_operand_head, opcode_head};
+ghost use Rattle.meta_instructions_methods_text.specs.ReadMethods.{opcode_arm, typevar_arm, reference_mark, one_as_slice, list_as_slice};
+ghost use Rattle.meta_instructions_methods_text.specs.ReadMethods.{values_arm, arguments_arm};
 
 use super::held::{Values, values_of};
 use meta_operands::InstructionFormat;
@@ -47,7 +49,6 @@ pub(crate) fn push_typevar_operand_head(out: &mut String) -> Result<(), AllocErr
 }
 
 /// Adds the arm of the format of this name in `typevar_operand`: the value at the designated place, where one is designated.
-#[tactic(auto, unfolding(crate::specs::ReadMethods::typevar_arm))]
 pub(crate) fn push_typevar_arm(
     out: &mut String,
     name: &str,
@@ -147,7 +148,6 @@ impl Access {
 
 /// Adds the arm of the format of this name, with the mark of references, in a method that makes one slice of the values, which
 /// these functions make of one value and of a list.
-#[tactic(auto, unfolding(crate::specs::ReadMethods::values_arm))]
 fn push_values_arm(
     out: &mut String,
     name: &str,

@@ -1,7 +1,10 @@
 pub mod Places
+pub mod Everywhere
 pub mod Pushed
 pub mod Mapped
 pub mod Contained
+pub mod Joined
 pub mod Pairs
 pub mod Options
 pub mod Results
+pub mod First

@@ -6,7 +6,8 @@ pub get_map : {X Y : Type 0} (f : X → Y) (xs : List X) (k : ℕ) (x : X) → s
 get_map f xs k x e = slice_get-map f xs k ∙ ap (option_map f) e
 
 -- what stands there comes from what stood there
-pub get_mapped : {X Y : Type 0} (f : X → Y) (xs : List X) (k : ℕ) (y : Y) → slice_get (map f xs) k ≡ Some y → (x : X) × (slice_get xs k ≡ Some x) × (f x ≡ y)
+pub get_mapped : {X Y : Type 0} (f : X → Y) (xs : List X) (k : ℕ) (y : Y) → slice_get (map f xs) k ≡ Some y
+    → (x : X) × (slice_get xs k ≡ Some x) × (f x ≡ y)
 get_mapped f [] k y e = absurd (cc)
 get_mapped f (x ∷ xs) zero y e = (x, refl, cc)
 get_mapped f (x ∷ xs) (suc k) y e = get_mapped f xs k y e

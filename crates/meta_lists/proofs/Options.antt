@@ -20,7 +20,8 @@ told_none None P e h = h
 told_none (Some x) P e h = absurd (false≢true e)
 
 -- whether two options compare equal decides whether they are one, where it does so of what they have
-pub option_decides : {X : Type 0} {eq : X → X → Bool} → ((x y : X) → Decides (eq x y) (x ≡ y)) → (a b : Option X) → Decides (option_eq eq a b) (a ≡ b)
+pub option_decides : {X : Type 0} {eq : X → X → Bool} → ((x y : X) → Decides (eq x y) (x ≡ y)) → (a b : Option X)
+    → Decides (option_eq eq a b) (a ≡ b)
 option_decides decides None None = (λ e. refl, λ e. refl)
 option_decides decides None (Some y) = (λ e. absurd (cc), λ e. absurd (cc))
 option_decides decides (Some x) None = (λ e. absurd (cc), λ e. absurd (cc))

@@ -1,5 +1,6 @@
 -- Elements of lists by their places.
-use Rattle.std.proofs.Common.{◌≡◌, ◌≢◌, ℕ, ◌+◌, ◌<◌, ◌⊎◌, inl, inr, ⊎_elim, zero, suc, List, [], ◌∷◌, ◌++◌, length, take, drop, slice_get, slice_set, Some, None, refl, sym, ap, ◌∙◌, suc-add, zero-add, arith}
+use Rattle.std.proofs.Common.{◌≡◌, ◌≢◌, ℕ, ◌+◌, ◌<◌, ◌⊎◌, inl, inr, ⊎_elim, zero, suc, List, [], ◌∷◌, ◌++◌, length, take, drop, slice_get}
+use Rattle.std.proofs.Common.{slice_set, Some, None, refl, sym, ap, ◌∙◌, suc-add, zero-add, arith}
 use Rattle.std.proofs.lemmas.List.{take_more, drop_more}
 use Rattle.std.proofs.lemmas.Option.{same_Some, slice_get_within, get_or_from_slice_get}
 
@@ -19,14 +20,16 @@ get_only x y (suc k) at = cc
 -- ---- two lists that are equally long
 
 -- where something stands in the one, something stands in the other
-pub get_beside : {X Y : Type 0} (xs : List X) (ys : List Y) (k : ℕ) (x : X) → length xs ≡ length ys → slice_get xs k ≡ Some x → (y : Y) × (slice_get ys k ≡ Some y)
+pub get_beside : {X Y : Type 0} (xs : List X) (ys : List Y) (k : ℕ) (x : X) → length xs ≡ length ys
+    → slice_get xs k ≡ Some x → (y : Y) × (slice_get ys k ≡ Some y)
 get_beside [] ys k x l e = absurd (cc)
 get_beside (z ∷ xs) [] k x l e = absurd (omega arith)
 get_beside (z ∷ xs) (y ∷ ys) zero x l e = (y, refl)
 get_beside (z ∷ xs) (y ∷ ys) (suc k) x l e = get_beside xs ys k x (omega arith) e
 
 -- they are the same where they have the same elements
-pub same_places : {X : Type 0} (xs ys : List X) → length xs ≡ length ys → ((j : ℕ) → j < length xs → slice_get xs j ≡ slice_get ys j) → xs ≡ ys
+pub same_places : {X : Type 0} (xs ys : List X) → length xs ≡ length ys
+    → ((j : ℕ) → j < length xs → slice_get xs j ≡ slice_get ys j) → xs ≡ ys
 same_places [] [] long each = refl
 same_places [] (y ∷ ys) long each = absurd (omega (arith, long))
 same_places (x ∷ xs) [] long each = absurd (omega (arith, long))
@@ -70,7 +73,8 @@ get_seam [] y ys = refl
 get_seam (x ∷ xs) y ys = get_seam xs y ys
 
 -- an element is one of the first or one of the second
-pub get_cases : {X : Type 0} (xs ys : List X) (k : ℕ) (x : X) → slice_get (xs ++ ys) k ≡ Some x → (slice_get xs k ≡ Some x) ⊎ ((j : ℕ) × (k ≡ length xs + j) × (slice_get ys j ≡ Some x))
+pub get_cases : {X : Type 0} (xs ys : List X) (k : ℕ) (x : X) → slice_get (xs ++ ys) k ≡ Some x
+    → (slice_get xs k ≡ Some x) ⊎ ((j : ℕ) × (k ≡ length xs + j) × (slice_get ys j ≡ Some x))
 get_cases [] ys k x e = inr (k, omega arith, e)
 get_cases (z ∷ xs) ys zero x e = inl e
 get_cases (z ∷ xs) ys (suc k) x e = ⊎_elim (λ h. inl h) (λ h. inr (h.0, omega (arith, h.1), h.2)) (get_cases xs ys k x e)

@@ -5,11 +5,13 @@ use Rattle.std.proofs.lemmas.Option.{same_Some, slice_get_read, slice_get_within
 use Rattle.meta_main.specs.Asked.{IsHelp, IsVersion, AsksAt, FirstAsks}
 
 -- what stands at a place is the word that was read there
-there : (words : List (List ℕ)) (k : ℕ) (word other : List ℕ) → k < length words → word ≡ get_or words k word → slice_get words k ≡ Some other → other ≡ word
+there : (words : List (List ℕ)) (k : ℕ) (word other : List ℕ) → k < length words → word ≡ get_or words k word
+    → slice_get words k ≡ Some other → other ≡ word
 there words k word other within is at = same_Some _ _ (sym at ∙ slice_get_read words (length words) k word refl within is)
 
 -- a word more asks for nothing
-pub none_more : (words : List (List ℕ)) (k : ℕ) (word : List ℕ) → k < length words → word ≡ get_or words k word → (IsHelp word → ⊥) → (IsVersion word → ⊥) → ((j : ℕ) → j < k → AsksAt words j → ⊥) → (j : ℕ) → j < k + 1 → AsksAt words j → ⊥
+pub none_more : (words : List (List ℕ)) (k : ℕ) (word : List ℕ) → k < length words → word ≡ get_or words k word → (IsHelp word → ⊥)
+    → (IsVersion word → ⊥) → ((j : ℕ) → j < k → AsksAt words j → ⊥) → (j : ℕ) → j < k + 1 → AsksAt words j → ⊥
 none_more words k word within is no_help no_version none j below asks = ⊎_elim
     (λ l. none j l asks)
     (λ l.
@@ -20,7 +22,8 @@ none_more words k word within is no_help no_version none j below asks = ⊎_elim
     (cases_lt j k)
 
 -- the word at a place behind words that ask for nothing decides
-pub first_is : (P : List ℕ → Type 0) (words : List (List ℕ)) (k : ℕ) (word : List ℕ) → k < length words → word ≡ get_or words k word → P word → (IsHelp word ⊎ IsVersion word) → ((j : ℕ) → j < k → AsksAt words j → ⊥) → FirstAsks P words
+pub first_is : (P : List ℕ → Type 0) (words : List (List ℕ)) (k : ℕ) (word : List ℕ) → k < length words → word ≡ get_or words k word
+    → P word → (IsHelp word ⊎ IsVersion word) → ((j : ℕ) → j < k → AsksAt words j → ⊥) → FirstAsks P words
 first_is P words k word within is holds asks none =
     let at : slice_get words k ≡ Some word = slice_get_read words (length words) k word refl within is in
     (k, record { holds = (word, at, asks); none_before = none }, (word, at, holds))

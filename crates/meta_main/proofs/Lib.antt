@@ -1,4 +1,6 @@
 mod Behind
 mod First
+mod Line
 mod Numbers
 mod Plain
+mod Taken

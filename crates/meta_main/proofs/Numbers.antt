@@ -9,7 +9,8 @@ pub no_truth : false ≡ true → ⊥
 no_truth e = absurd (cc)
 
 -- the number that a word writes is the one that lies in the range
-pub written_least : (range : Range) (word : List ℕ) (n : ℕ) → range.most < 2 ^ 64 → n ≤ range.most → word ≡ decimal n → IsNumberIn range word → range.least ≤ n
+pub written_least : (range : Range) (word : List ℕ) (n : ℕ) → range.most < 2 ^ 64 → n ≤ range.most → word ≡ decimal n
+    → IsNumberIn range word → range.least ≤ n
 written_least range word n few small is h =
     let most : h.number ≤ range.most = h.most in
     let same : h.number ≡ n = decimal_injective h.number n (omega arith) (omega arith) (sym h.written ∙ is) in

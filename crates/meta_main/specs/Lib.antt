@@ -1,3 +1,4 @@
 pub mod Asked
 pub mod Misuse
+pub mod Telling
 pub mod Usage

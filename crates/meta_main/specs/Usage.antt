@@ -1,9 +1,10 @@
 -- The line that names the wrong word of words that are no command.
 --     IsUsageLine commands words line     the line names the word that a misuse of the words tells of, and the commands
-use Rattle.std.specs.Prelude.{◌≡◌, ◌≤◌, ◌<◌, ℕ, List, [], ◌∷◌, ◌++◌, codes, slice_get, Some}
+use Rattle.std.specs.Prelude.{◌≡◌, ◌≤◌, ◌<◌, ℕ, List, [], ◌∷◌, ◌++◌, codes, slice_get, None, Some}
+use Rattle.std.specs.Char.Escape.{escape_ascii}
 use Rattle.std.specs.List.{flat_map}
 use Rattle.meta_main.specs.Misuse.{IsMisuse}
-use Rattle.meta_main.specs.declared.manual.Command.{Command}
+use Rattle.meta_main.specs.declared.manual.CommandForm.{CommandForm}
 use Rattle.meta_main.specs.declared.misuse.Misuse.{Misuse}
 use Rattle.meta_main.specs.declared.misuse.Misuse.TheVariants.{NoWord, NoCommand, NoNumber, WordTooMany, NumberMissing}
 
@@ -11,60 +12,71 @@ use Rattle.meta_main.specs.declared.misuse.Misuse.TheVariants.{NoWord, NoCommand
 abbrev pub IsPlain : List ℕ → Type 0
 IsPlain word = (k byte : ℕ) → slice_get word k ≡ Some byte → (32 ≤ byte) × (byte < 127)
 
--- what a line shows of a word: a plain one stands between quotes as it is
-abbrev pub IsShown : List ℕ → List ℕ → Type 0
-IsShown word shown = IsPlain word → shown ≡ codes "'" ++ (word ++ codes "'")
+-- the word between double quotes, each byte as `u8::escape_ascii` writes it: `\n`, `\"`, `\x1b`, or itself where it is plain
+abbrev pub escaped : List ℕ → List ℕ
+escaped word = codes "\"" ++ (flat_map escape_ascii word ++ codes "\"")
 
--- the same of the word at a place, where there is one
-abbrev pub IsShownAt : List (List ℕ) → ℕ → List ℕ → Type 0
-IsShownAt words place shown = (word : List ℕ) → slice_get words place ≡ Some word → IsShown word shown
+-- what a line shows of a word: a plain one stands between quotes as it is, and any other with escapes
+pub record IsShown (word shown : List ℕ) : Type 0 where
+  pub plain : IsPlain word → shown ≡ codes "'" ++ (word ++ codes "'")
+  pub others : (IsPlain word → ⊥) → shown ≡ escaped word
+
+-- the same of the word at a place, and nothing where there is none
+pub record IsShownAt (words : List (List ℕ)) (place : ℕ) (shown : List ℕ) : Type 0 where
+  pub word : (word : List ℕ) → slice_get words place ≡ Some word → IsShown word shown
+  pub none : slice_get words place ≡ None → shown ≡ []
 
 -- what is wrong with the words behind a name of which m tells, by the name and the word as they are shown
-abbrev pub wrong_text : Misuse → List ℕ → List ℕ → List ℕ
-wrong_text NoWord name word = codes "no command " ++ name
-wrong_text NoCommand name word = codes "no command " ++ name
-wrong_text (NoNumber place) name word = word ++ (codes " is no number for " ++ name)
-wrong_text (WordTooMany place) name word = word ++ (codes " is a word too many for " ++ name)
-wrong_text NumberMissing name word = codes "a number is missing for " ++ name
+abbrev pub misuse_text : Misuse → List ℕ → List ℕ → List ℕ
+misuse_text NoWord name word = codes "no command " ++ name
+misuse_text NoCommand name word = codes "no command " ++ name
+misuse_text (NoNumber place) name word = word ++ (codes " is no number for " ++ name)
+misuse_text (WordTooMany place) name word = word ++ (codes " is a word too many for " ++ name)
+misuse_text NumberMissing name word = codes "a number is missing for " ++ name
 
 -- the place behind the name of the word that is shown
-abbrev pub place_of : Misuse → ℕ
-place_of NoWord = 0
-place_of NoCommand = 0
-place_of (NoNumber place) = place
-place_of (WordTooMany place) = place
-place_of NumberMissing = 0
+abbrev pub misuse_place : Misuse → ℕ
+misuse_place NoWord = 0
+misuse_place NoCommand = 0
+misuse_place (NoNumber place) = place
+misuse_place (WordTooMany place) = place
+misuse_place NumberMissing = 0
 
 -- the text says what m tells of the words, and names the word
 pub record IsWrongBehind (name : List ℕ) (behind : List (List ℕ)) (m : Misuse) (text : List ℕ) : Type 0 where
   pub name_shown : List ℕ
   pub shows_name : IsShown name name_shown
   pub word_shown : List ℕ
-  pub shows_word : IsShownAt behind (place_of m) word_shown
-  pub is : text ≡ wrong_text m name_shown word_shown
+  pub shows_word : IsShownAt behind (misuse_place m) word_shown
+  pub is : text ≡ misuse_text m name_shown word_shown
 
-abbrev pub IsWrong : List (List ℕ) → Misuse → List ℕ → Type 0
-IsWrong [] m text = text ≡ codes "no command"
-IsWrong (name ∷ behind) m text = IsWrongBehind name behind m text
+-- the same of all words: the first is the name, and where there is no word, the text says just that there is no command
+abbrev pub TellsWrong : List (List ℕ) → Misuse → List ℕ → Type 0
+TellsWrong [] m text = text ≡ codes "no command"
+TellsWrong (name ∷ behind) m text = IsWrongBehind name behind m text
 
 -- a name behind a comma
-abbrev pub behind_comma : Command → List ℕ
-behind_comma command = codes ", " ++ command.name.now
+abbrev pub command_behind_comma : CommandForm → List ℕ
+command_behind_comma command = codes ", " ++ command.name.now
 
 -- the names with commas between them
-abbrev pub names_text : List Command → List ℕ
-names_text [] = []
-names_text (command ∷ commands) = command.name.now ++ flat_map behind_comma commands
+abbrev pub command_names_text : List CommandForm → List ℕ
+command_names_text [] = []
+command_names_text (command ∷ commands) = command.name.now ++ flat_map command_behind_comma commands
 
 -- which commands there are: where there is none, no word is taken
-abbrev pub commands_text : List Command → List ℕ
+abbrev pub commands_text : List CommandForm → List ℕ
 commands_text [] = codes "the program takes no words"
-commands_text (command ∷ commands) = codes "the commands are " ++ names_text (command ∷ commands)
+commands_text (command ∷ commands) = codes "the commands are " ++ command_names_text (command ∷ commands)
+
+-- the name of each command is plain
+abbrev pub ArePlainlyNamed : List CommandForm → Type 0
+ArePlainlyNamed commands = (k : ℕ) (command : CommandForm) → slice_get commands k ≡ Some command → IsPlain command.name.now
 
 -- the line names the wrong word and the commands
-pub record IsUsageLine (commands : List Command) (words : List (List ℕ)) (line : List ℕ) : Type 0 where
+pub record IsUsageLine (commands : List CommandForm) (words : List (List ℕ)) (line : List ℕ) : Type 0 where
   pub misuse : Misuse
   pub is_misuse : IsMisuse commands words misuse
   pub wrong : List ℕ
-  pub is_wrong : IsWrong words misuse wrong
+  pub is_wrong : TellsWrong words misuse wrong
   pub is : line ≡ wrong ++ (codes ": " ++ (commands_text commands ++ codes "; --help says more"))

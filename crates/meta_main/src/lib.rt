@@ -5,6 +5,7 @@
 #![tactic(auto)]
 
 mod asked;
+mod laws;
 mod manual;
 mod misuse;
 mod program;
@@ -13,7 +14,8 @@ mod usage;
 mod word;
 
 pub use asked::Asked;
-pub use manual::{Command, Manual, Range};
+pub use laws::never_both;
+pub use manual::{CommandForm, Manual, Range};
 pub use misuse::Misuse;
 pub use program::{Program, start};
 pub use telling::about;

@@ -7,7 +7,7 @@ pub struct Range {
 
 /// A command of a program: its name, and the numbers that the words behind it write.
 #[derive(Clone, Copy)]
-pub struct Command {
+pub struct CommandForm {
     pub name: &'static str,
     pub numbers: &'static [Range],
 }
@@ -22,5 +22,5 @@ pub struct Manual {
     /// The text of its help, without the last line feed.
     pub help: &'static str,
     /// Its commands, each with another name.
-    pub commands: &'static [Command],
+    pub commands: &'static [CommandForm],
 }

@@ -1,8 +1,8 @@
 ghost use Rattle.std.specs.Prelude.{◌≡◌, ◌↔◌, IsTrue, IfSome, IfNone};
-ghost use Rattle.meta_main.specs.Usage.{place_of};
-ghost use Rattle.meta_main.specs.Misuse.{IsNumberIn, AreNumbersIn, IsMisuseBehind, IsMisuse, AreWordsOf, IsNamed, NamesNone};
+ghost use Rattle.meta_main.specs.Usage.{misuse_place};
+ghost use Rattle.meta_main.specs.Misuse.{IsNumberIn, AreNumbersIn, IsMisuseBehind, IsMisuse, AreTaken, IsFirstNamed, NamesNone};
 
-use super::manual::{Command, Range};
+use super::manual::{CommandForm, Range};
 use super::word::is_text;
 use meta_types::Text;
 use meta_words::number_in;
@@ -34,9 +34,9 @@ impl Range {
     }
 }
 
-/// The command of this name.
-fn named<'c>(commands: &'c [Command], name: &Text) -> Option<&'c Command>
-    ensures some { IfSome result (λ c. IsNamed commands.now name.now c.now) }
+/// The first command of this name.
+fn named<'c>(commands: &'c [CommandForm], name: &Text) -> Option<&'c CommandForm>
+    ensures some { IfSome result (λ c. IsFirstNamed commands.now name.now c.now) }
     ensures none { IfNone result (NamesNone commands.now name.now) }
 {
     for command in commands {
@@ -64,9 +64,10 @@ fn behind(numbers: &[Range], words: &[Text]) -> Option<Misuse>
 }
 
 impl Misuse {
-    /// Why the words are none of these commands, and `None` where they are one: it tells of the first word that makes them none.
-    pub fn of(commands: &[Command], words: &[Text]) -> Option<Misuse>
-        ensures none { IfNone result (AreWordsOf commands.now words.now) }
+    /// Why the words are none of these commands, and `None` where they are one: it tells of the first word that makes them none. Of
+    /// commands of one name the first counts.
+    pub fn of(commands: &[CommandForm], words: &[Text]) -> Option<Misuse>
+        ensures none { IfNone result (AreTaken commands.now words.now) }
         ensures some { IfSome result (IsMisuse commands.now words.now) }
     {
         match words {
@@ -80,7 +81,7 @@ impl Misuse {
 
     /// The place behind the name of the word that it tells of, and 0 where it tells of none there.
     pub(crate) fn place(self) -> usize
-        ensures { result ≡ place_of self }
+        ensures { result ≡ misuse_place self }
     {
         match self {
             Misuse::NoNumber(place) | Misuse::WordTooMany(place) => place,

@@ -1,11 +1,12 @@
-ghost use Rattle.std.specs.Prelude.{◌≡◌, ◌↔◌, None};
-ghost use Rattle.meta_run.specs.declared.ending.Ending.{Ending};
+ghost use Rattle.std.specs.Prelude.{◌≡◌};
+ghost use Rattle.std.specs.Option.{option_copied};
+ghost use Rattle.meta_main.specs.Telling.{about_text};
 
 use meta_run::Ending;
 
 /// What an ending other than `Done` was about, for a person (this project's own).
 pub fn about(ending: Ending) -> Option<&'static str>
-    ensures { (result ≡ None) ↔ (ending ≡ Ending.Done) }
+    ensures { option_copied result ≡ about_text ending }
 {
     match ending {
         Ending::Done => None,

@@ -1,15 +1,17 @@
-ghost use Rattle.std.specs.Prelude.{◌≡◌, ◌↔◌, ◌<◌, ◌≤◌, IfOk, IsTrue, string_bytes};
-ghost use Rattle.meta_main.specs.Misuse.{AreWordsOf};
-ghost use Rattle.meta_main.specs.Usage.{IsPlain, IsShown, IsShownAt, IsWrongBehind, IsWrong, names_text, commands_text, IsUsageLine};
+ghost use Rattle.std.specs.Prelude.{◌≡◌, ◌↔◌, ◌<◌, ◌≤◌, ◌++◌, IfOk, IsTrue, OnOk, string_bytes};
+ghost use Rattle.std.specs.Char.Escape.{escape_ascii};
+ghost use Rattle.meta_main.specs.Misuse.{AreTaken};
+ghost use Rattle.meta_main.specs.Usage.{IsPlain, escaped, IsShown, IsShownAt, ArePlainlyNamed, IsWrongBehind, TellsWrong};
+ghost use Rattle.meta_main.specs.Usage.{command_names_text, commands_text, IsUsageLine};
 
-use super::manual::{Command, Manual};
+use super::manual::{CommandForm, Manual};
 use super::misuse::Misuse;
 use meta_types::Text;
 use std::alloc::{AllocError, Global};
 
 /// The names of the commands, with commas between them.
-fn names(alloc: Global, commands: &[Command]) -> Result<String, AllocError>
-    ensures { IfOk result (λ names. string_bytes names ≡ names_text commands.now) }
+fn names(alloc: Global, commands: &[CommandForm]) -> Result<String, AllocError>
+    ensures { IfOk result (λ names. string_bytes names ≡ command_names_text commands.now) }
 {
     let mut names = String::new(alloc);
     if let [first, others @ ..] = commands {
@@ -23,7 +25,7 @@ fn names(alloc: Global, commands: &[Command]) -> Result<String, AllocError>
 }
 
 /// Which commands there are: where there is none, no word is taken.
-fn commands_text(alloc: Global, commands: &[Command]) -> Result<String, AllocError>
+fn commands_text(alloc: Global, commands: &[CommandForm]) -> Result<String, AllocError>
     ensures { IfOk result (λ text. string_bytes text ≡ commands_text commands.now) }
 {
     match commands {
@@ -44,7 +46,7 @@ fn is_plain_byte(byte: u8) -> bool
 
 /// Whether each byte is one of these.
 fn is_plain(word: &Text) -> bool
-    ensures { IsPlain word.now → IsTrue result }
+    ensures { IsTrue result ↔ IsPlain word.now }
 {
     for byte in word.as_bytes() {
         if !is_plain_byte(*byte) {
@@ -54,15 +56,37 @@ fn is_plain(word: &Text) -> bool
     true
 }
 
-/// The word as a line shows it: between quotes, and where it isn't plain, as Rust escapes it.
+/// Adds the byte as `u8::escape_ascii` writes it.
+fn push_escaped(shown: &mut String, byte: u8) -> Result<(), AllocError>
+    ensures { OnOk result (string_bytes shown.new ≡ string_bytes shown.old ++ escape_ascii byte) }
+{
+    for letter in byte.escape_ascii() {
+        shown.push(char::from(letter))?;
+    }
+    Ok(())
+}
+
+/// The bytes between double quotes, each so.
+fn escaped(alloc: Global, bytes: &[u8]) -> Result<String, AllocError>
+    ensures { IfOk result (λ shown. string_bytes shown ≡ escaped bytes.now) }
+{
+    let mut shown = String::from_str(alloc, "\"")?;
+    for byte in bytes {
+        push_escaped(&mut shown, *byte)?;
+    }
+    shown.push_str("\"")?;
+    Ok(shown)
+}
+
+/// The word as a line shows it: between quotes, and where it isn't plain, with escapes.
 fn shown(alloc: Global, word: &Text) -> Result<String, AllocError>
     ensures { IfOk result (λ shown. IsShown word.now (string_bytes shown)) }
 {
-    let text = word.as_str();
     if is_plain(word) {
+        let text = word.as_str();
         format!(in alloc; "'{text}'")
     } else {
-        format!(in alloc; "{text:?}")
+        escaped(alloc, word.as_bytes())
     }
 }
 
@@ -97,7 +121,7 @@ fn wrong_behind(
 
 /// What is wrong with the words, and with which.
 fn wrong(alloc: Global, words: &[Text], misuse: Misuse) -> Result<String, AllocError>
-    ensures { IfOk result (λ text. IsWrong words.now misuse (string_bytes text)) }
+    ensures { IfOk result (λ text. TellsWrong words.now misuse (string_bytes text)) }
 {
     match words {
         [] => String::from_str(alloc, "no command"),
@@ -106,9 +130,12 @@ fn wrong(alloc: Global, words: &[Text], misuse: Misuse) -> Result<String, AllocE
 }
 
 /// What is wrong with words that are none of the program's commands, with which of them, and which commands there are: one line,
-/// without its line feed.
+/// without its line feed. Where the names of the commands are plain, so is each byte of it: no word ends the line, or reaches a terminal
+/// as anything but ASCII that prints.
 pub fn usage_line(alloc: Global, manual: &Manual, words: &[Text]) -> Result<String, AllocError>
-    ensures { (AreWordsOf manual.now.commands.now words.now → ⊥) → IfOk result (λ line. IsUsageLine manual.now.commands.now words.now (string_bytes line)) }
+    ensures plain { ArePlainlyNamed manual.now.commands.now → IfOk result (λ line. IsPlain (string_bytes line)) }
+    ensures line { (AreTaken manual.now.commands.now words.now → ⊥)
+        → IfOk result (λ line. IsUsageLine manual.now.commands.now words.now (string_bytes line)) }
 {
     let Some(misuse) = Misuse::of(manual.commands, words) else {
         return String::from_str(alloc, "no command");

@@ -9,7 +9,7 @@ use Rattle.meta_typevar.specs.Variable.{Variable, Sets}
 use Rattle.meta_inst.specs.Which.{Which}
 use Rattle.meta_inst.specs.Instruction.{Instruction, IsOperand}
 use Rattle.meta_inst.specs.Control.{IsLoneInput}
-use Rattle.meta_meaning.specs.Acceptance.{Controls}
+use Rattle.meta_meaning.specs.Acceptance.{IsChosenControl}
 use Rattle.meta_meaning.specs.Constraint.{ControlFits}
 
 -- control a is there, and w has its root
@@ -46,7 +46,8 @@ abbrev pub AllFit : Sets → (Which → Option Variable) → (Which → Option T
 AllFit sets controls c = (a : Which) → ControlFits sets (controls a) (c a)
 
 -- one choice of a type for every root at once, for the controlling types c and the types ts of the operands
-pub record IsChoice (sets : Sets) (i : Instruction) (controls : Which → Option Variable) (c : Which → Option TypeParts) (ts : List TypeParts) (choice : ℕ → TypeParts) : Type 0 where
+pub record IsChoice (sets : Sets) (i : Instruction) (controls : Which → Option Variable)
+    (c : Which → Option TypeParts) (ts : List TypeParts) (choice : ℕ → TypeParts) : Type 0 where
   pub members : (k : ℕ) (w : Variable) → IsOperand i k w → IsMember (sets w.root) (choice w.root)
-  pub controlled : (a : Which) → Controls choice (controls a) (c a)
+  pub controlled : (a : Which) → IsChosenControl choice (controls a) (c a)
   pub agrees : (k : ℕ) (w : Variable) (t : TypeParts) → IsOperand i k w → slice_get ts k ≡ Some t → Agrees w.chain (choice w.root) t

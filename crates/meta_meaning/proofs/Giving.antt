@@ -1,12 +1,14 @@
 -- What a constraint gives for a result is the number of the type that is inferred.
-use Rattle.std.proofs.Common.{◌≡◌, ◌↔◌, ◌≤◌, ◌<◌, ◌+◌, ◌⊎◌, ℕ, List, [], ◌∷◌, ◌++◌, length, All, Option, None, Some, slice_get, refl, sym, ap, ◌∙◌, subst, inl, inr, arith}
+use Rattle.std.proofs.Common.{◌≡◌, ◌↔◌, ◌≤◌, ◌<◌, ◌+◌, ◌⊎◌, ℕ, List, [], ◌∷◌, ◌++◌, length, All, Option, None, Some, slice_get, refl, sym}
+use Rattle.std.proofs.Common.{ap, ◌∙◌, subst, inl, inr, arith}
 use Rattle.std.proofs.lemmas.Option.{same_Some, slice_get_within}
 use Rattle.std.proofs.lemmas.List.{same_from_push}
 use Rattle.std.proofs.lemmas.List.Elements.{All-head, All-tail}
 use Rattle.meta_lists.proofs.Pushed.{not_empty}
 use Rattle.meta_lists.proofs.Places.{get_beside, get_stays}
 use Rattle.meta_types.specs.TypeParts.{TypeParts, IsType, number_of}
-use Rattle.meta_types.specs.Function.{Function, LaneOf, AsTruthy, HalfWidth, DoubleWidth, SplitLanes, MergeLanes, DynamicToVector, Narrower, Wider, IsFunction, Steps, AnswersNumber}
+use Rattle.meta_types.specs.Function.{Function, IsRelation, IsFunction, StepsTypes, AnswersNumber}
+use Rattle.meta_types.proofs.Functions.{relation_or_not, no_function}
 use Rattle.meta_types.proofs.Numbers.{one_number}
 use Rattle.meta_typevar.specs.TypeSetParts.{IsMember, IsTypeSet}
 use Rattle.meta_typevar.specs.Chain.{Agrees, IsFixed}
@@ -15,33 +17,19 @@ use Rattle.meta_inst.specs.Which.{Which, First, Second, both}
 use Rattle.meta_inst.specs.Instruction.{Instruction, IsOperand, controls_of}
 use Rattle.meta_inst.specs.Control.{IsControl, HasBadSecond, IsLoneInput}
 use Rattle.meta_meaning.specs.Acceptance.{IsNumberOf}
-use Rattle.meta_meaning.specs.Constraint.{Constraint, Concrete, Free, Same, By, IsConstraint, ControlFits}
-use Rattle.meta_meaning.specs.Inference.{EndsInRelation, IsRootOf, RootHas, IsInferred, IsResultNumber, Infers, InfersNumbers, IsRelation, GivesNumber, GivesAt, GivesResults}
-use Rattle.meta_meaning.specs.Tables.{TableContents, NumberConstraint, ConcreteNumber, FreeOf, SameNumber, ByNumber, OpcodeNumbers, ControlNumberFits, NumberPasses, PassesAt, Allows, StandsFor, AreOpcodeNumbersOf, at_opcode, result_count}
+use Rattle.meta_meaning.specs.Constraint.{TypeConstraint, ConcreteType, FreeType, SameType, ByType, IsConstraint, ControlFits}
+use Rattle.meta_meaning.specs.Inference.{EndsInRelation, IsRootOf, RootHas, IsInferred, IsResultNumber, Infers, InfersNumbers, GivesNumber}
+use Rattle.meta_meaning.specs.Inference.{GivesAt, GivesResults}
+use Rattle.meta_meaning.specs.Tables.{TableContents, NumberConstraint, ConcreteNumber, FreeOf, SameNumber, ByNumber, OpcodeNumbers}
+use Rattle.meta_meaning.specs.Tables.{ControlNumberFits, NumberPasses, PassesAt, Allows, StandsFor, AreOpcodeNumbersOf, at_opcode}
+use Rattle.meta_meaning.specs.Tables.{result_count}
 use Rattle.meta_meaning.proofs.Candidates.{same_variable, underived_agrees, agrees_step}
 use Rattle.meta_meaning.proofs.Fixedness.{fixed_from_one}
 use Rattle.meta_meaning.proofs.Family.{IsUnder, IsSettled, IsUsed, Ruling}
 use Rattle.meta_meaning.proofs.ControlFamily.{ruling_of}
 use Rattle.meta_meaning.proofs.Listed.{type_of_number, number_of_type}
-use Rattle.meta_meaning.proofs.Passing.{control_type, control_number}
+use Rattle.meta_meaning.proofs.Passing.{controlling_type, control_number_fits}
 use Rattle.meta_meaning.proofs.Inferring.{root_of}
-
--- each is a relation or a function
-pub relation_or_not : (f : Function) → IsRelation f ⊎ IsFunction f
-relation_or_not LaneOf = inr ((λ e. cc), (λ e. cc))
-relation_or_not AsTruthy = inr ((λ e. cc), (λ e. cc))
-relation_or_not HalfWidth = inr ((λ e. cc), (λ e. cc))
-relation_or_not DoubleWidth = inr ((λ e. cc), (λ e. cc))
-relation_or_not SplitLanes = inr ((λ e. cc), (λ e. cc))
-relation_or_not MergeLanes = inr ((λ e. cc), (λ e. cc))
-relation_or_not DynamicToVector = inr ((λ e. cc), (λ e. cc))
-relation_or_not Narrower = inl (inl refl)
-relation_or_not Wider = inl (inr refl)
-
--- a relation is no function
-pub no_function : (f : Function) → IsRelation f → IsFunction f → ⊥
-no_function f (inl e) h = h.0 e
-no_function f (inr e) h = h.1 e
 
 -- a chain of functions doesn't end in a relation
 last_function : (fs : List Function) (f : Function) → All IsFunction (fs ++ f ∷ []) → IsFunction f
@@ -51,7 +39,8 @@ last_function (g ∷ gs) f h = last_function gs f (All-tail IsFunction g (gs ++ 
 functions_end : (w : Variable) → All IsFunction w.chain → EndsInRelation w → ⊥
 functions_end w h e = no_function e.last e.relation (last_function e.before e.last (subst (All IsFunction) e.chain h))
 
-module _ (sets : Sets) (i : Instruction) (controls : Which → Option Variable) (ruling : Ruling sets i controls) (e : Which → Option TypeParts) (fits : (a : Which) → ControlFits sets (controls a) (e a)) where
+module _ (sets : Sets) (i : Instruction) (controls : Which → Option Variable) (ruling : Ruling sets i controls) (e : Which
+    → Option TypeParts) (fits : (a : Which) → ControlFits sets (controls a) (e a)) where
   -- the type of a control is a member of its set
   control_member : (a : Which) (v : Variable) → controls a ≡ Some v → (t : TypeParts) × (e a ≡ Some t) × IsMember (sets v.root) t
   control_member a v is = subst (λ (o : Option Variable). ControlFits sets o (e a)) is (fits a)
@@ -81,27 +70,32 @@ module _ (sets : Sets) (i : Instruction) (controls : Which → Option Variable) 
               let is = root_of sets i controls ruling e w a p in
               let (t, has, m) = control_member a (underived w.root) is in
               (t, inl (a, is, has))
-          by_case (inr (none, inl one)) = (one.one, inr ((λ a p. none (a, record { variable = underived w.root; controls_is = p; root = refl })), one, refl))
+          by_case (inr (none, inl one)) =
+              (one.one, inr ((λ a p. none (a, record { variable = underived w.root; controls_is = p; root = refl })), one, refl))
           by_case (inr (none, inr lone)) = absurd (not_lone lone)
 
       -- and no type set alone is its constraint
-      not_free : (s : _) → IsConstraint sets controls w (Free s) → ⊥
+      not_free : (s : _) → IsConstraint sets controls w (FreeType s) → ⊥
       not_free s h = by_case (ruling.settled k w operand)
         where
           by_case : IsSettled sets i controls k w → ⊥
-          by_case (inl (a, p)) = h.other a (p.controls_is ∙ ap Some (same_variable p.variable w (sym p.root) (ruling.underived a p.variable p.controls_is ∙ sym h.underived)))
-          by_case (inr (none, inl one)) = h.not_fixed one.one (subst (λ (fs : List Function). IsFixed (sets w.root) fs one.one) (sym h.underived) (fixed_from_one (sets w.root) one))
+          by_case (inl (a, p)) = h.other a (p.controls_is
+              ∙ ap Some (same_variable p.variable w (sym p.root) (ruling.underived a p.variable p.controls_is ∙ sym h.underived)))
+          by_case (inr (none, inl one)) =
+              h.not_fixed one.one (subst (λ (fs : List Function). IsFixed (sets w.root) fs one.one) (sym h.underived)
+              (fixed_from_one (sets w.root) one))
           by_case (inr (none, inr lone)) = absurd (not_lone lone)
 
       module _ (tables : TableContents) (c : Which → Option ℕ) (numbered : (a : Which) → IsNumberOf (e a) (c a)) where
         -- what is inferred is given
-        result_gives : (x : Constraint) (y : NumberConstraint) (n : ℕ) → IsConstraint sets controls w x → StandsFor tables x y → IsResultNumber sets controls e w n → GivesNumber c y n
-        result_gives (Concrete t) y n h stands (inl (ends, zero)) = absurd (functions_end w h.functions ends)
-        result_gives (Concrete t) y n h stands (inr (_, (u, inferred, is))) =
+        result_gives : (x : TypeConstraint) (y : NumberConstraint) (n : ℕ) → IsConstraint sets controls w x → StandsFor tables x y
+            → IsResultNumber sets controls e w n → GivesNumber c y n
+        result_gives (ConcreteType t) y n h stands (inl (ends, zero)) = absurd (functions_end w h.functions ends)
+        result_gives (ConcreteType t) y n h stands (inr (_, (u, inferred, is))) =
             let same : u ≡ t = h.only inferred.root_type u (root_member inferred.root_type inferred.root) inferred.agrees in
             subst (λ z. GivesNumber c z n) (sym stands) (is ∙ ap number_of same)
-        result_gives (Free s) y n h stands is = absurd (not_free s h)
-        result_gives (Same a) y n h stands is = subst (λ z. GivesNumber c z n) (sym stands) (by_case is)
+        result_gives (FreeType s) y n h stands is = absurd (not_free s h)
+        result_gives (SameType a) y n h stands is = subst (λ z. GivesNumber c z n) (sym stands) (by_case is)
           where
             chain : w.chain ≡ []
             chain = ruling.underived a w h.controls_is
@@ -121,7 +115,7 @@ module _ (sets : Sets) (i : Instruction) (controls : Which → Option Variable) 
                     let same : a ≡ b = ruling.one a b w (underived w.root) h.controls_is p refl in
                     number_of_type (e a) (c a) t (numbered a) (ap e same ∙ has ∙ ap Some (sym agreed)) ∙ ap Some (sym number)
                 typed (inr (none, one, is)) = absurd (none a (h.controls_is ∙ ap Some (sym own)))
-        result_gives (By a f) y n h stands is = subst (λ z. GivesNumber c z n) (sym stands) (by_case is)
+        result_gives (ByType a f) y n h stands is = subst (λ z. GivesNumber c z n) (sym stands) (by_case is)
           where
             parent : h.variable.chain ≡ []
             parent = ruling.underived a h.variable h.controls_is
@@ -153,18 +147,33 @@ module _ (sets : Sets) (i : Instruction) (controls : Which → Option Variable) 
                       number_of_type (e a) (c a) inferred.root_type (numbered a) (ap e same ∙ has),
                       record {
                         is_function = is_function;
-                        steps = record { from = inferred.root_type; to = u; steps = step; number_from = refl; number_to = sym (number ∙ ap number_of end) };
+                        steps = record {
+                          from = inferred.root_type;
+                          to = u;
+                          steps = step;
+                          number_from = refl;
+                          number_to =
+                              sym (number ∙ ap number_of end);
+                        };
                       },
                     )
                 typed (inr (none, one, is)) = absurd (none a root_is)
 
         -- and what is given is inferred
-        given_result : (x : Constraint) (y : NumberConstraint) (n : ℕ) → IsConstraint sets controls w x → StandsFor tables x y → GivesNumber c y n → IsResultNumber sets controls e w n
-        given_result (Concrete t) y n h stands g =
+        given_result : (x : TypeConstraint) (y : NumberConstraint) (n : ℕ) → IsConstraint sets controls w x → StandsFor tables x y
+            → GivesNumber c y n → IsResultNumber sets controls e w n
+        given_result (ConcreteType t) y n h stands g =
             let (r, has) = root_has in
-            inr (functions_end w h.functions, (t, record { root_type = r; root = has; agrees = h.reached r (root_member r has) }, subst (λ z. GivesNumber c z n) stands g))
-        given_result (Free s) y n h stands g = absurd (not_free s h)
-        given_result (Same a) y n h stands g =
+            inr (
+              functions_end w h.functions,
+              (
+                t,
+                record { root_type = r; root = has; agrees = h.reached r (root_member r has) },
+                subst (λ z. GivesNumber c z n) stands g,
+              ),
+            )
+        given_result (FreeType s) y n h stands g = absurd (not_free s h)
+        given_result (SameType a) y n h stands g =
             let chain : w.chain ≡ [] = ruling.underived a w h.controls_is in
             let (t, is, _, number) = type_of_number (e a) (c a) n (numbered a) (subst (λ z. GivesNumber c z n) stands g) in
             inr (
@@ -179,7 +188,7 @@ module _ (sets : Sets) (i : Instruction) (controls : Which → Option Variable) 
                 sym number,
               ),
             )
-        given_result (By a f) y n h stands g = by_case (subst (λ z. GivesNumber c z n) stands g)
+        given_result (ByType a f) y n h stands g = by_case (subst (λ z. GivesNumber c z n) stands g)
           where
             parent : h.variable.chain ≡ []
             parent = ruling.underived a h.variable h.controls_is
@@ -191,12 +200,16 @@ module _ (sets : Sets) (i : Instruction) (controls : Which → Option Variable) 
             root_is = h.controls_is ∙ ap Some (same_variable h.variable (underived w.root) (sym h.derived.root) parent)
 
             by_case : GivesNumber c (ByNumber a f) n → IsResultNumber sets controls e w n
-            by_case (inl (relation, zero)) = inl (record { before = h.variable.chain; last = f; chain = h.derived.chain; relation = relation }, zero)
+            by_case (inl (relation, zero)) =
+                inl (record { before = h.variable.chain; last = f; chain = h.derived.chain; relation = relation }, zero)
             by_case (inr (u, is, answer)) =
                 let (r, has, is_r, number) = type_of_number (e a) (c a) u (numbered a) is in
-                let from : answer.steps.from ≡ r = one_number answer.steps.from r answer.steps.steps.from is_r (answer.steps.number_from ∙ sym number) in
-                let step : Steps f r answer.steps.to = subst (λ v. Steps f v answer.steps.to) from answer.steps.steps in
-                let ends : EndsInRelation w → ⊥ = λ x. no_function f (subst IsRelation ((same_from_push x.before h.variable.chain x.last f (sym x.chain ∙ h.derived.chain)).1) x.relation) answer.is_function in
+                let from : answer.steps.from ≡ r = one_number answer.steps.from r answer.steps.steps.from is_r (answer.steps.number_from
+                ∙ sym number) in
+                let step : StepsTypes f r answer.steps.to = subst (λ v. StepsTypes f v answer.steps.to) from answer.steps.steps in
+                let ends : EndsInRelation w → ⊥ =
+                λ x. no_function f (subst IsRelation ((same_from_push x.before h.variable.chain x.last f (sym x.chain
+                ∙ h.derived.chain)).1) x.relation) answer.is_function in
                 inr (
                   ends,
                   (
@@ -210,14 +223,17 @@ module _ (sets : Sets) (i : Instruction) (controls : Which → Option Variable) 
                   ),
                 )
 
-module _ (sets : Sets) (i : Instruction) (control : Option Variable) (tables : TableContents) (entry : OpcodeNumbers) (typed : (k : ℕ) (w : Variable) → IsOperand i k w → IsTypeSet (sets w.root)) (h : IsControl sets i control) (good : HasBadSecond sets i → ⊥) (is : AreOpcodeNumbersOf sets i control tables entry) (c d : Option ℕ) where
+module _ (sets : Sets) (i : Instruction) (control : Option Variable) (tables : TableContents) (entry : OpcodeNumbers)
+    (typed : (k : ℕ) (w : Variable) → IsOperand i k w → IsTypeSet (sets w.root)) (h : IsControl sets i control) (good : HasBadSecond sets i
+    → ⊥) (is : AreOpcodeNumbersOf sets i control tables entry) (c d : Option ℕ) where
   -- the root of a control has a set of types
   control_typed : (a : Which) (v : Variable) → controls_of i control a ≡ Some v → IsTypeSet (sets v.root)
   control_typed a v e =
       let used : IsUsed i v = (ruling_of sets i control h good).used a v e in
       subst (λ r. IsTypeSet (sets r)) used.root (typed used.place used.variable used.operand)
 
-  module _ (e g : Option TypeParts) (e_number : IsNumberOf e c) (g_number : IsNumberOf g d) (e_fits : ControlFits sets control e) (g_fits : ControlFits sets i.second g) where
+  module _ (e g : Option TypeParts) (e_number : IsNumberOf e c) (g_number : IsNumberOf g d) (e_fits : ControlFits sets control e)
+      (g_fits : ControlFits sets i.second g) where
     numbered : (a : Which) → IsNumberOf (both e g a) (both c d a)
     numbered First = e_number
     numbered Second = g_number
@@ -227,20 +243,25 @@ module _ (sets : Sets) (i : Instruction) (control : Option Variable) (tables : T
     fits Second = g_fits
 
     -- a number that is given at a result's place is the result's
-    given_there : (k : ℕ) (w : Variable) (n : ℕ) → slice_get i.results k ≡ Some w → GivesAt tables (both c d) (entry.constraint_offset + k) n → IsResultNumber sets (controls_of i control) (both e g) w n
+    given_there : (k : ℕ) (w : Variable) (n : ℕ) → slice_get i.results k ≡ Some w
+        → GivesAt tables (both c d) (entry.constraint_offset + k) n → IsResultNumber sets (controls_of i control) (both e g) w n
     given_there k w n at p =
         let x = is.constraints k w (get_stays i.results i.values k w at) in
         let same = same_Some p.constraint x.number_constraint (sym p.is_constraint ∙ x.placed) in
-        given_result sets i (controls_of i control) (ruling_of sets i control h good) (both e g) fits w k at tables (both c d) numbered x.constraint x.number_constraint n x.is_constraint x.stands (subst (λ y. GivesNumber (both c d) y n) same p.gives)
+        given_result sets i (controls_of i control) (ruling_of sets i control h good) (both e g) fits w k at tables
+        (both c d) numbered x.constraint x.number_constraint n x.is_constraint x.stands
+        (subst (λ y. GivesNumber (both c d) y n) same p.gives)
 
     -- a result's number is given at its place
-    gives_there : (k : ℕ) (w : Variable) (n : ℕ) → slice_get i.results k ≡ Some w → IsResultNumber sets (controls_of i control) (both e g) w n → GivesAt tables (both c d) (entry.constraint_offset + k) n
+    gives_there : (k : ℕ) (w : Variable) (n : ℕ) → slice_get i.results k ≡ Some w
+        → IsResultNumber sets (controls_of i control) (both e g) w n → GivesAt tables (both c d) (entry.constraint_offset + k) n
     gives_there k w n at r =
         let x = is.constraints k w (get_stays i.results i.values k w at) in
         record {
           constraint = x.number_constraint;
           is_constraint = x.placed;
-          gives = result_gives sets i (controls_of i control) (ruling_of sets i control h good) (both e g) fits w k at tables (both c d) numbered x.constraint x.number_constraint n x.is_constraint x.stands r;
+          gives = result_gives sets i (controls_of i control) (ruling_of sets i control h good) (both e g) fits w k at tables
+              (both c d) numbered x.constraint x.number_constraint n x.is_constraint x.stands r;
         }
 
   -- what the tables give for an opcode with this entry
@@ -252,8 +273,10 @@ module _ (sets : Sets) (i : Instruction) (control : Option Variable) (tables : T
 
   inferred_from_given : (numbers : List ℕ) → Gives numbers entry → InfersNumbers sets i control c d numbers
   inferred_from_given numbers q =
-      let (e, e_number, e_fits) = control_type sets control tables entry.typeset_offset c (control_typed First) is.type_set q.control_fits in
-      let (g, g_number, g_fits) = control_type sets i.second tables entry.second_offset d (control_typed Second) is.second_set q.second_fits in
+      let (e, e_number, e_fits) =
+      controlling_type sets control tables entry.typeset_offset c (control_typed First) is.type_set q.control_fits in
+      let (g, g_number, g_fits) =
+      controlling_type sets i.second tables entry.second_offset d (control_typed Second) is.second_set q.second_fits in
       record {
         control_type = e;
         second_type = g;
@@ -269,17 +292,30 @@ module _ (sets : Sets) (i : Instruction) (control : Option Variable) (tables : T
 
   given_from_inferred : (numbers : List ℕ) → InfersNumbers sets i control c d numbers → Gives numbers entry
   given_from_inferred numbers q = record {
-    control_fits = control_number sets control tables entry.typeset_offset q.control_type c (control_typed First) is.type_set q.control_number q.infers.control_fits;
-    second_fits = control_number sets i.second tables entry.second_offset q.second_type d (control_typed Second) is.second_set q.second_number q.infers.second_fits;
+    control_fits = control_number_fits sets control tables entry.typeset_offset q.control_type c
+        (control_typed First) is.type_set q.control_number q.infers.control_fits;
+    second_fits = control_number_fits sets i.second tables entry.second_offset q.second_type d
+        (control_typed Second) is.second_set q.second_number q.infers.second_fits;
     count = q.infers.count ∙ sym is.flags.results;
     each = λ k n n_at.
         let (w, at) = get_beside numbers i.results k n q.infers.count n_at in
-        gives_there q.control_type q.second_type q.control_number q.second_number q.infers.control_fits q.infers.second_fits k w n at (q.infers.each k w n at n_at);
+        gives_there q.control_type q.second_type q.control_number q.second_number q.infers.control_fits q.infers.second_fits k w n at
+        (q.infers.each k w n at n_at);
   }
 
   -- The tables give for the results what the instruction infers.
-  pub results_mean : (op : ℕ) → at_opcode tables.entries op ≡ Some entry → (numbers : List ℕ) → (GivesResults tables op c d numbers ↔ InfersNumbers sets i control c d numbers)
+  pub results_mean : (op : ℕ) → at_opcode tables.entries op ≡ Some entry → (numbers : List ℕ)
+      → (GivesResults tables op c d numbers ↔ InfersNumbers sets i control c d numbers)
   results_mean op at numbers = (
-    (λ q. inferred_from_given numbers (subst (Gives numbers) (same_Some q.entry entry (sym q.is_opcode ∙ at)) (record { control_fits = q.control_fits; second_fits = q.second_fits; count = q.count; each = q.each }))),
-    (λ q. let r = given_from_inferred numbers q in record { entry = entry; is_opcode = at; control_fits = r.control_fits; second_fits = r.second_fits; count = r.count; each = r.each }),
+    (λ q. inferred_from_given numbers (subst (Gives numbers) (same_Some q.entry entry (sym q.is_opcode ∙ at))
+        (record { control_fits = q.control_fits; second_fits = q.second_fits; count = q.count; each = q.each }))),
+    (λ q. let r = given_from_inferred numbers q in record {
+      entry = entry;
+      is_opcode = at;
+      control_fits = r.control_fits;
+      second_fits =
+          r.second_fits;
+      count = r.count;
+      each = r.each;
+    }),
   )

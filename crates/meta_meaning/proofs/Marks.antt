@@ -1,10 +1,9 @@
 -- Sets of powers of two as masks: the sum of a part of a short list holds a power of two exactly where the part contains it.
 -- Of the lists of widths and lane counts alone.
---     marked bs all          the numbers of all that the marks bs keep
---     at_marks n p           p passes at each list of n marks
 --     holds_what_it_contains      a mask of a part of a tested list holds what the part contains, and nothing else
-use Rattle.std.proofs.Common.{◌≡◌, ℕ, zero, suc, ◌==◌, ◌↔◌, ◌⊎◌, Bool, true, false, cond, ◌&&◌, ◌||◌, List, [], ◌∷◌, length, map, Contains, bit_and, sum, filter, refl, sym, ap, ◌∙◌, subst, suc-le-suc, zero-lt-suc, inl, inr, arith}
-use Rattle.std.proofs.lemmas.Bool.{and_parts, or_cases, or_left, or_right, eqb-true, eq-eqb}
+use Rattle.std.proofs.Common.{◌≡◌, ℕ, suc, ◌==◌, ◌↔◌, ◌⊎◌, Bool, true, false, ◌||◌, List, [], ◌∷◌, length, map, Contains, bit_and, sum}
+use Rattle.std.proofs.Common.{refl, sym, ap, ◌∙◌, subst, suc-le-suc, zero-lt-suc, inl, inr, arith}
+use Rattle.std.proofs.lemmas.Bool.{or_cases, or_left, or_right, eqb-true, eq-eqb}
 use Rattle.std.proofs.lemmas.List.{length-map}
 use Rattle.meta_lists.proofs.Contained.{contains_cases}
 use Rattle.meta_types.specs.TypeParts.{IntKind, FloatKind, widths, lane_counts}
@@ -12,59 +11,32 @@ use Rattle.meta_types.specs.Function.{same_mark}
 use Rattle.meta_typevar.specs.TypeSetParts.{IsPart}
 use Rattle.meta_typevar.specs.Masks.{Holds}
 use Rattle.meta_types.proofs.AllTypes.{at_each, at_each_contained, same_mark_true}
+use Rattle.meta_typevar.proofs.Marks.{at_marks, marked, filter_marked, passes_at_marks}
+use Rattle.meta_typevar.specs.Image.{is_among}
 
--- the numbers of the list that the marks keep
-abbrev pub marked : List Bool → List ℕ → List ℕ
-marked [] xs = []
-marked (b ∷ bs) [] = []
-marked (b ∷ bs) (x ∷ xs) = cond b (x ∷ marked bs xs) (marked bs xs)
-
--- p passes at each list of n marks
-abbrev pub at_marks : ℕ → (List Bool → Bool) → Bool
-at_marks zero p = p []
-at_marks (suc n) p = at_marks n (λ bs. p (true ∷ bs)) && at_marks n (λ bs. p (false ∷ bs))
-
--- the list has the number
-abbrev pub has : List ℕ → ℕ → Bool
-has [] n = false
-has (x ∷ xs) n = (x == n) || has xs n
-
--- what a filter keeps is what the marks of its test keep
-filter_marked : (test : ℕ → Bool) (xs : List ℕ) → filter test xs ≡ marked (map test xs) xs
-filter_marked test [] = refl
-filter_marked test (x ∷ xs) = ap (λ ys. cond (test x) (x ∷ ys) ys) (filter_marked test xs)
-
--- what passes at each list of n marks passes at each list of that length
-at_marks_of_length : (n : ℕ) (p : List Bool → Bool) → at_marks n p ≡ true → (bs : List Bool) → length bs ≡ n → p bs ≡ true
-at_marks_of_length zero p all [] l = all
-at_marks_of_length zero p all (b ∷ bs) l = absurd (omega arith)
-at_marks_of_length (suc n) p all [] l = absurd (omega arith)
-at_marks_of_length (suc n) p all (true ∷ bs) l = at_marks_of_length n (λ cs. p (true ∷ cs)) (and_parts _ _ all).0 bs (omega arith)
-at_marks_of_length (suc n) p all (false ∷ bs) l = at_marks_of_length n (λ cs. p (false ∷ cs)) (and_parts _ _ all).1 bs (omega arith)
-
--- a list contains what it has
-pub has_true : (xs : List ℕ) (n : ℕ) → has xs n ≡ true → Contains xs n
+-- a list contains what is among it
+pub has_true : (xs : List ℕ) (n : ℕ) → is_among xs n ≡ true → Contains xs n
 has_true [] n e = absurd (cc)
-has_true (x ∷ xs) n e = by_case (or_cases (x == n) (has xs n) e) (has_true xs n)
+has_true (x ∷ xs) n e = by_case (or_cases (x == n) (is_among xs n) e) (has_true xs n)
   where
     -- it is the first, or one of the rest
-    by_case : ((x == n) ≡ true) ⊎ (has xs n ≡ true) → (has xs n ≡ true → Contains xs n) → Contains (x ∷ xs) n
+    by_case : ((x == n) ≡ true) ⊎ (is_among xs n ≡ true) → (is_among xs n ≡ true → Contains xs n) → Contains (x ∷ xs) n
     by_case (inl first) below = (0, zero-lt-suc _, eqb-true x n first)
     by_case (inr later) below = let (k, l, is) = below later in (suc k, suc-le-suc l, is)
 
--- and it has what it contains
-pub true_has : (xs : List ℕ) (n : ℕ) → Contains xs n → has xs n ≡ true
+-- and what it contains is among it
+pub true_has : (xs : List ℕ) (n : ℕ) → Contains xs n → is_among xs n ≡ true
 true_has [] n (k, l, e) = absurd (omega arith)
 true_has (x ∷ xs) n c = by_case (contains_cases x n xs c) (true_has xs n)
   where
     -- it is the first, or one of the rest
-    by_case : (x ≡ n) ⊎ Contains xs n → (Contains xs n → has xs n ≡ true) → ((x == n) || has xs n) ≡ true
-    by_case (inl first) below = or_left (x == n) (has xs n) (eq-eqb x n first)
-    by_case (inr later) below = or_right (x == n) (has xs n) (below later)
+    by_case : (x ≡ n) ⊎ Contains xs n → (Contains xs n → is_among xs n ≡ true) → ((x == n) || is_among xs n) ≡ true
+    by_case (inl first) below = or_left (x == n) (is_among xs n) (eq-eqb x n first)
+    by_case (inr later) below = or_right (x == n) (is_among xs n) (below later)
 
 -- for these marks the sum holds each number of the list exactly where it is kept
 abbrev pub tells : List ℕ → List Bool → Bool
-tells all bs = let kept = marked bs all in let mask = sum kept in at_each (λ x. same_mark (bit_and mask x == x) (has kept x)) all
+tells all bs = let kept = marked bs all in let mask = sum kept in at_each (λ x. same_mark (bit_and mask x == x) (is_among kept x)) all
 
 -- for each list of marks
 abbrev pub all_tell : List ℕ → Bool
@@ -87,15 +59,17 @@ pub floats_tell : all_tell (widths FloatKind) ≡ true
 floats_tell = refl
 
 -- the mask of a part of a tested list has one answer with the part
-mask_answers : (all xs : List ℕ) (n : ℕ) → all_tell all ≡ true → IsPart xs all → Contains all n → (bit_and (sum xs) n == n) ≡ has xs n
+mask_answers : (all xs : List ℕ) (n : ℕ) → all_tell all ≡ true → IsPart xs all → Contains all n → (bit_and (sum xs) n == n) ≡ is_among xs n
 mask_answers all xs n tested part c =
     let kept : xs ≡ marked (map part.test all) all = part.is ∙ filter_marked part.test all in
-    let told = at_marks_of_length (length all) (tells all) tested (map part.test all) (length-map all part.test) in
-    let here = same_mark_true _ _ (at_each_contained (λ x. same_mark (bit_and (sum (marked (map part.test all) all)) x == x) (has (marked (map part.test all) all) x)) all n told c) in
-    subst (λ ys. (bit_and (sum ys) n == n) ≡ has ys n) (sym kept) here
+    let told = passes_at_marks (tells all) (map part.test all) (ap (λ n. at_marks n (tells all)) (length-map all part.test) ∙ tested) in
+    let here = same_mark_true _ _ (at_each_contained (λ x. same_mark (bit_and (sum (marked (map part.test all) all)) x == x)
+    (is_among (marked (map part.test all) all) x)) all n told c) in
+    subst (λ ys. (bit_and (sum ys) n == n) ≡ is_among ys n) (sym kept) here
 
 -- The mask of a part of a tested list holds what the part contains, and of the list nothing else.
-pub holds_what_it_contains : (all xs : List ℕ) (n : ℕ) → all_tell all ≡ true → IsPart xs all → Contains all n → (Holds (sum xs) n ↔ Contains xs n)
+pub holds_what_it_contains : (all xs : List ℕ) (n : ℕ) → all_tell all ≡ true → IsPart xs all → Contains all n
+    → (Holds (sum xs) n ↔ Contains xs n)
 holds_what_it_contains all xs n tested part c =
     let e = mask_answers all xs n tested part c in
     ((λ h. has_true xs n (sym e ∙ eq-eqb (bit_and (sum xs) n) n h)), (λ h. eqb-true (bit_and (sum xs) n) n (e ∙ true_has xs n h)))

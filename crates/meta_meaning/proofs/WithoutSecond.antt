@@ -6,7 +6,7 @@ use Rattle.meta_typevar.specs.TypeSetParts.{HasOne}
 use Rattle.meta_typevar.specs.Variable.{Variable, Sets}
 use Rattle.meta_inst.specs.Instruction.{Instruction, IsDesignated, IsFirstOutput}
 use Rattle.meta_inst.specs.Control.{IsControl, IsRuled, IsLoneInput, MayControl, DesignatesNone, HasBadSecond}
-use Rattle.meta_meaning.specs.Acceptance.{Accepts, Controls}
+use Rattle.meta_meaning.specs.Acceptance.{Accepts, IsChosenControl}
 use Rattle.meta_meaning.specs.OneControl.{MayControlAlone, DesignatesNoneAlone, IsControlAlone, AcceptsAlone}
 
 module _ (sets : Sets) (i : Instruction) (none : i.second ≡ None) where
@@ -29,11 +29,13 @@ module _ (sets : Sets) (i : Instruction) (none : i.second ≡ None) where
       by_rule k w (inl r) = inl r
       by_rule k w (inr why) = inr (inr why)
 
-  chosen_to : (v : Variable) → IsDesignated i v ⊎ (DesignatesNone sets i × IsFirstOutput i v) → IsDesignated i v ⊎ (DesignatesNoneAlone sets i × IsFirstOutput i v)
+  chosen_to : (v : Variable) → IsDesignated i v ⊎ (DesignatesNone sets i × IsFirstOutput i v)
+      → IsDesignated i v ⊎ (DesignatesNoneAlone sets i × IsFirstOutput i v)
   chosen_to v (inl d) = inl d
   chosen_to v (inr (nothing, f)) = inr ((λ d is m. nothing d is (may_from d m)), f)
 
-  chosen_from : (v : Variable) → IsDesignated i v ⊎ (DesignatesNoneAlone sets i × IsFirstOutput i v) → IsDesignated i v ⊎ (DesignatesNone sets i × IsFirstOutput i v)
+  chosen_from : (v : Variable) → IsDesignated i v ⊎ (DesignatesNoneAlone sets i × IsFirstOutput i v)
+      → IsDesignated i v ⊎ (DesignatesNone sets i × IsFirstOutput i v)
   chosen_from v (inl d) = inl d
   chosen_from v (inr (nothing, f)) = inr ((λ d is m. nothing d is (may_to d m)), f)
 
@@ -45,30 +47,35 @@ module _ (sets : Sets) (i : Instruction) (none : i.second ≡ None) where
   control_from None h = h
   control_from (Some v) h = record { polymorphic = h.polymorphic; may = may_from v h.may; chosen = chosen_from v h.chosen }
 
-  accepts_to : (control : Option Variable) (c d : Option TypeParts) (rs vs : List TypeParts) → Accepts sets i control c d rs vs → AcceptsAlone sets i control c rs vs × (d ≡ None)
+  accepts_to : (control : Option Variable) (c d : Option TypeParts) (rs vs : List TypeParts) → Accepts sets i control c d rs vs
+      → AcceptsAlone sets i control c rs vs × (d ≡ None)
   accepts_to control c d rs vs a = (
     record { results = a.results; values = a.values; choice = a.choice; members = a.members; controlled = a.controlled; agrees = a.agrees },
-    subst (λ o. Controls a.choice o d) none a.second_controlled,
+    subst (λ o. IsChosenControl a.choice o d) none a.second_controlled,
   )
 
-  accepts_from : (control : Option Variable) (c d : Option TypeParts) (rs vs : List TypeParts) → AcceptsAlone sets i control c rs vs × (d ≡ None) → Accepts sets i control c d rs vs
+  accepts_from : (control : Option Variable) (c d : Option TypeParts) (rs vs : List TypeParts)
+      → AcceptsAlone sets i control c rs vs × (d ≡ None) → Accepts sets i control c d rs vs
   accepts_from control c d rs vs (a, e) = record {
     results = a.results;
     values = a.values;
     choice = a.choice;
     members = a.members;
     controlled = a.controlled;
-    second_controlled = subst (λ o. Controls a.choice o d) (sym none) e;
+    second_controlled = subst (λ o. IsChosenControl a.choice o d) (sym none) e;
     agrees = a.agrees;
   }
 
 -- An instruction without a second control has the same control.
-pub same_alone : (sets : Sets) (i : Instruction) (control : Option Variable) → i.second ≡ None → (IsControl sets i control ↔ IsControlAlone sets i control)
+pub same_alone : (sets : Sets) (i : Instruction) (control : Option Variable) → i.second ≡ None
+    → (IsControl sets i control ↔ IsControlAlone sets i control)
 same_alone sets i control none = ((λ h. control_to sets i none control h), (λ h. control_from sets i none control h))
 
 -- It accepts the same, and no second controlling type.
-pub accepts_alone : (sets : Sets) (i : Instruction) (control : Option Variable) (c d : Option TypeParts) (rs vs : List TypeParts) → i.second ≡ None → (Accepts sets i control c d rs vs ↔ (AcceptsAlone sets i control c rs vs × (d ≡ None)))
-accepts_alone sets i control c d rs vs none = ((λ a. accepts_to sets i none control c d rs vs a), (λ a. accepts_from sets i none control c d rs vs a))
+pub accepts_alone : (sets : Sets) (i : Instruction) (control : Option Variable) (c d : Option TypeParts) (rs vs : List TypeParts)
+    → i.second ≡ None → (Accepts sets i control c d rs vs ↔ (AcceptsAlone sets i control c rs vs × (d ≡ None)))
+accepts_alone sets i control c d rs vs none =
+    ((λ a. accepts_to sets i none control c d rs vs a), (λ a. accepts_from sets i none control c d rs vs a))
 
 -- And nothing is wrong with its second control.
 pub none_bad : (sets : Sets) (i : Instruction) → i.second ≡ None → HasBadSecond sets i → ⊥

@@ -7,20 +7,21 @@ use Rattle.meta_typevar.specs.Variable.{Variable, Sets}
 use Rattle.meta_inst.specs.Instruction.{Instruction, IsOperand}
 
 -- the controlling type is none where there is no control, and else what was chosen for the control's root
-abbrev pub Controls : (ℕ → TypeParts) → Option Variable → Option TypeParts → Type 0
-Controls choice None c = c ≡ None
-Controls choice (Some v) c = c ≡ Some (choice v.root)
+abbrev pub IsChosenControl : (ℕ → TypeParts) → Option Variable → Option TypeParts → Type 0
+IsChosenControl choice None c = c ≡ None
+IsChosenControl choice (Some v) c = c ≡ Some (choice v.root)
 
 -- The instruction with this control accepts the controlling type c, the second controlling type d, the results rs and the
 -- values vs: there is one choice of a type for every root at once, each a member of its root's set, that gives the controlling
 -- types, and from which the chain of each operand leads to that operand's type.
-pub record Accepts (sets : Sets) (i : Instruction) (control : Option Variable) (c d : Option TypeParts) (rs vs : List TypeParts) : Type 0 where
+pub record Accepts (sets : Sets) (i : Instruction) (control : Option Variable) (c d : Option TypeParts)
+    (rs vs : List TypeParts) : Type 0 where
   pub results : length rs ≡ length i.results
   pub values : length vs ≡ length i.values
   pub choice : ℕ → TypeParts
   pub members : (k : ℕ) (w : Variable) → IsOperand i k w → IsMember (sets w.root) (choice w.root)
-  pub controlled : Controls choice control c
-  pub second_controlled : Controls choice i.second d
+  pub controlled : IsChosenControl choice control c
+  pub second_controlled : IsChosenControl choice i.second d
   pub agrees : (k : ℕ) (w : Variable) (t : TypeParts) → IsOperand i k w → slice_get (rs ++ vs) k ≡ Some t → Agrees w.chain (choice w.root) t
 
 -- each is a type, and these are their numbers

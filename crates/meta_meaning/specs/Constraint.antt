@@ -1,7 +1,7 @@
 -- The constraint of one operand, and what passes it.
 use Rattle.std.specs.Prelude.{◌≡◌, ◌≢◌, ℕ, List, [], ◌++◌, length, slice_get, Option, None, Some}
 use Rattle.meta_types.specs.TypeParts.{TypeParts}
-use Rattle.meta_types.specs.Function.{Function, Steps}
+use Rattle.meta_types.specs.Function.{Function, StepsTypes}
 use Rattle.meta_typevar.specs.TypeSetParts.{TypeSetParts, IsMember}
 use Rattle.meta_typevar.specs.Chain.{IsFixed}
 use Rattle.meta_typevar.specs.Variable.{Variable, Sets, IsDerivedBy, IsOpen}
@@ -9,11 +9,11 @@ use Rattle.meta_inst.specs.Which.{Which, both}
 use Rattle.meta_inst.specs.Instruction.{Instruction, IsOperand, controls_of}
 
 -- one type, any type of a set, the type of a control, or what a function or relation leads to from the type of a control
-pub data Constraint : Type 0 where
-  Concrete : TypeParts → Constraint
-  Free : TypeSetParts → Constraint
-  Same : Which → Constraint
-  By : Which → Function → Constraint
+pub data TypeConstraint : Type 0 where
+  ConcreteType : TypeParts → TypeConstraint
+  FreeType : TypeSetParts → TypeConstraint
+  SameType : Which → TypeConstraint
+  ByType : Which → Function → TypeConstraint
 
 -- w isn't fixed, is underived and no control, and s is the set of its root
 pub record IsFree (sets : Sets) (controls : Which → Option Variable) (w : Variable) (s : TypeSetParts) : Type 0 where
@@ -36,18 +36,18 @@ pub record IsBy (sets : Sets) (controls : Which → Option Variable) (w : Variab
 
 -- The constraint of the operand w: its fixed type where it has one; and else the set of its root, where it is underived
 -- and no control; which control it is; or the control from which a function leads to it, and that function.
-abbrev pub IsConstraint : Sets → (Which → Option Variable) → Variable → Constraint → Type 0
-IsConstraint sets controls w (Concrete t) = IsFixed (sets w.root) w.chain t
-IsConstraint sets controls w (Free s) = IsFree sets controls w s
-IsConstraint sets controls w (Same a) = IsSame sets controls w a
-IsConstraint sets controls w (By a f) = IsBy sets controls w a f
+abbrev pub IsConstraint : Sets → (Which → Option Variable) → Variable → TypeConstraint → Type 0
+IsConstraint sets controls w (ConcreteType t) = IsFixed (sets w.root) w.chain t
+IsConstraint sets controls w (FreeType s) = IsFree sets controls w s
+IsConstraint sets controls w (SameType a) = IsSame sets controls w a
+IsConstraint sets controls w (ByType a f) = IsBy sets controls w a f
 
 -- under these controlling types the type t passes the constraint
-abbrev pub Passes : (Which → Option TypeParts) → Constraint → TypeParts → Type 0
-Passes c (Concrete n) t = t ≡ n
-Passes c (Free s) t = IsMember s t
-Passes c (Same a) t = c a ≡ Some t
-Passes c (By a f) t = (u : TypeParts) × (c a ≡ Some u) × Steps f u t
+abbrev pub Passes : (Which → Option TypeParts) → TypeConstraint → TypeParts → Type 0
+Passes c (ConcreteType n) t = t ≡ n
+Passes c (FreeType s) t = IsMember s t
+Passes c (SameType a) t = c a ≡ Some t
+Passes c (ByType a f) t = (u : TypeParts) × (c a ≡ Some u) × StepsTypes f u t
 
 -- The type of a control is none where that control isn't there, and else a member of the control's set.
 abbrev pub ControlFits : Sets → Option Variable → Option TypeParts → Type 0
@@ -56,13 +56,15 @@ ControlFits sets (Some v) c = (t : TypeParts) × (c ≡ Some t) × IsMember (set
 
 -- the type t passes the constraint of the operand w
 abbrev pub PassesOwn : Sets → (Which → Option Variable) → (Which → Option TypeParts) → Variable → TypeParts → Type 0
-PassesOwn sets controls c w t = (x : Constraint) × IsConstraint sets controls w x × Passes c x t
+PassesOwn sets controls c w t = (x : TypeConstraint) × IsConstraint sets controls w x × Passes c x t
 
 -- One test an operand: the lists are as long as declared, the two controlling types fit, and the type of each operand passes
 -- that operand's constraint.
-pub record Admits (sets : Sets) (i : Instruction) (control : Option Variable) (c d : Option TypeParts) (rs vs : List TypeParts) : Type 0 where
+pub record Admits (sets : Sets) (i : Instruction) (control : Option Variable) (c d : Option TypeParts) (rs vs : List TypeParts) :
+    Type 0 where
   pub results : length rs ≡ length i.results
   pub values : length vs ≡ length i.values
   pub control_fits : ControlFits sets control c
   pub second_fits : ControlFits sets i.second d
-  pub passes : (k : ℕ) (w : Variable) (t : TypeParts) → IsOperand i k w → slice_get (rs ++ vs) k ≡ Some t → PassesOwn sets (controls_of i control) (both c d) w t
+  pub passes : (k : ℕ) (w : Variable) (t : TypeParts) → IsOperand i k w → slice_get (rs ++ vs) k ≡ Some t
+      → PassesOwn sets (controls_of i control) (both c d) w t

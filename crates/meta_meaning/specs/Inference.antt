@@ -4,7 +4,7 @@
 --     GivesResults tables op c d numbers     the same by tables
 use Rattle.std.specs.Prelude.{◌≡◌, ◌⊎◌, ℕ, ◌+◌, List, [], ◌∷◌, ◌++◌, length, slice_get, Option, Some}
 use Rattle.meta_types.specs.TypeParts.{TypeParts, number_of}
-use Rattle.meta_types.specs.Function.{Function, Narrower, Wider, AnswersNumber}
+use Rattle.meta_types.specs.Function.{Function, IsRelation, AnswersNumber}
 use Rattle.meta_typevar.specs.TypeSetParts.{HasOne}
 use Rattle.meta_typevar.specs.Chain.{Agrees}
 use Rattle.meta_typevar.specs.Variable.{Variable, Sets, underived}
@@ -12,14 +12,15 @@ use Rattle.meta_inst.specs.Which.{Which, both}
 use Rattle.meta_inst.specs.Instruction.{Instruction, controls_of}
 use Rattle.meta_meaning.specs.Acceptance.{IsNumberOf}
 use Rattle.meta_meaning.specs.Constraint.{ControlFits}
-use Rattle.meta_meaning.specs.Tables.{TableContents, NumberConstraint, ConcreteNumber, FreeOf, SameNumber, ByNumber, OpcodeNumbers, ControlNumberFits, at_opcode, result_count}
+use Rattle.meta_meaning.specs.Tables.{TableContents, NumberConstraint, ConcreteNumber, FreeOf, SameNumber, ByNumber, OpcodeNumbers}
+use Rattle.meta_meaning.specs.Tables.{ControlNumberFits, at_opcode, result_count}
 
 -- the chain of w ends in a relation, so that its type isn't determined
 pub record EndsInRelation (w : Variable) : Type 0 where
   pub before : List Function
   pub last : Function
   pub chain : w.chain ≡ before ++ last ∷ []
-  pub relation : (last ≡ Narrower) ⊎ (last ≡ Wider)
+  pub relation : IsRelation last
 
 -- control a is the root of w
 abbrev pub IsRootOf : (Which → Option Variable) → Which → Variable → Type 0
@@ -27,24 +28,28 @@ IsRootOf controls a w = controls a ≡ Some (underived w.root)
 
 -- by the controlling types c, the root of w has the type r: it is a control, of the type r; or it is none, and r is the one type of its set
 abbrev pub RootHas : Sets → (Which → Option Variable) → (Which → Option TypeParts) → Variable → TypeParts → Type 0
-RootHas sets controls c w r = ((a : Which) × IsRootOf controls a w × (c a ≡ Some r)) ⊎ (((a : Which) → IsRootOf controls a w → ⊥) × (one : HasOne (sets w.root)) × (r ≡ one.one))
+RootHas sets controls c w r = ((a : Which) × IsRootOf controls a w × (c a ≡ Some r))
+    ⊎ (((a : Which) → IsRootOf controls a w → ⊥) × (one : HasOne (sets w.root)) × (r ≡ one.one))
 
 -- from the type that the root of w has so, the chain of w leads to t
-pub record IsInferred (sets : Sets) (controls : Which → Option Variable) (c : Which → Option TypeParts) (w : Variable) (t : TypeParts) : Type 0 where
+pub record IsInferred (sets : Sets) (controls : Which → Option Variable) (c : Which
+    → Option TypeParts) (w : Variable) (t : TypeParts) : Type 0 where
   pub root_type : TypeParts
   pub root : RootHas sets controls c w root_type
   pub agrees : Agrees w.chain root_type t
 
 -- n is the number for a result: 0 where its chain ends in a relation, and else that of the type that is inferred
 abbrev pub IsResultNumber : Sets → (Which → Option Variable) → (Which → Option TypeParts) → Variable → ℕ → Type 0
-IsResultNumber sets controls c w n = (EndsInRelation w × (n ≡ 0)) ⊎ ((EndsInRelation w → ⊥) × ((t : TypeParts) × IsInferred sets controls c w t × (n ≡ number_of t)))
+IsResultNumber sets controls c w n = (EndsInRelation w × (n ≡ 0))
+    ⊎ ((EndsInRelation w → ⊥) × ((t : TypeParts) × IsInferred sets controls c w t × (n ≡ number_of t)))
 
 -- The controlling types c and d fit the controls of the instruction, and by them these are the numbers of its results.
 pub record Infers (sets : Sets) (i : Instruction) (control : Option Variable) (c d : Option TypeParts) (numbers : List ℕ) : Type 0 where
   pub control_fits : ControlFits sets control c
   pub second_fits : ControlFits sets i.second d
   pub count : length numbers ≡ length i.results
-  pub each : (k : ℕ) (w : Variable) (n : ℕ) → slice_get i.results k ≡ Some w → slice_get numbers k ≡ Some n → IsResultNumber sets (controls_of i control) (both c d) w n
+  pub each : (k : ℕ) (w : Variable) (n : ℕ) → slice_get i.results k ≡ Some w → slice_get numbers k ≡ Some n
+      → IsResultNumber sets (controls_of i control) (both c d) w n
 
 -- the same of controlling types that have these numbers
 pub record InfersNumbers (sets : Sets) (i : Instruction) (control : Option Variable) (c d : Option ℕ) (numbers : List ℕ) : Type 0 where
@@ -55,10 +60,6 @@ pub record InfersNumbers (sets : Sets) (i : Instruction) (control : Option Varia
   pub infers : Infers sets i control control_type second_type numbers
 
 -- ---- by tables
-
--- f is a relation
-abbrev pub IsRelation : Function → Type 0
-IsRelation f = (f ≡ Narrower) ⊎ (f ≡ Wider)
 
 -- n is the number that f gives of the number of a control: what a function answers, and 0 for a relation, which leaves several
 abbrev pub GivesBy : Option ℕ → Function → ℕ → Type 0

@@ -9,7 +9,7 @@ use Rattle.meta_typevar.specs.Chain.{Agrees}
 use Rattle.meta_typevar.specs.Variable.{Variable, Sets}
 use Rattle.meta_inst.specs.Instruction.{Instruction, IsOperand, IsDesignated, IsFirstOutput}
 use Rattle.meta_inst.specs.Control.{IsPolymorphic, HasOneEverywhere, IsLoneInput}
-use Rattle.meta_meaning.specs.Acceptance.{Controls}
+use Rattle.meta_meaning.specs.Acceptance.{IsChosenControl}
 
 -- v is underived, and it is the root of each operand, or the operand's root has one type alone, or the operand is a lone input
 pub record MayControlAlone (sets : Sets) (i : Instruction) (v : Variable) : Type 0 where
@@ -32,10 +32,11 @@ IsControlAlone sets i None = HasOneEverywhere sets i
 IsControlAlone sets i (Some v) = IsControlledAlone sets i v
 
 -- the instruction with this control accepts the controlling type c, the results rs and the values vs
-pub record AcceptsAlone (sets : Sets) (i : Instruction) (control : Option Variable) (c : Option TypeParts) (rs vs : List TypeParts) : Type 0 where
+pub record AcceptsAlone (sets : Sets) (i : Instruction) (control : Option Variable) (c : Option TypeParts)
+    (rs vs : List TypeParts) : Type 0 where
   pub results : length rs ≡ length i.results
   pub values : length vs ≡ length i.values
   pub choice : ℕ → TypeParts
   pub members : (k : ℕ) (w : Variable) → IsOperand i k w → IsMember (sets w.root) (choice w.root)
-  pub controlled : Controls choice control c
+  pub controlled : IsChosenControl choice control c
   pub agrees : (k : ℕ) (w : Variable) (t : TypeParts) → IsOperand i k w → slice_get (rs ++ vs) k ≡ Some t → Agrees w.chain (choice w.root) t

@@ -1,7 +1,8 @@
 -- Tables, as contracts see them, and how they are read.
 --     Allows tables op c d rs vs            the decoding: the tables accept these numbers for the opcode
 --     AreOpcodeNumbersOf sets i control tables entry   the tables hold the instruction as this entry
-use Rattle.std.specs.Prelude.{◌≡◌, ℕ, ◌+◌, ◌/◌, ◌%◌, ◌<◌, ◌==◌, ◌↔◌, ◌≢◌, List, ◌++◌, length, slice_get, Option, None, Some, MatchBool, zero, suc}
+use Rattle.std.specs.Prelude.{◌≡◌, ℕ, ◌+◌, ◌/◌, ◌%◌, ◌<◌, ◌==◌, ◌↔◌, ◌≢◌, List, ◌++◌, length, slice_get, Option, None, Some, MatchBool}
+use Rattle.std.specs.Prelude.{zero, suc}
 use Rattle.meta_types.specs.TypeParts.{number_of}
 use Rattle.meta_types.specs.Function.{Function, StepsNumbers}
 use Rattle.meta_typevar.specs.TypeSetParts.{TypeSetParts}
@@ -10,7 +11,7 @@ use Rattle.meta_typevar.specs.declared.masks.Masks.{Masks}
 use Rattle.meta_typevar.specs.Variable.{Variable, Sets}
 use Rattle.meta_inst.specs.Which.{Which, both}
 use Rattle.meta_inst.specs.Instruction.{Instruction, IsOperand, IsDesignated, controls_of}
-use Rattle.meta_meaning.specs.Constraint.{Constraint, Concrete, Free, Same, By, IsConstraint}
+use Rattle.meta_meaning.specs.Constraint.{TypeConstraint, ConcreteType, FreeType, SameType, ByType, IsConstraint}
 
 -- the constraint of an operand in a table, by numbers: of a type, and of a type set
 pub data NumberConstraint : Type 0 where
@@ -123,23 +124,25 @@ IsTypeSetOffset sets None tables offset = offset ≡ no_type_set
 IsTypeSetOffset sets (Some v) tables offset = (offset < no_type_set) × HoldsSet tables offset (sets v.root)
 
 -- the table's constraint stands for the constraint over types
-abbrev pub StandsFor : TableContents → Constraint → NumberConstraint → Type 0
-StandsFor tables (Concrete t) x = x ≡ ConcreteNumber (number_of t)
-StandsFor tables (Free s) x = (j : ℕ) × (x ≡ FreeOf j) × HoldsSet tables j s
-StandsFor tables (Same a) x = x ≡ SameNumber a
-StandsFor tables (By a f) x = x ≡ ByNumber a f
+abbrev pub StandsFor : TableContents → TypeConstraint → NumberConstraint → Type 0
+StandsFor tables (ConcreteType t) x = x ≡ ConcreteNumber (number_of t)
+StandsFor tables (FreeType s) x = (j : ℕ) × (x ≡ FreeOf j) × HoldsSet tables j s
+StandsFor tables (SameType a) x = x ≡ SameNumber a
+StandsFor tables (ByType a f) x = x ≡ ByNumber a f
 
 -- at this place the list has the constraint of the operand w
 pub record Constrains (sets : Sets) (controls : Which → Option Variable) (tables : TableContents) (place : ℕ) (w : Variable) : Type 0 where
-  pub constraint : Constraint
+  pub constraint : TypeConstraint
   pub is_constraint : IsConstraint sets controls w constraint
   pub number_constraint : NumberConstraint
   pub stands : StandsFor tables constraint number_constraint
   pub placed : slice_get tables.operand_constraints place ≡ Some number_constraint
 
 -- the entry holds the instruction with this control: flags, type sets and constraints are those of its declaration
-pub record AreOpcodeNumbersOf (sets : Sets) (i : Instruction) (control : Option Variable) (tables : TableContents) (entry : OpcodeNumbers) : Type 0 where
+pub record AreOpcodeNumbersOf (sets : Sets) (i : Instruction) (control : Option Variable) (tables : TableContents)
+    (entry : OpcodeNumbers) : Type 0 where
   pub flags : AreFlagsOf i control entry.flags
   pub type_set : IsTypeSetOffset sets control tables entry.typeset_offset
   pub second_set : IsTypeSetOffset sets i.second tables entry.second_offset
-  pub constraints : (k : ℕ) (w : Variable) → IsOperand i k w → Constrains sets (controls_of i control) tables (entry.constraint_offset + k) w
+  pub constraints : (k : ℕ) (w : Variable) → IsOperand i k w
+      → Constrains sets (controls_of i control) tables (entry.constraint_offset + k) w

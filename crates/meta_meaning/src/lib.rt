@@ -7,7 +7,7 @@
 
 ghost use Rattle.std.specs.Prelude.{◌≡◌, ◌≢◌, ℕ, ◌↔◌, List, [], ◌∷◌, ◌++◌, slice_get, Option, None, Some};
 ghost use Rattle.meta_types.specs.TypeParts.{TypeParts, IsType, number_of, name_of};
-ghost use Rattle.meta_types.specs.Function.{Function, Steps};
+ghost use Rattle.meta_types.specs.Function.{Function, StepsTypes};
 ghost use Rattle.meta_typevar.specs.TypeSetParts.{TypeSetParts, IsMember, IsTypeSet};
 ghost use Rattle.meta_typevar.specs.Masks.{ContainsNumber, AreMasksOf};
 ghost use Rattle.meta_typevar.specs.declared.masks.Masks.{Masks};
@@ -17,7 +17,7 @@ ghost use Rattle.meta_inst.specs.Which.{Which, both};
 ghost use Rattle.meta_inst.specs.Instruction.{Instruction, IsOperand, controls_of};
 ghost use Rattle.meta_inst.specs.Control.{IsControl, HasNoControl, HasBadSecond, HasBadDerivation};
 ghost use Rattle.meta_meaning.specs.Acceptance.{Accepts, AcceptsNumbers};
-ghost use Rattle.meta_meaning.specs.Constraint.{Constraint, IsConstraint, ControlFits, Admits};
+ghost use Rattle.meta_meaning.specs.Constraint.{TypeConstraint, IsConstraint, ControlFits, Admits};
 ghost use Rattle.meta_meaning.specs.Inference.{EndsInRelation, IsInferred, InfersNumbers, GivesResults};
 ghost use Rattle.meta_meaning.specs.OneControl.{IsControlAlone, AcceptsAlone};
 ghost use Rattle.meta_meaning.specs.Tables.{TableContents, OpcodeNumbers, at_opcode, Allows, DesignatedControls, AreOpcodeNumbersOf};
@@ -25,13 +25,19 @@ ghost use Rattle.meta_meaning.specs.Tables.{TableContents, OpcodeNumbers, at_opc
 /// One test an operand is one joint choice. Under the control of an instruction of which no operand is badly derived, the
 /// tests of the operands, each alone, pass exactly the types for which there is one choice of a type for every root.
 pub fn one_test_an_operand()
-    ensures { (sets : Sets) (i : Instruction) (control : Option Variable) (c d : Option TypeParts) (rs vs : List TypeParts) → IsControl sets i control → (HasBadSecond sets i → ⊥) → ((k : ℕ) → HasBadDerivation sets i control k → ⊥) → (Admits sets i control c d rs vs ↔ Accepts sets i control c d rs vs) }
+    ensures { (sets : Sets) (i : Instruction) (control : Option Variable) (c d : Option TypeParts)
+        (rs vs : List TypeParts) → IsControl sets i control → (HasBadSecond sets i → ⊥)
+        → ((k : ℕ) → HasBadDerivation sets i control k → ⊥) → (Admits sets i control c d rs vs ↔ Accepts sets i control c d rs vs) }
 {}
 
 /// The tables mean the instruction: where they hold it as the entry of an opcode, the decoding allows exactly those
 /// numbers, of all numbers, that are the numbers of types which the instruction accepts.
 pub fn tables_mean_the_instruction()
-    ensures { (sets : Sets) (i : Instruction) (control : Option Variable) (tables : TableContents) (op : ℕ) (entry : OpcodeNumbers) (c d : Option ℕ) (rs vs : List ℕ) → ((k : ℕ) (w : Variable) → IsOperand i k w → IsTypeSet (sets w.root)) → IsControl sets i control → (HasBadSecond sets i → ⊥) → AreOpcodeNumbersOf sets i control tables entry → at_opcode tables.entries op ≡ Some entry → (Allows tables op c d rs vs ↔ AcceptsNumbers sets i control c d rs vs) }
+    ensures { (sets : Sets) (i : Instruction) (control : Option Variable) (tables : TableContents) (op : ℕ)
+        (entry : OpcodeNumbers) (c d : Option ℕ) (rs vs : List ℕ)
+        → ((k : ℕ) (w : Variable) → IsOperand i k w → IsTypeSet (sets w.root)) → IsControl sets i control
+        → (HasBadSecond sets i → ⊥) → AreOpcodeNumbersOf sets i control tables entry
+        → at_opcode tables.entries op ≡ Some entry → (Allows tables op c d rs vs ↔ AcceptsNumbers sets i control c d rs vs) }
 {}
 
 /// An instruction has at most one control, and none where the want of a control is a fault.
@@ -42,51 +48,83 @@ pub fn one_control()
 
 /// An operand has at most one constraint. It has one exactly where it isn't badly derived.
 pub fn one_constraint()
-    ensures same { (sets : Sets) (i : Instruction) (control : Option Variable) → IsControl sets i control → (HasBadSecond sets i → ⊥) → (w : Variable) (x y : Constraint) → IsConstraint sets (controls_of i control) w x → IsConstraint sets (controls_of i control) w y → x ≡ y }
-    ensures no_fault { (sets : Sets) (i : Instruction) (control : Option Variable) (k : ℕ) (w : Variable) (x : Constraint) → IsControl sets i control → (HasBadSecond sets i → ⊥) → IsOperand i k w → IsConstraint sets (controls_of i control) w x → HasBadDerivation sets i control k → ⊥ }
-    ensures some { (sets : Sets) (i : Instruction) (control : Option Variable) → IsControl sets i control → (HasBadSecond sets i → ⊥) → ((k : ℕ) → HasBadDerivation sets i control k → ⊥) → (k : ℕ) (w : Variable) → IsOperand i k w → (x : Constraint) × IsConstraint sets (controls_of i control) w x }
+    ensures same { (sets : Sets) (i : Instruction) (control : Option Variable) → IsControl sets i control
+        → (HasBadSecond sets i → ⊥) → (w : Variable) (x y : TypeConstraint)
+        → IsConstraint sets (controls_of i control) w x → IsConstraint sets (controls_of i control) w y → x ≡ y }
+    ensures no_fault { (sets : Sets) (i : Instruction) (control : Option Variable) (k : ℕ) (w : Variable)
+        (x : TypeConstraint) → IsControl sets i control → (HasBadSecond sets i → ⊥) → IsOperand i k w
+        → IsConstraint sets (controls_of i control) w x → HasBadDerivation sets i control k → ⊥ }
+    ensures some { (sets : Sets) (i : Instruction) (control : Option Variable) → IsControl sets i control
+        → (HasBadSecond sets i → ⊥) → ((k : ℕ) → HasBadDerivation sets i control k → ⊥) → (k : ℕ) (w : Variable)
+        → IsOperand i k w → (x : TypeConstraint) × IsConstraint sets (controls_of i control) w x }
 {}
 
 /// In an accepted combination the controlling types determine each result whose chain doesn't end in a relation: its type is
 /// the one that is inferred. Each operand whose variable is a control has the type of that control, and the controlling types fit.
 pub fn results_are_inferred()
-    ensures inferred { (sets : Sets) (i : Instruction) (control : Option Variable) (c d : Option TypeParts) (rs vs : List TypeParts) → IsControl sets i control → (HasBadSecond sets i → ⊥) → Accepts sets i control c d rs vs → (k : ℕ) (w : Variable) (t : TypeParts) → slice_get i.results k ≡ Some w → slice_get rs k ≡ Some t → IsInferred sets (controls_of i control) (both c d) w t }
-    ensures only { (sets : Sets) (i : Instruction) (control : Option Variable) (c d : Option TypeParts) → IsControl sets i control → (HasBadSecond sets i → ⊥) → ((k : ℕ) → HasBadDerivation sets i control k → ⊥) → (k : ℕ) (w : Variable) → slice_get i.results k ≡ Some w → (EndsInRelation w → ⊥) → (t u : TypeParts) → IsInferred sets (controls_of i control) (both c d) w t → IsInferred sets (controls_of i control) (both c d) w u → t ≡ u }
-    ensures controls { (sets : Sets) (i : Instruction) (control : Option Variable) (c d : Option TypeParts) (rs vs : List TypeParts) → IsControl sets i control → (HasBadSecond sets i → ⊥) → Accepts sets i control c d rs vs → (k : ℕ) (a : Which) (w : Variable) (t : TypeParts) → slice_get i.values k ≡ Some w → slice_get vs k ≡ Some t → controls_of i control a ≡ Some w → both c d a ≡ Some t }
-    ensures fit { (sets : Sets) (i : Instruction) (control : Option Variable) (c d : Option TypeParts) (rs vs : List TypeParts) → IsControl sets i control → (HasBadSecond sets i → ⊥) → Accepts sets i control c d rs vs → (a : Which) → ControlFits sets (controls_of i control a) (both c d a) }
+    ensures inferred { (sets : Sets) (i : Instruction) (control : Option Variable) (c d : Option TypeParts)
+        (rs vs : List TypeParts) → IsControl sets i control → (HasBadSecond sets i → ⊥)
+        → Accepts sets i control c d rs vs → (k : ℕ) (w : Variable) (t : TypeParts) → slice_get i.results k ≡ Some w
+        → slice_get rs k ≡ Some t → IsInferred sets (controls_of i control) (both c d) w t }
+    ensures only { (sets : Sets) (i : Instruction) (control : Option Variable) (c d : Option TypeParts)
+        → IsControl sets i control → (HasBadSecond sets i → ⊥) → ((k : ℕ) → HasBadDerivation sets i control k → ⊥)
+        → (k : ℕ) (w : Variable) → slice_get i.results k ≡ Some w → (EndsInRelation w → ⊥) → (t u : TypeParts)
+        → IsInferred sets (controls_of i control) (both c d) w t → IsInferred sets (controls_of i control) (both c d) w u → t ≡ u }
+    ensures controls { (sets : Sets) (i : Instruction) (control : Option Variable) (c d : Option TypeParts)
+        (rs vs : List TypeParts) → IsControl sets i control → (HasBadSecond sets i → ⊥)
+        → Accepts sets i control c d rs vs → (k : ℕ) (a : Which) (w : Variable) (t : TypeParts)
+        → slice_get i.values k ≡ Some w → slice_get vs k ≡ Some t → controls_of i control a ≡ Some w → both c d a ≡ Some t }
+    ensures fit { (sets : Sets) (i : Instruction) (control : Option Variable) (c d : Option TypeParts)
+        (rs vs : List TypeParts) → IsControl sets i control → (HasBadSecond sets i → ⊥)
+        → Accepts sets i control c d rs vs → (a : Which) → ControlFits sets (controls_of i control a) (both c d a) }
 {}
 
 /// Where the designated operand's variable controls, the designated value of each accepted combination has the controlling type.
 pub fn designated_value_has_the_controlling_type()
-    ensures { (sets : Sets) (i : Instruction) (control : Option Variable) (c d : Option TypeParts) (rs vs : List TypeParts) → IsControl sets i control → (HasBadSecond sets i → ⊥) → Accepts sets i control c d rs vs → DesignatedControls i control → (place : ℕ) → i.designated ≡ Some place → (t : TypeParts) × (slice_get vs place ≡ Some t) × (c ≡ Some t) }
+    ensures { (sets : Sets) (i : Instruction) (control : Option Variable) (c d : Option TypeParts)
+        (rs vs : List TypeParts) → IsControl sets i control → (HasBadSecond sets i → ⊥)
+        → Accepts sets i control c d rs vs → DesignatedControls i control → (place : ℕ) → i.designated ≡ Some place
+        → (t : TypeParts) × (slice_get vs place ≡ Some t) × (c ≡ Some t) }
 {}
 
 /// What tables give for the results under controlling numbers. For the entry of an instruction that is what the instruction infers
 /// of the controlling types with these numbers. In any tables, where something is allowed under these numbers there is what is
 /// given, and each number of it but 0 is that result's.
 pub fn tables_infer_the_results()
-    ensures meaning { (sets : Sets) (i : Instruction) (control : Option Variable) (tables : TableContents) (op : ℕ) (entry : OpcodeNumbers) (c d : Option ℕ) (numbers : List ℕ) → ((k : ℕ) (w : Variable) → IsOperand i k w → IsTypeSet (sets w.root)) → IsControl sets i control → (HasBadSecond sets i → ⊥) → AreOpcodeNumbersOf sets i control tables entry → at_opcode tables.entries op ≡ Some entry → (GivesResults tables op c d numbers ↔ InfersNumbers sets i control c d numbers) }
-    ensures some { (tables : TableContents) (op : ℕ) (c d : Option ℕ) (rs vs : List ℕ) → Allows tables op c d rs vs → (numbers : List ℕ) × GivesResults tables op c d numbers }
-    ensures same { (tables : TableContents) (op : ℕ) (c d : Option ℕ) (rs vs numbers : List ℕ) → Allows tables op c d rs vs → GivesResults tables op c d numbers → (k m n : ℕ) → slice_get numbers k ≡ Some n → n ≢ 0 → slice_get rs k ≡ Some m → m ≡ n }
+    ensures meaning { (sets : Sets) (i : Instruction) (control : Option Variable) (tables : TableContents) (op : ℕ)
+        (entry : OpcodeNumbers) (c d : Option ℕ) (numbers : List ℕ)
+        → ((k : ℕ) (w : Variable) → IsOperand i k w → IsTypeSet (sets w.root)) → IsControl sets i control
+        → (HasBadSecond sets i → ⊥) → AreOpcodeNumbersOf sets i control tables entry
+        → at_opcode tables.entries op ≡ Some entry → (GivesResults tables op c d numbers ↔ InfersNumbers sets i control c d numbers) }
+    ensures some { (tables : TableContents) (op : ℕ) (c d : Option ℕ) (rs vs : List ℕ) → Allows tables op c d rs vs
+        → (numbers : List ℕ) × GivesResults tables op c d numbers }
+    ensures same { (tables : TableContents) (op : ℕ) (c d : Option ℕ) (rs vs numbers : List ℕ)
+        → Allows tables op c d rs vs → GivesResults tables op c d numbers → (k m n : ℕ) → slice_get numbers k ≡ Some n
+        → n ≢ 0 → slice_get rs k ≡ Some m → m ≡ n }
 {}
 
 /// Without a second control all is as it is said of one control: which variable controls, what is accepted, and that there is no
 /// second controlling type.
 pub fn without_a_second_control()
-    ensures control { (sets : Sets) (i : Instruction) (control : Option Variable) → i.second ≡ None → (IsControl sets i control ↔ IsControlAlone sets i control) }
-    ensures accepts { (sets : Sets) (i : Instruction) (control : Option Variable) (c d : Option TypeParts) (rs vs : List TypeParts) → i.second ≡ None → (Accepts sets i control c d rs vs ↔ (AcceptsAlone sets i control c rs vs × (d ≡ None))) }
+    ensures control { (sets : Sets) (i : Instruction) (control : Option Variable) → i.second ≡ None
+        → (IsControl sets i control ↔ IsControlAlone sets i control) }
+    ensures accepts { (sets : Sets) (i : Instruction) (control : Option Variable) (c d : Option TypeParts)
+        (rs vs : List TypeParts) → i.second ≡ None
+        → (Accepts sets i control c d rs vs ↔ (AcceptsAlone sets i control c rs vs × (d ≡ None))) }
     ensures no_fault { (sets : Sets) (i : Instruction) → i.second ≡ None → HasBadSecond sets i → ⊥ }
     ensures needs_control { (sets : Sets) (i : Instruction) → IsControl sets i None → (HasBadSecond sets i → ⊥) → i.second ≡ None }
 {}
 
 /// The masks of a set contain exactly the numbers of its members. Two types have two numbers and two names.
 pub fn masks_contain_the_members()
-    ensures members { (s : TypeSetParts) (m : Masks) (n : ℕ) → IsTypeSet s → AreMasksOf s m → (ContainsNumber m n ↔ ((t : TypeParts) × IsMember s t × (number_of t ≡ n))) }
+    ensures members { (s : TypeSetParts) (m : Masks) (n : ℕ) → IsTypeSet s → AreMasksOf s m
+        → (ContainsNumber m n ↔ ((t : TypeParts) × IsMember s t × (number_of t ≡ n))) }
     ensures numbers { (a b : TypeParts) → IsType a → IsType b → number_of a ≡ number_of b → a ≡ b }
     ensures names { (a b : TypeParts) → IsType a → IsType b → name_of a ≡ name_of b → a ≡ b }
 {}
 
 /// A chain leads to a type exactly where all of it but its last function leads to a type from which that one does.
 pub fn chain_end()
-    ensures { (fs : List Function) (f : Function) (r t : TypeParts) → (Agrees (fs ++ f ∷ []) r t ↔ ((u : TypeParts) × Agrees fs r u × Steps f u t)) }
+    ensures { (fs : List Function) (f : Function) (r t : TypeParts)
+        → (Agrees (fs ++ f ∷ []) r t ↔ ((u : TypeParts) × Agrees fs r u × StepsTypes f u t)) }
 {}

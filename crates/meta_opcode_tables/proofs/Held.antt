@@ -1,5 +1,6 @@
 -- Entries that hold instructions, and the lists that grow behind them.
-use Rattle.std.proofs.Common.{◌≡◌, ◌<◌, ◌≤◌, ◌+◌, ℕ, List, [], ◌∷◌, ◌++◌, length, map, take, drop, ◌-◌, length-drop, slice_get, Option, Some, inl, inr, ⊎_elim, arith, refl, sym, ap, ◌∙◌, subst, below_more, length-append}
+use Rattle.std.proofs.Common.{◌≡◌, ◌<◌, ◌≤◌, ◌+◌, ℕ, List, [], ◌∷◌, ◌++◌, length, map, take, drop, ◌-◌, length-drop, slice_get, Option}
+use Rattle.std.proofs.Common.{Some, inl, inr, ⊎_elim, arith, refl, sym, ap, ◌∙◌, subst, below_more, length-append}
 use Rattle.std.specs.Prelude.{option_map}
 use Rattle.std.proofs.lemmas.Option.{slice_get-map, slice_get_within, same_Some}
 use Rattle.meta_typevar.specs.Variable.{Variable}
@@ -9,7 +10,8 @@ use Rattle.meta_typevar.specs.declared.content.TypeVarContent.{TypeVarContent}
 use Rattle.meta_operands.specs.declared.format.InstructionFormat.{InstructionFormat}
 use Rattle.meta_inst.specs.Builder.{Builder}
 use Rattle.meta_inst.specs.Instruction.{Instruction, IsOperand, controls_of}
-use Rattle.meta_inst.specs.Which.{Which, First, Second}
+use Rattle.meta_inst.specs.Which.{Which, Second, both}
+use Rattle.meta_inst.specs.Controls.{AreControlsOf}
 use Rattle.meta_inst.specs.Control.{IsControl, HasBadSecond}
 use Rattle.meta_inst.specs.InstructionSet.{InstructionSet, root_sets, instruction_of_builder, instruction_in_set}
 use Rattle.meta_inst.specs.Faults.{IsAt, AreNeededSets}
@@ -21,10 +23,11 @@ use Rattle.meta_opcode_tables.specs.TablesOf.{HoldsInstruction}
 use Rattle.meta_opcode_tables.specs.declared.constraint.Constraint.{Constraint}
 use Rattle.meta_opcode_tables.specs.declared.constraint.OpcodeConstraints.{OpcodeConstraints}
 use Rattle.meta_unique.specs.Overlap.{added, added_at}
-use Rattle.meta_opcode_tables.specs.ConstraintLists.{same_constraint, three_same, overlapped, IsConstraintAt, IsConstraintList, AreOverlapped}
-use Rattle.meta_opcode_tables.specs.Entries.{StaysIn, IsHeld, IsFreeNumber, HoldNeeded, HoldFree, HasTypeSets, IsDescribedAt, AreDescribed, EntryHolds, IsAdded, AreAdded, IsListOf, IsHeldAt, set_with}
-use Rattle.meta_declared.specs.Needed.{IsOfRegistry, control_at}
-use Rattle.meta_opcode_tables.proofs.Describing.{control_is, control_from}
+use Rattle.meta_opcode_tables.specs.ConstraintLists.{same_constraint, three_same, overlapped, IsConstraintAt, IsConstraintList}
+use Rattle.meta_opcode_tables.specs.ConstraintLists.{AreOverlapped}
+use Rattle.meta_opcode_tables.specs.Entries.{StaysIn, IsHeld, HoldNeeded, HoldFree, HasTypeSets, IsDescribedAt, AreDescribed, EntryHolds}
+use Rattle.meta_opcode_tables.specs.Entries.{IsAdded, AreAdded, IsListOf, IsHeldAt}
+use Rattle.meta_inst.proofs.ControlLemmas.{control_is, control_from}
 use Rattle.meta_opcode_tables.proofs.Overlapping.{one_list_more}
 use Rattle.std.proofs.Math.Seq.{take-append_seam}
 use Rattle.std.proofs.lemmas.List.{take-append-le, length-map}
@@ -33,42 +36,47 @@ use Rattle.meta_lists.proofs.Pushed.{get_before, get_pushed_below, stays, last, 
 use Rattle.meta_lists.proofs.Mapped.{get_mapped}
 
 -- the needed sets hold what each instruction needs
-pub needed_held : (d : InstructionSet) (type_sets : List TypeSetParts) → AreNeededSets d type_sets → (k : ℕ) (b : Builder) → IsAt d k b → HoldNeeded type_sets (root_sets d) (instruction_in_set d b)
-needed_held d type_sets needed k b at control s is which = needed.all s (k, record { user = b; at = at; control = control; is_control = is; needs = which })
+pub needed_held : (d : InstructionSet) (type_sets : List TypeSetParts) → AreNeededSets d type_sets → (k : ℕ) (b : Builder) → IsAt d k b
+    → HoldNeeded type_sets (root_sets d) (instruction_in_set d b)
+needed_held d type_sets needed k b at control s is which =
+    needed.all s (k, record { user = b; at = at; control = control; is_control = is; needs = which })
 
-module _ (vars : List TypeVarContent) (o : OperandList) (within : o.result_count ≤ length o.variables) (control : Option ℕ) (type_sets : List TypeSetParts)
-    (held : HoldNeeded type_sets (sets_of vars) (instruction_of_operands vars o)) (is_control : IsControl (sets_of vars) (instruction_of_operands vars o) (control_at vars control)) (registry : IsRegistry vars) (are : AreOf vars o.variables) (of : IsOfRegistry vars control) (second_of : SecondIsOf vars o.second) where
-  -- the set of the control is held
-  pub control_held : (v : ℕ) → control ≡ Some v → IsHeld type_sets (sets_of vars (variable_at vars v).root)
-  control_held v e = held (control_at vars control) (sets_of vars (variable_at vars v).root) is_control (inl (First, record { variable = variable_at vars v; controls_is = control_is vars control v e; set = refl }))
-
-  -- that of the second control
-  pub second_held : (v : ℕ) → o.second ≡ Some v → IsHeld type_sets (sets_of vars (variable_at vars v).root)
-  second_held v e = held (control_at vars control) (sets_of vars (variable_at vars v).root) is_control (inl (Second, record { variable = variable_at vars v; controls_is = control_is vars o.second v e; set = refl }))
+module _ (vars : List TypeVarContent) (o : OperandList) (within : o.result_count ≤ length o.variables) (control : Option ℕ)
+    (type_sets : List TypeSetParts)
+    (held : HoldNeeded type_sets (sets_of vars) (instruction_of_operands vars o))
+    (is_control : IsControl (sets_of vars) (instruction_of_operands vars o) (option_map (variable_at vars) control))
+    (registry : IsRegistry vars) (are : AreOf vars o.variables) (of : AreControlsOf vars (both control o.second)) where
+  -- the set of each control is held
+  pub control_held : (a : Which) (v : ℕ) → both control o.second a ≡ Some v → IsHeld type_sets (sets_of vars (variable_at vars v).root)
+  control_held a v e = held (option_map (variable_at vars) control) (sets_of vars (variable_at vars v).root) is_control
+      (inl (a, record { variable = variable_at vars v; controls_is = control_is vars (both control o.second) a v e; set = refl }))
 
   -- and the set of each other operand that needs one
-  pub free_held : (numbers : List ℕ) → numbers ≡ o.variables → HoldFree vars control o.second type_sets numbers
-  free_held numbers same k n at f = held (control_at vars control) (sets_of vars (variable_at vars n).root) is_control (inr record {
-    place = k;
-    variable = variable_at vars n;
-    operand = operand_at vars o within registry are second_of k n (ap (λ ns. slice_get ns k) (sym same) ∙ at);
-    underived = f.underived;
-    other = no_control n (are k n (ap (λ ns. slice_get ns k) (sym same) ∙ at)) f;
-    set = refl;
-    several = f.several;
-  })
-    where
-      no_control : (n : ℕ) → n < length vars → IsFreeNumber vars control o.second n → (a : Which) → controls_of (instruction_of_operands vars o) (control_at vars control) a ≡ Some (variable_at vars n) → ⊥
-      no_control n below f First e = f.other (control_from vars registry control of n below e)
-      no_control n below f Second e = f.not_second (control_from vars registry o.second second_of n below e)
+  pub free_held : (numbers : List ℕ) → numbers ≡ o.variables → HoldFree vars (both control o.second) type_sets numbers
+  free_held numbers same k n at f =
+      let there : slice_get o.variables k ≡ Some n = ap (λ ns. slice_get ns k) (sym same) ∙ at in
+      held (option_map (variable_at vars) control) (sets_of vars (variable_at vars n).root) is_control (inr record {
+        place = k;
+        variable = variable_at vars n;
+        operand = operand_at vars o within registry are (of Second) k n there;
+        underived = f.underived;
+        other = λ a e. f.other (a, control_from vars (both control o.second) registry of a n (are k n there) e);
+        set = refl;
+        several = f.several;
+      })
 
-module _ (vars : List TypeVarContent) (o : OperandList) (within : o.result_count ≤ length o.variables) (registry : IsRegistry vars) (are : AreOf vars o.variables) (second_of : SecondIsOf vars o.second) (control : Option ℕ) (type_sets : List TypeSetParts) (list : List Constraint) (described : AreDescribed vars control o.second type_sets list o.variables) where
+module _ (vars : List TypeVarContent) (o : OperandList) (within : o.result_count ≤ length o.variables) (registry : IsRegistry vars)
+    (are : AreOf vars o.variables) (second_of : SecondIsOf vars o.second) (control : Option ℕ) (type_sets : List TypeSetParts)
+    (list : List Constraint) (described : AreDescribed vars (both control o.second) type_sets list o.variables) where
   -- the constraint of an operand
-  constraint_at : (tables : TableContents) → HasTypeSets tables type_sets → (k : ℕ) (w : Variable) → IsOperand (instruction_of_operands vars o) k w → IsConstraintAt (sets_of vars) (controls_of (instruction_of_operands vars o) (control_at vars control)) tables list k w
+  constraint_at : (tables : TableContents) → HasTypeSets tables type_sets → (k : ℕ) (w : Variable)
+      → IsOperand (instruction_of_operands vars o) k w
+      → IsConstraintAt (sets_of vars) (controls_of (instruction_of_operands vars o) (option_map (variable_at vars) control)) tables list k w
   constraint_at tables has k w op =
       let (n, at, is) = operand_from vars o within registry are second_of k w op in
-      let h : IsDescribedAt vars control o.second type_sets list k n = described.each k n at in
-      subst (IsConstraintAt (sets_of vars) (controls_of (instruction_of_operands vars o) (control_at vars control)) tables list k) (sym is) (record {
+      let h : IsDescribedAt vars (both control o.second) type_sets list k n = described.each k n at in
+      subst (IsConstraintAt (sets_of vars) (controls_of (instruction_of_operands vars o) (option_map (variable_at vars) control)) tables
+      list k) (sym is) (record {
         type_constraint = h.describes.constraint;
         is_constraint = h.describes.is_constraint;
         constraint = h.constraint;
@@ -79,24 +87,29 @@ module _ (vars : List TypeVarContent) (o : OperandList) (within : o.result_count
   -- there is one for each operand
   list_length : length list ≡ length (instruction_of_operands vars o).results + length (instruction_of_operands vars o).values
   list_length =
-      let results : length (instruction_of_operands vars o).results ≡ o.result_count = results_length vars o within registry are second_of in
-      let values : length (instruction_of_operands vars o).values ≡ length o.variables - o.result_count = length-map (drop o.result_count o.variables) (variable_at vars) ∙ length-drop o.result_count o.variables in
+      let results : length (instruction_of_operands vars o).results ≡ o.result_count = results_length vars o within registry are second_of
+      in
+      let values : length (instruction_of_operands vars o).values ≡ length o.variables - o.result_count =
+      length-map (drop o.result_count o.variables) (variable_at vars) ∙ length-drop o.result_count o.variables in
       omega (arith, described.count, results, values, within)
 
-  pub is_list : (tables : TableContents) → HasTypeSets tables type_sets → IsConstraintList (sets_of vars) (control_at vars control) tables (instruction_of_operands vars o) list
+  pub is_list : (tables : TableContents) → HasTypeSets tables type_sets
+      → IsConstraintList (sets_of vars) (option_map (variable_at vars) control) tables (instruction_of_operands vars o) list
   is_list tables has = record { count = list_length; each = constraint_at tables has }
 
   -- the entry of an instruction whose list stands in the constraints
   pub entry_holds : (e : OpcodeConstraints) (constraints : List Constraint)
-      → IsControl (sets_of vars) (instruction_of_operands vars o) (control_at vars control)
+      → IsControl (sets_of vars) (instruction_of_operands vars o) (option_map (variable_at vars) control)
       → (HasBadSecond (sets_of vars) (instruction_of_operands vars o) → ⊥)
-      → AreFlagsOf (instruction_of_operands vars o) (control_at vars control) e.flags
-      → ((tables : TableContents) → HasTypeSets tables type_sets → IsTypeSetOffset (sets_of vars) (control_at vars control) tables e.typeset_offset)
-      → ((tables : TableContents) → HasTypeSets tables type_sets → IsTypeSetOffset (sets_of vars) (second_in vars o.second) tables e.second_offset)
+      → AreFlagsOf (instruction_of_operands vars o) (option_map (variable_at vars) control) e.flags
+      → ((tables : TableContents) → HasTypeSets tables type_sets
+      → IsTypeSetOffset (sets_of vars) (option_map (variable_at vars) control) tables e.typeset_offset)
+      → ((tables : TableContents) → HasTypeSets tables type_sets
+      → IsTypeSetOffset (sets_of vars) (second_in vars o.second) tables e.second_offset)
       → ((k : ℕ) (x : Constraint) → slice_get list k ≡ Some x → slice_get constraints (e.constraint_offset + k) ≡ Some x)
       → EntryHolds vars (instruction_of_operands vars o) type_sets constraints e
   entry_holds e constraints is_control good flags type_set second_set stands = record {
-    control = control_at vars control;
+    control = option_map (variable_at vars) control;
     is_control = is_control;
     good = good;
     is_entry = λ tables has hold. record {
@@ -116,7 +129,8 @@ module _ (vars : List TypeVarContent) (o : OperandList) (within : o.result_count
   }
 
 -- an entry holds its instruction when the list of constraints has grown
-pub holds_later : (vars : List TypeVarContent) (i : Instruction) (type_sets : List TypeSetParts) (old new : List Constraint) (e : OpcodeConstraints) → StaysIn old new → EntryHolds vars i type_sets old e → EntryHolds vars i type_sets new e
+pub holds_later : (vars : List TypeVarContent) (i : Instruction) (type_sets : List TypeSetParts) (old new : List Constraint)
+    (e : OpcodeConstraints) → StaysIn old new → EntryHolds vars i type_sets old e → EntryHolds vars i type_sets new e
 holds_later vars i type_sets old new e stay h = record {
   control = h.control;
   is_control = h.is_control;
@@ -126,7 +140,8 @@ holds_later vars i type_sets old new e stay h = record {
 
 module _ (vars : List TypeVarContent) (formats : List InstructionFormat) (type_sets : List TypeSetParts) where
   -- one more entry, that of the instruction at the next place
-  pub one_more_held : (instructions : List Builder) (old new : List Constraint) (entries later : List OpcodeConstraints) (e : OpcodeConstraints) (b : Builder) (place : ℕ)
+  pub one_more_held : (instructions : List Builder) (old new : List Constraint) (entries later : List OpcodeConstraints)
+      (e : OpcodeConstraints) (b : Builder) (place : ℕ)
       → later ≡ entries ++ e ∷ [] → length entries ≡ place → slice_get instructions place ≡ Some b → StaysIn old new
       → EntryHolds vars (instruction_of_builder vars formats b) type_sets new e
       → ((k : ℕ) (x : Builder) → k < place → slice_get instructions k ≡ Some x → IsHeldAt vars formats type_sets old entries k x)
@@ -146,15 +161,19 @@ module _ (vars : List TypeVarContent) (formats : List InstructionFormat) (type_s
       k below x at_k
 
   -- the tables hold an instruction whose entry holds it
-  pub instruction_held : (instructions : List Builder) (tables : TableContents) (constraints : List Constraint) (entries : List OpcodeConstraints) → HasTypeSets tables type_sets → tables.operand_constraints ≡ map number_constraint_of constraints → tables.entries ≡ map entry_of entries → (k : ℕ) (b : Builder)
-      → IsHeldAt vars formats type_sets constraints entries k b → HoldsInstruction (set_with vars formats instructions) tables k b
+  pub instruction_held : (instructions : List Builder) (tables : TableContents) (constraints : List Constraint)
+      (entries : List OpcodeConstraints) → HasTypeSets tables type_sets → tables.operand_constraints ≡ map number_constraint_of constraints
+      → tables.entries ≡ map entry_of entries → (k : ℕ) (b : Builder)
+      → IsHeldAt vars formats type_sets constraints entries k b
+      → HoldsInstruction (record { vars = vars; formats = formats; instructions = instructions }) tables k b
   instruction_held instructions tables constraints entries has has_constraints has_entries k b h = record {
     control = h.holds.control;
     is_control = h.holds.is_control;
     good = h.holds.good;
     entry = entry_of h.entry;
     at = ap (λ xs. slice_get xs k) has_entries ∙ slice_get-map entry_of entries k ∙ ap (option_map entry_of) h.at;
-    is_entry = h.holds.is_entry tables has (λ j x at. ap (λ xs. slice_get xs j) has_constraints ∙ slice_get-map number_constraint_of constraints j ∙ ap (option_map number_constraint_of) at);
+    is_entry = h.holds.is_entry tables has (λ j x at. ap (λ xs. slice_get xs j) has_constraints
+        ∙ slice_get-map number_constraint_of constraints j ∙ ap (option_map number_constraint_of) at);
   }
 
   -- nothing is added yet
@@ -167,7 +186,8 @@ module _ (vars : List TypeVarContent) (formats : List InstructionFormat) (type_s
   }
 
   -- one more list is added, that of the instruction at the next place
-  pub one_more_added : (instructions : List Builder) (old new : List Constraint) (entries later : List OpcodeConstraints) (e : OpcodeConstraints) (b : Builder) (lists : List (List Constraint))
+  pub one_more_added : (instructions : List Builder) (old new : List Constraint) (entries later : List OpcodeConstraints)
+      (e : OpcodeConstraints) (b : Builder) (lists : List (List Constraint))
       → later ≡ entries ++ e ∷ [] → slice_get instructions (length entries) ≡ Some b
       → (a : IsAdded vars (instruction_of_builder vars formats b) type_sets old new e)
       → AreAdded vars formats instructions type_sets old entries lists
@@ -175,7 +195,8 @@ module _ (vars : List TypeVarContent) (formats : List InstructionFormat) (type_s
   one_more_added instructions old new entries later e b lists pushed at a h = record {
     count = length-append lists (a.list ∷ []) ∙ ap (λ n. n + 1) h.count ∙ sym longer;
     whole = a.made ∙ ap (λ xs. added same_constraint xs a.list) h.whole ∙ sym (one_list_more lists a.list);
-    are = λ k c l at_c. below_more (λ k. (c : Builder) → slice_get instructions k ≡ Some c → IsListOf vars formats type_sets (lists ++ a.list ∷ []) k c) (length entries)
+    are = λ k c l at_c. below_more (λ k. (c : Builder) → slice_get instructions k ≡ Some c
+        → IsListOf vars formats type_sets (lists ++ a.list ∷ []) k c) (length entries)
         (λ k l c at_c. let x = h.are k c l at_c in record {
           control = x.control;
           is_control = x.is_control;
@@ -183,7 +204,8 @@ module _ (vars : List TypeVarContent) (formats : List InstructionFormat) (type_s
           at = get_stays lists (a.list ∷ []) k x.list x.at;
           is_list = x.is_list;
         })
-        (λ c at_c. subst (λ y. IsListOf vars formats type_sets (lists ++ a.list ∷ []) (length entries) y) (same_Some b c (sym at ∙ at_c)) (record {
+        (λ c at_c. subst (λ y. IsListOf vars formats type_sets (lists ++ a.list ∷ []) (length entries) y) (same_Some b c (sym at ∙ at_c))
+        (record {
           control = a.control;
           is_control = a.is_control;
           list = a.list;
@@ -204,20 +226,30 @@ module _ (vars : List TypeVarContent) (formats : List InstructionFormat) (type_s
       front : (k : ℕ) → k ≤ length lists → take k (lists ++ a.list ∷ []) ≡ take k lists
       front k l = take-append-le k lists (a.list ∷ []) l
 
-      older : (k : ℕ) (list : List Constraint) (f : OpcodeConstraints) → slice_get (lists ++ a.list ∷ []) k ≡ Some list → slice_get later k ≡ Some f → k < length lists → slice_get lists k ≡ Some list → f.constraint_offset ≡ added_at same_constraint (overlapped (take k (lists ++ a.list ∷ []))) list
+      older : (k : ℕ) (list : List Constraint) (f : OpcodeConstraints) → slice_get (lists ++ a.list ∷ []) k ≡ Some list
+          → slice_get later k ≡ Some f → k < length lists → slice_get lists k ≡ Some list
+          → f.constraint_offset ≡ added_at same_constraint (overlapped (take k (lists ++ a.list ∷ []))) list
       older k list f at_l at_f inside was =
-          let was_entry : slice_get entries k ≡ Some f = sym (get_before entries e k (omega (arith, inside, h.count))) ∙ ap (λ xs. slice_get xs k) (sym pushed) ∙ at_f in
-          h.offsets k list f was was_entry ∙ ap (λ ls. added_at same_constraint (overlapped ls) list) (sym (front k (omega (arith, inside))))
+          let was_entry : slice_get entries k ≡ Some f = sym (get_before entries e k (omega (arith, inside, h.count)))
+          ∙ ap (λ xs. slice_get xs k) (sym pushed) ∙ at_f in
+          h.offsets k list f was was_entry
+          ∙ ap (λ ls. added_at same_constraint (overlapped ls) list) (sym (front k (omega (arith, inside))))
 
-      newest : (k : ℕ) (list : List Constraint) (f : OpcodeConstraints) → slice_get later k ≡ Some f → k ≡ length lists → a.list ≡ list → f.constraint_offset ≡ added_at same_constraint (overlapped (take k (lists ++ a.list ∷ []))) list
+      newest : (k : ℕ) (list : List Constraint) (f : OpcodeConstraints) → slice_get later k ≡ Some f → k ≡ length lists → a.list ≡ list
+          → f.constraint_offset ≡ added_at same_constraint (overlapped (take k (lists ++ a.list ∷ []))) list
       newest k list f at_f end same =
           let is : e ≡ f = same_Some e f (sym (last entries later e pushed k (end ∙ h.count)) ∙ at_f) in
-          let all : take k (lists ++ a.list ∷ []) ≡ lists = ap (λ n. take n (lists ++ a.list ∷ [])) end ∙ take-append_seam lists (a.list ∷ []) in
-          ap (λ (x : OpcodeConstraints). x.constraint_offset) (sym is) ∙ a.offset ∙ ap (λ xs. added_at same_constraint xs a.list) h.whole ∙ ap (added_at same_constraint (overlapped lists)) same
+          let all : take k (lists ++ a.list ∷ []) ≡ lists = ap (λ n. take n (lists ++ a.list ∷ [])) end
+          ∙ take-append_seam lists (a.list ∷ []) in
+          ap (λ (x : OpcodeConstraints). x.constraint_offset) (sym is) ∙ a.offset ∙ ap (λ xs. added_at same_constraint xs a.list) h.whole
+          ∙ ap (added_at same_constraint (overlapped lists)) same
           ∙ ap (λ ls. added_at same_constraint (overlapped ls) list) (sym all)
 
 -- the one list of the tables is made of the lists of the instructions
-pub are_overlapped : (d : InstructionSet) (type_sets : List TypeSetParts) (tables : TableContents) (constraints : List Constraint) (entries : List OpcodeConstraints) (lists : List (List Constraint)) → HasTypeSets tables type_sets → tables.operand_constraints ≡ map number_constraint_of constraints → tables.entries ≡ map entry_of entries → length entries ≡ length d.instructions
+pub are_overlapped : (d : InstructionSet) (type_sets : List TypeSetParts) (tables : TableContents) (constraints : List Constraint)
+    (entries : List OpcodeConstraints) (lists : List (List Constraint)) → HasTypeSets tables type_sets
+    → tables.operand_constraints ≡ map number_constraint_of constraints → tables.entries ≡ map entry_of entries
+    → length entries ≡ length d.instructions
     → AreAdded d.vars d.formats d.instructions type_sets constraints entries lists → AreOverlapped d tables
 are_overlapped d type_sets tables constraints entries lists has has_constraints has_entries count h = record {
   lists = lists;

@@ -1,22 +1,23 @@
 -- tables and how they are read
-pub mod Opcodes
-pub mod Declared
+mod Opcodes
+mod Declared
 pub mod Decoded
-pub mod Reading
-pub mod Naming
-pub mod Finding
+mod Reading
+mod Naming
+mod Finding
 pub mod Sameness
 -- the entries of the tables
 mod Describing
 mod Variants
-pub mod Overlapping
+mod Overlapping
 mod Flags
 mod Held
+mod Offsets
 mod Entering
 mod Masked
 mod Made
 pub mod Derivations
-pub mod Inferring
+mod Inferring
 -- tables of valid declarations are well-formed
 pub mod ValidNames
 mod ValidSets
@@ -27,7 +28,6 @@ mod Valid
 pub mod MaskTests
 mod PartsTested
 -- and parts have one table at most
-mod OneFilling
 mod OneTable
 -- and so have declarations
 mod OneNeed

@@ -1,10 +1,12 @@
 -- Which numbers are masks of widths, and of lane counts, by trying all of them.
-use Rattle.std.proofs.Common.{◌≡◌, ◌<◌, ◌≤◌, ◌%◌, ◌==◌, ◌&&◌, ◌||◌, not, cond, ⊎_elim, ℕ, zero, suc, Bool, true, false, List, [], ◌∷◌, sum, refl, sym, subst, arith}
+use Rattle.std.proofs.Common.{◌≡◌, ◌<◌, ◌≤◌, ◌%◌, ◌==◌, ◌&&◌, ◌||◌, not, cond, ⊎_elim, ℕ, zero, suc, Bool, true, false, List, [], ◌∷◌, sum}
+use Rattle.std.proofs.Common.{refl, sym, subst, arith}
 use Rattle.std.specs.List.{filter}
 use Rattle.std.proofs.lemmas.List.Sums.{sum_by-cons}
-use Rattle.std.proofs.lemmas.Bool.{cases_eq, and_parts, eqb-true, eq-eqb, false≢true}
+use Rattle.std.proofs.lemmas.Bool.{cases_eq, and_parts, eqb-true, eq-eqb}
 use Rattle.meta_types.specs.TypeParts.{IntKind, FloatKind, widths, lane_counts}
 use Rattle.meta_typevar.specs.MaskSets.{holds}
+use Rattle.meta_typevar.proofs.Finite.{implies}
 use Rattle.meta_opcode_tables.specs.MaskParts.{IsMaskOf}
 
 -- the sum of some numbers of a list is at most that of all
@@ -19,7 +21,7 @@ some_more x some all false h =
     let l : sum some ≤ sum (x ∷ all) = omega (arith, whole, h) in
     l
 
-sum_some : (p : ℕ → Bool) (xs : List ℕ) → sum (filter p xs) ≤ sum xs
+pub sum_some : (p : ℕ → Bool) (xs : List ℕ) → sum (filter p xs) ≤ sum xs
 sum_some p [] = omega arith
 sum_some p (x ∷ xs) = some_more x (filter p xs) xs (p x) (sum_some p xs)
 
@@ -36,22 +38,18 @@ passes_at (suc n) p e k l =
     (λ other. passes_at n p (and_parts _ _ e).1 k (omega (arith, l, other)))
     (cases_eq k n)
 
--- where one test implies another
-implied : (a b : Bool) → (not a || b) ≡ true → a ≡ true → b ≡ true
-implied true b e h = e
-implied false b e h = absurd (false≢true h)
-
 -- whether the number is the sum of those of the list that it holds
 abbrev is_held : List ℕ → ℕ → Bool
 is_held all n = n == sum (filter (holds n) all)
 
 -- where a test and its converse pass below a bound, it tells there which numbers are masks
-module _ (all : List ℕ) (bound : ℕ) (test : ℕ → Bool) (to : passes_below bound (λ n. not (test n) || is_held all n) ≡ true) (back : passes_below bound (λ n. not (is_held all n) || test n) ≡ true) (n : ℕ) (below : n < bound) where
+module _ (all : List ℕ) (bound : ℕ) (test : ℕ → Bool) (to : passes_below bound (λ n. not (test n) || is_held all n)
+    ≡ true) (back : passes_below bound (λ n. not (is_held all n) || test n) ≡ true) (n : ℕ) (below : n < bound) where
   held_by : test n ≡ true → n ≡ sum (filter (holds n) all)
-  held_by e = eqb-true _ _ (implied (test n) (is_held all n) (passes_at bound (λ n. not (test n) || is_held all n) to n below) e)
+  held_by e = eqb-true _ _ (implies (test n) (is_held all n) (passes_at bound (λ n. not (test n) || is_held all n) to n below) e)
 
   told_by : n ≡ sum (filter (holds n) all) → test n ≡ true
-  told_by e = implied (is_held all n) (test n) (passes_at bound (λ n. not (is_held all n) || test n) back n below) (eq-eqb _ _ e)
+  told_by e = implies (is_held all n) (test n) (passes_at bound (λ n. not (is_held all n) || test n) back n below) (eq-eqb _ _ e)
 
 pub lanes_held : (n : ℕ) → n ≤ 511 → IsMaskOf (lane_counts false) n
 lanes_held n l = held_by (lane_counts false) 512 (λ n. true) refl refl n (omega (arith, l)) refl
@@ -66,7 +64,8 @@ pub dynamic_few : (n : ℕ) → IsMaskOf (lane_counts true) n → n ≤ 510
 dynamic_few n e = let h = sum_some (holds n) (lane_counts true) in omega (arith, e, h)
 
 pub dynamic_even : (n : ℕ) → IsMaskOf (lane_counts true) n → n % 2 ≡ 0
-dynamic_even n e = eqb-true _ _ (told_by (lane_counts true) 511 (λ n. n % 2 == 0) refl refl n (let l = dynamic_few n e in omega (arith, l)) e)
+dynamic_even n e = eqb-true _ _ (told_by (lane_counts true) 511 (λ n. n % 2 == 0) refl refl n
+    (let l = dynamic_few n e in omega (arith, l)) e)
 
 pub ints_held : (n : ℕ) → n < 256 → n % 8 ≡ 0 → IsMaskOf (widths IntKind) n
 ints_held n l e = held_by (widths IntKind) 256 (λ n. n % 8 == 0) refl refl n l (eq-eqb _ _ e)

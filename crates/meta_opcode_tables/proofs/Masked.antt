@@ -13,7 +13,8 @@ pub none_stand : StandForSets [] []
 none_stand = record { count = refl; each = λ k s at. absurd (cc) }
 
 -- one more set and its masks
-pub one_stands : (masks more : List Masks) (sets : List TypeSetParts) (m : Masks) (s : TypeSetParts) → more ≡ masks ++ m ∷ [] → AreMasksOf s m → StandForSets masks sets → StandForSets more (sets ++ s ∷ [])
+pub one_stands : (masks more : List Masks) (sets : List TypeSetParts) (m : Masks) (s : TypeSetParts)
+    → more ≡ masks ++ m ∷ [] → AreMasksOf s m → StandForSets masks sets → StandForSets more (sets ++ s ∷ [])
 one_stands masks more sets m s pushed are h = record {
   count = one_longer masks more m pushed ∙ ap (λ n. n + 1) h.count ∙ sym (length-append sets (s ∷ []));
   each = λ k t at. ⊎_elim
@@ -28,6 +29,7 @@ moved [] s rest = refl
 moved (x ∷ xs) s rest = ap (λ ys. x ∷ ys) (moved xs s rest)
 
 -- where nothing is left all sets have their masks
-pub all_stand : (masks : List Masks) (front sets : List TypeSetParts) (rest : List (Bor TypeSetParts)) → StandForSets masks front → sets ≡ front ++ pointed_to rest → length rest ≡ 0 → StandForSets masks sets
+pub all_stand : (masks : List Masks) (front sets : List TypeSetParts) (rest : List (Bor TypeSetParts))
+    → StandForSets masks front → sets ≡ front ++ pointed_to rest → length rest ≡ 0 → StandForSets masks sets
 all_stand masks front sets [] h whole none = subst (StandForSets masks) (sym (whole ∙ append-nil front)) h
 all_stand masks front sets (x ∷ xs) h whole none = absurd (omega (arith, none))

@@ -1,5 +1,6 @@
 -- An instruction has one entry in tables of declarations, and one list of operand constraints.
-use Rattle.std.proofs.Common.{◌≡◌, ◌<◌, ◌↔◌, ◌+◌, ◌/◌, ◌%◌, ℕ, List, length, slice_get, Option, None, Some, refl, sym, ap, ◌∙◌, subst, ⊎_elim, length-append, arith}
+use Rattle.std.proofs.Common.{◌≡◌, ◌<◌, ◌↔◌, ◌+◌, ◌/◌, ◌%◌, ℕ, List, length, slice_get, Option, None, Some, refl, sym, ap, ◌∙◌, subst}
+use Rattle.std.proofs.Common.{⊎_elim, length-append, arith}
 use Rattle.std.proofs.lemmas.Bool.{cases_lt}
 use Rattle.std.proofs.lemmas.Option.{same_Some}
 use Rattle.meta_lists.proofs.Places.{get_there, same_places}
@@ -11,9 +12,9 @@ use Rattle.meta_typevar.specs.declared.masks.Masks.{Masks}
 use Rattle.meta_inst.specs.Instruction.{Instruction, IsOperand, operands, controls_of}
 use Rattle.meta_inst.specs.Control.{IsControl, HasBadSecond}
 use Rattle.meta_inst.specs.InstructionSet.{InstructionSet, root_sets}
-use Rattle.meta_meaning.specs.Constraint.{Constraint as TypeConstraint, Concrete as ConcreteType, Free as FreeType, Same as SameType, By as ByType, IsConstraint}
+use Rattle.meta_meaning.specs.Constraint.{TypeConstraint, ConcreteType, FreeType, SameType, ByType, IsConstraint}
 use Rattle.meta_meaning.specs.Tables.{TableContents, NumberConstraint, FreeOf, AreFlagsOf, IsTypeSetOffset, HoldsSet, StandsFor}
-use Rattle.meta_meaning.proofs.Only.{same_constraint}
+use Rattle.meta_meaning.proofs.Only.{only_constraint}
 use Rattle.meta_declared.specs.Needed.{AreNeededMasks}
 use Rattle.meta_opcode_tables.specs.Constraint.{number_constraint_of}
 use Rattle.meta_opcode_tables.specs.ConstraintLists.{IsConstraintAt, IsConstraintList}
@@ -39,37 +40,49 @@ one_byte a b l m low third fourth high = omega arith
 
 pub one_flags : (i : Instruction) (control : Option Variable) (a b : ℕ) → AreFlagsOf i control a → AreFlagsOf i control b → a ≡ b
 one_flags i control a b h k =
-    one_byte a b h.eight_bits k.eight_bits (h.results ∙ sym k.results) (one_bit (a / 8) (b / 8) _ h.designated k.designated) (one_bit (a / 16) (b / 16) _ h.differs k.differs) (h.values ∙ sym k.values)
+    one_byte a b h.eight_bits k.eight_bits (h.results ∙ sym k.results) (one_bit (a / 8) (b / 8) _ h.designated k.designated)
+    (one_bit (a / 16) (b / 16) _ h.differs k.differs) (h.values ∙ sym k.values)
 
-module _ (d : InstructionSet) (s t : TableContents) (typed : HoldTypeSets d.vars) (needed : AreNeededMasks d t.type_sets) (sets_same : s.type_sets ≡ t.type_sets) where
+module _ (d : InstructionSet) (s t : TableContents) (typed : HoldTypeSets d.vars) (needed : AreNeededMasks d t.type_sets)
+    (sets_same : s.type_sets ≡ t.type_sets) where
   -- ---- places of type sets
 
   -- a set of types is held at one place
   one_place : (j k : ℕ) (x : TypeSetParts) → IsTypeSet x → HoldsSet s j x → HoldsSet t k x → j ≡ k
-  one_place j k x is a b = one_masked_place d t.type_sets typed needed j k x a.masks b.masks is (ap (λ (ms : List Masks). slice_get ms j) (sym sets_same) ∙ a.is_set) a.are_masks b.is_set b.are_masks
+  one_place j k x is a b = one_masked_place d t.type_sets typed needed j k x a.masks b.masks is
+      (ap (λ (ms : List Masks). slice_get ms j) (sym sets_same) ∙ a.is_set) a.are_masks b.is_set b.are_masks
 
-  pub one_offset : (control : Option Variable) (a b : ℕ) → IsTypeSetOffset (root_sets d) control s a → IsTypeSetOffset (root_sets d) control t b → a ≡ b
+  pub one_offset : (control : Option Variable) (a b : ℕ) → IsTypeSetOffset (root_sets d) control s a
+      → IsTypeSetOffset (root_sets d) control t b → a ≡ b
   one_offset None a b h k = h ∙ sym k
   one_offset (Some v) a b (l, h) (m, k) = one_place a b (root_sets d v.root) (typed v.root) h k
 
   -- ---- operand constraints
 
-  module _ (i : Instruction) (control : Option Variable) (is_control : IsControl (root_sets d) i control) (good : HasBadSecond (root_sets d) i → ⊥) where
+  module _ (i : Instruction) (control : Option Variable) (is_control : IsControl (root_sets d) i control)
+      (good : HasBadSecond (root_sets d) i → ⊥) where
     -- one number stands for one constraint
-    one_number : (w : Variable) (x : TypeConstraint) (a b : NumberConstraint) → IsConstraint (root_sets d) (controls_of i control) w x → StandsFor s x a → StandsFor t x b → a ≡ b
+    one_number : (w : Variable) (x : TypeConstraint) (a b : NumberConstraint) → IsConstraint (root_sets d) (controls_of i control) w x
+        → StandsFor s x a → StandsFor t x b → a ≡ b
     one_number w (ConcreteType u) a b is h k = h ∙ sym k
-    one_number w (FreeType u) a b is (j, is_j, h) (l, is_l, k) = is_j ∙ ap FreeOf (one_place j l u (subst IsTypeSet (sym is.set) (typed w.root)) h k) ∙ sym is_l
+    one_number w (FreeType u) a b is (j, is_j, h) (l, is_l, k) = is_j
+        ∙ ap FreeOf (one_place j l u (subst IsTypeSet (sym is.set) (typed w.root)) h k) ∙ sym is_l
     one_number w (SameType u) a b is h k = h ∙ sym k
     one_number w (ByType u f) a b is h k = h ∙ sym k
 
     -- what stands for the constraint of an operand is one
-    one_at : (xs ys : List Constraint) (k : ℕ) (w : Variable) → IsConstraintAt (root_sets d) (controls_of i control) s xs k w → IsConstraintAt (root_sets d) (controls_of i control) t ys k w → slice_get xs k ≡ slice_get ys k
+    one_at : (xs ys : List Constraint) (k : ℕ) (w : Variable) → IsConstraintAt (root_sets d) (controls_of i control) s xs k w
+        → IsConstraintAt (root_sets d) (controls_of i control) t ys k w → slice_get xs k ≡ slice_get ys k
     one_at xs ys k w a b =
-        let same : b.type_constraint ≡ a.type_constraint = same_constraint (root_sets d) i control is_control good w b.type_constraint a.type_constraint b.is_constraint a.is_constraint in
-        let stands : StandsFor t a.type_constraint (number_constraint_of b.constraint) = subst (λ (x : TypeConstraint). StandsFor t x (number_constraint_of b.constraint)) same b.stands in
-        a.placed ∙ ap Some (same_number a.constraint b.constraint (one_number w a.type_constraint (number_constraint_of a.constraint) (number_constraint_of b.constraint) a.is_constraint a.stands stands)) ∙ sym b.placed
+        let same : b.type_constraint ≡ a.type_constraint =
+        only_constraint (root_sets d) i control is_control good w b.type_constraint a.type_constraint b.is_constraint a.is_constraint in
+        let stands : StandsFor t a.type_constraint (number_constraint_of b.constraint) =
+        subst (λ (x : TypeConstraint). StandsFor t x (number_constraint_of b.constraint)) same b.stands in
+        a.placed ∙ ap Some (same_number a.constraint b.constraint (one_number w a.type_constraint (number_constraint_of a.constraint)
+        (number_constraint_of b.constraint) a.is_constraint a.stands stands)) ∙ sym b.placed
 
-    pub one_list : (xs ys : List Constraint) → IsConstraintList (root_sets d) control s i xs → IsConstraintList (root_sets d) control t i ys → xs ≡ ys
+    pub one_list : (xs ys : List Constraint) → IsConstraintList (root_sets d) control s i xs
+        → IsConstraintList (root_sets d) control t i ys → xs ≡ ys
     one_list xs ys a b =
         same_places xs ys (a.count ∙ sym b.count) (λ k l.
         let (w, op) = get_there (operands i) k (omega (arith, l, a.count, length-append i.results i.values)) in

@@ -1,5 +1,6 @@
 -- Lists of constraints that overlap.
-use Rattle.std.proofs.Common.{◌≡◌, ◌≤◌, ◌<◌, ◌+◌, ℕ, eqb, true, List, [], ◌∷◌, ◌++◌, length, take, drop, slice_get, Some, refl, sym, ap, ◌∙◌, subst, arith, length-append}
+use Rattle.std.proofs.Common.{◌≡◌, ◌≤◌, ◌<◌, ◌+◌, ℕ, eqb, true, List, [], ◌∷◌, ◌++◌, length, take, drop, slice_get, Some, refl, sym, ap}
+use Rattle.std.proofs.Common.{◌∙◌, subst, arith, length-append}
 use Rattle.std.specs.Bool.{Decides}
 use Rattle.std.specs.List.{starts_with}
 use Rattle.std.specs.Cmp.Lexicographic.{pointwise, pointwise_decides}
@@ -24,7 +25,40 @@ none x y = (λ e. refl, λ e. refl)
 
 -- whether two compare equal decides whether they are one
 pub decides : (a b : Constraint) → Decides (same_constraint a b) (a ≡ b)
-decides = by_decides enum _ (number, (number, (none, (none, (none, (none, (none, (none, (none, (none, (none, (none, (none, (none, (none, (none, (none, (none, (none, (none, (none, (none, tt {0}))))))))))))))))))))))
+decides = by_decides enum _ (
+  number,
+  (
+    number,
+    (
+      none,
+      (
+        none,
+        (
+          none,
+          (
+            none,
+            (
+              none,
+              (
+                none,
+                (
+                  none,
+                  (
+                    none,
+                    (
+                      none,
+                      (none, (none, (none, (none, (none, (none, (none, (none, (none, (none, (none, tt {0}))))))))))),
+                    ),
+                  ),
+                ),
+              ),
+            ),
+          ),
+        ),
+      ),
+    ),
+  ),
+)
 
 -- equal lists are one
 alike : (xs ys : List Constraint) → pointwise same_constraint xs ys ≡ true → xs ≡ ys
@@ -34,7 +68,8 @@ unlike : (xs ys : List Constraint) → xs ≡ ys → pointwise same_constraint x
 unlike xs ys = (pointwise_decides decides xs ys).1
 
 -- what is added to is that list
-pub made_is : (old list new : List Constraint) → AreAlike same_constraint (added same_constraint old list) new → new ≡ added same_constraint old list
+pub made_is : (old list new : List Constraint) → AreAlike same_constraint (added same_constraint old list) new
+    → new ≡ added same_constraint old list
 made_is old list new e = sym (alike (added same_constraint old list) new e)
 
 -- what the longer list keeps in front stays
@@ -44,7 +79,8 @@ kept_stays old new kept k x at =
     sym (get_take new (length old) k inside) ∙ ap (λ xs. slice_get xs k) kept ∙ at
 
 -- an element of a list that stands in the table stands there
-pub stands_read : (table list : List Constraint) (place : ℕ) → stands_at same_constraint table list place ≡ true → (k : ℕ) (x : Constraint) → slice_get list k ≡ Some x → slice_get table (place + k) ≡ Some x
+pub stands_read : (table list : List Constraint) (place : ℕ) → stands_at same_constraint table list place ≡ true → (k : ℕ) (x : Constraint)
+    → slice_get list k ≡ Some x → slice_get table (place + k) ≡ Some x
 stands_read table list place e k x at =
     let inside = slice_get_within list k x at in
     let same : list ≡ take (length list) (drop place table) = alike list (take (length list) (drop place table)) e in
@@ -53,17 +89,22 @@ stands_read table list place e k x at =
 -- the table grows by the list at most
 pub grows : (old list new : List Constraint) → IsShortest same_constraint old list new → length new ≤ length old + length list
 grows old list new h =
-    let front : starts_with same_constraint (old ++ list) old ≡ true = unlike old (take (length old) (old ++ list)) (sym (take-append_seam old list)) in
-    let behind : stands_at same_constraint (old ++ list) list (length old) ≡ true = unlike list (take (length list) (drop (length old) (old ++ list))) (sym (ap (take (length list)) (drop-append_seam old list) ∙ take-length list)) in
+    let front : starts_with same_constraint (old ++ list) old ≡ true =
+    unlike old (take (length old) (old ++ list)) (sym (take-append_seam old list)) in
+    let behind : stands_at same_constraint (old ++ list) list (length old) ≡ true =
+    unlike list (take (length list) (drop (length old) (old ++ list))) (sym (ap (take (length list)) (drop-append_seam old list)
+    ∙ take-length list)) in
     subst (λ n. length new ≤ n) (length-append old list) (h (old ++ list) (length old) front behind)
 
 -- where a list stands is below the length of a table that isn't empty
-pub placed_below : (old list new : List Constraint) (place bound : ℕ) → place ≡ added_at same_constraint old list → stands_at same_constraint new list place ≡ true → length new < bound → place < bound
+pub placed_below : (old list new : List Constraint) (place bound : ℕ) → place ≡ added_at same_constraint old list
+    → stands_at same_constraint new list place ≡ true → length new < bound → place < bound
 placed_below old [] new place bound is stands small = omega (arith, is)
 placed_below old (x ∷ xs) new place bound is stands small =
     let inside = slice_get_within new (place + 0) x (stands_read new (x ∷ xs) place stands 0 x refl) in
     omega arith
 
 -- one list more
-pub one_list_more : (lists : List (List Constraint)) (list : List Constraint) → overlapped (lists ++ list ∷ []) ≡ added same_constraint (overlapped lists) list
+pub one_list_more : (lists : List (List Constraint)) (list : List Constraint)
+    → overlapped (lists ++ list ∷ []) ≡ added same_constraint (overlapped lists) list
 one_list_more lists list = fold-append (added same_constraint) three_same lists (list ∷ [])

@@ -18,7 +18,8 @@ use Rattle.meta_opcode_tables.proofs.ValidLists.{constraints_well, constraints_f
 use Rattle.meta_opcode_tables.proofs.ValidEntries.{entries_well}
 
 module _ (d : InstructionSet) (tables : TableContents) (valid : IsValid d) (typed : HoldTypeSets d.vars) where
-  pub valid_parts : HoldDeclared d tables → AreWellFormedParts tables.names tables.formats tables.type_sets tables.operand_constraints tables.entries
+  pub valid_parts : HoldDeclared d tables
+      → AreWellFormedParts tables.names tables.formats tables.type_sets tables.operand_constraints tables.entries
   valid_parts h =
       let few = few_opcodes d valid in
       let count = h.count in
@@ -40,6 +41,13 @@ module _ (d : InstructionSet) (tables : TableContents) (valid : IsValid d) (type
 
   pub valid_tables : AreTablesOf d tables → IsWellFormedOpcodes tables
   valid_tables h = record {
-    parts = valid_parts (record { names = h.names; formats = h.formats; type_sets = h.type_sets; operand_constraints = h.operand_constraints; count = h.count; holds = h.holds });
+    parts = valid_parts (record {
+      names = h.names;
+      formats = h.formats;
+      type_sets = h.type_sets;
+      operand_constraints = h.operand_constraints;
+      count = h.count;
+      holds = h.holds;
+    });
     slots = h.opcode_slots;
   }

@@ -3,6 +3,7 @@ use Rattle.std.proofs.Common.{◌≡◌, ◌≤◌, ⊎_elim, ℕ, true, false, 
 use Rattle.std.specs.List.{filter}
 use Rattle.std.proofs.lemmas.Bool.{cases_lt}
 use Rattle.std.proofs.lemmas.Option.{same_Some}
+use Rattle.meta_lists.proofs.Everywhere.{everywhere}
 use Rattle.meta_lists.proofs.Places.{get_beside}
 use Rattle.meta_types.specs.TypeParts.{IntKind, FloatKind, widths, lane_counts}
 use Rattle.meta_typevar.specs.TypeSetParts.{TypeSetParts, IsPart, IsTypeSet}
@@ -14,14 +15,14 @@ use Rattle.meta_typevar.proofs.Marks.{keeps, ints_keep, floats_keep, lanes_keep,
 use Rattle.meta_inst.specs.InstructionSet.{InstructionSet}
 use Rattle.meta_inst.specs.Faults.{IsValid, OfTypeSets, NeedsSet}
 use Rattle.meta_declared.specs.Needed.{AreNeededMasks}
-use Rattle.meta_opcode_tables.proofs.ValidNames.{all_from_places}
 
 -- a mask that is the sum of a set of allowed numbers holds that set of them
 held_set : (all : List ℕ) → keeps all ≡ true → (xs : List ℕ) → IsPart xs all → (mask : ℕ) → mask ≡ sum xs → filter (holds mask) all ≡ xs
 held_set all e xs part mask is = ap (λ (m : ℕ). filter (holds m) all) (is ∙ ap sum part.is) ∙ holds_sum all e part.test ∙ sym part.is
 
 -- so it is the sum of what it holds of them
-held_alone : (all : List ℕ) → keeps all ≡ true → (xs : List ℕ) → IsPart xs all → (mask : ℕ) → mask ≡ sum xs → mask ≡ sum (filter (holds mask) all)
+held_alone : (all : List ℕ) → keeps all ≡ true → (xs : List ℕ) → IsPart xs all → (mask : ℕ) → mask ≡ sum xs
+    → mask ≡ sum (filter (holds mask) all)
 held_alone all e xs part mask is = is ∙ ap sum (sym (held_set all e xs part mask is))
 
 -- the masks of a set of types stand for it
@@ -52,10 +53,11 @@ module _ (d : InstructionSet) where
       needs.needs
 
   pub needed_masks : HoldTypeSets d.vars → (masks : List Masks) → AreNeededMasks d masks → All AreMasks masks
-  needed_masks typed masks needed = all_from_places AreMasks masks (λ k m at.
+  needed_masks typed masks needed = everywhere masks (λ k m at.
       let (s, s_at) = get_beside masks needed.sets k m needed.stand.count at in
       let (n, n_at, are) = needed.stand.each k s s_at in
-      masks_of_set s m (needed_set typed s (needed.are_needed.are_needed.needed k s s_at)) (subst (AreMasksOf s) (same_Some n m (sym n_at ∙ at)) are))
+      masks_of_set s m (needed_set typed s (needed.are_needed.are_needed.needed k s s_at))
+      (subst (AreMasksOf s) (same_Some n m (sym n_at ∙ at)) are))
 
   -- valid declarations need few
   pub few_masks : IsValid d → (masks : List Masks) → AreNeededMasks d masks → length masks ≤ 4095

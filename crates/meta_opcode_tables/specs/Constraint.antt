@@ -1,9 +1,16 @@
 -- The operand constraints and the entries of tables, as the code keeps them.
-use Rattle.meta_types.specs.Function.{LaneOf as LaneOfFunction, AsTruthy as AsTruthyFunction, HalfWidth as HalfWidthFunction, DoubleWidth as DoubleWidthFunction, SplitLanes as SplitLanesFunction, MergeLanes as MergeLanesFunction, DynamicToVector as DynamicToVectorFunction, Narrower as NarrowerRelation, Wider as WiderRelation}
+use Rattle.meta_types.specs.Function.{LaneOf as LaneOfFunction, AsTruthy as AsTruthyFunction, HalfWidth as HalfWidthFunction}
+use Rattle.meta_types.specs.Function.{DoubleWidth as DoubleWidthFunction, SplitLanes as SplitLanesFunction}
+use Rattle.meta_types.specs.Function.{MergeLanes as MergeLanesFunction, DynamicToVector as DynamicToVectorFunction}
+use Rattle.meta_types.specs.Function.{Narrower as NarrowerRelation, Wider as WiderRelation}
 use Rattle.meta_inst.specs.Which.{First, Second}
 use Rattle.meta_meaning.specs.Tables.{NumberConstraint, ConcreteNumber, FreeOf, SameNumber, ByNumber, OpcodeNumbers}
 use Rattle.meta_opcode_tables.specs.declared.constraint.Constraint.{Constraint}
-use Rattle.meta_opcode_tables.specs.declared.constraint.Constraint.TheVariants.{Concrete, Free, Same, LaneOf, AsTruthy, HalfWidth, DoubleWidth, SplitLanes, MergeLanes, DynamicToVector, Narrower, Wider, Same2, LaneOf2, AsTruthy2, HalfWidth2, DoubleWidth2, SplitLanes2, MergeLanes2, DynamicToVector2, Narrower2, Wider2}
+use Rattle.meta_opcode_tables.specs.declared.constraint.Constraint.TheVariants.{Concrete, Free, Same, LaneOf, AsTruthy, HalfWidth}
+use Rattle.meta_opcode_tables.specs.declared.constraint.Constraint.TheVariants.{DoubleWidth, SplitLanes, MergeLanes, DynamicToVector}
+use Rattle.meta_opcode_tables.specs.declared.constraint.Constraint.TheVariants.{Narrower, Wider, Same2, LaneOf2, AsTruthy2, HalfWidth2}
+use Rattle.meta_opcode_tables.specs.declared.constraint.Constraint.TheVariants.{DoubleWidth2, SplitLanes2, MergeLanes2, DynamicToVector2}
+use Rattle.meta_opcode_tables.specs.declared.constraint.Constraint.TheVariants.{Narrower2, Wider2}
 use Rattle.meta_opcode_tables.specs.declared.constraint.OpcodeConstraints.{OpcodeConstraints}
 
 -- what a constraint asks of a number
@@ -33,4 +40,10 @@ number_constraint_of Wider2 = ByNumber Second WiderRelation
 
 -- the four numbers of an opcode
 abbrev pub entry_of : OpcodeConstraints → OpcodeNumbers
-entry_of e = record { flags = e.flags; typeset_offset = e.typeset_offset; second_offset = e.second_offset; constraint_offset = e.constraint_offset }
+entry_of e = record {
+  flags = e.flags;
+  typeset_offset = e.typeset_offset;
+  second_offset = e.second_offset;
+  constraint_offset =
+      e.constraint_offset;
+}

@@ -10,7 +10,7 @@ use Rattle.meta_inst.specs.Instruction.{Instruction, IsOperand, controls_of}
 use Rattle.meta_inst.specs.Control.{IsControl}
 use Rattle.meta_inst.specs.InstructionSet.{InstructionSet, root_sets, instruction_in_set}
 use Rattle.meta_inst.specs.Faults.{IsAt}
-use Rattle.meta_meaning.specs.Constraint.{IsConstraint, Constraint as TypeConstraint}
+use Rattle.meta_meaning.specs.Constraint.{IsConstraint, TypeConstraint}
 use Rattle.meta_meaning.specs.Tables.{TableContents, OpcodeNumbers, StandsFor}
 use Rattle.meta_unique.specs.Overlap.{added, added_at}
 use Rattle.meta_opcode_tables.specs.Constraint.{number_constraint_of}
@@ -23,7 +23,8 @@ abbrev pub same_constraint : Constraint → Constraint → Bool
 same_constraint x y = eq-value.it x y
 
 -- at this place of the list stands, in these tables, the constraint of the operand w
-pub record IsConstraintAt (sets : Sets) (controls : Which → Option Variable) (tables : TableContents) (list : List Constraint) (k : ℕ) (w : Variable) : Type 0 where
+pub record IsConstraintAt (sets : Sets) (controls : Which → Option Variable) (tables : TableContents)
+    (list : List Constraint) (k : ℕ) (w : Variable) : Type 0 where
   pub type_constraint : TypeConstraint
   pub is_constraint : IsConstraint sets controls w type_constraint
   pub constraint : Constraint
@@ -31,7 +32,8 @@ pub record IsConstraintAt (sets : Sets) (controls : Which → Option Variable) (
   pub placed : slice_get list k ≡ Some constraint
 
 -- the list has the constraints of the operands, those of the results and then those of the values, and no more
-pub record IsConstraintList (sets : Sets) (control : Option Variable) (tables : TableContents) (i : Instruction) (list : List Constraint) : Type 0 where
+pub record IsConstraintList (sets : Sets) (control : Option Variable) (tables : TableContents) (i : Instruction)
+    (list : List Constraint) : Type 0 where
   pub count : length list ≡ length i.results + length i.values
   pub each : (k : ℕ) (w : Variable) → IsOperand i k w → IsConstraintAt sets (controls_of i control) tables list k w
 
@@ -58,4 +60,5 @@ pub record AreOverlapped (d : InstructionSet) (tables : TableContents) : Type 0 
   pub count : length lists ≡ length d.instructions
   pub are : (k : ℕ) (b : Builder) → IsAt d k b → IsListAt d tables lists k b
   pub whole : tables.operand_constraints ≡ map number_constraint_of (overlapped lists)
-  pub offsets : (k : ℕ) (list : List Constraint) (entry : OpcodeNumbers) → slice_get lists k ≡ Some list → slice_get tables.entries k ≡ Some entry → entry.constraint_offset ≡ added_at same_constraint (overlapped (take k lists)) list
+  pub offsets : (k : ℕ) (list : List Constraint) (entry : OpcodeNumbers) → slice_get lists k ≡ Some list
+      → slice_get tables.entries k ≡ Some entry → entry.constraint_offset ≡ added_at same_constraint (overlapped (take k lists)) list

@@ -1,16 +1,9 @@
 -- What a constraint demands, in four cases.
 use Rattle.meta_types.specs.DerivedFunc.{function_of}
-use Rattle.meta_inst.specs.Which.{Which, First, Second}
+use Rattle.meta_inst.specs.Controls.{which_of}
 use Rattle.meta_meaning.specs.Tables.{NumberConstraint, ConcreteNumber, FreeOf, SameNumber, ByNumber}
-use Rattle.meta_opcode_tables.specs.declared.constraint.Which.{Which as WhichType}
-use Rattle.meta_opcode_tables.specs.declared.constraint.Which.TheVariants.{First as FirstType, Second as SecondType}
 use Rattle.meta_opcode_tables.specs.declared.constraint.Demand.{Demand}
 use Rattle.meta_opcode_tables.specs.declared.constraint.Demand.TheVariants.{Number, OfSet, Controlling, By}
-
--- the control whose type is meant
-abbrev pub which_of : WhichType → Which
-which_of FirstType = First
-which_of SecondType = Second
 
 -- what is demanded of a number
 abbrev pub number_constraint_demanded : Demand → NumberConstraint

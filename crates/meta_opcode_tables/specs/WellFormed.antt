@@ -8,7 +8,8 @@ use Rattle.meta_types.specs.SharedNames.{AreDistinct}
 use Rattle.meta_types.specs.TypeNumber.{IsTypeNumber}
 use Rattle.meta_typevar.specs.MaskSets.{AreMasks}
 use Rattle.meta_typevar.specs.declared.masks.Masks.{Masks}
-use Rattle.meta_meaning.specs.Tables.{NumberConstraint, ConcreteNumber, FreeOf, SameNumber, ByNumber, OpcodeNumbers, TableContents, no_type_set, result_count, value_count, SaysDesignated, SaysDiffers}
+use Rattle.meta_meaning.specs.Tables.{NumberConstraint, ConcreteNumber, FreeOf, SameNumber, ByNumber, OpcodeNumbers, TableContents}
+use Rattle.meta_meaning.specs.Tables.{no_type_set, result_count, value_count, SaysDesignated, SaysDiffers}
 use Rattle.meta_unique.specs.NameSlots.{AreNameSlots}
 use Rattle.meta_opcode_tables.specs.Constraint.{number_constraint_of, entry_of}
 use Rattle.meta_opcode_tables.specs.declared.constraint.Constraint.{Constraint}
@@ -44,7 +45,8 @@ pub record IsWellFormedEntry (sets constraints : ℕ) (e : OpcodeNumbers) : Type
 
 -- what the parts of tables have to meet: the names of the opcodes and of their formats, the type sets, the one list of operand
 -- constraints, and the entries, by opcode
-pub record AreWellFormedParts (opcode_names format_names : List (List ℕ)) (type_sets : List Masks) (operand_constraints : List NumberConstraint) (opcodes : List OpcodeNumbers) : Type 0 where
+pub record AreWellFormedParts (opcode_names format_names : List (List ℕ)) (type_sets : List Masks)
+    (operand_constraints : List NumberConstraint) (opcodes : List OpcodeNumbers) : Type 0 where
   -- there are few enough opcodes, type sets and operand constraints
   pub few_opcodes : length opcodes ≤ 4095
   pub few_type_sets : length type_sets ≤ 4095
@@ -70,7 +72,8 @@ pub record IsWellFormedOpcodes (t : TableContents) : Type 0 where
   pub slots : AreNameSlots 1 t.names t.opcode_slots
 
 -- the tables have these names of opcodes and of their formats, type sets, operand constraints and entries
-pub record HaveParts (t : TableContents) (opcode_names format_names : List (List ℕ)) (sets : List Masks) (constraints : List Constraint) (opcodes : List OpcodeConstraints) : Type 0 where
+pub record HaveParts (t : TableContents) (opcode_names format_names : List (List ℕ)) (sets : List Masks)
+    (constraints : List Constraint) (opcodes : List OpcodeConstraints) : Type 0 where
   pub names : t.names ≡ opcode_names
   pub formats : t.formats ≡ format_names
   pub type_sets : t.type_sets ≡ sets

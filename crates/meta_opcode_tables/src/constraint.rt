@@ -1,15 +1,25 @@
-ghost use Rattle.std.specs.Prelude.{◌≡◌, ◌↔◌, ◌≤◌, ℕ, IsTrue, IfSome, IfNone};
+ghost use Rattle.std.specs.Prelude.{◌≡◌, ◌↔◌, ◌≤◌, ℕ, IsTrue, IfSome, IfNone, take, drop};
 ghost use Rattle.meta_types.specs.DerivedFunc.{function_of};
-ghost use Rattle.meta_inst.specs.Which.{Second, both};
-ghost use Rattle.meta_meaning.specs.Inference.{IsRelation, GivesBy, GivesNumber};
+ghost use Rattle.meta_inst.specs.Which.{First, Second, both};
+ghost use Rattle.meta_inst.specs.Controls.{which_of};
+ghost use Rattle.meta_meaning.specs.Inference.{GivesBy, GivesNumber};
 ghost use Rattle.meta_meaning.specs.Tables.{ByNumber, result_count, value_count, SaysDesignated, SaysDiffers};
 ghost use Rattle.meta_opcode_tables.specs.Constraint.{number_constraint_of};
-ghost use Rattle.meta_opcode_tables.specs.Demand.{which_of, number_constraint_demanded};
+ghost use Rattle.meta_opcode_tables.specs.Demand.{number_constraint_demanded};
 
+use meta_inst::Which;
 use meta_types::DerivedFunc;
 
 /// The type set offset of an opcode without a control, and of one without a second control.
 pub const NO_TYPE_SET: u16 = 65535;
+
+/// So many of the constraints, or those that there are, from this place on (this project's own).
+pub fn constraints_from(constraints: &[Constraint], place: usize, count: usize) -> &[Constraint]
+    ensures { result.now ≡ take count (drop place constraints.now) }
+{
+    let behind = &constraints[constraints.len().min(place)..];
+    &behind[..behind.len().min(count)]
+}
 
 /// What an operand's type has to be, by its number (in the crate `OperandConstraint` of the code that it writes).
 #[derive(Clone, Copy, Debug, PartialEq, Eq)]
@@ -60,48 +70,45 @@ pub enum Constraint {
     Wider2,
 }
 
-impl From<DerivedFunc> for Constraint {
+/// The constraints that ask for what the function gives: of the controlling type, and of the second one.
+fn by_function(derived_func: DerivedFunc) -> (Constraint, Constraint)
+    ensures first { number_constraint_of result.0 ≡ ByNumber First (function_of derived_func) }
+    ensures second { number_constraint_of result.1 ≡ ByNumber Second (function_of derived_func) }
+{
+    match derived_func {
+        DerivedFunc::LaneOf => (Constraint::LaneOf, Constraint::LaneOf2),
+        DerivedFunc::AsTruthy => (Constraint::AsTruthy, Constraint::AsTruthy2),
+        DerivedFunc::HalfWidth => (Constraint::HalfWidth, Constraint::HalfWidth2),
+        DerivedFunc::DoubleWidth => (Constraint::DoubleWidth, Constraint::DoubleWidth2),
+        DerivedFunc::SplitLanes => (Constraint::SplitLanes, Constraint::SplitLanes2),
+        DerivedFunc::MergeLanes => (Constraint::MergeLanes, Constraint::MergeLanes2),
+        DerivedFunc::DynamicToVector => (Constraint::DynamicToVector, Constraint::DynamicToVector2),
+        DerivedFunc::Narrower => (Constraint::Narrower, Constraint::Narrower2),
+        DerivedFunc::Wider => (Constraint::Wider, Constraint::Wider2),
+    }
+}
+
+impl From<Demand> for Constraint {
     ghost use Rattle.std.specs.Prelude.{◌≡◌};
-    ghost use Rattle.meta_types.specs.DerivedFunc.{function_of};
-    ghost use Rattle.meta_inst.specs.Which.{First};
-    ghost use Rattle.meta_meaning.specs.Tables.{ByNumber};
     ghost use Rattle.meta_opcode_tables.specs.Constraint.{number_constraint_of};
+    ghost use Rattle.meta_opcode_tables.specs.Demand.{number_constraint_demanded};
 
-    ghost from_gives = { λ derived_func result. number_constraint_of result ≡ ByNumber First (function_of derived_func) };
+    ghost from_gives = { λ demand result. number_constraint_of result ≡ number_constraint_demanded demand };
 
-    fn from(derived_func: DerivedFunc) -> Constraint {
-        match derived_func {
-            DerivedFunc::LaneOf => Constraint::LaneOf,
-            DerivedFunc::AsTruthy => Constraint::AsTruthy,
-            DerivedFunc::HalfWidth => Constraint::HalfWidth,
-            DerivedFunc::DoubleWidth => Constraint::DoubleWidth,
-            DerivedFunc::SplitLanes => Constraint::SplitLanes,
-            DerivedFunc::MergeLanes => Constraint::MergeLanes,
-            DerivedFunc::DynamicToVector => Constraint::DynamicToVector,
-            DerivedFunc::Narrower => Constraint::Narrower,
-            DerivedFunc::Wider => Constraint::Wider,
+    /// The one constraint that demands this: `demanded` gives the demand again.
+    fn from(demand: Demand) -> Constraint {
+        match demand {
+            Demand::Number(number) => Constraint::Concrete(number),
+            Demand::OfSet(set) => Constraint::Free(set),
+            Demand::Controlling(Which::First) => Constraint::Same,
+            Demand::Controlling(Which::Second) => Constraint::Same2,
+            Demand::By(Which::First, derived_func) => by_function(derived_func).0,
+            Demand::By(Which::Second, derived_func) => by_function(derived_func).1,
         }
     }
 }
 
 impl Constraint {
-    /// What the function gives of the second controlling type.
-    pub fn of_second(derived_func: DerivedFunc) -> Constraint
-        ensures { number_constraint_of result ≡ ByNumber Second (function_of derived_func) }
-    {
-        match derived_func {
-            DerivedFunc::LaneOf => Constraint::LaneOf2,
-            DerivedFunc::AsTruthy => Constraint::AsTruthy2,
-            DerivedFunc::HalfWidth => Constraint::HalfWidth2,
-            DerivedFunc::DoubleWidth => Constraint::DoubleWidth2,
-            DerivedFunc::SplitLanes => Constraint::SplitLanes2,
-            DerivedFunc::MergeLanes => Constraint::MergeLanes2,
-            DerivedFunc::DynamicToVector => Constraint::DynamicToVector2,
-            DerivedFunc::Narrower => Constraint::Narrower2,
-            DerivedFunc::Wider => Constraint::Wider2,
-        }
-    }
-
     /// What it demands of the number of a type, by cases: what the variant's name says of the controlling types is told in the
     /// values of `Demand`.
     pub fn demanded(self) -> Demand
@@ -134,20 +141,13 @@ impl Constraint {
     }
 }
 
-/// Whether the function is a relation, which leaves several types.
-fn is_relation(derived_func: DerivedFunc) -> bool
-    ensures { IsTrue result ↔ IsRelation (function_of derived_func) }
-{
-    matches!(derived_func, DerivedFunc::Narrower | DerivedFunc::Wider)
-}
-
 /// The number that the function gives of the number of a control, where there is that control and the function leads to a type:
 /// 0 for a relation.
 fn given_by(from: Option<u16>, derived_func: DerivedFunc) -> Option<u16>
     ensures some { IfSome result (λ n. GivesBy from (function_of derived_func) n) }
     ensures none { IfNone result ((n : ℕ) → ¬ GivesBy from (function_of derived_func) n) }
 {
-    if is_relation(derived_func) {
+    if derived_func.is_relation() {
         return Some(0);
     }
     derived_func.apply_number(from?)
@@ -155,7 +155,7 @@ fn given_by(from: Option<u16>, derived_func: DerivedFunc) -> Option<u16>
 
 /// The number that a constraint gives for a result under these controlling numbers: 0 where it leaves several, and `None` where
 /// there isn't what it asks for.
-pub(crate) fn given(controls: Controls, constraint: Constraint) -> Option<u16>
+pub(crate) fn given(controls: ControlNumbers, constraint: Constraint) -> Option<u16>
     ensures some { IfSome result (λ n. GivesNumber (both controls.ctrl controls.second) (number_constraint_of constraint) n) }
     ensures none { IfNone result ((n : ℕ) → ¬ GivesNumber (both controls.ctrl controls.second) (number_constraint_of constraint) n) }
 {
@@ -165,15 +165,6 @@ pub(crate) fn given(controls: Controls, constraint: Constraint) -> Option<u16>
         Demand::Controlling(which) => controls.of(which),
         Demand::By(which, derived_func) => given_by(controls.of(which), derived_func),
     }
-}
-
-/// One of the two controlling types that an opcode may have.
-#[derive(Clone, Copy, Debug, PartialEq, Eq)]
-pub enum Which {
-    /// The controlling type.
-    First,
-    /// The second controlling type.
-    Second,
 }
 
 /// What a constraint demands of the number of a type.
@@ -191,14 +182,14 @@ pub enum Demand {
 
 /// The numbers of the controlling types, where they are given.
 #[derive(Clone, Copy)]
-pub(crate) struct Controls {
+pub(crate) struct ControlNumbers {
     /// That of the controlling type.
     pub(crate) ctrl: Option<u16>,
     /// That of the second controlling type.
     pub(crate) second: Option<u16>,
 }
 
-impl Controls {
+impl ControlNumbers {
     /// The number of one of them.
     pub(crate) fn of(self, which: Which) -> Option<u16>
         ensures { result ≡ both self.ctrl self.second (which_of which) }

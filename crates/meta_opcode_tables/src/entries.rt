@@ -1,40 +1,44 @@
-ghost use Rattle.std.specs.Prelude.{◌≡◌, ◌↔◌, ◌<◌, ◌≤◌, ◌+◌, ◌^◌, ℕ, List, Bool, false, IsTrue, IfOk, OnOk, IfSome, length, slice_get, take, Some};
+ghost use Rattle.std.specs.Prelude.{◌≡◌, ◌↔◌, ◌<◌, ◌≤◌, ◌+◌, ◌^◌, ℕ, List, Bool, false, IsTrue, IfOk, OnOk, IfSome, length, slice_get};
+ghost use Rattle.std.specs.Prelude.{take, Some};
 ghost use Rattle.meta_typevar.specs.Registry.{sets_of, variable_at, IsRegistry};
 ghost use Rattle.meta_typevar.specs.declared.content.TypeVarContent.{TypeVarContent};
 ghost use Rattle.meta_inst.specs.Builder.{Builder};
 ghost use Rattle.meta_inst.specs.Faults.{IsAt, IsValid};
-ghost use Rattle.meta_inst.specs.InstructionSet.{Fits};
+ghost use Rattle.meta_inst.specs.Which.{First};
+ghost use Rattle.meta_inst.specs.Controls.{which_of, AreControlsOf, controls_at};
+ghost use Rattle.meta_inst.specs.InstructionSet.{AreOfRegistries};
 ghost use Rattle.meta_inst.specs.Operands.{AreOf, SecondIsOf, instruction_of_operands, designated_number};
-ghost use Rattle.meta_meaning.specs.Tables.{TableContents, AreFlagsOf, IsTypeSetOffset, result_count, value_count, SaysDesignated, SaysDiffers};
+ghost use Rattle.meta_meaning.specs.Tables.{TableContents, AreFlagsOf, IsTypeSetOffset, result_count, value_count, SaysDesignated};
+ghost use Rattle.meta_meaning.specs.Tables.{SaysDiffers};
 ghost use Rattle.meta_unique.specs.Overlap.{added, added_at};
 ghost use Rattle.meta_opcode_tables.specs.ConstraintLists.{same_constraint, three_same};
 ghost use Rattle.meta_opcode_tables.specs.Entries.{CanEnter, StaysIn, IsHeld, HasTypeSets, EntryHolds, IsAdded, AreAdded, IsHeldAt};
-ghost use Rattle.meta_declared.specs.Needed.{IsOfRegistry, control_at};
 
 use super::constraint::{Constraint, NO_TYPE_SET, OpcodeConstraints};
-use super::operand_constraints::{constraints_of, is_control, set_place};
+use super::operand_constraints::{constraints_of, set_place};
 use meta_declared::Built;
-use meta_inst::{InstructionContent, Operands};
-use meta_typevar::{TypeSet, TypeVar, TypeVars};
+use meta_inst::{Controls, InstructionContent, Operands, Which};
+use meta_typevar::{TypeSet, TypeVars};
 use meta_unique::{UniqueSeqTable, UniqueTable};
 use std::alloc::{AllocError, Global};
 
 /// Whether the designated operand's variable controls.
-fn designated_controls(operands: &Operands, control: &Option<TypeVar>) -> bool
-    ensures { IsTrue result ↔ ((v : ℕ) × (control.now ≡ Some v) × (designated_number operands.now ≡ Some v)) }
+fn designated_controls(operands: &Operands, controls: &Controls) -> bool
+    ensures { IsTrue result ↔ ((v : ℕ) × (controls.now First ≡ Some v) × (designated_number operands.now ≡ Some v)) }
 {
     match operands.designated() {
-        Some(v) => is_control(control, v),
+        Some(v) => controls.is_first(v),
         None => false,
     }
 }
 
 /// Whether there is a first result and its variable controls.
-fn first_result_controls(operands: &Operands, control: &Option<TypeVar>) -> bool
-    ensures { IsTrue result ↔ ((v : ℕ) × (control.now ≡ Some v) × (slice_get (take operands.now.result_count operands.now.variables) 0 ≡ Some v)) }
+fn first_result_controls(operands: &Operands, controls: &Controls) -> bool
+    ensures { IsTrue result ↔ ((v : ℕ) × (controls.now First ≡ Some v)
+        × (slice_get (take operands.now.result_count operands.now.variables) 0 ≡ Some v)) }
 {
     match operands.first_result() {
-        Some(v) => is_control(control, v),
+        Some(v) => controls.is_first(v),
         None => false,
     }
 }
@@ -54,11 +58,13 @@ fn packed(results: u8, values: u8, designated: bool, first_result: bool) -> u8
     results + 8 * designated as u8 + 16 * differs as u8 + 32 * values
 }
 
-/// The flags of an instruction with these operands and this control.
-fn flags_of(operands: &Operands, control: &Option<TypeVar>) -> u8
+/// The flags of an instruction with these operands and these controls.
+fn flags_of(operands: &Operands, controls: &Controls) -> u8
     requires results { operands.now.result_count ≤ 7 }
     requires values { length operands.now.variables ≤ operands.now.result_count + 7 }
-    ensures flags { (vars : List TypeVarContent) → IsRegistry vars → AreOf vars operands.now.variables → SecondIsOf vars operands.now.second → IsOfRegistry vars control.now → AreFlagsOf (instruction_of_operands vars operands.now) (control_at vars control.now) result }
+    ensures flags { (vars : List TypeVarContent) → IsRegistry vars → AreOf vars operands.now.variables
+        → SecondIsOf vars operands.now.second → AreControlsOf vars controls.now
+        → AreFlagsOf (instruction_of_operands vars operands.now) (controls_at vars controls.now First) result }
     ensures within { operands.now.result_count ≤ length operands.now.variables }
 {
     let results = operands.result_count();
@@ -66,23 +72,26 @@ fn flags_of(operands: &Operands, control: &Option<TypeVar>) -> u8
     packed(
         results as u8,
         values as u8,
-        designated_controls(operands, control),
-        first_result_controls(operands, control),
+        designated_controls(operands, controls),
+        first_result_controls(operands, controls),
     )
 }
 
 /// The place of this control's type set, and 65,535 where there isn't this control.
 fn type_set_offset(
     vars: &TypeVars,
-    control: &Option<TypeVar>,
+    controls: &Controls,
+    which: Which,
     type_sets: &UniqueTable<'_, TypeSet>,
 ) -> u16
-    requires of_registry { IsOfRegistry vars.now control.now }
+    requires controls { AreControlsOf vars.now controls.now }
     requires few { length type_sets.now ≤ 4095 }
-    requires held { (v : ℕ) → control.now ≡ Some v → IsHeld type_sets.now (sets_of vars.now (variable_at vars.now v).root) }
-    ensures { (tables : TableContents) → HasTypeSets tables type_sets.now → IsTypeSetOffset (sets_of vars.now) (control_at vars.now control.now) tables result }
+    requires held { (v : ℕ) → controls.now (which_of which) ≡ Some v
+        → IsHeld type_sets.now (sets_of vars.now (variable_at vars.now v).root) }
+    ensures { (tables : TableContents) → HasTypeSets tables type_sets.now
+        → IsTypeSetOffset (sets_of vars.now) (controls_at vars.now controls.now (which_of which)) tables result }
 {
-    match control {
+    match controls.get(which) {
         Some(v) => set_place(vars, *v, type_sets),
         None => NO_TYPE_SET,
     }
@@ -96,7 +105,8 @@ fn add_list(
     requires { length constraints.old + length list.now < 2 ^ 16 }
     ensures made { OnOk result (constraints.new ≡ added same_constraint constraints.old list.now) }
     ensures place { IfOk result (λ place. place ≡ added_at same_constraint constraints.old list.now) }
-    ensures stands { IfOk result (λ place. (k : ℕ) (x : Constraint) → slice_get list.now k ≡ Some x → slice_get constraints.new (place + k) ≡ Some x) }
+    ensures stands { IfOk result (λ place. (k : ℕ) (x : Constraint) → slice_get list.now k ≡ Some x
+        → slice_get constraints.new (place + k) ≡ Some x) }
     ensures stays { OnOk result (StaysIn constraints.old constraints.new) }
     ensures count { OnOk result (length constraints.new ≤ length constraints.old + length list.now) }
 {
@@ -116,24 +126,19 @@ fn entry_of(
     requires fits { CanEnter vars.now type_sets.now instruction.now }
     requires few { length type_sets.now ≤ 4095 }
     requires room { length constraints.old + 14 < 2 ^ 16 }
-    ensures holds { IfOk result (λ e. EntryHolds vars.now (instruction_of_operands vars.now instruction.now.value_operands) type_sets.now constraints.new e) }
-    ensures added { IfOk result (λ e. IsAdded vars.now (instruction_of_operands vars.now instruction.now.value_operands) type_sets.now constraints.old constraints.new e) }
+    ensures holds { IfOk result (λ e. EntryHolds vars.now
+        (instruction_of_operands vars.now instruction.now.value_operands) type_sets.now constraints.new e) }
+    ensures added { IfOk result (λ e. IsAdded vars.now
+        (instruction_of_operands vars.now instruction.now.value_operands) type_sets.now constraints.old constraints.new e) }
     ensures stays { OnOk result (StaysIn constraints.old constraints.new) }
     ensures count { OnOk result (length constraints.new ≤ length constraints.old + 14) }
 {
     let operands = instruction.value_operands();
-    let control = instruction.ctrl_typevar();
-    let flags = flags_of(operands, &control);
-    let typeset_offset = type_set_offset(vars, &control, type_sets);
-    let second_offset = type_set_offset(vars, operands.second(), type_sets);
-    let list = constraints_of(
-        alloc,
-        vars,
-        &control,
-        operands.second(),
-        operands.variables(),
-        type_sets,
-    )?;
+    let controls = instruction.controls();
+    let flags = flags_of(operands, &controls);
+    let typeset_offset = type_set_offset(vars, &controls, Which::First, type_sets);
+    let second_offset = type_set_offset(vars, &controls, Which::Second, type_sets);
+    let list = constraints_of(alloc, vars, &controls, operands.variables(), type_sets)?;
     let constraint_offset = add_list(constraints, &list)?;
     Ok(OpcodeConstraints {
         flags,
@@ -181,10 +186,13 @@ pub(crate) fn entries(
     requires variables { vars.now ≡ built.now.declared.set.vars }
     requires registry { IsRegistry vars.now }
     requires valid { IsValid built.now.declared.set }
-    requires fits { Fits built.now.declared.set.vars built.now.declared.set.formats built.now.declared.set.instructions }
+    requires fits { AreOfRegistries built.now.declared.set.vars built.now.declared.set.formats built.now.declared.set.instructions }
     ensures count { IfOk result (λ r. length r.entries.items ≡ length built.now.declared.set.instructions) }
-    ensures holds { IfOk result (λ r. (k : ℕ) (b : Builder) → IsAt built.now.declared.set k b → IsHeldAt built.now.declared.set.vars built.now.declared.set.formats built.now.type_sets r.constraints.items r.entries.items k b) }
-    ensures added { IfOk result (λ r. (lists : List (List Constraint)) × AreAdded built.now.declared.set.vars built.now.declared.set.formats built.now.declared.set.instructions built.now.type_sets r.constraints.items r.entries.items lists) }
+    ensures holds { IfOk result (λ r. (k : ℕ) (b : Builder) → IsAt built.now.declared.set k b
+        → IsHeldAt built.now.declared.set.vars built.now.declared.set.formats built.now.type_sets r.constraints.items r.entries.items k b) }
+    ensures added { IfOk result (λ r. (lists : List (List Constraint))
+        × AreAdded built.now.declared.set.vars built.now.declared.set.formats built.now.declared.set.instructions
+        built.now.type_sets r.constraints.items r.entries.items lists) }
 {
     let instructions = built.instructions();
     let type_sets = built.type_sets();

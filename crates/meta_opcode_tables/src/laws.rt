@@ -14,7 +14,8 @@ ghost use Rattle.meta_opcode_tables.specs.declared.constraint.OpcodeConstraints.
 /// The tables mean the declarations: where they are those of declarations whose variables have sets of types, the decoding
 /// allows exactly those numbers, of all numbers, that the declarations accept.
 pub fn tables_mean_the_declarations()
-    ensures { (d : InstructionSet) (tables : TableContents) (op : ℕ) (c e : Option ℕ) (rs vs : List ℕ) → HoldTypeSets d.vars → AreTablesOf d tables → (Allows tables op c e rs vs ↔ AcceptsOpcode d op c e rs vs) }
+    ensures { (d : InstructionSet) (tables : TableContents) (op : ℕ) (c e : Option ℕ) (rs vs : List ℕ)
+        → HoldTypeSets d.vars → AreTablesOf d tables → (Allows tables op c e rs vs ↔ AcceptsOpcode d op c e rs vs) }
 {}
 
 /// Two operand constraints compare equal exactly where they are the same.
@@ -24,23 +25,31 @@ pub fn equal_constraints()
 
 /// Tables of valid declarations, whose variables have sets of types, are well-formed.
 pub fn tables_of_valid_declarations_are_well_formed()
-    ensures { (d : InstructionSet) (tables : TableContents) → IsValid d → HoldTypeSets d.vars → AreTablesOf d tables → IsWellFormedOpcodes tables }
+    ensures { (d : InstructionSet) (tables : TableContents) → IsValid d → HoldTypeSets d.vars → AreTablesOf d tables
+        → IsWellFormedOpcodes tables }
 {}
 
 /// The slots follow from the names, so that parts have one well-formed table at most.
 pub fn one_table_has_the_parts()
-    ensures { (names formats : List (List ℕ)) (type_sets : List Masks) (operand_constraints : List Constraint) (constraints : List OpcodeConstraints) (one other : TableContents) → IsWellFormedOpcodes one → IsWellFormedOpcodes other → HaveParts one names formats type_sets operand_constraints constraints → HaveParts other names formats type_sets operand_constraints constraints → one ≡ other }
+    ensures { (names formats : List (List ℕ)) (type_sets : List Masks) (operand_constraints : List Constraint)
+        (constraints : List OpcodeConstraints) (one other : TableContents) → IsWellFormedOpcodes one
+        → IsWellFormedOpcodes other → HaveParts one names formats type_sets operand_constraints constraints
+        → HaveParts other names formats type_sets operand_constraints constraints → one ≡ other }
 {}
 
 /// Declarations whose variables have sets of types have one value of tables: each part of tables follows from them. Without that
 /// premise two sets could have the same masks, and then a place of a type set would have two values.
 pub fn one_table_of_an_instruction_set()
-    ensures { (d : InstructionSet) (one other : TableContents) → HoldTypeSets d.vars → AreTablesOf d one → AreTablesOf d other → one ≡ other }
+    ensures { (d : InstructionSet) (one other : TableContents) → HoldTypeSets d.vars → AreTablesOf d one
+        → AreTablesOf d other → one ≡ other }
 {}
 
 /// Where the designated operand's variable controls, which bit 3 of the flags says, the designated value has the controlling type: in
 /// each combination that tables of declarations allow, and in each that valid declarations accept.
 pub fn designated_values_have_the_controlling_type()
-    ensures tables { (d : InstructionSet) (tables : TableContents) (op : ℕ) (entry : OpcodeNumbers) (c e : Option ℕ) (rs vs : List ℕ) → HoldTypeSets d.vars → AreTablesOf d tables → at_opcode tables.entries op ≡ Some entry → SaysDesignated entry.flags → Allows tables op c e rs vs → HasControlType d op c vs }
-    ensures declarations { (d : InstructionSet) (op : ℕ) (c e : Option ℕ) (rs vs : List ℕ) → IsValid d → HasDesignatedControl d op → AcceptsOpcode d op c e rs vs → HasControlType d op c vs }
+    ensures tables { (d : InstructionSet) (tables : TableContents) (op : ℕ) (entry : OpcodeNumbers) (c e : Option ℕ)
+        (rs vs : List ℕ) → HoldTypeSets d.vars → AreTablesOf d tables → at_opcode tables.entries op ≡ Some entry
+        → SaysDesignated entry.flags → Allows tables op c e rs vs → HasControlType d op c vs }
+    ensures declarations { (d : InstructionSet) (op : ℕ) (c e : Option ℕ) (rs vs : List ℕ) → IsValid d
+        → HasDesignatedControl d op → AcceptsOpcode d op c e rs vs → HasControlType d op c vs }
 {}

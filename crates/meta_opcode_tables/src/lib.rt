@@ -15,12 +15,13 @@ mod operand_constraints;
 mod parts;
 mod same;
 
-pub use constraint::{Constraint, Demand, NO_TYPE_SET, OpcodeConstraints, Which};
+pub use constraint::{Constraint, Demand, NO_TYPE_SET, OpcodeConstraints, constraints_from};
 pub use laws::{
     designated_values_have_the_controlling_type, equal_constraints, one_table_has_the_parts,
     one_table_of_an_instruction_set, tables_mean_the_declarations,
     tables_of_valid_declarations_are_well_formed,
 };
 pub use meta_declared::{MAX_OPCODES, MAX_TYPE_SETS};
+pub use meta_inst::Which;
 pub use opcode_tables::OpcodeTables;
 pub use parts::{MAX_CONSTRAINTS, opcodes_from_parts};

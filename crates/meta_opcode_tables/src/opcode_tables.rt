@@ -1,4 +1,5 @@
-ghost use Rattle.std.specs.Prelude.{◌≡◌, ◌≢◌, ◌↔◌, ◌≤◌, ◌+◌, ◌^◌, ◌<◌, ℕ, List, Option, IsTrue, IsSome, IfSome, IfNone, IfOk, length, map, take, drop, slice_get, Contains, None, Some};
+ghost use Rattle.std.specs.Prelude.{◌≡◌, ◌≢◌, ◌↔◌, ◌≤◌, ◌+◌, ◌^◌, ◌<◌, ℕ, List, Option, IsTrue, IsSome, IfSome, IfNone, IfOk, length, map};
+ghost use Rattle.std.specs.Prelude.{take, drop, slice_get, Contains, None, Some};
 ghost use Rattle.meta_lists.specs.First.{IsFirst};
 ghost use Rattle.meta_types.specs.DerivedFunc.{function_of};
 ghost use Rattle.meta_types.specs.Function.{StepsNumbers};
@@ -16,7 +17,9 @@ ghost use Rattle.meta_opcode_tables.specs.Found.{IsDeclaredAs, FindsName};
 ghost use Rattle.meta_opcode_tables.specs.Inferred.{InfersControl, InfersOpcode, HasControlType};
 ghost use Rattle.meta_meaning.specs.Inference.{GivesAt, GivesResults};
 
-use super::constraint::{Constraint, Controls, Demand, NO_TYPE_SET, OpcodeConstraints, given};
+use super::constraint::{
+    Constraint, ControlNumbers, Demand, NO_TYPE_SET, OpcodeConstraints, given,
+};
 use super::entries::entries;
 use super::masks::masks_of;
 use super::names::{copied_formats, copied_names};
@@ -48,9 +51,17 @@ impl Model for OpcodeTables {
 
     ghost Value = { TableContents };
 
-    ghost view = { λ t. contents_of (record { names = t.names.items; formats = t.formats.items; slots = t.opcode_slots.items }) t.type_sets.items t.operand_constraints.items t.constraints.items };
+    ghost view = { λ t. contents_of (record {
+      names = t.names.items;
+      formats = t.formats.items;
+      slots = t.opcode_slots.items;
+    }) t.type_sets.items t.operand_constraints.items t.constraints.items };
 
-    ghost invariant = { λ t. AreKept (contents_of (record { names = t.names.items; formats = t.formats.items; slots = t.opcode_slots.items }) t.type_sets.items t.operand_constraints.items t.constraints.items) };
+    ghost invariant = { λ t. AreKept (contents_of (record {
+      names = t.names.items;
+      formats = t.formats.items;
+      slots = t.opcode_slots.items;
+    }) t.type_sets.items t.operand_constraints.items t.constraints.items) };
 }
 
 /// The number of the first opcode.
@@ -86,8 +97,10 @@ impl OpcodeTables {
     pub fn of(alloc: Global, built: &Built<'_>) -> Result<OpcodeTables, AllocError>
         ensures tables { IfOk result (λ t. AreTablesOf built.now.declared.set t) }
         ensures well_formed { IfOk result IsWellFormedOpcodes }
-        ensures acceptance { IfOk result (λ t. (op : ℕ) (c e : Option ℕ) (rs vs : List ℕ) → (Allows t op c e rs vs ↔ AcceptsOpcode built.now.declared.set op c e rs vs)) }
-        ensures inference { IfOk result (λ t. (op : ℕ) (c e : Option ℕ) (numbers : List ℕ) → (GivesResults t op c e numbers ↔ InfersOpcode built.now.declared.set op c e numbers)) }
+        ensures acceptance { IfOk result (λ t. (op : ℕ) (c e : Option ℕ) (rs vs : List ℕ)
+            → (Allows t op c e rs vs ↔ AcceptsOpcode built.now.declared.set op c e rs vs)) }
+        ensures inference { IfOk result (λ t. (op : ℕ) (c e : Option ℕ) (numbers : List ℕ)
+            → (GivesResults t op c e numbers ↔ InfersOpcode built.now.declared.set op c e numbers)) }
     {
         let declarations = built.declarations();
         let instructions = declarations.instructions();
@@ -114,8 +127,11 @@ impl OpcodeTables {
         operand_constraints: Vec<Constraint>,
         constraints: Vec<OpcodeConstraints>,
     ) -> Result<OpcodeTables, AllocError>
-        requires { AreWellFormedParts names.items formats.items type_sets.items (map number_constraint_of operand_constraints.items) (map entry_of constraints.items) }
-        ensures parts { IfOk result (λ t. t ≡ contents_of (record { names = names.items; formats = formats.items; slots = t.opcode_slots }) type_sets.items operand_constraints.items constraints.items) }
+        requires { AreWellFormedParts names.items formats.items type_sets.items
+            (map number_constraint_of operand_constraints.items) (map entry_of constraints.items) }
+        ensures parts { IfOk result (λ t. t ≡ contents_of
+            (record { names = names.items; formats = formats.items; slots = t.opcode_slots }) type_sets.items
+            operand_constraints.items constraints.items) }
         ensures slots { IfOk result (λ t. AreNameSlots 1 names.items t.opcode_slots) }
         ensures well_formed { IfOk result IsWellFormedOpcodes }
     {
@@ -252,7 +268,8 @@ impl OpcodeTables {
         ensures finds { (op : ℕ) → at_opcode self.now.names op ≡ Some name.now → result ≡ Some op }
         ensures none { IfNone result ((k : ℕ) → at_opcode self.now.names k ≢ Some name.now) }
         ensures findings { (d : InstructionSet) → AreTablesOf d self.now → FindsName d name.now result }
-        ensures steps { (last : ℕ) × IsNameLookup 1 self.now.names self.now.opcode_slots name.now result last × (steps.new ≡ steps.old + (last + 1)) }
+        ensures steps { (last : ℕ) × IsNameLookup 1 self.now.names self.now.opcode_slots name.now result last
+            × (steps.new ≡ steps.old + (last + 1)) }
         ensures most { steps.new ≤ steps.old + length self.now.opcode_slots }
     {
         probe_counted(
@@ -268,7 +285,8 @@ impl OpcodeTables {
     /// opcode that there isn't.
     pub fn accepts(&self, opcode: u16, ctrl: Option<u16>, results: &[u16], values: &[u16]) -> bool
         ensures decoding { IsTrue result ↔ Allows self.now opcode ctrl None results.now values.now }
-        ensures meaning { (d : InstructionSet) → HoldTypeSets d.vars → AreTablesOf d self.now → (IsTrue result ↔ AcceptsOpcode d opcode ctrl None results.now values.now) }
+        ensures meaning { (d : InstructionSet) → HoldTypeSets d.vars → AreTablesOf d self.now
+            → (IsTrue result ↔ AcceptsOpcode d opcode ctrl None results.now values.now) }
     {
         self.accepts2(opcode, ctrl, None, results, values)
     }
@@ -283,7 +301,8 @@ impl OpcodeTables {
         values: &[u16],
     ) -> bool
         ensures decoding { IsTrue result ↔ Allows self.now opcode ctrl second results.now values.now }
-        ensures meaning { (d : InstructionSet) → HoldTypeSets d.vars → AreTablesOf d self.now → (IsTrue result ↔ AcceptsOpcode d opcode ctrl second results.now values.now) }
+        ensures meaning { (d : InstructionSet) → HoldTypeSets d.vars → AreTablesOf d self.now
+            → (IsTrue result ↔ AcceptsOpcode d opcode ctrl second results.now values.now) }
     {
         let Some(entry) = self.constraints(opcode) else {
             return false;
@@ -300,7 +319,7 @@ impl OpcodeTables {
         if !self.control_fits(entry.second_offset, second) {
             return false;
         }
-        let controls = Controls { ctrl, second };
+        let controls = ControlNumbers { ctrl, second };
         let offset = entry.constraint_offset as usize;
         if !self.all_pass(controls, offset, results) {
             return false;
@@ -313,7 +332,8 @@ impl OpcodeTables {
     pub fn infer_control(&self, opcode: u16, value: u16) -> Option<u16>
         ensures value { IfSome result (λ n. n ≡ value) }
         ensures some { IsSome result ↔ InfersControl self.now opcode value }
-        ensures meaning { (d : InstructionSet) → HoldTypeSets d.vars → AreTablesOf d self.now → IfSome result (λ n. (c e : Option ℕ) (rs vs : List ℕ) → Allows self.now opcode c e rs vs → HasControlType d opcode c vs) }
+        ensures meaning { (d : InstructionSet) → HoldTypeSets d.vars → AreTablesOf d self.now
+            → IfSome result (λ n. (c e : Option ℕ) (rs vs : List ℕ) → Allows self.now opcode c e rs vs → HasControlType d opcode c vs) }
     {
         let entry = self.constraints(opcode)?;
         if entry.designated_controls() && self.set_contains(entry.typeset_offset, value) {
@@ -330,9 +350,12 @@ impl OpcodeTables {
         ensures rest { IfSome result (λ count. drop count out.new ≡ drop count out.old) }
         ensures none { IfNone result ((numbers : List ℕ) → ¬ GivesResults self.now opcode ctrl None numbers) }
         ensures unchanged { IfNone result (out.new ≡ out.old) }
-        ensures meaning { (d : InstructionSet) → HoldTypeSets d.vars → AreTablesOf d self.now → IfSome result (λ count. InfersOpcode d opcode ctrl None (take count out.new)) }
-        ensures refused { (d : InstructionSet) → HoldTypeSets d.vars → AreTablesOf d self.now → IfNone result ((numbers : List ℕ) → ¬ InfersOpcode d opcode ctrl None numbers) }
-        ensures accepted { IfSome result (λ count. (rs vs : List ℕ) → Allows self.now opcode ctrl None rs vs → (k m n : ℕ) → slice_get (take count out.new) k ≡ Some n → n ≢ 0 → slice_get rs k ≡ Some m → m ≡ n) }
+        ensures meaning { (d : InstructionSet) → HoldTypeSets d.vars → AreTablesOf d self.now
+            → IfSome result (λ count. InfersOpcode d opcode ctrl None (take count out.new)) }
+        ensures refused { (d : InstructionSet) → HoldTypeSets d.vars → AreTablesOf d self.now
+            → IfNone result ((numbers : List ℕ) → ¬ InfersOpcode d opcode ctrl None numbers) }
+        ensures accepted { IfSome result (λ count. (rs vs : List ℕ) → Allows self.now opcode ctrl None rs vs
+            → (k m n : ℕ) → slice_get (take count out.new) k ≡ Some n → n ≢ 0 → slice_get rs k ≡ Some m → m ≡ n) }
         ensures unaccepted { IfNone result ((rs vs : List ℕ) → ¬ Allows self.now opcode ctrl None rs vs) }
     {
         self.infer_results2(opcode, ctrl, None, out)
@@ -353,17 +376,20 @@ impl OpcodeTables {
         ensures rest { IfSome result (λ count. drop count out.new ≡ drop count out.old) }
         ensures none { IfNone result ((numbers : List ℕ) → ¬ GivesResults self.now opcode ctrl second numbers) }
         ensures unchanged { IfNone result (out.new ≡ out.old) }
-        ensures meaning { (d : InstructionSet) → HoldTypeSets d.vars → AreTablesOf d self.now → IfSome result (λ count. InfersOpcode d opcode ctrl second (take count out.new)) }
-        ensures refused { (d : InstructionSet) → HoldTypeSets d.vars → AreTablesOf d self.now → IfNone result ((numbers : List ℕ) → ¬ InfersOpcode d opcode ctrl second numbers) }
-        ensures accepted { IfSome result (λ count. (rs vs : List ℕ) → Allows self.now opcode ctrl second rs vs → (k m n : ℕ) → slice_get (take count out.new) k ≡ Some n → n ≢ 0 → slice_get rs k ≡ Some m → m ≡ n) }
+        ensures meaning { (d : InstructionSet) → HoldTypeSets d.vars → AreTablesOf d self.now
+            → IfSome result (λ count. InfersOpcode d opcode ctrl second (take count out.new)) }
+        ensures refused { (d : InstructionSet) → HoldTypeSets d.vars → AreTablesOf d self.now
+            → IfNone result ((numbers : List ℕ) → ¬ InfersOpcode d opcode ctrl second numbers) }
+        ensures accepted { IfSome result (λ count. (rs vs : List ℕ) → Allows self.now opcode ctrl second rs vs
+            → (k m n : ℕ) → slice_get (take count out.new) k ≡ Some n → n ≢ 0 → slice_get rs k ≡ Some m → m ≡ n) }
         ensures unaccepted { IfNone result ((rs vs : List ℕ) → ¬ Allows self.now opcode ctrl second rs vs) }
     {
-        self.infer_into(Controls { ctrl, second }, opcode, out)
+        self.infer_into(ControlNumbers { ctrl, second }, opcode, out)
     }
 
     /// Writes what the constraints of the results give, one number each, to the front of `out`, and tells how many there are. `None`,
     /// with nothing written, where the controlling numbers don't fit or a constraint gives nothing.
-    fn infer_into(&self, controls: Controls, opcode: u16, out: &mut [u16; 7]) -> Option<usize>
+    fn infer_into(&self, controls: ControlNumbers, opcode: u16, out: &mut [u16; 7]) -> Option<usize>
         ensures given { IfSome result (λ count. GivesResults self.now opcode controls.ctrl controls.second (take count out.new)) }
         ensures few { IfSome result (λ count. count ≤ 7) }
         ensures rest { IfSome result (λ count. drop count out.new ≡ drop count out.old) }
@@ -388,7 +414,7 @@ impl OpcodeTables {
     }
 
     /// The number that the constraint at this place gives, and `None` where there is none or it gives none.
-    fn given_at(&self, controls: Controls, place: usize) -> Option<u16>
+    fn given_at(&self, controls: ControlNumbers, place: usize) -> Option<u16>
         ensures some { IfSome result (λ n. GivesAt self.now (both controls.ctrl controls.second) place n) }
         ensures none { IfNone result ((n : ℕ) → ¬ GivesAt self.now (both controls.ctrl controls.second) place n) }
     {
@@ -423,7 +449,7 @@ impl OpcodeTables {
     }
 
     /// Whether the number passes the constraint under the controlling numbers.
-    fn passes(&self, controls: Controls, constraint: Constraint, number: u16) -> bool
+    fn passes(&self, controls: ControlNumbers, constraint: Constraint, number: u16) -> bool
         ensures { IsTrue result ↔ NumberPasses self.now (both controls.ctrl controls.second) (number_constraint_of constraint) number }
     {
         match constraint.demanded() {
@@ -435,7 +461,7 @@ impl OpcodeTables {
     }
 
     /// Whether there is a constraint at this place and the number passes it.
-    fn passes_at(&self, controls: Controls, place: usize, number: u16) -> bool
+    fn passes_at(&self, controls: ControlNumbers, place: usize, number: u16) -> bool
         ensures { IsTrue result ↔ PassesAt self.now (both controls.ctrl controls.second) place number }
     {
         match self.operand_constraints.get(place) {
@@ -454,7 +480,7 @@ impl OpcodeTables {
     ) -> bool
         ensures { IsTrue result ↔ NumberPasses self.now (both ctrl second) (number_constraint_of constraint) number }
     {
-        self.passes(Controls { ctrl, second }, constraint, number)
+        self.passes(ControlNumbers { ctrl, second }, constraint, number)
     }
 
     /// Whether there is an operand constraint at this place of the one list and the number passes it under the numbers of the
@@ -468,11 +494,11 @@ impl OpcodeTables {
     ) -> bool
         ensures { IsTrue result ↔ PassesAt self.now (both ctrl second) place number }
     {
-        self.passes_at(Controls { ctrl, second }, place, number)
+        self.passes_at(ControlNumbers { ctrl, second }, place, number)
     }
 
     /// Whether each number passes the constraint at its place behind the offset.
-    fn all_pass(&self, controls: Controls, offset: usize, numbers: &[u16]) -> bool
+    fn all_pass(&self, controls: ControlNumbers, offset: usize, numbers: &[u16]) -> bool
         requires { offset < 2 ^ 32 }
         ensures { IsTrue result ↔ AllPass self.now (both controls.ctrl controls.second) offset numbers.now }
     {

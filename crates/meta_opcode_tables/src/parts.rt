@@ -1,18 +1,18 @@
 ghost use Rattle.std.specs.Prelude.{◌≡◌, ◌≢◌, ◌↔◌, ◌≤◌, ◌+◌, ℕ, true, false, IsTrue, IfOk, IfSome, IfNone, All, length, map};
 ghost use Rattle.meta_types.specs.Name.{IsName};
-ghost use Rattle.meta_types.specs.SharedNames.{AreDistinct};
 ghost use Rattle.meta_types.specs.TypeParts.{IntKind, FloatKind, widths, lane_counts};
 ghost use Rattle.meta_typevar.specs.MaskSets.{AreMasks};
 ghost use Rattle.meta_meaning.specs.Tables.{TableContents, no_type_set, SaysDesignated, SaysDiffers};
 ghost use Rattle.meta_opcode_tables.specs.Constraint.{number_constraint_of, entry_of};
 ghost use Rattle.meta_opcode_tables.specs.MaskParts.{IsMaskOf};
 ghost use Rattle.meta_types.specs.TypeNumber.{IsTypeNumber};
-ghost use Rattle.meta_opcode_tables.specs.WellFormed.{IsWellFormedConstraint, IsSetOffset, IsWellFormedEntry, AreWellFormedParts, IsWellFormedOpcodes, HaveParts};
+ghost use Rattle.meta_opcode_tables.specs.WellFormed.{IsWellFormedConstraint, IsSetOffset, IsWellFormedEntry, AreWellFormedParts};
+ghost use Rattle.meta_opcode_tables.specs.WellFormed.{IsWellFormedOpcodes, HaveParts};
 
 use super::constraint::{Constraint, Demand, NO_TYPE_SET, OpcodeConstraints};
 use super::opcode_tables::OpcodeTables;
 use meta_declared::{MAX_OPCODES, MAX_TYPE_SETS};
-use meta_types::{EarlierNames, Text, ValueType, each_type_is_one_value, is_name};
+use meta_types::{Text, ValueType, are_distinct, are_names, each_type_is_one_value};
 use meta_typevar::Masks;
 use std::alloc::{AllocError, Global};
 
@@ -24,31 +24,11 @@ const ALL_LANES: u16 = 511;
 
 const ALL_DYNAMIC_LANES: u16 = 510;
 
-/// Whether all of these are names.
-fn are_names(texts: &[Text]) -> bool
-    ensures { IsTrue result ↔ All IsName texts.now }
-{
-    texts.iter().all(|text| is_name(text))
-}
-
 /// Whether there is a name for each opcode.
 fn are_named(names: &[Text], opcodes: usize) -> bool
     ensures { IsTrue result ↔ ((length names.now ≡ opcodes) × All IsName names.now) }
 {
     names.len() == opcodes && are_names(names)
-}
-
-/// Whether no two of the names are the same or have the same camel case.
-fn are_distinct(alloc: Global, names: &[Text]) -> Result<bool, AllocError>
-    ensures { IfOk result (λ b. IsTrue b ↔ AreDistinct names.now) }
-{
-    let mut earlier = EarlierNames::new(alloc);
-    for name in names {
-        if earlier.add(alloc, name)?.is_some() {
-            return Ok(false);
-        }
-    }
-    Ok(true)
 }
 
 /// Whether a mask holds lane counts of scalars and fixed vectors alone.
@@ -194,7 +174,8 @@ fn are_well_formed(
     operand_constraints: &[Constraint],
     constraints: &[OpcodeConstraints],
 ) -> Result<bool, AllocError>
-    ensures { IfOk result (λ b. IsTrue b ↔ AreWellFormedParts names.now formats.now type_sets.now (map number_constraint_of operand_constraints.now) (map entry_of constraints.now)) }
+    ensures { IfOk result (λ b. IsTrue b ↔ AreWellFormedParts names.now formats.now type_sets.now
+        (map number_constraint_of operand_constraints.now) (map entry_of constraints.now)) }
 {
     if !are_few(
         constraints.len(),
@@ -232,9 +213,11 @@ pub fn opcodes_from_parts(
     operand_constraints: Vec<Constraint>,
     constraints: Vec<OpcodeConstraints>,
 ) -> Result<Option<OpcodeTables>, AllocError>
-    ensures some { IfOk result (λ o. IfSome o (λ t. HaveParts t names.items formats.items type_sets.items operand_constraints.items constraints.items)) }
+    ensures some { IfOk result (λ o. IfSome o (λ t. HaveParts t names.items formats.items type_sets.items
+        operand_constraints.items constraints.items)) }
     ensures well_formed { IfOk result (λ o. IfSome o IsWellFormedOpcodes) }
-    ensures none { IfOk result (λ o. IfNone o ((t : TableContents) → IsWellFormedOpcodes t → ¬ HaveParts t names.items formats.items type_sets.items operand_constraints.items constraints.items)) }
+    ensures none { IfOk result (λ o. IfNone o ((t : TableContents) → IsWellFormedOpcodes t
+        → ¬ HaveParts t names.items formats.items type_sets.items operand_constraints.items constraints.items)) }
 {
     if !are_well_formed(
         alloc,

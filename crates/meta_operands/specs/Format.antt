@@ -41,5 +41,5 @@ designated_by None count = if count == 0 then None else Some 0
 designated_by (Some place) count = Some place
 
 -- the format as it is built
-abbrev pub built_of : InstructionFormat → InstructionFormat
-built_of f = record f { typevar_operand = designated_by f.typevar_operand f.num_value_operands }
+abbrev pub built_format : InstructionFormat → InstructionFormat
+built_format f = record f { typevar_operand = designated_by f.typevar_operand f.num_value_operands }

@@ -24,8 +24,20 @@ pairs_Decides = pointwise_decides pair_Decides
 pub structures_Decides : (a b : FormatStructure) → Decides (same_structure a b) (a ≡ b)
 structures_Decides a b =
     Decides-like (same_structure a b)
-    (λ e i. record { num_value_operands = e.0 i; has_value_list = e.1.0 i; num_block_operands = e.1.1.0 i; num_raw_block_operands = e.1.1.1.0 i; imm_field_names = e.1.1.1.1 i })
-    (λ e. (ap (λ s. s.num_value_operands) e, (ap (λ s. s.has_value_list) e, (ap (λ s. s.num_block_operands) e, (ap (λ s. s.num_raw_block_operands) e, ap (λ s. s.imm_field_names) e)))))
+    (λ e i. record {
+      num_value_operands = e.0 i;
+      has_value_list = e.1.0 i;
+      num_block_operands = e.1.1.0 i;
+      num_raw_block_operands = e.1.1.1.0 i;
+      imm_field_names = e.1.1.1.1 i;
+    })
+    (λ e. (
+      ap (λ s. s.num_value_operands) e,
+      (
+        ap (λ s. s.has_value_list) e,
+        (ap (λ s. s.num_block_operands) e, (ap (λ s. s.num_raw_block_operands) e, ap (λ s. s.imm_field_names) e)),
+      ),
+    ))
     (Decides-and _ _ (Decides-eqb a.num_value_operands b.num_value_operands)
     (Decides-and _ _ (booleans_Decides a.has_value_list b.has_value_list)
     (Decides-and _ _ (Decides-eqb a.num_block_operands b.num_block_operands)

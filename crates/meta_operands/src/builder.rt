@@ -1,5 +1,5 @@
 ghost use Rattle.std.specs.Prelude.{◌≡◌, ◌↔◌, ◌+◌, ◌<◌, ◌^◌, ◌++◌, ◌∷◌, [], IsTrue, true, IfOk, OnErr, length, Some, None};
-ghost use Rattle.meta_operands.specs.Format.{empty_format, with_field, built_of, HasRoom, CanDesignate};
+ghost use Rattle.meta_operands.specs.Format.{empty_format, with_field, built_format, HasRoom, CanDesignate};
 
 use super::field::FormatFields;
 use super::format::InstructionFormat;
@@ -116,7 +116,7 @@ impl InstructionFormatBuilder {
     pub fn build(mut self, table: &mut FormatTable) -> Result<FormatId, AllocError>
         requires { length table.old + 1 < 2 ^ 32 }
         ensures number { IfOk result (λ id. id ≡ length table.old) }
-        ensures added { IfOk result (λ id. table.new ≡ table.old ++ built_of self ∷ []) }
+        ensures added { IfOk result (λ id. table.new ≡ table.old ++ built_format self ∷ []) }
         ensures unchanged { OnErr result (table.new ≡ table.old) }
     {
         if self.format.typevar_operand.is_none() && self.format.num_value_operands != 0 {

@@ -1,5 +1,6 @@
 ghost use Rattle.std.specs.Prelude.{◌≡◌, ◌<◌, ℕ, IfOk, Some, None, length, is_some};
-ghost use Rattle.meta_operands.specs.Operand.{variable_of, is_varargs_operand, is_immediate_operand, is_immediate_or_entityref_operand, own_doc, doc_of};
+ghost use Rattle.meta_operands.specs.Operand.{variable_of, is_varargs_operand, is_immediate_operand, is_immediate_or_entityref_operand};
+ghost use Rattle.meta_operands.specs.Operand.{own_doc, doc_of};
 
 use super::kind::{OperandKind, OperandKindFields, copy_doc};
 use meta_types::Text;

@@ -1,70 +1,57 @@
 -- Words are those of one command at most.
-use Rattle.std.proofs.Common.{◌≡◌, ℕ, ◌*◌, ◌+◌, ◌==◌, ◌<◌, ◌^◌, ◌⊎◌, inl, inr, if◌then◌else◌, List, [], ◌∷◌, refl, sym, ap, ◌∙◌, arith}
+use Rattle.std.proofs.Common.{◌≡◌, ℕ, ◌<◌, ◌^◌, ◌⊎◌, inl, inr, List, [], ◌∷◌, Option, Some, refl, sym, ap₂, ◌∙◌, arith}
+use Rattle.std.specs.Prelude.{nat_eq}
+use Rattle.std.specs.Cmp.Lexicographic.{pointwise}
 use Rattle.std.specs.Fmt.{decimal}
+use Rattle.std.specs.List.{find}
 use Rattle.std.proofs.lemmas.Fmt.{decimal_injective}
-use Rattle.meta_query.specs.Command.{words_behind, words_of, HasNumber, AreWordsOf}
+use Rattle.meta_query.specs.Command.{command_name, number_words, command_words, HasNumber, AreWordsOf}
 use Rattle.meta_query.specs.declared.command.Command.{Command}
 use Rattle.meta_query.specs.declared.command.Command.TheVariants.{Query, Recheck, Tables, Types, Settings, Instructions, Builder, Synth}
 
--- the first two letters of a word as a number, and those of the first word
-abbrev letters_in : List ℕ → ℕ
-letters_in [] = 0
-letters_in (a ∷ []) = 0
-letters_in (a ∷ b ∷ letters) = a * 256 + b
-
-abbrev letters : List (List ℕ) → ℕ
-letters [] = 0
-letters (word ∷ words) = letters_in word
-
--- the second word
-abbrev second_of : List (List ℕ) → List ℕ
-second_of [] = []
-second_of (first ∷ []) = []
-second_of (first ∷ second ∷ words) = second
+-- ---- the name of a command tells it, but for its number
 
 -- the number of a command, where it has one
-abbrev number_of : Command → ℕ
-number_of Query = 0
-number_of Recheck = 0
-number_of Tables = 0
-number_of Types = 0
-number_of Settings = 0
-number_of Instructions = 0
-number_of Builder = 0
-number_of (Synth n) = n
+abbrev command_number : Command → ℕ
+command_number Query = 0
+command_number Recheck = 0
+command_number Tables = 0
+command_number Types = 0
+command_number Settings = 0
+command_number Instructions = 0
+command_number Builder = 0
+command_number (Synth n) = n
 
--- the command whose name begins with these, with this number
-abbrev command_at : ℕ → ℕ → Command
-command_at letters n =
-    if letters == 29045 then Query else
-    if letters == 29285 then Recheck else
-    if letters == 29793 then Tables else
-    if letters == 29817 then Types else
-    if letters == 29541 then Settings else
-    if letters == 26990 then Instructions else
-    if letters == 25205 then Builder else Synth n
+-- all commands, that with a number with this one
+abbrev commands : ℕ → List Command
+commands n = Query ∷ Recheck ∷ Tables ∷ Types ∷ Settings ∷ Instructions ∷ Builder ∷ Synth n ∷ []
 
-command_of_words : (c : Command) → command_at (letters (words_of c)) (number_of c) ≡ c
-command_of_words Query = refl
-command_of_words Recheck = refl
-command_of_words Tables = refl
-command_of_words Types = refl
-command_of_words Settings = refl
-command_of_words Instructions = refl
-command_of_words Builder = refl
-command_of_words (Synth n) = refl
+-- the first of them that has the name
+abbrev numbered_command : List ℕ → ℕ → Option Command
+numbered_command name n = find (λ c. pointwise nat_eq (command_name c) name) (commands n)
 
--- ---- the number of a command
+-- by its own name and number each is found
+finds : (c : Command) → numbered_command (command_name c) (command_number c) ≡ Some c
+finds Query = refl
+finds Recheck = refl
+finds Tables = refl
+finds Types = refl
+finds Settings = refl
+finds Instructions = refl
+finds Builder = refl
+finds (Synth n) = refl
+
+-- ---- what stands behind the name tells the number
 
 -- two numbers of 32 bits that are written as one are one
 same_number : (m n : ℕ) → m < 2 ^ 32 → n < 2 ^ 32 → decimal m ≡ decimal n → m ≡ n
 same_number m n few less e = decimal_injective m n (omega arith) (omega arith) e
 
--- what stands behind the name tells the number
-abbrev IsBehind : List (List ℕ) → ℕ → Type 0
-IsBehind words n = ((words ≡ []) × (n ≡ 0)) ⊎ ((words ≡ decimal n ∷ []) × (n < 2 ^ 32))
+-- the words are no number, and this is 0, or they are this number
+abbrev StandsBehind : List (List ℕ) → ℕ → Type 0
+StandsBehind words n = ((words ≡ []) × (n ≡ 0)) ⊎ ((words ≡ decimal n ∷ []) × (n < 2 ^ 32))
 
-behind_of : (c : Command) → HasNumber c → IsBehind (words_behind c) (number_of c)
+behind_of : (c : Command) → HasNumber c → StandsBehind (number_words c) (command_number c)
 behind_of Query h = inl (refl, refl)
 behind_of Recheck h = inl (refl, refl)
 behind_of Tables h = inl (refl, refl)
@@ -74,7 +61,7 @@ behind_of Instructions h = inl (refl, refl)
 behind_of Builder h = inl (refl, refl)
 behind_of (Synth n) h = inr (refl, h)
 
-one_behind : (words others : List (List ℕ)) (m n : ℕ) → words ≡ others → IsBehind words m → IsBehind others n → m ≡ n
+one_behind : (words others : List (List ℕ)) (m n : ℕ) → words ≡ others → StandsBehind words m → StandsBehind others n → m ≡ n
 one_behind words others m n e (inl (none, m_is)) (inl (no_other, n_is)) = m_is ∙ sym n_is
 one_behind words others m n e (inl (none, m_is)) (inr (some, few)) = absurd (cc)
 one_behind words others m n e (inr (some, few)) (inl (none, n_is)) = absurd (cc)
@@ -82,15 +69,15 @@ one_behind words others m n e (inr (some, few)) (inr (other, less)) =
     let same : decimal m ≡ decimal n = cc in
     same_number m n few less same
 
--- the words behind the first
-abbrev behind_first : List (List ℕ) → List (List ℕ)
-behind_first [] = []
-behind_first (word ∷ words) = words
-
 -- ---- two commands have different words
 
 pub same_command : (c d : Command) (words : List (List ℕ)) → AreWordsOf c words → AreWordsOf d words → c ≡ d
 same_command c d words h g =
-    let same : words_of c ≡ words_of d = sym h.are ∙ g.are in
-    let number : number_of c ≡ number_of d = one_behind (words_behind c) (words_behind d) (number_of c) (number_of d) (ap behind_first same) (behind_of c h.number) (behind_of d g.number) in
-    sym (command_of_words c) ∙ ap (λ w. command_at (letters w) (number_of c)) same ∙ ap (command_at (letters (words_of d))) number ∙ command_of_words d
+    let same : command_words c ≡ command_words d = sym h.are ∙ g.are in
+    let name : command_name c ≡ command_name d = cc in
+    let behind : number_words c ≡ number_words d = cc in
+    let number : command_number c ≡ command_number d =
+    one_behind (number_words c) (number_words d) (command_number c) (command_number d) behind (behind_of c h.number) (behind_of d g.number)
+    in
+    let found : Some c ≡ Some d = sym (finds c) ∙ ap₂ numbered_command name number ∙ finds d in
+    cc

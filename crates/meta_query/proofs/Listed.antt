@@ -1,12 +1,16 @@
 -- The entries of a manual that list the commands of `run`, and which commands their words are.
-use Rattle.std.proofs.Common.{◌≡◌, ◌∙◌, ◌<◌, ◌^◌, ◌⊎◌, inl, inr, ℕ, zero, suc, List, [], ◌∷◌, length, refl, sym, ap, ap₂, subst, arith}
+use Rattle.std.proofs.Common.{◌≡◌, ◌≢◌, ◌∙◌, ◌<◌, ◌^◌, ◌⊎◌, inl, inr, ℕ, zero, suc, Bool, true, false, not, List, [], ◌∷◌, length, take}
+use Rattle.std.proofs.Common.{refl, sym, ap, ap₂, subst, arith}
+use Rattle.std.proofs.lemmas.Bool.{and_parts}
 use Rattle.std.proofs.lemmas.List.{nil_from_length}
-use Rattle.std.specs.Prelude.{codes, slice_get, Option, Some, None}
+use Rattle.std.specs.Prelude.{codes, slice_get, nat_eq, Option, Some, None}
+use Rattle.std.specs.Cmp.Lexicographic.{pointwise, other_text}
+use Rattle.std.specs.List.{list_all}
 use Rattle.std.specs.Fmt.{decimal}
-use Rattle.meta_query.specs.Command.{name_of, words_behind, HasNumber, IsCommand}
-use Rattle.meta_main.specs.Misuse.{AreWordsOf as AreListed, IsNumberIn, AreNumbersIn, AreNumbersTo}
+use Rattle.meta_query.specs.Command.{command_name, number_words, HasNumber, IsCommand}
+use Rattle.meta_main.specs.Misuse.{AreCommandWords, AreTaken, NamesNoneBefore, IsNumberIn, AreNumbersIn, AreNumbersTo}
 use Rattle.meta_main.specs.declared.manual.Range.{Range}
-use Rattle.meta_main.specs.declared.manual.Command.{Command as Entry}
+use Rattle.meta_main.specs.declared.manual.CommandForm.{CommandForm}
 use Rattle.meta_query.specs.declared.command.Command.{Command}
 use Rattle.meta_query.specs.declared.command.Command.TheVariants.{Query, Recheck, Tables, Types, Settings, Instructions, Builder, Synth}
 
@@ -57,7 +61,7 @@ ranges_of Instructions = []
 ranges_of Builder = []
 ranges_of (Synth n) = range ∷ []
 
-numbers_of : (c : Command) → HasNumber c → AreNumbersIn (ranges_of c) (words_behind c)
+numbers_of : (c : Command) → HasNumber c → AreNumbersIn (ranges_of c) (number_words c)
 numbers_of Query h = no_numbers
 numbers_of Recheck h = no_numbers
 numbers_of Tables h = no_numbers
@@ -67,47 +71,78 @@ numbers_of Instructions h = no_numbers
 numbers_of Builder h = no_numbers
 numbers_of (Synth n) h = one_number n h
 
--- the entries have one of the command
-pub record HaveEntry (entries : List Entry) (c : Command) : Type 0 where
-  pub place : ℕ
-  pub entry : Entry
-  pub at : slice_get entries place ≡ Some entry
-  pub name : entry.name.now ≡ name_of c
-  pub numbers : entry.numbers.now ≡ ranges_of c
+-- the entry has another name
+abbrev pub is_other : List ℕ → CommandForm → Bool
+is_other name entry = not (pointwise nat_eq entry.name.now name)
 
-pub listed : (entries : List Entry) → ((c : Command) → HaveEntry entries c) → (words : List (List ℕ)) → IsCommand words → AreListed entries words
+other_name : (name : List ℕ) (entry : CommandForm) → is_other name entry ≡ true → entry.name.now ≢ name
+other_name name entry e = by_test (pointwise nat_eq entry.name.now name) refl e
+  where
+    by_test : (b : Bool) → pointwise nat_eq entry.name.now name ≡ b → not b ≡ true → entry.name.now ≢ name
+    by_test true is e = absurd (cc)
+    by_test false is e = other_text entry.name.now name (sym is)
+
+others : (entries : List CommandForm) (place : ℕ) (name : List ℕ)
+    → list_all (is_other name) (take place entries) ≡ true → NamesNoneBefore place entries name
+others entries zero name e k entry below at = absurd (omega (arith, below))
+others [] (suc place) name e k entry below at = absurd (cc)
+others (x ∷ entries) (suc place) name e zero entry below at =
+    subst (λ (it : CommandForm). it.name.now ≢ name) (some_same x entry at)
+    (other_name name x (and_parts (is_other name x) (list_all (is_other name) (take place entries)) e).0)
+others (x ∷ entries) (suc place) name e (suc k) entry below at =
+    others entries place name (and_parts (is_other name x) (list_all (is_other name) (take place entries)) e).1 k
+    entry (omega (arith, below)) at
+
+-- the entries have one of the command, and none before it has its name
+pub record HaveEntry (entries : List CommandForm) (c : Command) : Type 0 where
+  pub place : ℕ
+  pub entry : CommandForm
+  pub at : slice_get entries place ≡ Some entry
+  pub name : entry.name.now ≡ command_name c
+  pub numbers : entry.numbers.now ≡ ranges_of c
+  pub first : list_all (is_other (command_name c)) (take place entries) ≡ true
+
+pub listed : (entries : List CommandForm) → ((c : Command) → HaveEntry entries c) → (words : List (List ℕ))
+    → IsCommand words → AreTaken entries words
 listed entries have words h =
     let it = have h.0 in
     record {
-      command = it.entry;
-      behind = words_behind h.0;
-      are = h.1.are ∙ ap (λ n. n ∷ words_behind h.0) (sym it.name);
-      named = record { place = it.place; at = it.at; name_is = refl };
-      numbers = subst (λ r. AreNumbersIn r (words_behind h.0)) (sym it.numbers) (numbers_of h.0 h.1.number);
+      are = record {
+        command = it.entry;
+        behind = number_words h.0;
+        are = h.1.are ∙ ap (λ n. n ∷ number_words h.0) (sym it.name);
+        named = record { place = it.place; at = it.at; name_is = refl };
+        numbers = subst (λ r. AreNumbersIn r (number_words h.0)) (sym it.numbers) (numbers_of h.0 h.1.number);
+      };
+      first = subst (λ (n : List ℕ). NamesNoneBefore it.place entries n) (sym it.name)
+          (others entries it.place (command_name h.0) it.first);
     }
 
 -- ---- a command of each entry
 
 -- the entry is that of a command without a number, or of `synth`
-abbrev pub IsEntry : Entry → Type 0
-IsEntry entry = ((c : Command) × HasNumber c × (words_behind c ≡ []) × (entry.name.now ≡ name_of c) × (entry.numbers.now ≡ [])) ⊎ ((entry.name.now ≡ codes "synth") × (entry.numbers.now ≡ range ∷ []))
+abbrev pub IsEntry : CommandForm → Type 0
+IsEntry entry = ((c : Command) × HasNumber c × (number_words c ≡ []) × (entry.name.now ≡ command_name c)
+    × (entry.numbers.now ≡ [])) ⊎ ((entry.name.now ≡ codes "synth") × (entry.numbers.now ≡ range ∷ []))
 
-abbrev pub AreEntries : List Entry → Type 0
+abbrev pub AreEntries : List CommandForm → Type 0
 AreEntries [] = Unit
 AreEntries (entry ∷ entries) = IsEntry entry × AreEntries entries
 
-entry_at : (entries : List Entry) → AreEntries entries → (k : ℕ) (entry : Entry) → slice_get entries k ≡ Some entry → IsEntry entry
+entry_at : (entries : List CommandForm) → AreEntries entries → (k : ℕ) (entry : CommandForm)
+    → slice_get entries k ≡ Some entry → IsEntry entry
 entry_at [] all k entry e = absurd (cc)
 entry_at (x ∷ entries) all zero entry e = subst IsEntry (some_same x entry e) all.0
 entry_at (x ∷ entries) all (suc k) entry e = entry_at entries all.1 k entry e
 
-of_entry : (entries : List Entry) (words : List (List ℕ)) (h : AreListed entries words) → IsEntry h.command → IsCommand words
+of_entry : (entries : List CommandForm) (words : List (List ℕ)) (h : AreCommandWords entries words) → IsEntry h.command → IsCommand words
 of_entry entries words h (inl (c, number, none, name, no_ranges)) =
-    let behind : h.behind ≡ words_behind c = nil_from_length h.behind (h.numbers.count ∙ ap length no_ranges) ∙ sym none in
+    let behind : h.behind ≡ number_words c = nil_from_length h.behind (h.numbers.count ∙ ap length no_ranges) ∙ sym none in
     (c, record { number = number; are = h.are ∙ ap₂ (λ n b. n ∷ b) name behind })
 of_entry entries words h (inr (name, one)) =
     let it = number_behind h.behind (subst (λ r. AreNumbersIn r h.behind) one h.numbers) in
     (Synth it.0, record { number = it.1; are = h.are ∙ ap₂ (λ n b. n ∷ b) name it.2 })
 
-pub commanded : (entries : List Entry) → AreEntries entries → (words : List (List ℕ)) → AreListed entries words → IsCommand words
+pub commanded : (entries : List CommandForm) → AreEntries entries → (words : List (List ℕ))
+    → AreCommandWords entries words → IsCommand words
 commanded entries all words h = of_entry entries words h (entry_at entries all h.named.place h.command h.named.at)

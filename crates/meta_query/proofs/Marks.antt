@@ -1,8 +1,9 @@
 -- The line before the queries in an input of `recheck`.
-use Rattle.std.proofs.Common.{◌≡◌, ◌↔◌, ◌≤◌, ◌<◌, ◌+◌, inl, inr, ℕ, Bool, true, IsTrue, List, ◌++◌, length, length-append, take, drop, ⊎_elim, sym, ap, ◌∙◌, arith}
-use Rattle.std.proofs.lemmas.Bool.{cases_lt}
+use Rattle.std.proofs.Common.{◌≡◌, ◌↔◌, ◌≤◌, ◌<◌, ◌+◌, inl, inr, ℕ, Bool, true, IsTrue, List, ◌++◌, length, length-append, take, drop, sym}
+use Rattle.std.proofs.Common.{ap, ◌∙◌, arith}
 use Rattle.std.proofs.lemmas.List.{length-drop, drop-drop}
 use Rattle.meta_lists.specs.First.{IsFirst}
+use Rattle.meta_lists.proofs.First.{one_first}
 use Rattle.meta_query.specs.Recheck.{mark, BeginsLine, IsMarkAt, IsCut}
 
 -- behind the place of a mark there is room for it
@@ -18,27 +19,29 @@ mark_before_end input none at h =
     none at (omega arith) h
 
 -- whether the mark stands where a line begins
-pub mark_behind : (input rest : List ℕ) (at : ℕ) (starts : Bool) → BeginsLine input at → rest ≡ drop at input → (starts ≡ true → rest ≡ mark ++ drop (length mark) rest) → ((behind : List ℕ) → rest ≡ mark ++ behind → starts ≡ true) → (IsTrue starts ↔ IsMarkAt input at)
-mark_behind input rest at starts begins rest_is there whole =
-    (λ yes. record { begins = begins; behind = drop (length mark) rest; is = sym rest_is ∙ there yes }, λ h. whole h.behind (rest_is ∙ h.is))
+pub mark_behind : (input rest : List ℕ) (at : ℕ) (starts : Bool) → BeginsLine input at → rest ≡ drop at input
+    → (starts ≡ true → rest ≡ mark ++ drop (length mark) rest) → ((behind : List ℕ) → rest ≡ mark ++ behind → starts ≡ true)
+    → (IsTrue starts ↔ IsMarkAt input at)
+mark_behind input rest at starts begins rest_is there whole = (
+  λ yes. record { begins = begins; behind = drop (length mark) rest; is = sym rest_is ∙ there yes },
+  λ h. whole h.behind (rest_is ∙ h.is),
+)
 
 -- the parts at the first mark
-pub cut_at : (input : List ℕ) (at : ℕ) (text rest queries : List ℕ) → IsFirst (IsMarkAt input) at → text ≡ take at input → rest ≡ drop at input → queries ≡ drop 12 rest → IsCut input text queries
+pub cut_at : (input : List ℕ) (at : ℕ) (text rest queries : List ℕ) → IsFirst (IsMarkAt input) at → text ≡ take at input
+    → rest ≡ drop at input → queries ≡ drop 12 rest → IsCut input text queries
 cut_at input at text rest queries first text_is rest_is queries_are =
     inl (at, record { first = first; text_is = text_is; queries_are = queries_are ∙ ap (drop 12) rest_is ∙ drop-drop 12 at input })
 
--- the first of which something holds is one
-pub one_first : (P : ℕ → Type 0) (m n : ℕ) → IsFirst P m → IsFirst P n → m ≡ n
-one_first P m n h g =
-    ⊎_elim (λ (l : m < n). absurd (g.none_before m l h.holds))
-    (λ (le : n ≤ m). ⊎_elim (λ (l : n < m). absurd (h.none_before n l g.holds)) (λ (ge : m ≤ n). omega arith) (cases_lt n m))
-    (cases_lt m n)
-
 -- an input is cut in one way
-pub same_cut : (input text queries text' queries' : List ℕ) → IsCut input text queries → IsCut input text' queries' → (text ≡ text') × (queries ≡ queries')
+pub same_cut : (input text queries text' queries' : List ℕ) → IsCut input text queries → IsCut input text' queries'
+    → (text ≡ text') × (queries ≡ queries')
 same_cut input text queries text' queries' (inl (m, h)) (inl (n, g)) =
-    let same : m ≡ n = one_first (IsMarkAt input) m n h.first g.first in
-    (h.text_is ∙ ap (λ k. take k input) same ∙ sym g.text_is, h.queries_are ∙ ap (λ k. drop (k + length mark) input) same ∙ sym g.queries_are)
+    let same : m ≡ n = one_first (IsMarkAt input) m n h.first g.first in (
+      h.text_is ∙ ap (λ k. take k input) same ∙ sym g.text_is,
+      h.queries_are ∙ ap (λ k. drop (k + length mark) input) same
+          ∙ sym g.queries_are,
+    )
 same_cut input text queries text' queries' (inl (m, h)) (inr g) = absurd (g.no_mark m h.first.holds)
 same_cut input text queries text' queries' (inr h) (inl (n, g)) = absurd (h.no_mark n g.first.holds)
 same_cut input text queries text' queries' (inr h) (inr g) = (h.text_is ∙ sym g.text_is, h.queries_are ∙ sym g.queries_are)

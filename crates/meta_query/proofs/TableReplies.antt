@@ -1,29 +1,29 @@
 -- Tables answer the lines of an input in one way.
-use Rattle.std.proofs.Common.{◌≡◌, inl, inr, ℕ, ◌+◌, List, [], ◌∷◌, ◌++◌, length, slice_get, Option, Some, refl, sym, ap, ap₂, ◌∙◌, subst, arith}
+use Rattle.std.proofs.Common.{◌≡◌, inl, inr, ℕ, ◌+◌, List, length, slice_get, Option, Some, refl, sym, ap, ap₂, ◌∙◌, subst}
 use Rattle.std.proofs.lemmas.Option.{same_Some}
 use Rattle.meta_lists.proofs.Places.{get_there, get_beside, same_places}
 use Rattle.meta_lists.specs.First.{IsFirst}
+use Rattle.meta_lists.proofs.First.{one_first}
 use Rattle.meta_types.specs.TypeParts.{number_of}
-use Rattle.meta_types.specs.Function.{Function, Steps, AnswersNumber}
+use Rattle.meta_types.specs.Function.{Function, IsRelation, StepsTypes, AnswersNumber}
 use Rattle.meta_types.proofs.Numbers.{one_number}
 use Rattle.meta_types.proofs.OneAnswer.{one}
 use Rattle.meta_inst.specs.Which.{Which, both}
-use Rattle.meta_meaning.specs.Tables.{TableContents, NumberConstraint, ConcreteNumber, FreeOf, SameNumber, ByNumber, OpcodeNumbers, result_count}
-use Rattle.meta_meaning.specs.Inference.{IsRelation, GivesBy, GivesNumber, GivesAt, GivesResults}
+use Rattle.meta_meaning.specs.Tables.{TableContents, NumberConstraint, ConcreteNumber, FreeOf, SameNumber, ByNumber, OpcodeNumbers}
+use Rattle.meta_meaning.specs.Tables.{result_count}
+use Rattle.meta_meaning.specs.Inference.{GivesBy, GivesNumber, GivesAt, GivesResults}
 use Rattle.meta_opcode_tables.specs.Contents.{IsOpcodeNamed}
 use Rattle.meta_setting_tables.specs.GroupTables.{GroupContents, names_in}
 use Rattle.meta_setting_tables.specs.FoundSetting.{IsEntryNamed}
-use Rattle.meta_setting_tables.specs.declared.descriptor.Descriptor.{Descriptor}
 use Rattle.meta_gen.specs.WholeTables.{WholeTables}
-use Rattle.meta_answers.specs.Question.{Question}
 use Rattle.meta_answers.specs.Inference.{Inference, IsResultsLine}
 use Rattle.meta_answers.specs.Query.{Asked, OfQuestion, OfInference, OfSetting, Asks}
 use Rattle.meta_answers.specs.SettingLine.{line_in}
-use Rattle.meta_answers.specs.Answer.{AllowsAsked, AllowedReply, GivesAsked, GivenReply, IsLineInTables, SettingReply, TablesReply, IsTableReply, reply_line, IsWrittenAnswer, AreWrittenAnswers}
+use Rattle.meta_answers.specs.Answer.{GivesAsked, GivenReply, IsLineInTables, SettingReply, TablesReply, IsTableReply, AreWrittenAnswers}
 use Rattle.meta_answers.specs.declared.reply.Reply.{Reply}
 use Rattle.meta_answers.specs.declared.reply.Reply.TheVariants.{Accept, Refuse, Unknown, Bad, Results, Setting}
 use Rattle.meta_answers.proofs.InferenceLemmas.{one_results_line}
-use Rattle.meta_query.proofs.Marks.{one_first}
+use Rattle.meta_answers.proofs.OneReply.{one_allowed, one_list}
 
 -- ---- a constraint gives one number
 
@@ -31,7 +31,10 @@ use Rattle.meta_query.proofs.Marks.{one_first}
 one_answered : (f : Function) (u m n : ℕ) → AnswersNumber f u m → AnswersNumber f u n → m ≡ n
 one_answered f u m n a b =
     let from = one_number a.steps.from b.steps.from a.steps.steps.from b.steps.steps.from (a.steps.number_from ∙ sym b.steps.number_from) in
-    let to = one f b.steps.from a.steps.to b.steps.to (record { is_function = a.is_function; steps = subst (λ v. Steps f v a.steps.to) from a.steps.steps }) (record { is_function = b.is_function; steps = b.steps.steps }) in
+    let to = one f b.steps.from a.steps.to b.steps.to (record {
+      is_function = a.is_function;
+      steps = subst (λ v. StepsTypes f v a.steps.to) from a.steps.steps;
+    }) (record { is_function = b.is_function; steps = b.steps.steps }) in
     sym a.steps.number_to ∙ ap number_of to ∙ b.steps.number_to
 
 -- a relation is no function
@@ -58,7 +61,8 @@ one_at t c place m n h g =
     one_gives c g.constraint m n (subst (λ x. GivesNumber c x m) same h.gives) g.gives
 
 -- so an opcode gives one list of numbers
-same_numbers : (t : TableContents) (op : ℕ) (c d : Option ℕ) (numbers others : List ℕ) → GivesResults t op c d numbers → GivesResults t op c d others → numbers ≡ others
+same_numbers : (t : TableContents) (op : ℕ) (c d : Option ℕ) (numbers others : List ℕ) → GivesResults t op c d numbers
+    → GivesResults t op c d others → numbers ≡ others
 same_numbers t op c d numbers others h g = same_places numbers others count (λ j l.
     let (m, m_at) = get_there numbers j l in
     let (n, n_at) = get_beside numbers others j m count m_at in
@@ -72,38 +76,22 @@ same_numbers t op c d numbers others h g = same_places numbers others count (λ 
     count = h.count ∙ ap (λ (e : OpcodeNumbers). result_count e.flags) entry ∙ sym g.count
 
 module _ (t : WholeTables) where
-  -- ---- a question has one reply
+  -- ---- a question has what is inferred at most once
 
-  one_allowed : (q : Question) (r s : Reply) → AllowedReply t.opcodes q r → AllowedReply t.opcodes q s → r ≡ s
-  one_allowed q Accept Accept h g = refl
-  one_allowed q Accept Refuse (m, first, allows) (n, other, refuses) = absurd (refuses (subst (λ op. AllowsAsked t.opcodes op q) (one_first (IsOpcodeNamed t.opcodes.names q.name) m n first other) allows))
-  one_allowed q Accept Unknown (m, first, allows) unknown = absurd (unknown m first.holds)
-  one_allowed q Refuse Accept (n, other, refuses) (m, first, allows) = absurd (refuses (subst (λ op. AllowsAsked t.opcodes op q) (one_first (IsOpcodeNamed t.opcodes.names q.name) m n first other) allows))
-  one_allowed q Refuse Refuse h g = refl
-  one_allowed q Refuse Unknown (m, first, refuses) unknown = absurd (unknown m first.holds)
-  one_allowed q Unknown Accept unknown (m, first, allows) = absurd (unknown m first.holds)
-  one_allowed q Unknown Refuse unknown (m, first, refuses) = absurd (unknown m first.holds)
-  one_allowed q Unknown Unknown h g = refl
-  one_allowed q r Bad h g = absurd g
-  one_allowed q r (Results line) h g = absurd g
-  one_allowed q r (Setting line) h g = absurd g
-  one_allowed q Bad s h g = absurd h
-  one_allowed q (Results line) s h g = absurd h
-  one_allowed q (Setting line) s h g = absurd h
-
-  -- ---- so has a question what is inferred
-
-  not_refused : (q : Inference) (m n : ℕ) → m ≡ n → (numbers : List ℕ) → GivesAsked t.opcodes m q numbers → ((numbers : List ℕ) → GivesAsked t.opcodes n q numbers → ⊥) → ⊥
+  not_refused : (q : Inference) (m n : ℕ) → m ≡ n → (numbers : List ℕ) → GivesAsked t.opcodes m q numbers
+      → ((numbers : List ℕ) → GivesAsked t.opcodes n q numbers → ⊥) → ⊥
   not_refused q m n same numbers gives none = none numbers (subst (λ op. GivesAsked t.opcodes op q numbers) same gives)
 
   one_given : (q : Inference) (r s : Reply) → GivenReply t.opcodes q r → GivenReply t.opcodes q s → r ≡ s
   one_given q Refuse Refuse h g = refl
   one_given q Refuse Unknown (m, first, none) unknown = absurd (unknown m first.holds)
-  one_given q Refuse (Results line) (n, other, none) (m, first, numbers, gives, is) = absurd (not_refused q m n (one_first (IsOpcodeNamed t.opcodes.names q.name) m n first other) numbers gives none)
+  one_given q Refuse (Results line) (n, other, none) (m, first, numbers, gives, is) =
+      absurd (not_refused q m n (one_first (IsOpcodeNamed t.opcodes.names q.name) m n first other) numbers gives none)
   one_given q Unknown Refuse unknown (m, first, none) = absurd (unknown m first.holds)
   one_given q Unknown Unknown h g = refl
   one_given q Unknown (Results line) unknown (m, first, numbers, gives, is) = absurd (unknown m first.holds)
-  one_given q (Results line) Refuse (m, first, numbers, gives, is) (n, other, none) = absurd (not_refused q m n (one_first (IsOpcodeNamed t.opcodes.names q.name) m n first other) numbers gives none)
+  one_given q (Results line) Refuse (m, first, numbers, gives, is) (n, other, none) =
+      absurd (not_refused q m n (one_first (IsOpcodeNamed t.opcodes.names q.name) m n first other) numbers gives none)
   one_given q (Results line) Unknown (m, first, numbers, gives, is) unknown = absurd (unknown m first.holds)
   one_given q (Results line) (Results text) (m, first, numbers, gives, is) (n, other, ns, give, tells) =
       let op = one_first (IsOpcodeNamed t.opcodes.names q.name) m n first other in
@@ -123,8 +111,10 @@ module _ (t : WholeTables) where
       let group : h.group ≡ g.group = same_Some h.group g.group (sym h.group_is ∙ g.group_is) in
       let named = subst (λ (x : GroupContents). IsFirst (IsEntryNamed (names_in x.descriptors) name) h.entry) group h.named in
       let entry : h.entry ≡ g.entry = one_first (IsEntryNamed (names_in g.group.descriptors) name) h.entry g.entry named g.named in
-      let there : slice_get g.group.descriptors h.entry ≡ Some h.descriptor = subst (λ (x : GroupContents). slice_get x.descriptors h.entry ≡ Some h.descriptor) group h.there in
-      let descriptor : h.descriptor ≡ g.descriptor = same_Some h.descriptor g.descriptor (sym there ∙ ap (slice_get g.group.descriptors) entry ∙ g.there) in
+      let there : slice_get g.group.descriptors h.entry ≡ Some h.descriptor =
+      subst (λ (x : GroupContents). slice_get x.descriptors h.entry ≡ Some h.descriptor) group h.there in
+      let descriptor : h.descriptor ≡ g.descriptor = same_Some h.descriptor g.descriptor
+      (sym there ∙ ap (slice_get g.group.descriptors) entry ∙ g.there) in
       h.line_is ∙ ap₂ line_in group descriptor ∙ sym g.line_is
 
   known : (name line : List ℕ) → IsLineInTables t name line → SettingReply t name Unknown → ⊥
@@ -145,7 +135,7 @@ module _ (t : WholeTables) where
   one_entry name (Results line) s h g = absurd h
 
   one_of_tables : (q : Asked) (r s : Reply) → TablesReply t q r → TablesReply t q s → r ≡ s
-  one_of_tables (OfQuestion q) r s h g = one_allowed q r s h g
+  one_of_tables (OfQuestion q) r s h g = one_allowed t.opcodes q r s h g
   one_of_tables (OfInference q) r s h g = one_given q r s h g
   one_of_tables (OfSetting name) r s h g = one_entry name r s h g
 
@@ -153,15 +143,12 @@ module _ (t : WholeTables) where
 
   module _ (one_asked : (line : List ℕ) (q p : Asked) → Asks line q → Asks line p → q ≡ p) where
     one_reply : (line : List ℕ) (r s : Reply) → IsTableReply t line r → IsTableReply t line s → r ≡ s
-    one_reply line r s (inl (q, asks, h)) (inl (p, others, g)) = one_of_tables q r s h (subst (λ q. TablesReply t q s) (one_asked line p q others asks) g)
+    one_reply line r s (inl (q, asks, h)) (inl (p, others, g)) =
+        one_of_tables q r s h (subst (λ q. TablesReply t q s) (one_asked line p q others asks) g)
     one_reply line r s (inl (q, asks, h)) (inr (bad, none)) = absurd (none q asks)
     one_reply line r s (inr (bad, none)) (inl (q, asks, h)) = absurd (none q asks)
     one_reply line r s (inr (bad, none)) (inr (too, nothing)) = bad ∙ sym too
 
-    one_answer : (line a b : List ℕ) → IsWrittenAnswer (IsTableReply t) line a → IsWrittenAnswer (IsTableReply t) line b → a ≡ b
-    one_answer [] a b h g = h ∙ sym g
-    one_answer (x ∷ xs) a b (r, is, text) (s, other, written) = text ∙ ap reply_line (one_reply (x ∷ xs) r s is other) ∙ sym written
-
-    pub same_answers : (lines : List (List ℕ)) (a b : List ℕ) → AreWrittenAnswers (IsTableReply t) lines a → AreWrittenAnswers (IsTableReply t) lines b → a ≡ b
-    same_answers [] a b h g = h ∙ sym g
-    same_answers (line ∷ lines) a b (first, rest, h, hs, is) (other, others, g, gs, too) = is ∙ ap₂ ◌++◌ (one_answer line first other h g) (same_answers lines rest others hs gs) ∙ sym too
+    pub same_answers : (lines : List (List ℕ)) (a b : List ℕ) → AreWrittenAnswers (IsTableReply t) lines a
+        → AreWrittenAnswers (IsTableReply t) lines b → a ≡ b
+    same_answers lines a b h g = one_list (IsTableReply t) one_reply lines a b h g

@@ -44,9 +44,9 @@ IsCut input text queries = ((at : ℕ) × IsCutAt input at text queries) ⊎ IsU
 -- ---- what is answered
 
 -- what is said of tables that were read: that they are the ones of the declarations, or others
-abbrev pub line_of : Bool → List ℕ
-line_of true = codes "same" ++ 10 ∷ []
-line_of false = codes "different" ++ 10 ∷ []
+abbrev pub sameness_line : Bool → List ℕ
+sameness_line true = codes "same" ++ 10 ∷ []
+sameness_line false = codes "different" ++ 10 ∷ []
 
 -- what is said of a text that reads as no tables
 abbrev pub refused_line : List ℕ
@@ -63,7 +63,7 @@ pub record AreOthersTold (tables : WholeTables) (text queries out : List ℕ) : 
   pub read : WholeTables
   pub reads : Reads text read
   pub others : read ≢ tables
-  pub told : IsTold (line_of false) read queries out
+  pub told : IsTold (sameness_line false) read queries out
 
 -- the text reads as no tables, and that alone is said
 pub record IsRefused (text out : List ℕ) : Type 0 where
@@ -73,7 +73,8 @@ pub record IsRefused (text out : List ℕ) : Type 0 where
 -- `same` and the answers where the text reads as the tables, `different` and the answers of the tables that were read where it reads
 -- as others, and `refused` alone where it reads as none
 abbrev pub IsAnswerBy : WholeTables → List ℕ → List ℕ → List ℕ → Type 0
-IsAnswerBy tables text queries out = (Reads text tables × IsTold (line_of true) tables queries out) ⊎ (AreOthersTold tables text queries out ⊎ IsRefused text out)
+IsAnswerBy tables text queries out = (Reads text tables × IsTold (sameness_line true) tables queries out)
+    ⊎ (AreOthersTold tables text queries out ⊎ IsRefused text out)
 
 -- the output for an input: the answer to its text and its queries
 pub record IsRecheckOf (tables : WholeTables) (input out : List ℕ) : Type 0 where

@@ -1,6 +1,6 @@
 ghost use Rattle.std.specs.Prelude.{◌≡◌, ◌≢◌, [], ◌∷◌, IfSome, IfNone, ℕ};
 ghost use Rattle.meta_query.specs.declared.command.Command.{Command};
-ghost use Rattle.meta_query.specs.Command.{name_of, words_behind, AreWordsOf};
+ghost use Rattle.meta_query.specs.Command.{command_name, number_words, AreWordsOf};
 
 use super::synthesis::number_in;
 use meta_types::Text;
@@ -42,8 +42,8 @@ impl Command {
 
     /// The command of this name, which has no number.
     fn named(name: &[u8]) -> Option<Command>
-        ensures some { IfSome result (λ c. (name.now ≡ name_of c) × (words_behind c ≡ [])) }
-        ensures none { IfNone result ((c : Command) → words_behind c ≡ [] → name.now ≢ name_of c) }
+        ensures some { IfSome result (λ c. (name.now ≡ command_name c) × (number_words c ≡ [])) }
+        ensures none { IfNone result ((c : Command) → number_words c ≡ [] → name.now ≢ command_name c) }
     {
         if name == b"query".as_slice() {
             return Some(Command::Query);

@@ -1,40 +1,40 @@
 ghost use Rattle.std.specs.Prelude.{ℕ, List};
-ghost use Rattle.meta_main.specs.Misuse.{AreWordsOf};
+ghost use Rattle.meta_main.specs.Misuse.{AreCommandWords, AreTaken};
 ghost use Rattle.meta_query.specs.Command.{IsCommand};
 
-use meta_main::{Command, Range};
+use meta_main::{CommandForm, Range};
 
 /// The commands of `run`, each with the numbers that stand behind its name, for the manual of a program (this project's own).
-pub const COMMANDS: &[Command] = &[
-    Command {
+pub const COMMANDS: &[CommandForm] = &[
+    CommandForm {
         name: "query",
         numbers: &[],
     },
-    Command {
+    CommandForm {
         name: "recheck",
         numbers: &[],
     },
-    Command {
+    CommandForm {
         name: "tables",
         numbers: &[],
     },
-    Command {
+    CommandForm {
         name: "types",
         numbers: &[],
     },
-    Command {
+    CommandForm {
         name: "settings",
         numbers: &[],
     },
-    Command {
+    CommandForm {
         name: "instructions",
         numbers: &[],
     },
-    Command {
+    CommandForm {
         name: "builder",
         numbers: &[],
     },
-    Command {
+    CommandForm {
         name: "synth",
         numbers: &[Range {
             least: 0,
@@ -43,10 +43,11 @@ pub const COMMANDS: &[Command] = &[
     },
 ];
 
-/// `COMMANDS`. Words are a command of `run` exactly where it lists them: a usage error names each command and no other.
-pub fn listed_commands() -> &'static [Command]
-    ensures listed { (words : List (List ℕ)) → IsCommand words → AreWordsOf result.now words }
-    ensures commands { (words : List (List ℕ)) → AreWordsOf result.now words → IsCommand words }
+/// `COMMANDS`. Words are a command of `run` exactly where it lists them, and of each name it lists one: a usage error names each command
+/// and no other, and comes for no command.
+pub fn listed_commands() -> &'static [CommandForm]
+    ensures listed { (words : List (List ℕ)) → IsCommand words → AreTaken result.now words }
+    ensures commands { (words : List (List ℕ)) → AreCommandWords result.now words → IsCommand words }
 {
     COMMANDS
 }

@@ -21,7 +21,7 @@ pub fn one_command()
 /// what is built of them. The variables have sets of types, as those of `Declarations` always do.
 pub fn one_output_of_a_command()
     ensures { (d : Declared) (c : Command) (input a b : List ℕ) → AreValid d → HoldTypeSets d.set.vars
-        → IsOutputOf d c input a → IsOutputOf d c input b → a ≡ b }
+        → IsOutputOf c d input a → IsOutputOf c d input b → a ≡ b }
 {
     one_output();
     asks_one_query();

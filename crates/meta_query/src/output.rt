@@ -1,6 +1,7 @@
 ghost use Rattle.std.specs.Prelude.{◌≡◌, false, [], IfOk, string_bytes};
 ghost use Rattle.meta_answers.specs.Answer.{IsOutput};
-ghost use Rattle.meta_query.specs.Run.{has_input, IsOutputOf, texts_of};
+ghost use Rattle.meta_run.specs.Run.{never_rejecting};
+ghost use Rattle.meta_query.specs.Run.{has_input, IsOutputOf};
 
 use super::command::Command;
 use super::recheck::recheck;
@@ -31,7 +32,7 @@ fn output_of(
     input: &[u8],
 ) -> Result<String, AllocError>
     requires { has_input command ≡ false → input.now ≡ [] }
-    ensures { IfOk result (λ output. IsOutputOf built.now.declared command input.now (string_bytes output)) }
+    ensures { IfOk result (λ output. IsOutputOf command built.now.declared input.now (string_bytes output)) }
 {
     let _declarations = built.declarations();
     match command {
@@ -49,7 +50,7 @@ fn output_of(
 impl Answerer for Command {
     ghost reads = { has_input };
 
-    ghost texts = { texts_of };
+    ghost texts = { λ command. never_rejecting (IsOutputOf command) };
 
     /// Whether the command has an input: `query` and `recheck` have one.
     fn has_input(&self) -> bool {

@@ -1,5 +1,5 @@
 ghost use Rattle.std.specs.Prelude.{◌≡◌, ◌↔◌, IfOk, IsTrue, string_bytes};
-ghost use Rattle.meta_query.specs.Recheck.{line_of, IsTold, IsRecheckOf, refused_line};
+ghost use Rattle.meta_query.specs.Recheck.{sameness_line, IsTold, IsRecheckOf, refused_line};
 
 use super::queries::cut_queries;
 use meta_answers::push_answers;
@@ -16,7 +16,7 @@ fn is_same(read: &Tables, tables: &Tables) -> bool
 
 /// What is said of tables that were read: that they are the ones that they were compared with, or others.
 fn line_of(same: bool) -> &'static str
-    ensures { result.now ≡ line_of same }
+    ensures { result.now ≡ sameness_line same }
 {
     match same {
         true => "same\n",

@@ -1,11 +1,11 @@
-ghost use Rattle.std.specs.Prelude.{◌≡◌, ◌≢◌, ◌≤◌, ◌⊎◌};
+ghost use Rattle.std.specs.Prelude.{◌≡◌, ◌≢◌, ◌≤◌, true, false};
 ghost use Rattle.meta_text.specs.Outside.{Rose, longest_input, GaveMore, GaveAtMost};
 ghost use Rattle.meta_declared.specs.AllDeclared.{AreValid};
-ghost use Rattle.meta_run.specs.Run.{IsRefusedWhole, IsRefusedInPart, NeverRises};
-ghost use Rattle.meta_run.specs.Status.{WritesNothing};
+ghost use Rattle.meta_run.specs.Ending.{WritesNothing, ending_of};
+ghost use Rattle.meta_run.specs.Run.{never_rejecting, IsRun, IsRefusedWhole, NeverRises, WritesOutput, RefusesDeclarations, Completes};
 ghost use Rattle.meta_query.specs.Command.{AreWordsOf, IsCommand};
 ghost use Rattle.meta_query.specs.declared.command.Command.{Command};
-ghost use Rattle.meta_query.specs.Run.{WritesText, IsReading, IsAnsweredWhole, IsAnsweredInPart, IsRun, AnswersInput, WritesTexts, RefusesDeclarations, Completes};
+ghost use Rattle.meta_query.specs.Run.{IsOutputOf, has_input, HasInput, WritesText, IsReading, IsOutputWhole, IsOutputCutShort};
 
 use super::command::Command;
 use meta_gen::{Declarations, one_first_fault};
@@ -22,7 +22,8 @@ fn run_words<S: Source, K: Sink>(
     source: &mut S,
     sink: &mut K,
 ) -> Ending
-    ensures { IsRun S.left S.faults K.taken K.faults declarations.now source.old source.new sink.old sink.new words.now result }
+    ensures { IsRun S.left S.faults K.taken K.faults declarations.now source.old source.new sink.old sink.new
+        (λ command. AreWordsOf command words.now) has_input (λ command. never_rejecting (IsOutputOf command)) result }
 {
     let Some(command) = Command::parse(words) else {
         return Ending::Usage;
@@ -47,26 +48,36 @@ pub fn run<S: Source, K: Sink>(
 ) -> Status
     // Each query over valid declarations is answered as they mean, and each table text is compared with their tables and its queries
     // answered by the tables that it reads as; their texts are written; and others are refused.
-    ensures headline { AnswersInput declarations.now words.now (S.left source.old) (S.faults source.old) (S.faults source.new) (K.taken sink.old) (K.taken sink.new) (K.faults sink.old) (K.faults sink.new) result }
-    ensures texts { WritesTexts declarations.now words.now (K.taken sink.old) (K.taken sink.new) (K.faults sink.old) (K.faults sink.new) result }
-    ensures refuses { RefusesDeclarations declarations.now words.now (K.taken sink.old) (K.taken sink.new) (K.faults sink.old) (K.faults sink.new) result }
-    ensures complete { Completes declarations.now words.now (S.left source.old) (S.left source.new) (S.faults source.old) (S.faults source.new) (K.faults sink.old) (K.faults sink.new) result }
+    ensures headline { (command : Command) → HasInput command → AreWordsOf command words.now
+        → WritesOutput S.left S.faults K.taken K.faults declarations.now source.old source.new sink.old sink.new true
+        (IsOutputOf command) (ending_of result) }
+    ensures texts { (command : Command) → WritesText command → AreWordsOf command words.now
+        → WritesOutput S.left S.faults K.taken K.faults declarations.now source.old source.new sink.old sink.new false
+        (IsOutputOf command) (ending_of result) }
+    ensures refuses { IsCommand words.now
+        → RefusesDeclarations S.left S.faults K.taken K.faults declarations.now source.old source.new sink.old sink.new (ending_of result) }
+    ensures complete { (command : Command) → AreWordsOf command words.now
+        → Completes S.left S.faults K.taken K.faults declarations.now source.old source.new sink.old sink.new
+        (has_input command) (ending_of result) }
 
     // The words decide whether it is a usage error, and then nothing was read or written.
     ensures usage { result ≡ Status.Usage → ¬ IsCommand words.now }
     ensures no_command { ¬ IsCommand words.now → result ≡ Status.Usage }
 
-    ensures done { result ≡ Status.Done → IsAnsweredWhole S.left S.faults K.taken K.faults declarations.now source.old source.new sink.old sink.new words.now }
-    ensures refused { result ≡ Status.Refused → IsCommand words.now × IsRefusedWhole declarations.now (K.taken sink.old) (K.taken sink.new) }
-    ensures read_fault { result ≡ Status.ReadFault → IsReading words.now × AreValid declarations.now × Rose (S.faults source.old) (S.faults source.new) }
+    ensures done { result ≡ Status.Done
+        → IsOutputWhole S.left S.faults K.taken K.faults declarations.now source.old source.new sink.old sink.new words.now }
+    ensures refused { result ≡ Status.Refused → IsCommand words.now
+        × IsRefusedWhole declarations.now (K.taken sink.old) (K.taken sink.new) }
+    ensures read_fault { result ≡ Status.ReadFault → IsReading words.now × AreValid declarations.now
+        × Rose (S.faults source.old) (S.faults source.new) }
     ensures write_fault { result ≡ Status.WriteFault → IsCommand words.now × Rose (K.faults sink.old) (K.faults sink.new) }
     ensures written_in_part { result ≡ Status.WriteFault
-        → IsRefusedInPart declarations.now (K.taken sink.old) (K.taken sink.new)
-        ⊎ IsAnsweredInPart S.left S.faults K.taken K.faults declarations.now source.old source.new sink.old sink.new words.now }
-    ensures too_long { result ≡ Status.TooLong → IsReading words.now × AreValid declarations.now × GaveMore longest_input (S.left source.old) (S.left source.new) }
+        → IsOutputCutShort S.left S.faults K.taken K.faults declarations.now source.old source.new sink.old sink.new words.now }
+    ensures too_long { result ≡ Status.TooLong → IsReading words.now × AreValid declarations.now
+        × GaveMore longest_input (S.left source.old) (S.left source.new) }
     ensures else_within { result ≢ Status.TooLong → GaveAtMost longest_input (S.left source.old) (S.left source.new) }
 
-    ensures untouched { WritesNothing result → sink.new ≡ sink.old }
+    ensures untouched { WritesNothing (ending_of result) → sink.new ≡ sink.old }
     ensures usage_unread { result ≡ Status.Usage → source.new ≡ source.old }
     ensures refused_unread { result ≡ Status.Refused → source.new ≡ source.old }
     ensures text_unread { (command : Command) → WritesText command → AreWordsOf command words.now → source.new ≡ source.old }

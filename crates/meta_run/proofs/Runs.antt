@@ -1,5 +1,6 @@
 -- From how a run ended to what it did.
-use Rattle.std.proofs.Common.{◌≡◌, ◌≢◌, ◌<◌, ◌≤◌, ◌⊎◌, inl, inr, ℕ, Bool, true, false, List, [], ◌++◌, length, length-append, Option, None, Some, refl, sym, ap, ◌∙◌, subst, le_refl, arith}
+use Rattle.std.proofs.Common.{◌≡◌, ◌≢◌, ◌<◌, ◌≤◌, inl, inr, ℕ, Bool, true, false, List, [], ◌++◌, length, length-append, Option, None, Some}
+use Rattle.std.proofs.Common.{refl, sym, ap, ◌∙◌, subst, arith}
 use Rattle.std.proofs.lemmas.List.{append-nil}
 use Rattle.meta_types.specs.declared.fault.DefinitionError.{DefinitionError}
 use Rattle.meta_types.specs.declared.fault.DefinitionError.TheVariants as fault_of
@@ -7,7 +8,8 @@ use Rattle.meta_text.specs.Outside.{Rose, with_front, with_more, NothingLeft, lo
 use Rattle.meta_declared.specs.AllDeclared.{Declared, ShowsFirst, AreValid}
 use Rattle.meta_run.specs.declared.ending.Ending.{Ending}
 use Rattle.meta_run.specs.declared.ending.Ending.TheVariants.{Done, Refused, Usage, ReadFault, WriteFault, OutOfMemory, TooLong, Rejected}
-use Rattle.meta_run.specs.Run.{refusal, Texts, IsReadWhole, IsInput, IsAnsweredWhole, IsRefusedWhole, Refuses, Did, Ran, IsRun, IsGiven, AnswersInput, RefusesDeclarations, Completes}
+use Rattle.meta_run.specs.Run.{refusal, Texts, IsInput, IsAnsweredWhole, Refuses, Did, Ran, IsGiven, AnswersInput, RefusesDeclarations}
+use Rattle.meta_run.specs.Run.{Completes}
 
 -- what was read is all that was left, where that was told and nothing is left now
 read_all : (input bytes : List ℕ) (left' : Option (List ℕ)) → Some input ≡ with_front bytes left' → NothingLeft left' → bytes ≡ input
@@ -35,54 +37,69 @@ pub gave_nothing : (left : Option (List ℕ)) → GaveAtMost longest_input left 
 gave_nothing None = record { bytes = []; given = refl; within = omega arith }
 gave_nothing (Some rest) = record { bytes = []; given = refl; within = omega arith }
 
-module _ {S K : Type 0} (left : S → Option (List ℕ)) (reads : S → ℕ) (taken : K → Option (List ℕ)) (writes : K → ℕ) (d : Declared) (s s' : S) (k k' : K) (texts : Texts) where
+module _ {S K : Type 0} (left : S → Option (List ℕ)) (reads : S → ℕ) (taken : K → Option (List ℕ)) (writes : K
+    → ℕ) (d : Declared) (s s' : S) (k k' : K) (texts : Texts) where
   -- what was answered is what was given
-  given : (has_input : Bool) (input bytes : List ℕ) → IsGiven left reads taken writes d s s' k k' has_input input → IsInput left has_input s s' bytes → bytes ≡ input
+  given : (has_input : Bool) (input bytes : List ℕ) → IsGiven left reads taken writes d s s' k k' has_input input
+      → IsInput left has_input s s' bytes → bytes ≡ input
   given true input bytes g h = read_all input bytes (left s') (sym g.0 ∙ h.read) h.end
   given false input bytes g h = h.0 ∙ sym g
 
   -- a text that was written whole answers it
-  answered : (has_input is_rejection : Bool) → IsAnsweredWhole left reads taken writes d s s' k k' has_input texts is_rejection → (input before : List ℕ) → IsGiven left reads taken writes d s s' k k' has_input input → taken k ≡ Some before
+  answered : (has_input is_rejection : Bool) → IsAnsweredWhole left reads taken writes d s s' k k' has_input texts is_rejection
+      → (input before : List ℕ) → IsGiven left reads taken writes d s s' k k' has_input input → taken k ≡ Some before
       → (text : List ℕ) × texts d input is_rejection text × (taken k' ≡ Some (before ++ text))
   answered has_input is_rejection h input before g taken_is =
       let all = given has_input input h.input g h.read in
       (h.text, subst (λ i. texts d i is_rejection h.text) all h.answers, h.took ∙ ap (λ t. with_more t h.text) taken_is)
 
   -- nothing that is given fails to be read
-  no_read_fault : (has_input : Bool) (input : List ℕ) → IsGiven left reads taken writes d s s' k k' has_input input → has_input ≡ true → Rose (reads s) (reads s') → ⊥
+  no_read_fault : (has_input : Bool) (input : List ℕ) → IsGiven left reads taken writes d s s' k k' has_input input → has_input ≡ true
+      → Rose (reads s) (reads s') → ⊥
   no_read_fault true input g e rose = g.2 rose
   no_read_fault false input g e rose = absurd (cc)
 
   -- or is too long
-  not_too_long : (has_input : Bool) (input : List ℕ) → IsGiven left reads taken writes d s s' k k' has_input input → has_input ≡ true → GaveMore longest_input (left s) (left s') → ⊥
+  not_too_long : (has_input : Bool) (input : List ℕ) → IsGiven left reads taken writes d s s' k k' has_input input → has_input ≡ true
+      → GaveMore longest_input (left s) (left s') → ⊥
   not_too_long true input g e more = gave_within input (left s') g.1 (subst (λ l. GaveMore longest_input l (left s')) g.0 more)
   not_too_long false input g e more = absurd (cc)
 
-  pub headline : (has_input : Bool) → ((e : DefinitionError) → AreValid d → ShowsFirst d e → ⊥) → (ending : Ending) → Did left reads taken writes d s s' k k' has_input texts ending → AnswersInput left reads taken writes d s s' k k' has_input texts ending
+  pub headline : (has_input : Bool) → ((e : DefinitionError) → AreValid d → ShowsFirst d e → ⊥) → (ending : Ending)
+      → Did left reads taken writes d s s' k k' has_input texts ending
+      → AnswersInput left reads taken writes d s s' k k' has_input texts ending
   headline has_input no_fault Done did valid memory input before g taken_is no_write =
       let h = answered has_input false did input before g taken_is in (false, h.0, h.1, refl, h.2)
   headline has_input no_fault Rejected did valid memory input before g taken_is no_write =
       let h = answered has_input true did input before g taken_is in (true, h.0, h.1, refl, h.2)
   headline has_input no_fault Refused did valid memory input before g taken_is no_write = absurd (no_fault did.1.fault valid did.1.first)
   headline has_input no_fault Usage did valid memory input before g taken_is no_write = absurd did
-  headline has_input no_fault ReadFault did valid memory input before g taken_is no_write = absurd (no_read_fault has_input input g did.0 did.2)
+  headline has_input no_fault ReadFault did valid memory input before g taken_is no_write =
+      absurd (no_read_fault has_input input g did.0 did.2)
   headline has_input no_fault WriteFault did valid memory input before g taken_is no_write = absurd (no_write did.0)
   headline has_input no_fault OutOfMemory did valid memory input before g taken_is no_write = absurd (memory refl)
-  headline has_input no_fault TooLong did valid memory input before g taken_is no_write = absurd (not_too_long has_input input g did.0 did.2)
+  headline has_input no_fault TooLong did valid memory input before g taken_is no_write =
+      absurd (not_too_long has_input input g did.0 did.2)
 
-  pub refuses : (has_input : Bool) → ((e f : DefinitionError) → ShowsFirst d e → ShowsFirst d f → e ≡ f) → ((e : DefinitionError) → AreValid d → ShowsFirst d e → ⊥) → (ending : Ending) → Did left reads taken writes d s s' k k' has_input texts ending → RefusesDeclarations left reads taken writes d s s' k k' ending
+  pub refuses : (has_input : Bool) → ((e f : DefinitionError) → ShowsFirst d e → ShowsFirst d f → e ≡ f)
+      → ((e : DefinitionError) → AreValid d → ShowsFirst d e → ⊥) → (ending : Ending)
+      → Did left reads taken writes d s s' k k' has_input texts ending → RefusesDeclarations left reads taken writes d s s' k k' ending
   refuses has_input one_fault no_fault Done did e first memory before taken_is no_write = absurd (no_fault e did.valid first)
   refuses has_input one_fault no_fault Rejected did e first memory before taken_is no_write = absurd (no_fault e did.valid first)
   refuses has_input one_fault no_fault Refused did e first memory before taken_is no_write =
-      let h = did.1 in
-      (refl, h.took ∙ ap (λ t. with_more t (refusal h.fault)) taken_is ∙ ap (λ f. Some (before ++ refusal f)) (one_fault h.fault e h.first first))
+      let h = did.1 in (
+        refl,
+        h.took ∙ ap (λ t. with_more t (refusal h.fault)) taken_is
+            ∙ ap (λ f. Some (before ++ refusal f)) (one_fault h.fault e h.first first),
+      )
   refuses has_input one_fault no_fault Usage did e first memory before taken_is no_write = absurd did
   refuses has_input one_fault no_fault ReadFault did e first memory before taken_is no_write = absurd (no_fault e did.1 first)
   refuses has_input one_fault no_fault WriteFault did e first memory before taken_is no_write = absurd (no_write did.0)
   refuses has_input one_fault no_fault OutOfMemory did e first memory before taken_is no_write = absurd (memory refl)
   refuses has_input one_fault no_fault TooLong did e first memory before taken_is no_write = absurd (no_fault e did.1 first)
 
-  pub complete : (has_input : Bool) → ((e : DefinitionError) → AreValid d → ShowsFirst d e → ⊥) → (ending : Ending) → Did left reads taken writes d s s' k k' has_input texts ending → Completes left reads taken writes d s s' k k' has_input ending
+  pub complete : (has_input : Bool) → ((e : DefinitionError) → AreValid d → ShowsFirst d e → ⊥) → (ending : Ending)
+      → Did left reads taken writes d s s' k k' has_input texts ending → Completes left reads taken writes d s s' k k' has_input ending
   complete has_input no_fault Done did valid no_read no_write = inl (false, refl)
   complete has_input no_fault Rejected did valid no_read no_write = inl (true, refl)
   complete has_input no_fault Refused did valid no_read no_write = absurd (no_fault did.1.fault valid did.1.first)
@@ -93,64 +110,14 @@ module _ {S K : Type 0} (left : S → Option (List ℕ)) (reads : S → ℕ) (ta
   complete has_input no_fault TooLong did valid no_read no_write = inr (inr (refl, did.0, did.2))
 
   -- what a run did that ended so
-  pub at : (has_input : Bool) (ending other : Ending) → ending ≡ other → Did left reads taken writes d s s' k k' has_input texts ending → Did left reads taken writes d s s' k k' has_input texts other
-  at has_input ending other same did = subst (λ e. Did left reads taken writes d s s' k k' has_input texts e) same did
-
--- what is known of a program with words, by how it ended
-module _ {S K W : Type 0} (left : S → Option (List ℕ)) (reads : S → ℕ) (taken : K → Option (List ℕ)) (writes : K → ℕ) (d : Declared) (s s' : S) (k k' : K) (Means : W → Type 0) (has_input : W → Bool) (texts : W → Texts) where
-  abbrev RunsTo : Ending → Type 0
-  RunsTo ending = IsRun left reads taken writes d s s' k k' Means has_input texts ending
-
-  abbrev DidBy : W → Ending → Type 0
-  DidBy w ending = Did left reads taken writes d s s' k k' (has_input w) (texts w) ending
-
-  pub ended : (ending other : Ending) → RunsTo ending → ending ≡ other → other ≢ Usage → (w : W) × Means w × DidBy w other
-  ended ending other (inl (w, means, ran)) e differs = (w, means, subst (DidBy w) e ran.did)
-  ended ending other (inr (none, is, source, sink)) e differs = absurd (differs (sym e ∙ is))
-
-  -- the words decide whether it is a usage error
-  pub usage : (ending : Ending) → RunsTo ending → ending ≡ Usage → (w : W) → Means w → ⊥
-  usage ending (inl (w, means, ran)) e = absurd (subst (DidBy w) e ran.did)
-  usage ending (inr (none, is, source, sink)) e = none
-
-  pub no_words : (ending : Ending) → RunsTo ending → ((w : W) → Means w → ⊥) → ending ≡ Usage
-  no_words ending (inl (w, means, ran)) none = absurd (none w means)
-  no_words ending (inr (none, is, source, sink)) nothing = is
-
-  -- a program that has no text for a rejection rejects nothing
-  pub never_rejects : (ending : Ending) → RunsTo ending → ((w : W) (input text : List ℕ) → texts w d input true text → ⊥) → ending ≢ Rejected
-  never_rejects ending h none e =
-      let (w, means, did) = ended ending Rejected h e (λ g. cc) in
-      none w did.input did.text did.answers
-
-  -- nothing was read or written after a usage error
-  pub usage_unread : (ending : Ending) → RunsTo ending → ending ≡ Usage → s' ≡ s
-  usage_unread ending (inl (w, means, ran)) e = absurd (subst (DidBy w) e ran.did)
-  usage_unread ending (inr (none, is, source, sink)) e = source
-
-  pub usage_untouched : (ending : Ending) → RunsTo ending → ending ≡ Usage → k' ≡ k
-  usage_untouched ending (inl (w, means, ran)) e = absurd (subst (DidBy w) e ran.did)
-  usage_untouched ending (inr (none, is, source, sink)) e = sink
-
-  -- and nothing is read for words that have no input
-  pub unread : (ending : Ending) → RunsTo ending → ((w : W) → Means w → has_input w ≡ false) → s' ≡ s
-  unread ending (inl (w, means, ran)) none = ran.unread (none w means)
-  unread ending (inr (none, is, source, sink)) nothing = source
-
-  pub else_within : (ending : Ending) → RunsTo ending → ending ≢ TooLong → GaveAtMost longest_input (left s) (left s')
-  else_within ending (inl (w, means, ran)) other = ran.else_within other
-  else_within ending (inr (none, is, source, sink)) other = subst (λ t. GaveAtMost longest_input (left s) (left t)) (sym source) (gave_nothing (left s))
-
-  pub read_counted : (ending : Ending) → RunsTo ending → reads s ≤ reads s'
-  read_counted ending (inl (w, means, ran)) = ran.read_counted
-  read_counted ending (inr (none, is, source, sink)) = subst (λ t. reads s ≤ reads t) (sym source) (le_refl _)
-
-  pub write_counted : (ending : Ending) → RunsTo ending → writes k ≤ writes k'
-  write_counted ending (inl (w, means, ran)) = ran.write_counted
-  write_counted ending (inr (none, is, source, sink)) = subst (λ t. writes k ≤ writes t) (sym sink) (le_refl _)
+  pub at_ending : (has_input : Bool) (ending other : Ending) → ending ≡ other
+      → Did left reads taken writes d s s' k k' has_input texts ending → Did left reads taken writes d s s' k k' has_input texts other
+  at_ending has_input ending other same did = subst (λ e. Did left reads taken writes d s s' k k' has_input texts e) same did
 
 -- the refusal of declarations is a run that read nothing
-module _ {S K : Type 0} (left : S → Option (List ℕ)) (reads : S → ℕ) (taken : K → Option (List ℕ)) (writes : K → ℕ) (d : Declared) (s : S) (k k' : K) (has_input : Bool) (texts : Texts) (fault : DefinitionError) (first : fault ≢ fault_of.OutOfMemory → ShowsFirst d fault) where
+module _ {S K : Type 0} (left : S → Option (List ℕ)) (reads : S → ℕ) (taken : K → Option (List ℕ)) (writes : K
+    → ℕ) (d : Declared) (s : S) (k k' : K) (has_input : Bool) (texts : Texts) (fault : DefinitionError) (first : fault
+    ≢ fault_of.OutOfMemory → ShowsFirst d fault) where
   pub refused : (ending : Ending) → Refuses taken writes fault k k' ending → Did left reads taken writes d s s k k' has_input texts ending
   refused Done h = absurd h
   refused Rejected h = absurd h
@@ -161,7 +128,8 @@ module _ {S K : Type 0} (left : S → Option (List ℕ)) (reads : S → ℕ) (ta
   refused OutOfMemory h = h
   refused TooLong h = absurd h
 
-  pub ran_refused : (ending : Ending) → Refuses taken writes fault k k' ending → writes k ≤ writes k' → Ran left reads taken writes d s s k k' has_input texts ending
+  pub ran_refused : (ending : Ending) → Refuses taken writes fault k k' ending → writes k ≤ writes k'
+      → Ran left reads taken writes d s s k k' has_input texts ending
   ran_refused ending h counted = record {
     did = refused ending h;
     else_within = λ other. gave_nothing (left s);

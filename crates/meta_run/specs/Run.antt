@@ -1,8 +1,9 @@
 -- What a run over declarations does, by how it ended.
 --     Did .. ending          what was read and written
 --     Ran .. ending          that, and what is so of each run
---     IsRun Means .. ending  the same of a program with words
-use Rattle.std.specs.Prelude.{◌≡◌, ◌≢◌, ℕ, ◌≤◌, ◌⊎◌, Bool, true, false, List, [], ◌∷◌, ◌++◌, length, codes, Option, Some}
+--     IsRun Means .. ending  the same of a program with words, and IsWordlessRun of one without
+--     AnswersInput, WritesOutput, RefusesDeclarations, Completes      what a run does where nothing fails
+use Rattle.std.specs.Prelude.{◌≡◌, ◌≢◌, ℕ, ◌≤◌, ◌⊎◌, ⊤, Bool, true, false, List, [], ◌∷◌, ◌++◌, length, codes, Option, Some}
 use Rattle.meta_types.specs.Fault.{line_of}
 use Rattle.meta_types.specs.declared.fault.DefinitionError.{DefinitionError}
 use Rattle.meta_types.specs.declared.fault.DefinitionError.TheVariants as fault_of
@@ -19,6 +20,15 @@ refusal fault = codes "refused: " ++ (line_of fault ++ 10 ∷ [])
 -- The texts that answer an input over declarations, each as an answer or, where the mark is true, as a rejection.
 abbrev pub Texts : Type 1
 Texts = Declared → List ℕ → Bool → List ℕ → Type 0
+
+-- The texts that answer an input over declarations, in a program that rejects nothing.
+abbrev pub Outputs : Type 1
+Outputs = Declared → List ℕ → List ℕ → Type 0
+
+-- each of these answers, and no text is a rejection
+abbrev pub never_rejecting : Outputs → Texts
+never_rejecting outputs d input false text = outputs d input text
+never_rejecting outputs d input true text = ⊥
 
 -- a count doesn't rise, whatever happens
 abbrev pub NeverRises : {X : Type 0} → (X → ℕ) → Type 0
@@ -41,7 +51,8 @@ pub record IsRefusedInPart (d : Declared) (taken taken' : Option (List ℕ)) : T
 -- what the refusal of declarations by a fault wrote, by how it ended
 abbrev pub Refuses : {K : Type 0} → (K → Option (List ℕ)) → (K → ℕ) → DefinitionError → K → K → Ending → Type 0
 Refuses taken writes fault k k' Refused = (fault ≢ fault_of.OutOfMemory) × (taken k' ≡ with_more (taken k) (refusal fault))
-Refuses taken writes fault k k' WriteFault = (fault ≢ fault_of.OutOfMemory) × Rose (writes k) (writes k') × TookPart (refusal fault) (taken k) (taken k')
+Refuses taken writes fault k k' WriteFault = (fault ≢ fault_of.OutOfMemory) × Rose (writes k) (writes k')
+    × TookPart (refusal fault) (taken k) (taken k')
 Refuses taken writes fault k k' OutOfMemory = k' ≡ k
 Refuses taken writes fault k k' Done = ⊥
 Refuses taken writes fault k k' Usage = ⊥
@@ -65,7 +76,8 @@ IsInput left false s s' input = (input ≡ []) × (s' ≡ s)
 -- ---- the input is answered
 
 -- a source and a sink, by what they tell, before and after a run over declarations
-module _ {S K : Type 0} (left : S → Option (List ℕ)) (reads : S → ℕ) (taken : K → Option (List ℕ)) (writes : K → ℕ) (d : Declared) (s s' : S) (k k' : K) where
+module _ {S K : Type 0} (left : S → Option (List ℕ)) (reads : S → ℕ) (taken : K → Option (List ℕ)) (writes : K → ℕ)
+    (d : Declared) (s s' : S) (k k' : K) where
   -- the declarations are valid, the input was read, and the sink took a text whole that answers it
   pub record IsAnsweredWhole (has_input : Bool) (texts : Texts) (is_rejection : Bool) : Type 0 where
     pub valid : AreValid d
@@ -85,6 +97,11 @@ module _ {S K : Type 0} (left : S → Option (List ℕ)) (reads : S → ℕ) (ta
     pub answers : texts d input is_rejection text
     pub took : TookPart text (taken k) (taken k')
 
+  -- The sink took a part of what was to be written, and not all: of the line that refuses the declarations, and then nothing was read,
+  -- or of a text that answers the input.
+  abbrev pub IsCutShort : Bool → Texts → Type 0
+  IsCutShort has_input texts = ((s' ≡ s) × IsRefusedInPart d (taken k) (taken k')) ⊎ IsAnsweredInPart has_input texts
+
   -- What was read and written. The answerer has an input where the mark is true.
   abbrev pub Did : Bool → Texts → Ending → Type 0
   Did has_input texts Done = IsAnsweredWhole has_input texts false
@@ -92,7 +109,7 @@ module _ {S K : Type 0} (left : S → Option (List ℕ)) (reads : S → ℕ) (ta
   Did has_input texts Refused = (s' ≡ s) × IsRefusedWhole d (taken k) (taken k')
   Did has_input texts Usage = ⊥
   Did has_input texts ReadFault = (has_input ≡ true) × AreValid d × Rose (reads s) (reads s') × (k' ≡ k)
-  Did has_input texts WriteFault = Rose (writes k) (writes k') × (((s' ≡ s) × IsRefusedInPart d (taken k) (taken k')) ⊎ IsAnsweredInPart has_input texts)
+  Did has_input texts WriteFault = Rose (writes k) (writes k') × IsCutShort has_input texts
   Did has_input texts OutOfMemory = k' ≡ k
   Did has_input texts TooLong = (has_input ≡ true) × AreValid d × GaveMore longest_input (left s) (left s') × (k' ≡ k)
 
@@ -112,6 +129,10 @@ module _ {S K : Type 0} (left : S → Option (List ℕ)) (reads : S → ℕ) (ta
       ((w : _) × Means w × Ran (has_input w) (texts w) ending)
       ⊎ (((w : _) → Means w → ⊥) × (ending ≡ Usage) × (s' ≡ s) × (k' ≡ k))
 
+  -- Of a program without words, which has an input: the run is that. Where there are words it is a usage error.
+  abbrev pub IsWordlessRun : List (List ℕ) → Texts → Ending → Type 0
+  IsWordlessRun words texts ending = IsRun (λ (_ : ⊤). words ≡ []) (λ _. true) (λ _. texts) ending
+
   -- ---- where nothing fails
 
   -- What is to be answered, where nothing fails: all that the source tells, at most the limit, or nothing.
@@ -125,7 +146,15 @@ module _ {S K : Type 0} (left : S → Option (List ℕ)) (reads : S → ℕ) (ta
   AnswersInput has_input texts ending =
       AreValid d → ending ≢ OutOfMemory → (input before : List ℕ) → IsGiven has_input input → taken k ≡ Some before
       → (Rose (writes k) (writes k') → ⊥)
-      → (is_rejection : Bool) × (text : List ℕ) × texts d input is_rejection text × (ending ≡ written_as is_rejection) × (taken k' ≡ Some (before ++ text))
+      → (is_rejection : Bool) × (text : List ℕ) × texts d input is_rejection text × (ending ≡ written_as is_rejection)
+      × (taken k' ≡ Some (before ++ text))
+
+  -- The same of a program that rejects nothing: the run is done, and the sink took exactly a text that answers.
+  abbrev pub WritesOutput : Bool → Outputs → Ending → Type 0
+  WritesOutput has_input outputs ending =
+      AreValid d → ending ≢ OutOfMemory → (input before : List ℕ) → IsGiven has_input input → taken k ≡ Some before
+      → (Rose (writes k) (writes k') → ⊥)
+      → (ending ≡ Done) × (text : List ℕ) × outputs d input text × (taken k' ≡ Some (before ++ text))
 
   -- Where the declarations show a fault, memory didn't run out and no write failed, the declarations are refused, and the sink took
   -- exactly the line that says so, by the first fault.

@@ -25,8 +25,8 @@
 //!     source: &mut S,
 //!     sink: &mut K,
 //! ) -> Ending
-//!     ensures run { IsRun S.left S.faults K.taken K.faults declarations.now source.old source.new sink.old sink.new
-//!         (λ (_ : Verifier). words.now ≡ []) (λ _. true) (λ _. IsVerdict) result }
+//!     ensures run { IsWordlessRun S.left S.faults K.taken K.faults declarations.now source.old source.new sink.old sink.new
+//!         words.now IsVerdict result }
 //! {
 //!     if !words.is_empty() {
 //!         return Ending::Usage;
@@ -35,8 +35,9 @@
 //! }
 //! ```
 //!
-//! A program that rejects nothing has `⊥` for the texts of rejections. Then clause `rejected` says that the ending isn't `Rejected`,
-//! and `Status::of` makes a `Status` of it.
+//! A program with words has `IsRun` instead, over what its words mean. One that rejects nothing has the texts `never_rejecting` of its
+//! outputs. Then clause `rejected` says that the ending isn't `Rejected`, and `Status::of` makes a `Status` of it. What is known of each
+//! ending follows from the run by the lemmas of `proofs/Programs`, one for each clause of such a call.
 #![tactic(auto)]
 
 mod answerer;

@@ -19,8 +19,10 @@ fn read_input<S: Source, A: Answerer>(
     ensures within { IfOk result (λ input. length input.items ≤ longest_input) }
     ensures no_input { A.reads answerer.now ≡ false → IfOk result (λ input. input.items ≡ []) }
     ensures unread { A.reads answerer.now ≡ false → source.new ≡ source.old }
-    ensures read_fault { IsErrOf result ReadError.ReadFault → (A.reads answerer.now ≡ true) × Rose (S.faults source.old) (S.faults source.new) }
-    ensures too_long { IsErrOf result ReadError.TooLong → (A.reads answerer.now ≡ true) × GaveMore longest_input (S.left source.old) (S.left source.new) }
+    ensures read_fault { IsErrOf result ReadError.ReadFault → (A.reads answerer.now ≡ true)
+        × Rose (S.faults source.old) (S.faults source.new) }
+    ensures too_long { IsErrOf result ReadError.TooLong → (A.reads answerer.now ≡ true)
+        × GaveMore longest_input (S.left source.old) (S.left source.new) }
     ensures else_within { ¬ IsErrOf result ReadError.TooLong → GaveAtMost longest_input (S.left source.old) (S.left source.new) }
     ensures counted { S.faults source.old ≤ S.faults source.new }
 {
@@ -38,7 +40,8 @@ fn answer<S: Source, K: Sink, A: Answerer>(
     source: &mut S,
     sink: &mut K,
 ) -> Ending
-    ensures { Ran S.left S.faults K.taken K.faults built.now.declared source.old source.new sink.old sink.new (A.reads answerer.now) (A.texts answerer.now) result }
+    ensures { Ran S.left S.faults K.taken K.faults built.now.declared source.old source.new sink.old sink.new
+        (A.reads answerer.now) (A.texts answerer.now) result }
 {
     let _declarations = built.declarations();
     let input = match read_input(alloc, answerer, source) {
@@ -65,7 +68,8 @@ fn attempt<S: Source, K: Sink, A: Answerer>(
     source: &mut S,
     sink: &mut K,
 ) -> Ending
-    ensures { Ran S.left S.faults K.taken K.faults declarations.now source.old source.new sink.old sink.new (A.reads answerer.now) (A.texts answerer.now) result }
+    ensures { Ran S.left S.faults K.taken K.faults declarations.now source.old source.new sink.old sink.new
+        (A.reads answerer.now) (A.texts answerer.now) result }
 {
     match build_all(alloc, declarations) {
         Ok(built) => answer(alloc, answerer, &built, source, sink),
@@ -83,15 +87,20 @@ pub fn run_answerer<S: Source, K: Sink, A: Answerer>(
     sink: &mut K,
 ) -> Ending
     // What was read and written, by how it ended.
-    ensures ran { Ran S.left S.faults K.taken K.faults declarations.now source.old source.new sink.old sink.new (A.reads answerer.now) (A.texts answerer.now) result }
+    ensures ran { Ran S.left S.faults K.taken K.faults declarations.now source.old source.new sink.old sink.new
+        (A.reads answerer.now) (A.texts answerer.now) result }
 
     // Over valid declarations the input is answered, and others are refused.
-    ensures headline { AnswersInput S.left S.faults K.taken K.faults declarations.now source.old source.new sink.old sink.new (A.reads answerer.now) (A.texts answerer.now) result }
+    ensures headline { AnswersInput S.left S.faults K.taken K.faults declarations.now source.old source.new sink.old
+        sink.new (A.reads answerer.now) (A.texts answerer.now) result }
     ensures refuses { RefusesDeclarations S.left S.faults K.taken K.faults declarations.now source.old source.new sink.old sink.new result }
-    ensures complete { Completes S.left S.faults K.taken K.faults declarations.now source.old source.new sink.old sink.new (A.reads answerer.now) result }
+    ensures complete { Completes S.left S.faults K.taken K.faults declarations.now source.old source.new sink.old
+        sink.new (A.reads answerer.now) result }
 
     // An input is rejected only where the answerer says so.
-    ensures rejected { result ≡ Ending.Rejected → IsAnsweredWhole S.left S.faults K.taken K.faults declarations.now source.old source.new sink.old sink.new (A.reads answerer.now) (A.texts answerer.now) true }
+    ensures rejected { result ≡ Ending.Rejected
+        → IsAnsweredWhole S.left S.faults K.taken K.faults declarations.now source.old source.new sink.old sink.new
+        (A.reads answerer.now) (A.texts answerer.now) true }
 {
     one_first_fault();
     attempt(alloc, answerer, declarations, source, sink)

@@ -1,15 +1,8 @@
 -- Texts that are added one after the other, and what is left to add.
 use Rattle.std.proofs.Common.{◌≡◌, ℕ, List, [], ◌++◌, append_assoc, append-nil, sym, ap, ◌∙◌}
+use Rattle.meta_lists.proofs.Joined.{two, four}
 
 -- ---- pieces of a number that is known
-
-pub two : (old a b : List ℕ) {x y : List ℕ} → x ≡ old ++ a → y ≡ x ++ b → y ≡ old ++ (a ++ b)
-two old a b first second = second ∙ ap (λ o. o ++ b) first ∙ append_assoc old a b
-
-pub four : (old a b c d : List ℕ) {x y z w : List ℕ} → x ≡ old ++ a → y ≡ x ++ b → z ≡ y ++ c → w ≡ z ++ d
-    → w ≡ old ++ (a ++ (b ++ (c ++ d)))
-four old a b c d {x} {y} first second third fourth =
-    two old a (b ++ (c ++ d)) first (two x b (c ++ d) second (two y c d third fourth))
 
 pub seven : (old a b c d e f g : List ℕ) {t u v w x y z : List ℕ} → t ≡ old ++ a → u ≡ t ++ b → v ≡ u ++ c → w ≡ v ++ d
     → x ≡ w ++ e → y ≡ x ++ f → z ≡ y ++ g → z ≡ old ++ (a ++ (b ++ (c ++ (d ++ (e ++ (f ++ g))))))

@@ -1,5 +1,6 @@
 -- The texts of types that are added one after the other, by lane types and by sizes.
-use Rattle.std.proofs.Common.{◌≡◌, ℕ, ◌+◌, ◌/◌, ◌<◌, ◌≤◌, nat_lt, cond, Bool, true, false, suc, List, [], ◌∷◌, ◌++◌, length, map, get_or, drop, refl, ap, sym, ◌∙◌, append_assoc, add-one, drop-cons}
+use Rattle.std.proofs.Common.{◌≡◌, ℕ, ◌+◌, ◌/◌, ◌<◌, ◌≤◌, nat_lt, cond, Bool, true, false, suc, List, [], ◌∷◌, ◌++◌, length, map, get_or}
+use Rattle.std.proofs.Common.{drop, refl, ap, sym, ◌∙◌, append_assoc, add-one, drop-cons}
 use Rattle.std.proofs.lemmas.Grind.{flat_map-append}
 use Rattle.std.proofs.lemmas.List.{drop_all}
 use Rattle.std.proofs.lemmas.List.Concat.{flat_map-cons}
@@ -31,12 +32,14 @@ at_last f out whole left e so =
 -- the smaller lane types are taken out one by one
 module _ (made : TypeParts → ℕ → TypeParts) (bits : ℕ) where
   by_test : (b : Bool) (lane : TypeParts) (lanes : List TypeParts)
-      → cond b (type_constant (made lane (bits / lane.width))) [] ++ flat_map type_constant (map (λ (x : TypeParts). made x (bits / x.width)) lanes)
+      → cond b (type_constant (made lane (bits / lane.width))) []
+      ++ flat_map type_constant (map (λ (x : TypeParts). made x (bits / x.width)) lanes)
       ≡ flat_map type_constant (map (λ (x : TypeParts). made x (bits / x.width)) (cond b (lane ∷ lanes) lanes))
   by_test true lane lanes = refl
   by_test false lane lanes = refl
 
-  pub sized : (lanes : List TypeParts) → flat_map (sized_text made bits) lanes ≡ flat_map type_constant (map (λ (x : TypeParts). made x (bits / x.width)) (filter (λ (x : TypeParts). nat_lt x.width bits) lanes))
+  pub sized : (lanes : List TypeParts) → flat_map (sized_text made bits) lanes
+      ≡ flat_map type_constant (map (λ (x : TypeParts). made x (bits / x.width)) (filter (λ (x : TypeParts). nat_lt x.width bits) lanes))
   sized [] = refl
   sized (lane ∷ lanes) =
       ap (λ (xs : List ℕ). sized_text made bits lane ++ xs) (sized lanes)
@@ -47,29 +50,38 @@ abbrev pub size_text : ℕ → List ℕ
 size_text bits = flat_map type_constant (vectors_of bits) ++ flat_map type_constant (dynamic_vectors_of bits)
 
 -- the texts of the sizes that are left, and what was added before
-pub one_size : (out mid more whole : List ℕ) (i : ℕ) → i < length vector_sizes → mid ≡ out ++ flat_map type_constant (vectors_of (get_or vector_sizes i 0)) → more ≡ mid ++ flat_map type_constant (dynamic_vectors_of (get_or vector_sizes i 0))
+pub one_size : (out mid more whole : List ℕ) (i : ℕ) → i < length vector_sizes
+    → mid ≡ out ++ flat_map type_constant (vectors_of (get_or vector_sizes i 0))
+    → more ≡ mid ++ flat_map type_constant (dynamic_vectors_of (get_or vector_sizes i 0))
     → out ++ flat_map size_text (drop i vector_sizes) ≡ whole → more ++ flat_map size_text (drop (i + 1) vector_sizes) ≡ whole
 one_size out mid more whole i h first then so =
     let bits = get_or vector_sizes i 0 in
     let rest : List ℕ = flat_map size_text (drop (suc i) vector_sizes) in
-    let added : more ≡ out ++ size_text bits = then ∙ (ap (λ (xs : List ℕ). xs ++ flat_map type_constant (dynamic_vectors_of bits)) first ∙ append_assoc out (flat_map type_constant (vectors_of bits)) (flat_map type_constant (dynamic_vectors_of bits))) in
+    let added : more ≡ out ++ size_text bits = then ∙ (ap (λ (xs : List ℕ). xs ++ flat_map type_constant (dynamic_vectors_of bits)) first
+    ∙ append_assoc out (flat_map type_constant (vectors_of bits)) (flat_map type_constant (dynamic_vectors_of bits))) in
     ap (λ (n : ℕ). more ++ flat_map size_text (drop n vector_sizes)) (add-one i)
     ∙ (ap (λ (xs : List ℕ). xs ++ rest) added
     ∙ (append_assoc out (size_text bits) rest
-    ∙ (sym (ap (λ (xs : List ℕ). out ++ xs) (ap (flat_map size_text) (drop-cons vector_sizes i 0 h) ∙ flat_map-cons size_text bits (drop (suc i) vector_sizes))) ∙ so)))
+    ∙ (sym (ap (λ (xs : List ℕ). out ++ xs) (ap (flat_map size_text) (drop-cons vector_sizes i 0 h)
+    ∙ flat_map-cons size_text bits (drop (suc i) vector_sizes))) ∙ so)))
 
 pub no_size : (out whole : List ℕ) (i : ℕ) → length vector_sizes ≤ i → out ++ flat_map size_text (drop i vector_sizes) ≡ whole → out ≡ whole
-no_size out whole i h so = ended out (flat_map size_text (drop i vector_sizes)) whole (ap (flat_map size_text) (drop_all i vector_sizes h)) so
+no_size out whole i h so =
+    ended out (flat_map size_text (drop i vector_sizes)) whole (ap (flat_map size_text) (drop_all i vector_sizes h)) so
 
 -- the text of the types of all sizes, size by size
-by_size : (sizes : List ℕ) → flat_map type_constant (flat_map (λ (bits : ℕ). vectors_of bits ++ dynamic_vectors_of bits) sizes) ≡ flat_map size_text sizes
+by_size : (sizes : List ℕ) → flat_map type_constant (flat_map (λ (bits : ℕ). vectors_of bits ++ dynamic_vectors_of bits) sizes)
+    ≡ flat_map size_text sizes
 by_size [] = refl
 by_size (bits ∷ sizes) =
-    flat_map-append type_constant (vectors_of bits ++ dynamic_vectors_of bits) (flat_map (λ (n : ℕ). vectors_of n ++ dynamic_vectors_of n) sizes)
-    ∙ (ap (λ (xs : List ℕ). xs ++ flat_map type_constant (flat_map (λ (n : ℕ). vectors_of n ++ dynamic_vectors_of n) sizes)) (flat_map-append type_constant (vectors_of bits) (dynamic_vectors_of bits))
+    flat_map-append type_constant (vectors_of bits ++ dynamic_vectors_of bits)
+    (flat_map (λ (n : ℕ). vectors_of n ++ dynamic_vectors_of n) sizes)
+    ∙ (ap (λ (xs : List ℕ). xs ++ flat_map type_constant (flat_map (λ (n : ℕ). vectors_of n ++ dynamic_vectors_of n) sizes))
+    (flat_map-append type_constant (vectors_of bits) (dynamic_vectors_of bits))
     ∙ ap (λ (xs : List ℕ). size_text bits ++ xs) (by_size sizes))
 
-pub whole_text : (none lanes out : List ℕ) → none ≡ [] → lanes ≡ none ++ flat_map type_constant scalars → out ≡ lanes ++ flat_map size_text vector_sizes → out ≡ types_text
+pub whole_text : (none lanes out : List ℕ) → none ≡ [] → lanes ≡ none ++ flat_map type_constant scalars
+    → out ≡ lanes ++ flat_map size_text vector_sizes → out ≡ types_text
 unfolding types_text
 whole_text none lanes out e first then =
     then

@@ -7,7 +7,7 @@ use Rattle.std.specs.List.{filter, flat_map}
 use Rattle.std.specs.Char.{to_ascii_uppercase}
 use Rattle.std.specs.Fmt.{digits}
 use Rattle.meta_types.specs.TypeParts.{TypeParts, number_of, name_of}
-use Rattle.meta_types.specs.TypeText.{doc_of}
+use Rattle.meta_types.specs.TypeText.{type_doc}
 use Rattle.meta_types.specs.Vector.{lanes_of, least_lanes_of}
 use Rattle.meta_types.specs.AllTypes.{scalars}
 use Rattle.meta_text.specs.Lines.{Line, at, empty_line, text_of}
@@ -25,7 +25,7 @@ constant_text doc name number = text_of (constant_lines doc name number)
 
 -- the constant of a type, by its name in capitals
 unfoldable pub type_constant : TypeParts → List ℕ
-type_constant t = constant_text (doc_of t) (map to_ascii_uppercase (name_of t)) (number_of t)
+type_constant t = constant_text (type_doc t) (map to_ascii_uppercase (name_of t)) (number_of t)
 
 -- the text of what is made of a lane type and of how many of its lanes so many bits hold, where it is smaller
 abbrev pub sized_text : (TypeParts → ℕ → TypeParts) → ℕ → TypeParts → List ℕ

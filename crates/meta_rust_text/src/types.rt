@@ -5,7 +5,8 @@ ghost use Rattle.meta_types.specs.ValueTypes.{type_parts_of};
 ghost use Rattle.meta_types.specs.AllTypes.{scalars};
 ghost use Rattle.meta_types.specs.Vector.{lanes_of, least_lanes_of};
 ghost use Rattle.meta_rust_text.specs.Written.{WritesMade};
-ghost use Rattle.meta_rust_text.specs.TypesText.{constant_text, type_constant, sized_text, vector_sizes, vectors_of, dynamic_vectors_of, types_text};
+ghost use Rattle.meta_rust_text.specs.TypesText.{constant_text, type_constant, sized_text, vector_sizes, vectors_of, dynamic_vectors_of};
+ghost use Rattle.meta_rust_text.specs.TypesText.{types_text};
 
 use super::written::write_made;
 use meta_text::{Sink, WriteError};

@@ -1,5 +1,6 @@
 -- What a preset does to setting bytes.
-use Rattle.std.proofs.Common.{◌≡◌, ◌⊎◌, ◌↔◌, ℕ, ◌+◌, ◌*◌, ◌<◌, max, true, false, List, length, take, drop, slice_get, Some, inl, inr, refl, sym, ap, ◌∙◌, arith}
+use Rattle.std.proofs.Common.{◌≡◌, ◌⊎◌, ◌↔◌, ℕ, ◌+◌, ◌*◌, ◌<◌, max, true, false, List, length, take, drop, slice_get, Some, inl, inr, refl}
+use Rattle.std.proofs.Common.{sym, ap, ◌∙◌, arith}
 use Rattle.std.specs.Int.{bit_at}
 use Rattle.std.specs.Int.RustNames.{bit_or}
 use Rattle.std.proofs.lemmas.Bool.{cases_eq}
@@ -25,7 +26,8 @@ joined_bit x y m e a b =
     back (inl h) = omega arith
     back (inr h) = omega arith
 
-pub refused : (g : Layout) (t : GroupContents) (e : ℕ) (old : List ℕ) → ((d : Descriptor) → IsPresetIn t.descriptors e d → ⊥) → AreTablesOfGroup g t → Applies g e old old false
+pub refused : (g : Layout) (t : GroupContents) (e : ℕ) (old : List ℕ) → ((d : Descriptor) → IsPresetIn t.descriptors e d → ⊥)
+    → AreTablesOfGroup g t → Applies g e old old false
 refused g t e old none h = record {
   applied = λ p is size. let d = preset_there g t e p h is in absurd (none d.0 d.1);
   no_preset = λ n. refl;
@@ -33,7 +35,9 @@ refused g t e old none h = record {
   unchanged = λ f. refl;
 }
 
-pub applies : (g : Layout) (t : GroupContents) (e : ℕ) (d : Descriptor) (old masks new : List ℕ) → IsPresetIn t.descriptors e d → masks ≡ take (length t.defaults) (drop d.offset t.preset_masks) → length old ≡ length masks → length masks ≡ length t.defaults → AreJoined old masks new → AreTablesOfGroup g t → Applies g e old new true
+pub applies : (g : Layout) (t : GroupContents) (e : ℕ) (d : Descriptor) (old masks new : List ℕ) → IsPresetIn t.descriptors e d
+    → masks ≡ take (length t.defaults) (drop d.offset t.preset_masks) → length old ≡ length masks → length masks ≡ length t.defaults
+    → AreJoined old masks new → AreTablesOfGroup g t → Applies g e old new true
 applies g t e d old masks new at m long size joined h = record {
   applied = λ p is n. (
     refl,
@@ -46,10 +50,12 @@ applies g t e d old masks new at m long size joined h = record {
           let offset : d.offset ≡ is.number * g.settings_size = ap (λ (d : Descriptor). d.offset) (preset_entry g t e p d h is at.there) in
           let there : slice_get t.preset_masks (is.number * g.settings_size + byte) ≡ Some mask.0 =
           ap (λ k. slice_get t.preset_masks (k + byte)) (sym offset) ∙ sym (get_drop t.preset_masks d.offset byte)
-          ∙ sym (get_take (drop d.offset t.preset_masks) (length t.defaults) byte (omega (arith, inside, size))) ∙ ap (λ w. slice_get w byte) (sym m) ∙ mask.1 in
+          ∙ sym (get_take (drop d.offset t.preset_masks) (length t.defaults) byte (omega (arith, inside, size)))
+          ∙ ap (λ w. slice_get w byte) (sym m) ∙ mask.1 in
           let own = (h.masks.bits is.number byte mask.0 p is.there within there).bits bit low in
           let value : c ≡ bit_or b mask.0 = same_Some c (bit_or b mask.0) (sym at_new ∙ joined.each byte b mask.0 at_old mask.1) in
-          let both = joined_bit (bit_at b bit) (bit_at mask.0 bit) (bit_at c bit) (ap (λ n. bit_at n bit) value ∙ bit_at_or b mask.0 bit) (bit_at-lt b bit) (bit_at-lt mask.0 bit) in
+          let both = joined_bit (bit_at b bit) (bit_at mask.0 bit) (bit_at c bit) (ap (λ n. bit_at n bit) value
+          ∙ bit_at_or b mask.0 bit) (bit_at-lt b bit) (bit_at-lt mask.0 bit) in
           (λ on. right own.0 (both.0 on), λ on. both.1 (right own.1 on));
     },
   );

@@ -1,26 +1,24 @@
 pub mod Finding
-pub mod Sameness
-pub mod Renaming
-pub mod Enumerating
-pub mod EntriesRead
-pub mod Applying
-pub mod DescribedSoFar
-pub mod Joining
-pub mod Masking
-pub mod WholeGroup
-pub mod Telling
-pub mod BuiltGroups
+mod Sameness
+mod Renaming
+mod Enumerating
+mod EntriesRead
+mod Applying
+mod DescribedSoFar
+mod Joining
+mod Masking
+mod WholeGroup
+mod Telling
+mod BuiltGroups
 pub mod BuiltNames
-pub mod Everywhere
-pub mod EnumeratorsBuilt
-pub mod WellFormedTables
+mod Passing
+mod EnumeratorsBuilt
+mod WellFormedTables
 pub mod Inside
-pub mod Counted
-pub mod SameSlots
-pub mod FromParts
-pub mod Failed
-pub mod OneGroup
-pub mod Twice
+mod Counted
+mod FromParts
+mod OneGroup
+mod Twice
 pub mod Enabled
-pub mod NamesOn
-pub mod EntryMeanings
+mod NamesOn
+mod EntryMeanings

@@ -1,5 +1,6 @@
 -- Tables of a group are one.
-use Rattle.std.proofs.Common.{◌≡◌, ◌↔◌, ⊎_elim, ℕ, ◌+◌, ◌-◌, ◌*◌, ◌/◌, ◌%◌, ◌<◌, List, length, take, slice_get, Some, sym, ap, ◌∙◌, subst, arith}
+use Rattle.std.proofs.Common.{◌≡◌, ◌↔◌, ⊎_elim, ℕ, ◌+◌, ◌-◌, ◌*◌, ◌/◌, ◌%◌, ◌<◌, List, length, take, slice_get, Some, sym, ap, ◌∙◌, subst}
+use Rattle.std.proofs.Common.{arith}
 use Rattle.std.specs.Int.{bit_at}
 use Rattle.std.proofs.Math.Nat.{div-lt_iff_lt-mul}
 use Rattle.std.proofs.lemmas.Bool.{cases_eq, cases_lt}
@@ -14,10 +15,10 @@ use Rattle.meta_setting_tables.specs.declared.descriptor.Detail.TheVariants.{Enu
 use Rattle.meta_setting_tables.specs.declared.descriptor.Descriptor.{Descriptor}
 use Rattle.meta_setting_tables.specs.Descriptor.{IsDetailOf, DescribesSetting, DescribesEntry}
 use Rattle.meta_setting_tables.specs.DefaultBytes.{AreDefaultsOf}
-use Rattle.meta_setting_tables.specs.FoundSetting.{entry_names, entry_count}
+use Rattle.meta_setting_tables.specs.FoundSetting.{entry_names, laid_entry_count}
 use Rattle.meta_setting_tables.specs.GroupTables.{GroupContents, AreTablesOfGroup}
 use Rattle.meta_setting_tables.specs.PresetMasks.{ArePresetMasks}
-use Rattle.meta_setting_tables.proofs.SameSlots.{same_name_slots}
+use Rattle.meta_unique.proofs.OneFilling.{one_filling}
 
 -- ---- bytes
 
@@ -30,12 +31,14 @@ same_digit a b l m f g = ⊎_elim
 
 -- bytes with the same bits are the same
 pub same_byte : (a b : ℕ) → a < 256 → b < 256 → ((bit : ℕ) → bit < 8 → (bit_at a bit ≡ 1) ↔ (bit_at b bit ≡ 1)) → a ≡ b
-same_byte a b l m same = same_from_bits_below 8 a b l m (λ i low. same_digit (bit_at a i) (bit_at b i) (bit_at-lt a i) (bit_at-lt b i) (same i low).0 (same i low).1)
+same_byte a b l m same = same_from_bits_below 8 a b l m
+    (λ i low. same_digit (bit_at a i) (bit_at b i) (bit_at-lt a i) (bit_at-lt b i) (same i low).0 (same i low).1)
 
 -- ---- descriptors
 
 module _ (enumerators : List (List ℕ)) (before : List PlacedSetting) where
-  same_detail : (specific : SpecificSetting) (x y : Detail) → IsDetailOf enumerators before specific x → IsDetailOf enumerators before specific y → x ≡ y
+  same_detail : (specific : SpecificSetting) (x y : Detail) → IsDetailOf enumerators before specific x
+      → IsDetailOf enumerators before specific y → x ≡ y
   same_detail (ABool b) x y p q = p ∙ sym q
   same_detail (AnEnum values) x y p q =
       let last : p.last ≡ q.last = (let a = p.count in let b = q.count in omega (arith, a, b)) in
@@ -44,7 +47,8 @@ module _ (enumerators : List (List ℕ)) (before : List PlacedSetting) where
       p.is ∙ both ∙ sym q.is
   same_detail (ANum default) x y p q = p ∙ sym q
 
-  same_setting : (s : PlacedSetting) (c d : Descriptor) → DescribesSetting enumerators before s c → DescribesSetting enumerators before s d → c ≡ d
+  same_setting : (s : PlacedSetting) (c d : Descriptor) → DescribesSetting enumerators before s c → DescribesSetting enumerators before s d
+      → c ≡ d
   same_setting s c d p q =
       let name : c.name ≡ d.name = p.name ∙ sym q.name in
       let description : c.description ≡ d.description = p.description ∙ sym q.description in
@@ -53,9 +57,11 @@ module _ (enumerators : List (List ℕ)) (before : List PlacedSetting) where
       λ i. record { name = name i; description = description i; offset = offset i; detail = detail i }
 
 -- an entry has one descriptor
-same_entry : (g : Layout) (enumerators : List (List ℕ)) (e : ℕ) (c d : Descriptor) → e < entry_count g → DescribesEntry g enumerators e c → DescribesEntry g enumerators e d → c ≡ d
+same_entry : (g : Layout) (enumerators : List (List ℕ)) (e : ℕ) (c d : Descriptor) → e < laid_entry_count g
+    → DescribesEntry g enumerators e c → DescribesEntry g enumerators e d → c ≡ d
 same_entry g enumerators e c d within p q = ⊎_elim
-    (λ setting. let s = get_there g.settings e setting in same_setting enumerators (take e g.settings) s.0 c d (p.setting s.0 s.1) (q.setting s.0 s.1))
+    (λ setting. let s = get_there g.settings e setting
+    in same_setting enumerators (take e g.settings) s.0 c d (p.setting s.0 s.1) (q.setting s.0 s.1))
     (λ preset.
     let k = e - length g.settings in
     let behind : e ≡ length g.settings + k = omega (arith, preset) in
@@ -74,17 +80,19 @@ module _ (g : Layout) (s t : GroupContents) (p : AreTablesOfGroup g s) (q : AreT
       each e less =
           let count = p.count in
           let other = q.count in
-          let within : e < entry_count g = omega (arith, less, count) in
+          let within : e < laid_entry_count g = omega (arith, less, count) in
           let c = get_there s.descriptors e less in
           let d = get_there t.descriptors e (omega (arith, within, other)) in
           c.1
-          ∙ ap Some (same_entry g t.enumerators e c.0 d.0 within (subst (λ (es : List (List ℕ)). DescribesEntry g es e c.0) same_enumerators (p.entries e c.0 c.1)) (q.entries e d.0 d.1))
+          ∙ ap Some (same_entry g t.enumerators e c.0 d.0 within
+          (subst (λ (es : List (List ℕ)). DescribesEntry g es e c.0) same_enumerators (p.entries e c.0 c.1)) (q.entries e d.0 d.1))
           ∙ sym d.1
 
 -- the default bytes of a group are one list
 same_defaults : (g : Layout) (a b : List ℕ) → AreDefaultsOf g a → AreDefaultsOf g b → a ≡ b
 same_defaults g a b p q = same_places a b (p.size ∙ sym q.size)
-    (λ byte less. let size = p.size in let within : byte < g.settings_size = omega (arith, less, size) in p.joined byte within ∙ sym (q.joined byte within))
+    (λ byte less. let size = p.size in let within : byte < g.settings_size = omega (arith, less, size) in p.joined byte within
+    ∙ sym (q.joined byte within))
 
 -- a place among masks is that of a byte of a preset
 place_of : (at count size : ℕ) → at < count * size → (k : ℕ) × (byte : ℕ) × (k < count) × (byte < size) × (k * size + byte ≡ at)
@@ -109,7 +117,10 @@ same_masks g a b p q = same_places a b (p.size ∙ sym q.size) each
         let n = get_there b at (omega (arith, less, size, other)) in
         let one = p.bits place.0 place.1 m.0 r.0 r.1 place.3 (ap (slice_get a) place.4 ∙ m.1) in
         let two = q.bits place.0 place.1 n.0 r.0 r.1 place.3 (ap (slice_get b) place.4 ∙ n.1) in
-        m.1 ∙ ap Some (same_byte m.0 n.0 one.fits two.fits (λ bit low. ((λ on. (two.bits bit low).1 ((one.bits bit low).0 on)), (λ on. (one.bits bit low).1 ((two.bits bit low).0 on))))) ∙ sym n.1
+        m.1 ∙ ap Some (same_byte m.0 n.0 one.fits two.fits (λ bit low. (
+          (λ on. (two.bits bit low).1 ((one.bits bit low).0 on)),
+          (λ on. (one.bits bit low).1 ((two.bits bit low).0 on)),
+        ))) ∙ sym n.1
 
 -- tables of a group are one
 pub one_group : (g : Layout) (s t : GroupContents) → AreTablesOfGroup g s → AreTablesOfGroup g t → s ≡ t
@@ -119,5 +130,13 @@ one_group g s t p q =
     let enumerators = same_enumerators g s t p q in
     let defaults = same_defaults g s.defaults t.defaults p.defaults q.defaults in
     let masks = same_masks g s.preset_masks t.preset_masks p.masks q.masks in
-    let slots = same_name_slots 0 (entry_names g) s.slots t.slots p.slots q.slots in
-    λ i. record { name = name i; descriptors = descriptors i; enumerators = enumerators i; defaults = defaults i; preset_masks = masks i; slots = slots i }
+    let slots = one_filling 0 (entry_names g) s.slots t.slots p.slots q.slots in
+    λ i. record {
+      name = name i;
+      descriptors = descriptors i;
+      enumerators = enumerators i;
+      defaults = defaults i;
+      preset_masks =
+          masks i;
+      slots = slots i;
+    }

@@ -6,23 +6,25 @@ use Rattle.std.specs.Int.RustNames.{bit_or}
 use Rattle.std.proofs.lemmas.Bool.{cases_eq, cases_lt}
 use Rattle.std.proofs.lemmas.Nat.Bits.{bit_at_or, same_from_bits}
 use Rattle.std.proofs.lemmas.Option.{slice_get_within}
+use Rattle.meta_lists.proofs.Everywhere.{at_place}
 use Rattle.meta_lists.proofs.Places.{get_there, same_places}
 use Rattle.meta_settings.specs.Layout.{BuiltPreset, Layout}
 use Rattle.meta_setting_tables.specs.PresetMasks.{AreJoined, TurnsOnOnly}
 use Rattle.meta_setting_tables.specs.GroupTables.{IsPresetOf, Applies}
 use Rattle.meta_setting_tables.proofs.OneGroup.{same_byte}
-use Rattle.meta_setting_tables.proofs.Everywhere.{at_place}
 
 -- what is joined with a number again stays as it is
 or_again : (a m : ℕ) → bit_or (bit_or a m) m ≡ bit_or a m
 or_again a m = same_from_bits (bit_or (bit_or a m) m) (bit_or a m)
-    (λ i. bit_at_or (bit_or a m) m i ∙ ap (λ x. max x (bit_at m i)) (bit_at_or a m i) ∙ again (bit_at a i) (bit_at m i) ∙ sym (bit_at_or a m i))
+    (λ i. bit_at_or (bit_or a m) m i ∙ ap (λ x. max x (bit_at m i)) (bit_at_or a m i)
+    ∙ again (bit_at a i) (bit_at m i) ∙ sym (bit_at_or a m i))
   where
     again : (x y : ℕ) → max (max x y) y ≡ max x y
     again x y = omega arith
 
 -- bytes that are joined with masks again stay as they are
-pub joined_again : (masks old once twice : List ℕ) → length masks ≡ length old → AreJoined old masks once → AreJoined once masks twice → twice ≡ once
+pub joined_again : (masks old once twice : List ℕ) → length masks ≡ length old → AreJoined old masks once
+    → AreJoined once masks twice → twice ≡ once
 joined_again masks old once twice long p q = same_places twice once q.size each
   where
     each : (k : ℕ) → k < length twice → slice_get twice k ≡ slice_get once k
@@ -39,12 +41,15 @@ preset_or_none : (g : Layout) (e : ℕ) → ((p : BuiltPreset) × IsPresetOf g e
 preset_or_none g e = ⊎_elim
     (λ setting. inr (λ p is. let behind = is.behind in absurd (omega (arith, setting, behind))))
     (λ past. ⊎_elim
-    (λ within. let p = get_there g.presets (e - length g.settings) within in inl (p.0, record { number = e - length g.settings; behind = omega (arith, past); there = p.1 }))
-    (λ out. inr (λ p is. let behind = is.behind in let l = slice_get_within g.presets is.number p is.there in absurd (omega (arith, out, behind, l))))
+    (λ within. let p = get_there g.presets (e - length g.settings) within in
+    inl (p.0, record { number = e - length g.settings; behind = omega (arith, past); there = p.1 }))
+    (λ out. inr (λ p is. let behind = is.behind in let l = slice_get_within g.presets is.number p is.there in
+    absurd (omega (arith, out, behind, l))))
     (cases_lt (e - length g.settings) (length g.presets)))
     (cases_lt e (length g.settings))
 
-module _ (g : Layout) (p : BuiltPreset) (old once twice : List ℕ) (fits : All (λ b. b < 256) once) (fits_too : All (λ b. b < 256) twice) where
+module _ (g : Layout) (p : BuiltPreset) (old once twice : List ℕ) (fits : All (λ b. b < 256) once)
+    (fits_too : All (λ b. b < 256) twice) where
   -- bits that are turned on again stay as they are
   turned_again : TurnsOnOnly g p old once → TurnsOnOnly g p once twice → twice ≡ once
   turned_again first second = same_places twice once second.size each
@@ -66,7 +71,8 @@ module _ (g : Layout) (p : BuiltPreset) (old once twice : List ℕ) (fits : All 
           ∙ sym b.1
 
 -- a preset that is applied again changes nothing
-pub applied_again : (g : Layout) (e : ℕ) (old once twice : List ℕ) (first second : Bool) → All (λ b. b < 256) once → All (λ b. b < 256) twice → Applies g e old once first → Applies g e once twice second → twice ≡ once
+pub applied_again : (g : Layout) (e : ℕ) (old once twice : List ℕ) (first second : Bool) → All (λ b. b < 256) once
+    → All (λ b. b < 256) twice → Applies g e old once first → Applies g e once twice second → twice ≡ once
 applied_again g e old once twice first second fits fits_too p q = ⊎_elim
     (λ (r, is). ⊎_elim
     (λ sized. ⊎_elim

@@ -7,7 +7,7 @@ use Rattle.meta_settings.specs.declared.setting.BoolSetting.{BoolSetting}
 use Rattle.meta_settings.specs.declared.setting.SpecificSetting.TheVariants.{Bool as ABool, Enum as AnEnum}
 use Rattle.meta_settings.specs.Layout.{PlacedSetting, BuiltPreset, Layout, booleans_in}
 use Rattle.meta_settings.specs.PresetLayout.{HasAll}
-use Rattle.meta_setting_tables.specs.FoundSetting.{entry_names, entry_count}
+use Rattle.meta_setting_tables.specs.FoundSetting.{entry_names, laid_entry_count}
 
 -- the setting is an enum or a number, in this byte
 pub record HasByte (s : PlacedSetting) (byte : ℕ) : Type 0 where
@@ -41,11 +41,12 @@ pub record AreValues (values : List (List ℕ)) : Type 0 where
 -- alone.
 pub record IsBuiltLayout (g : Layout) : Type 0 where
   pub name : IsName g.name
-  pub few : entry_count g ≤ 65535
+  pub few : laid_entry_count g ≤ 65535
   pub settings : (k : ℕ) (s : PlacedSetting) → slice_get g.settings k ≡ Some s → IsDescribed s.name s.description
   pub described_presets : (k : ℕ) (p : BuiltPreset) → slice_get g.presets k ≡ Some p → IsDescribed p.name p.description
   pub distinct : AreDistinct (entry_names g)
   pub bytes : (k : ℕ) (s : PlacedSetting) → k < g.bool_start_byte_offset → slice_get g.settings k ≡ Some s → HasByte s k
   pub bits : (k : ℕ) (s : PlacedSetting) → slice_get (booleans_in g) k ≡ Some s → HasBit s (g.bool_start_byte_offset + k / 8) (k % 8)
-  pub enums : (k : ℕ) (s : PlacedSetting) (values : List (List ℕ)) → slice_get g.settings k ≡ Some s → s.specific ≡ AnEnum values → AreValues values
+  pub enums : (k : ℕ) (s : PlacedSetting) (values : List (List ℕ)) → slice_get g.settings k ≡ Some s → s.specific ≡ AnEnum values
+      → AreValues values
   pub presets : (k : ℕ) (p : BuiltPreset) → slice_get g.presets k ≡ Some p → HasAll g p

@@ -13,7 +13,8 @@ use Rattle.meta_setting_tables.specs.EnumeratorList.{enumerators_of, values_at, 
 
 -- The detail is that of an enum with these values: its last value has the number `last`, and they stand in the enumerators from
 -- the place on, which is where they were added behind those of the settings before it.
-pub record IsEnumDetail (enumerators : List (List ℕ)) (before : List PlacedSetting) (values : List (List ℕ)) (detail : Detail) : Type 0 where
+pub record IsEnumDetail (enumerators : List (List ℕ)) (before : List PlacedSetting) (values : List (List ℕ))
+    (detail : Detail) : Type 0 where
   pub last : ℕ
   pub place : ℕ
   pub is : detail ≡ Enum last place
@@ -45,4 +46,5 @@ preset_descriptor size k p = record { name = p.name; description = p.description
 -- entry e is a setting, or behind the settings a preset, and the descriptor is that of it
 pub record DescribesEntry (g : Layout) (enumerators : List (List ℕ)) (e : ℕ) (d : Descriptor) : Type 0 where
   pub setting : (s : PlacedSetting) → slice_get g.settings e ≡ Some s → DescribesSetting enumerators (take e g.settings) s d
-  pub preset : (k : ℕ) (p : BuiltPreset) → e ≡ length g.settings + k → slice_get g.presets k ≡ Some p → d ≡ preset_descriptor g.settings_size k p
+  pub preset : (k : ℕ) (p : BuiltPreset) → e ≡ length g.settings + k → slice_get g.presets k ≡ Some p
+      → d ≡ preset_descriptor g.settings_size k p

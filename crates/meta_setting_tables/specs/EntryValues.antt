@@ -12,7 +12,8 @@ use Rattle.meta_settings.specs.declared.setting.SpecificSetting.TheVariants.{Boo
 use Rattle.meta_settings.specs.Layout.{BuiltPreset, Layout}
 use Rattle.meta_settings.specs.Marked.{stands_in}
 use Rattle.meta_setting_tables.specs.declared.descriptor.Detail.{Detail}
-use Rattle.meta_setting_tables.specs.declared.descriptor.Detail.TheVariants.{Bool as BoolDetail, Enum as EnumDetail, Num as NumDetail, Preset}
+use Rattle.meta_setting_tables.specs.declared.descriptor.Detail.TheVariants.{Bool as BoolDetail, Enum as EnumDetail, Num as NumDetail}
+use Rattle.meta_setting_tables.specs.declared.descriptor.Detail.TheVariants.{Preset}
 use Rattle.meta_setting_tables.specs.declared.descriptor.Descriptor.{Descriptor}
 
 -- ---- what tables give

@@ -22,14 +22,14 @@ abbrev pub values_at : List (List ℕ) → List (List ℕ) → ℕ
 values_at enumerators values = added_at same_text enumerators values
 
 -- the values of a setting, which only an enum has
-abbrev pub values_of : SpecificSetting → List (List ℕ)
-values_of (ABool b) = []
-values_of (AnEnum values) = values
-values_of (ANum default) = []
+abbrev pub built_values_of : SpecificSetting → List (List ℕ)
+built_values_of (ABool b) = []
+built_values_of (AnEnum values) = values
+built_values_of (ANum default) = []
 
 -- the enumerators of some settings: the values of each enum are added in order
 abbrev pub enumerators_of : List PlacedSetting → List (List ℕ)
-enumerators_of settings = fold (λ enumerators s. with_values enumerators (values_of s.specific)) [] settings
+enumerators_of settings = fold (λ enumerators s. with_values enumerators (built_values_of s.specific)) [] settings
 
 -- the values stand in the list, one behind the other, from the place on
 pub record StandAt (enumerators values : List (List ℕ)) (place : ℕ) : Type 0 where

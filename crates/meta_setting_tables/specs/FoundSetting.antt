@@ -8,8 +8,8 @@ abbrev pub entry_names : Layout → List (List ℕ)
 entry_names g = map (λ s. s.name) g.settings ++ map (λ p. p.name) g.presets
 
 -- how many entries it has
-abbrev pub entry_count : Layout → ℕ
-entry_count g = length g.settings + length g.presets
+abbrev pub laid_entry_count : Layout → ℕ
+laid_entry_count g = length g.settings + length g.presets
 
 -- the entry has the name
 abbrev pub IsEntryNamed : List (List ℕ) → List ℕ → ℕ → Type 0

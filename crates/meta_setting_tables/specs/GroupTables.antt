@@ -12,7 +12,7 @@ use Rattle.meta_setting_tables.specs.Descriptor.{DescribesEntry}
 use Rattle.meta_setting_tables.specs.DefaultBytes.{AreDefaultsOf, default_number}
 use Rattle.meta_setting_tables.specs.PresetMasks.{ArePresetMasks, TurnsOnOnly}
 use Rattle.meta_unique.specs.NameSlots.{AreNameSlots}
-use Rattle.meta_setting_tables.specs.FoundSetting.{entry_names, entry_count}
+use Rattle.meta_setting_tables.specs.FoundSetting.{entry_names, laid_entry_count}
 
 -- the group's name, its entries, the values of its enums, its default bytes, the masks of its presets, and the slots of the
 -- names of its entries
@@ -43,7 +43,7 @@ IsInside size masks offset Preset = offset + size ≤ masks
 -- the tables are those of the group
 pub record AreTablesOfGroup (g : Layout) (t : GroupContents) : Type 0 where
   pub name : t.name ≡ g.name
-  pub count : length t.descriptors ≡ entry_count g
+  pub count : length t.descriptors ≡ laid_entry_count g
   pub names : names_in t.descriptors ≡ entry_names g
   pub entries : (e : ℕ) (d : Descriptor) → slice_get t.descriptors e ≡ Some d → DescribesEntry g t.enumerators e d
   pub enumerators : t.enumerators ≡ enumerators_of g.settings

@@ -4,8 +4,8 @@ use Rattle.meta_unique.specs.Interning.{AreDifferent}
 use Rattle.meta_setting_tables.specs.EnumeratorList.{same_text}
 
 -- the texts that have these numbers
-abbrev pub texts_of : List (List ℕ) → List ℕ → List (List ℕ)
-texts_of texts numbers = map (λ number. slice_index_or texts number []) numbers
+abbrev pub texts_numbered : List (List ℕ) → List ℕ → List (List ℕ)
+texts_numbered texts numbers = map (λ number. slice_index_or texts number []) numbers
 
 -- no two of the texts are the same, and each of the numbers is that of a text
 pub record AreNumbered (texts : List (List ℕ)) (numbers : List ℕ) : Type 0 where
@@ -13,9 +13,9 @@ pub record AreNumbered (texts : List (List ℕ)) (numbers : List ℕ) : Type 0 w
   pub within : All (λ number. number < length texts) numbers
 
 -- these are the numbers of the values
-pub record AreNumbersOf (texts values : List (List ℕ)) (numbers : List ℕ) : Type 0 where
+pub record AreNumbersOfTexts (texts values : List (List ℕ)) (numbers : List ℕ) : Type 0 where
   pub within : All (λ number. number < length texts) numbers
-  pub values_are : texts_of texts numbers ≡ values
+  pub values_are : texts_numbered texts numbers ≡ values
 
 -- the old texts keep their numbers
 pub record KeepsNumbers (old new : List (List ℕ)) : Type 0 where

@@ -1,5 +1,5 @@
 -- The parts of the tables of a group: all but the slots, which follow from the names.
---     HasParts parts t      the tables have these parts
+--     HasGroupParts parts t   the tables have these parts
 --     AreGoodParts parts    well-formed tables can have them
 use Rattle.std.specs.Prelude.{◌≡◌, All}
 use Rattle.meta_setting_tables.specs.declared.descriptor.Descriptor.{Descriptor}
@@ -8,7 +8,7 @@ use Rattle.meta_setting_tables.specs.GroupTables.{GroupContents}
 use Rattle.meta_setting_tables.specs.WellFormed.{KeepLimits, AreWellNamed, ArePlaced, HasItsValues, AreGoodDefaults, AreGoodMasks}
 
 -- the tables have these parts
-pub record HasParts (parts : GroupParts) (t : GroupContents) : Type 0 where
+pub record HasGroupParts (parts : GroupParts) (t : GroupContents) : Type 0 where
   pub name : t.name ≡ parts.name
   pub descriptors : t.descriptors ≡ parts.descriptors.items
   pub enumerators : t.enumerators ≡ parts.enumerators.items

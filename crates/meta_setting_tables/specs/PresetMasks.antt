@@ -12,7 +12,8 @@ use Rattle.meta_settings.specs.PresetLayout.{IsOnAt, HasBitsOf}
 -- booleans that the preset turns on
 pub record ArePresetMasks (g : Layout) (masks : List ℕ) : Type 0 where
   pub size : length masks ≡ length g.presets * g.settings_size
-  pub bits : (k byte m : ℕ) (p : BuiltPreset) → slice_get g.presets k ≡ Some p → byte < g.settings_size → slice_get masks (k * g.settings_size + byte) ≡ Some m → HasBitsOf g.bool_start_byte_offset p.booleans byte m
+  pub bits : (k byte m : ℕ) (p : BuiltPreset) → slice_get g.presets k ≡ Some p → byte < g.settings_size
+      → slice_get masks (k * g.settings_size + byte) ≡ Some m → HasBitsOf g.bool_start_byte_offset p.booleans byte m
 
 -- each byte is joined with the mask at its place
 pub record AreJoined (old masks new : List ℕ) : Type 0 where

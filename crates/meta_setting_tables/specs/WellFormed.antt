@@ -1,8 +1,9 @@
 -- Well-formed tables of a group of settings: all tables of groups are, and those that are built of parts are where they can be.
 --     IsWellFormedGroup t      the tables are well-formed
 --     IsPlaced ..              an entry stands where the layout rule puts it
---     AreKept t                what the type of tables keeps
-use Rattle.std.specs.Prelude.{ℕ, ◌≡◌, ◌+◌, ◌*◌, ◌/◌, ◌%◌, ◌<◌, ◌≤◌, Bool, true, false, List, length, take, drop, filter, slice_get, Some, None, All, Contains, ⊤}
+--     AreKeptOfGroup t         what the type of tables keeps
+use Rattle.std.specs.Prelude.{ℕ, ◌≡◌, ◌+◌, ◌*◌, ◌/◌, ◌%◌, ◌<◌, ◌≤◌, Bool, true, false, List, length, take, drop, filter, slice_get, Some}
+use Rattle.std.specs.Prelude.{None, All, Contains, ⊤}
 use Rattle.std.specs.Int.{bit_at}
 use Rattle.meta_types.specs.Name.{IsName}
 use Rattle.meta_types.specs.SharedNames.{AreDistinct}
@@ -16,11 +17,11 @@ use Rattle.meta_setting_tables.specs.GroupTables.{GroupContents, names_in}
 -- ---- counts
 
 -- whether it is an enum or a number, which have a byte of their own
-abbrev pub has_own_byte : Detail → Bool
-has_own_byte (ABool bit) = false
-has_own_byte (AnEnum last enumerators) = true
-has_own_byte ANum = true
-has_own_byte Preset = false
+abbrev pub describes_own_byte : Detail → Bool
+describes_own_byte (ABool bit) = false
+describes_own_byte (AnEnum last enumerators) = true
+describes_own_byte ANum = true
+describes_own_byte Preset = false
 
 -- whether it is a boolean
 abbrev pub is_boolean : Detail → Bool
@@ -38,23 +39,23 @@ is_preset Preset = true
 
 -- how many of the entries are enums and numbers, how many are booleans, and how many are presets
 abbrev pub own_byte_count : List Descriptor → ℕ
-own_byte_count entries = length (filter (λ d. has_own_byte d.detail) entries)
+own_byte_count entries = length (filter (λ d. describes_own_byte d.detail) entries)
 
-abbrev pub boolean_count : List Descriptor → ℕ
-boolean_count entries = length (filter (λ d. is_boolean d.detail) entries)
+abbrev pub described_boolean_count : List Descriptor → ℕ
+described_boolean_count entries = length (filter (λ d. is_boolean d.detail) entries)
 
 abbrev pub preset_count : List Descriptor → ℕ
 preset_count entries = length (filter (λ d. is_preset d.detail) entries)
 
 -- how many setting bytes there are: one for each enum and number, and one for each eight booleans or part of eight
-abbrev pub byte_count : List Descriptor → ℕ
-byte_count entries = own_byte_count entries + (boolean_count entries + 7) / 8
+abbrev pub described_byte_count : List Descriptor → ℕ
+described_byte_count entries = own_byte_count entries + (described_boolean_count entries + 7) / 8
 
 -- at most 65,535 entries, 248 booleans, 255 setting bytes and 65,535 enumerators
 pub record KeepLimits (entries : List Descriptor) (enumerators : List (List ℕ)) : Type 0 where
   pub few_entries : length entries ≤ 65535
-  pub few_booleans : boolean_count entries ≤ 248
-  pub few_bytes : byte_count entries ≤ 255
+  pub few_booleans : described_boolean_count entries ≤ 248
+  pub few_bytes : described_byte_count entries ≤ 255
   pub few_enumerators : length enumerators ≤ 65535
 
 -- ---- names
@@ -105,7 +106,8 @@ IsPlaced own booleans size e offset Preset = StandsAtMasks (own + booleans) size
 
 -- each entry stands where the layout rule puts it
 abbrev pub ArePlaced : List Descriptor → Type 0
-ArePlaced entries = (e : ℕ) (d : Descriptor) → slice_get entries e ≡ Some d → IsPlaced (own_byte_count entries) (boolean_count entries) (byte_count entries) e d.offset d.detail
+ArePlaced entries = (e : ℕ) (d : Descriptor) → slice_get entries e ≡ Some d
+    → IsPlaced (own_byte_count entries) (described_boolean_count entries) (described_byte_count entries) e d.offset d.detail
 
 -- ---- values of enums
 
@@ -145,15 +147,17 @@ HasFirstValue defaults offset Preset = ⊤
 
 -- There is one default byte a setting byte; that of an enum is 0; and in the bytes of the booleans only their bits are on.
 pub record AreGoodDefaults (entries : List Descriptor) (defaults : List ℕ) : Type 0 where
-  pub count : length defaults ≡ byte_count entries
+  pub count : length defaults ≡ described_byte_count entries
   pub bytes : All (λ b. b < 256) defaults
   pub enums : All (λ (d : Descriptor). HasFirstValue defaults d.offset d.detail) entries
-  pub booleans : (byte b : ℕ) → own_byte_count entries ≤ byte → slice_get defaults byte ≡ Some b → HoldsBooleansAlone (own_byte_count entries) (boolean_count entries) byte b
+  pub booleans : (byte b : ℕ) → own_byte_count entries ≤ byte → slice_get defaults byte ≡ Some b
+      → HoldsBooleansAlone (own_byte_count entries) (described_boolean_count entries) byte b
 
 -- there is one mask a preset and setting byte, preset after preset, and only bits of booleans are on
 pub record AreGoodMasks (entries : List Descriptor) (masks : List ℕ) : Type 0 where
-  pub count : length masks ≡ preset_count entries * byte_count entries
-  pub booleans : (k byte m : ℕ) → byte < byte_count entries → slice_get masks (k * byte_count entries + byte) ≡ Some m → HoldsBooleansAlone (own_byte_count entries) (boolean_count entries) byte m
+  pub count : length masks ≡ preset_count entries * described_byte_count entries
+  pub booleans : (k byte m : ℕ) → byte < described_byte_count entries → slice_get masks (k * described_byte_count entries + byte) ≡ Some m
+      → HoldsBooleansAlone (own_byte_count entries) (described_boolean_count entries) byte m
 
 -- ---- all of them
 
@@ -168,6 +172,6 @@ pub record IsWellFormedGroup (t : GroupContents) : Type 0 where
   pub slots : AreNameSlots 0 (names_in t.descriptors) t.slots
 
 -- what all tables of groups keep: they are well-formed, and there is a vacant slot
-pub record AreKept (t : GroupContents) : Type 0 where
+pub record AreKeptOfGroup (t : GroupContents) : Type 0 where
   pub well_formed : IsWellFormedGroup t
   pub vacant : Contains t.slots None

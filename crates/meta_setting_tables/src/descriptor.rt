@@ -1,6 +1,6 @@
 ghost use Rattle.std.specs.Prelude.{◌≡◌, ◌↔◌, IsTrue};
 ghost use Rattle.meta_setting_tables.specs.declared.descriptor.Detail.TheVariants.{Preset};
-ghost use Rattle.meta_setting_tables.specs.WellFormed.{has_own_byte, is_boolean};
+ghost use Rattle.meta_setting_tables.specs.WellFormed.{describes_own_byte, is_boolean};
 ghost use Rattle.meta_setting_tables.specs.EntryValues.{is_on};
 
 use meta_types::Text;
@@ -41,7 +41,7 @@ impl Detail {
 
     /// Whether it is an enum or a number, which have a byte of their own.
     pub(crate) fn has_own_byte(self) -> bool
-        ensures { result ≡ has_own_byte self }
+        ensures { result ≡ describes_own_byte self }
     {
         match self {
             Detail::Bool { .. } | Detail::Preset => false,

@@ -1,12 +1,12 @@
 ghost use Rattle.std.specs.Prelude.{◌≡◌, ◌↔◌, ◌≤◌, ◌<◌, length, IfOk, IsTrue, All};
 ghost use Rattle.meta_setting_tables.specs.declared.descriptor.Descriptor.{Descriptor};
-ghost use Rattle.meta_setting_tables.specs.WellFormed.{StandsInByte, StandsAtBit, StandsAtMasks, IsPlaced, ArePlaced, HasValues, HasItsValues};
-ghost use Rattle.meta_setting_tables.specs.Shape.{IsShapeOf, IsSmall};
+ghost use Rattle.meta_setting_tables.specs.WellFormed.{StandsInByte, StandsAtBit, StandsAtMasks, IsPlaced, ArePlaced, HasValues};
+ghost use Rattle.meta_setting_tables.specs.WellFormed.{HasItsValues};
+ghost use Rattle.meta_setting_tables.specs.Shape.{IsShapeOf, HasSmallCounts};
 
 use super::descriptor::{Descriptor, Detail};
-use super::names::are_distinct;
 use super::shape::Shape;
-use meta_types::Text;
+use meta_types::{Text, are_distinct};
 use std::alloc::{AllocError, Global};
 
 /// Whether the entry at the place is one of so many with a byte of their own, and this is its byte.
@@ -41,7 +41,7 @@ fn stands_at_masks(settings: usize, size: usize, place: usize, offset: usize) ->
 /// Whether the entry at the place stands where the layout rule puts it.
 fn is_placed(shape: &Shape, place: usize, entry: &Descriptor) -> bool
     requires few { place ≤ 65535 }
-    requires small { IsSmall shape.now }
+    requires small { HasSmallCounts shape.now }
     ensures { IsTrue result ↔ IsPlaced shape.now.own_bytes shape.now.booleans shape.now.bytes place entry.now.offset entry.now.detail }
 {
     let own = shape.own_bytes;
@@ -57,7 +57,7 @@ fn is_placed(shape: &Shape, place: usize, entry: &Descriptor) -> bool
 /// Whether each of the entries, of which these are the counts, stands where the layout rule puts it.
 pub(crate) fn are_placed(shape: &Shape, entries: &[Descriptor]) -> bool
     requires few { length entries.now ≤ 65535 }
-    requires small { IsSmall shape.now }
+    requires small { HasSmallCounts shape.now }
     requires shape { IsShapeOf entries.now shape.now }
     ensures { IsTrue result ↔ ArePlaced entries.now }
 {

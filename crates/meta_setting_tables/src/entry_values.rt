@@ -5,8 +5,8 @@ ghost use Rattle.meta_settings.specs.LaidOut.{built_of};
 ghost use Rattle.meta_settings.specs.Layout.{PlacedSetting, BuiltPreset, Layout};
 ghost use Rattle.meta_setting_tables.specs.declared.descriptor.Descriptor.{Descriptor};
 ghost use Rattle.meta_setting_tables.specs.EntryValues.{values_in, masks_from, names_on, names_enabled};
-ghost use Rattle.meta_setting_tables.specs.EnumeratorList.{values_of};
-ghost use Rattle.meta_setting_tables.specs.FoundSetting.{entry_names, entry_count};
+ghost use Rattle.meta_setting_tables.specs.EnumeratorList.{built_values_of};
+ghost use Rattle.meta_setting_tables.specs.FoundSetting.{entry_names, laid_entry_count};
 ghost use Rattle.meta_setting_tables.specs.GroupTables.{names_in, IsPresetIn, IsPresetOf, AreTablesOfGroup};
 ghost use Rattle.meta_setting_tables.specs.WellFormed.{ArePlaced};
 
@@ -42,7 +42,7 @@ impl GroupTables {
     pub fn entry_count(&self) -> usize
         ensures count { result ≡ length self.now.descriptors }
         ensures few { result ≤ 65535 }
-        ensures meaning { (g : Layout) → AreTablesOfGroup g self.now → result ≡ entry_count g }
+        ensures meaning { (g : Layout) → AreTablesOfGroup g self.now → result ≡ laid_entry_count g }
     {
         self.descriptors().len()
     }
@@ -50,7 +50,8 @@ impl GroupTables {
     /// The name of the entry with this number, from 0, and `None` exactly where there is no such entry.
     pub fn entry_name(&self, index: u16) -> Option<&Text>
         ensures name { option_map (λ name. name.now) result ≡ slice_get (names_in self.now.descriptors) index }
-        ensures meaning { (g : Layout) → AreTablesOfGroup g self.now → option_map (λ name. name.now) result ≡ slice_get (entry_names g) index }
+        ensures meaning { (g : Layout) → AreTablesOfGroup g self.now
+            → option_map (λ name. name.now) result ≡ slice_get (entry_names g) index }
     {
         Some(&self.descriptor(index)?.name)
     }
@@ -58,9 +59,11 @@ impl GroupTables {
     /// The names of the values of the entry with this number, in order, of which the first is the default. Only an enum has values:
     /// there are none for another entry, nor where there is no such entry.
     pub fn values(&self, index: u16) -> &[Text]
-        ensures entry { (d : Descriptor) → slice_get self.now.descriptors index ≡ Some d → result.now ≡ values_in self.now.enumerators d.detail }
+        ensures entry { (d : Descriptor) → slice_get self.now.descriptors index ≡ Some d
+            → result.now ≡ values_in self.now.enumerators d.detail }
         ensures absent { slice_get self.now.descriptors index ≡ None → result.now ≡ [] }
-        ensures meaning { (g : Layout) (s : PlacedSetting) → AreTablesOfGroup g self.now → slice_get g.settings index ≡ Some s → result.now ≡ values_of s.specific }
+        ensures meaning { (g : Layout) (s : PlacedSetting) → AreTablesOfGroup g self.now
+            → slice_get g.settings index ≡ Some s → result.now ≡ built_values_of s.specific }
     {
         let Some(entry) = self.descriptors().get(index as usize) else {
             return &[];
@@ -80,9 +83,11 @@ impl GroupTables {
     /// none where that is no preset. It costs one pass over the settings, and the only error is want of memory.
     pub fn names_on(&self, alloc: Global, preset: u16) -> Result<Vec<&str>, AllocError>
         ensures entry { (d : Descriptor) → IsPresetIn self.now.descriptors preset d
-            → IfOk result (λ v. map (λ name. name.now) v.items ≡ names_on self.now.descriptors (masks_from (length self.now.defaults) self.now.preset_masks d.offset)) }
+            → IfOk result (λ v. map (λ name. name.now) v.items ≡ names_on self.now.descriptors
+            (masks_from (length self.now.defaults) self.now.preset_masks d.offset)) }
         ensures other { ((d : Descriptor) → IsPresetIn self.now.descriptors preset d → ⊥) → IfOk result (λ v. v.items ≡ []) }
-        ensures meaning { (g : GroupDeclaration) (p : BuiltPreset) → AreTablesOfGroup (built_of g) self.now → IsPresetOf (built_of g) preset p
+        ensures meaning { (g : GroupDeclaration) (p : BuiltPreset) → AreTablesOfGroup (built_of g) self.now
+            → IsPresetOf (built_of g) preset p
             → IfOk result (λ v. map (λ name. name.now) v.items ≡ names_enabled (built_of g) p) }
     {
         match self.masks_of(preset) {

@@ -1,7 +1,7 @@
 ghost use Rattle.std.specs.Prelude.{◌≡◌, ◌+◌, ◌≤◌, ◌<◌, [], length, take, All, IfOk, OnOk};
 ghost use Rattle.meta_unique.specs.Interning.{pointed_to, AreDifferent};
 ghost use Rattle.meta_setting_tables.specs.EnumeratorList.{same_text, with_values, values_at, StandAt};
-ghost use Rattle.meta_setting_tables.specs.NumberedTexts.{texts_of, AreNumbersOf, KeepsNumbers};
+ghost use Rattle.meta_setting_tables.specs.NumberedTexts.{texts_numbered, AreNumbersOfTexts, KeepsNumbers};
 
 use meta_types::Text;
 use meta_unique::{UniqueSeqTable, UniqueTable};
@@ -18,11 +18,11 @@ pub(crate) struct Enumerators<'g> {
 
 impl<'g> Model for Enumerators<'g> {
     ghost use Rattle.std.specs.Prelude.{List, ℕ};
-    ghost use Rattle.meta_setting_tables.specs.NumberedTexts.{texts_of, AreNumbered};
+    ghost use Rattle.meta_setting_tables.specs.NumberedTexts.{texts_numbered, AreNumbered};
 
     ghost Value = { List (List ℕ) };
 
-    ghost view = { λ e. texts_of e.texts e.numbers };
+    ghost view = { λ e. texts_numbered e.texts e.numbers };
 
     ghost invariant = { λ e. AreNumbered e.texts e.numbers };
 }
@@ -34,7 +34,7 @@ fn numbers_of<'g>(
     values: &'g [Text],
 ) -> Result<Vec<usize>, AllocError>
     requires { AreDifferent same_text texts.old }
-    ensures numbers { IfOk result (λ v. AreNumbersOf texts.new values.now v.items) }
+    ensures numbers { IfOk result (λ v. AreNumbersOfTexts texts.new values.now v.items) }
     ensures different { AreDifferent same_text texts.new }
     ensures kept { KeepsNumbers texts.old texts.new }
 {
@@ -48,7 +48,7 @@ fn numbers_of<'g>(
 /// Copies of the texts that have these numbers.
 fn copied_texts(alloc: Global, texts: &[&Text], numbers: &[usize]) -> Result<Vec<Text>, AllocError>
     requires { All (λ number. number < length texts.now) numbers.now }
-    ensures { IfOk result (λ v. v.items ≡ texts_of (pointed_to texts.now) numbers.now) }
+    ensures { IfOk result (λ v. v.items ≡ texts_numbered (pointed_to texts.now) numbers.now) }
 {
     let mut copies = Vec::with_capacity(alloc, numbers.len())?;
     for number in numbers {

@@ -10,7 +10,7 @@ ghost use Rattle.meta_setting_tables.specs.GroupTables.{GroupContents, AreTables
 ghost use Rattle.meta_setting_tables.specs.PresetMasks.{AreJoined};
 ghost use Rattle.meta_setting_tables.specs.WellFormed.{IsWellFormedGroup};
 ghost use Rattle.meta_setting_tables.specs.declared.parts.GroupParts.{GroupParts};
-ghost use Rattle.meta_setting_tables.specs.Parts.{HasParts};
+ghost use Rattle.meta_setting_tables.specs.Parts.{HasGroupParts};
 
 use meta_settings::presets_turn_on_what_they_name;
 
@@ -25,14 +25,16 @@ pub fn built_groups_have_tables()
 
 /// The tables of a group that is built of a valid declaration are well-formed, where its default bytes are bytes.
 pub fn built_groups_have_well_formed_tables()
-    ensures { (d : GroupDeclaration) (t : GroupContents) → IsValidGroup d → AreTablesOfGroup (built_of d) t → All (λ b. b < 256) t.defaults → IsWellFormedGroup t }
+    ensures { (d : GroupDeclaration) (t : GroupContents) → IsValidGroup d → AreTablesOfGroup (built_of d) t
+        → All (λ b. b < 256) t.defaults → IsWellFormedGroup t }
 {
     built_groups_have_tables();
 }
 
 /// Parts are those of one group at most that is well-formed: the slots follow from the names.
 pub fn one_group_has_the_parts()
-    ensures { (parts : GroupParts) (s t : GroupContents) → IsWellFormedGroup s → IsWellFormedGroup t → HasParts parts s → HasParts parts t → s ≡ t }
+    ensures { (parts : GroupParts) (s t : GroupContents) → IsWellFormedGroup s → IsWellFormedGroup t
+        → HasGroupParts parts s → HasGroupParts parts t → s ≡ t }
 {}
 
 /// Tables of a group are one: a group has no others.
@@ -43,7 +45,9 @@ pub fn one_table_of_a_group()
 /// A preset that is applied twice changes nothing the second time: neither by tables, where setting bytes are joined with its masks,
 /// nor in what the group means by it, where the setting bytes are bytes.
 pub fn a_preset_applied_twice_is_applied_once()
-    ensures joined { (masks old once twice : List ℕ) → length masks ≡ length old → AreJoined old masks once → AreJoined once masks twice → twice ≡ once }
-    ensures meaning { (g : Layout) (e : ℕ) (old once twice : List ℕ) (first second : Bool) → All (λ b. b < 256) once → All (λ b. b < 256) twice
+    ensures joined { (masks old once twice : List ℕ) → length masks ≡ length old → AreJoined old masks once
+        → AreJoined once masks twice → twice ≡ once }
+    ensures meaning { (g : Layout) (e : ℕ) (old once twice : List ℕ) (first second : Bool) → All (λ b. b < 256) once
+        → All (λ b. b < 256) twice
         → Applies g e old once first → Applies g e once twice second → twice ≡ once }
 {}

@@ -1,18 +1,20 @@
-ghost use Rattle.std.specs.Prelude.{◌≡◌, ◌↔◌, ◌+◌, ◌*◌, ◌++◌, ◌≤◌, ◌<◌, ℕ, List, [], length, map, take, drop, slice_get, slice_index_or, option_map, Contains, All, Some, None, false, IsTrue, IsSome, IfSome, IfNone, IfOk, OnOk};
+ghost use Rattle.std.specs.Prelude.{◌≡◌, ◌↔◌, ◌+◌, ◌*◌, ◌++◌, ◌≤◌, ◌<◌, ℕ, List, [], length, map, take, drop, slice_get, slice_index_or};
+ghost use Rattle.std.specs.Prelude.{option_map, Contains, All, Some, None, false, IsTrue, IsSome, IfSome, IfNone, IfOk, OnOk};
 ghost use Rattle.meta_types.specs.SharedNames.{AreDifferentNames};
 ghost use Rattle.meta_settings.specs.declared.setting.SpecificSetting.TheVariants.{Enum};
 ghost use Rattle.meta_settings.specs.Layout.{PlacedSetting, BuiltPreset, Layout, IsSized};
 ghost use Rattle.meta_setting_tables.specs.declared.descriptor.Descriptor.{Descriptor};
 ghost use Rattle.meta_setting_tables.specs.BuiltLayout.{HaveNumbers, IsBuiltLayout};
 ghost use Rattle.meta_setting_tables.specs.Descriptor.{IsDetailOf, DescribesSetting, DescribesEntry, setting_descriptor, preset_descriptor};
-ghost use Rattle.meta_setting_tables.specs.EnumeratorList.{enumerators_of, values_of, with_values, HasGrown};
+ghost use Rattle.meta_setting_tables.specs.EnumeratorList.{enumerators_of, built_values_of, with_values, HasGrown};
 ghost use Rattle.meta_unique.specs.NameSlots.{AreNameSlots, NameAnswers, IsNameLookup};
-ghost use Rattle.meta_setting_tables.specs.FoundSetting.{entry_names, entry_count, FindsEntry};
+ghost use Rattle.meta_setting_tables.specs.FoundSetting.{entry_names, laid_entry_count, FindsEntry};
 ghost use Rattle.meta_setting_tables.specs.DefaultBytes.{AreDefaultsOf};
 ghost use Rattle.meta_setting_tables.specs.PresetMasks.{AreJoined, ArePresetMasks};
 ghost use Rattle.meta_setting_tables.specs.WellFormed.{preset_count, IsWellFormedGroup};
-ghost use Rattle.meta_setting_tables.specs.Parts.{HasParts, AreGoodParts};
-ghost use Rattle.meta_setting_tables.specs.GroupTables.{names_in, IsInside, IsPresetIn, AreTablesOfGroup, default_in, AnswersDefault, Applies};
+ghost use Rattle.meta_setting_tables.specs.Parts.{HasGroupParts, AreGoodParts};
+ghost use Rattle.meta_setting_tables.specs.GroupTables.{names_in, IsInside, IsPresetIn, AreTablesOfGroup, default_in, AnswersDefault};
+ghost use Rattle.meta_setting_tables.specs.GroupTables.{Applies};
 
 use super::default_bytes::default_bytes;
 use super::descriptor::{Descriptor, Detail};
@@ -41,13 +43,27 @@ pub struct GroupTables {
 
 impl Model for GroupTables {
     ghost use Rattle.meta_setting_tables.specs.GroupTables.{GroupContents};
-    ghost use Rattle.meta_setting_tables.specs.WellFormed.{AreKept};
+    ghost use Rattle.meta_setting_tables.specs.WellFormed.{AreKeptOfGroup};
 
     ghost Value = { GroupContents };
 
-    ghost view = { λ t. record { name = t.name; descriptors = t.descriptors.items; enumerators = t.enumerators.items; defaults = t.defaults.items; preset_masks = t.preset_masks.items; slots = t.slots.items } };
+    ghost view = { λ t. record {
+      name = t.name;
+      descriptors = t.descriptors.items;
+      enumerators = t.enumerators.items;
+      defaults = t.defaults.items;
+      preset_masks = t.preset_masks.items;
+      slots = t.slots.items;
+    } };
 
-    ghost invariant = { λ t. AreKept (record { name = t.name; descriptors = t.descriptors.items; enumerators = t.enumerators.items; defaults = t.defaults.items; preset_masks = t.preset_masks.items; slots = t.slots.items }) };
+    ghost invariant = { λ t. AreKeptOfGroup (record {
+      name = t.name;
+      descriptors = t.descriptors.items;
+      enumerators = t.enumerators.items;
+      defaults = t.defaults.items;
+      preset_masks = t.preset_masks.items;
+      slots = t.slots.items;
+    }) };
 }
 
 /// What an entry is by default whose descriptor points inside these default bytes.
@@ -71,8 +87,9 @@ fn detail_of<'g>(
     enumerators: &mut Enumerators<'g>,
 ) -> Result<Detail, AllocError>
     requires { (values : List (List ℕ)) → specific.now ≡ Enum values → (length enumerators.old < 65536) × HaveNumbers values }
-    ensures detail { (before : List PlacedSetting) → enumerators.old ≡ enumerators_of before → IfOk result (λ d. IsDetailOf enumerators.new before specific.now d) }
-    ensures added { OnOk result (enumerators.new ≡ with_values enumerators.old (values_of specific.now)) }
+    ensures detail { (before : List PlacedSetting) → enumerators.old ≡ enumerators_of before
+        → IfOk result (λ d. IsDetailOf enumerators.new before specific.now d) }
+    ensures added { OnOk result (enumerators.new ≡ with_values enumerators.old (built_values_of specific.now)) }
     ensures grown { OnOk result (HasGrown enumerators.old enumerators.new) }
 {
     match specific {
@@ -131,10 +148,12 @@ fn describe_settings<'g>(
     enumerators: &mut Enumerators<'g>,
 ) -> Result<Vec<Descriptor>, AllocError>
     requires empty { enumerators.old ≡ [] }
-    requires enums { (k : ℕ) (s : PlacedSetting) (values : List (List ℕ)) → slice_get settings.now k ≡ Some s → s.specific ≡ Enum values → (k < 255) × HaveNumbers values }
+    requires enums { (k : ℕ) (s : PlacedSetting) (values : List (List ℕ)) → slice_get settings.now k ≡ Some s
+        → s.specific ≡ Enum values → (k < 255) × HaveNumbers values }
     ensures enumerators { OnOk result (enumerators.new ≡ enumerators_of settings.now) }
     ensures names { IfOk result (λ v. names_in v.items ≡ map (λ (s : PlacedSetting). s.name) settings.now) }
-    ensures described { IfOk result (λ v. (k : ℕ) (s : PlacedSetting) (d : Descriptor) → slice_get settings.now k ≡ Some s → slice_get v.items k ≡ Some d → DescribesSetting enumerators.new (take k settings.now) s d) }
+    ensures described { IfOk result (λ v. (k : ℕ) (s : PlacedSetting) (d : Descriptor)
+        → slice_get settings.now k ≡ Some s → slice_get v.items k ≡ Some d → DescribesSetting enumerators.new (take k settings.now) s d) }
 {
     let mut descriptors = Vec::with_capacity(alloc, settings.len())?;
     for setting in settings {
@@ -152,7 +171,8 @@ fn describe_presets(
 ) -> Result<Vec<Descriptor>, AllocError>
     requires { length presets.now ≤ 65535 }
     ensures names { IfOk result (λ v. names_in v.items ≡ map (λ (p : BuiltPreset). p.name) presets.now) }
-    ensures described { IfOk result (λ v. (k : ℕ) (p : BuiltPreset) → slice_get presets.now k ≡ Some p → slice_get v.items k ≡ Some (preset_descriptor size k p)) }
+    ensures described { IfOk result (λ v. (k : ℕ) (p : BuiltPreset) → slice_get presets.now k ≡ Some p
+        → slice_get v.items k ≡ Some (preset_descriptor size k p)) }
 {
     let mut descriptors = Vec::with_capacity(alloc, presets.len())?;
     for (k, preset) in presets.iter().enumerate() {
@@ -184,7 +204,8 @@ fn descriptors_of<'g>(
     ensures small { group.now.settings_size ≤ 255 }
     ensures enumerators { OnOk result (enumerators.new ≡ enumerators_of group.now.settings) }
     ensures names { IfOk result (λ v. names_in v.items ≡ entry_names group.now) }
-    ensures entries { IfOk result (λ v. (e : ℕ) (d : Descriptor) → slice_get v.items e ≡ Some d → DescribesEntry group.now enumerators.new e d) }
+    ensures entries { IfOk result (λ v. (e : ℕ) (d : Descriptor) → slice_get v.items e ≡ Some d
+        → DescribesEntry group.now enumerators.new e d) }
 {
     let size = group.settings_size();
     let settings = describe_settings(alloc, group.settings(), enumerators)?;
@@ -211,7 +232,8 @@ fn described_by<'g>(
     ensures small { group.now.settings_size ≤ 255 }
     ensures enumerators { IfOk result (λ d. d.enumerators.items ≡ enumerators_of group.now.settings) }
     ensures names { IfOk result (λ d. names_in d.descriptors.items ≡ entry_names group.now) }
-    ensures entries { IfOk result (λ d. (e : ℕ) (own : Descriptor) → slice_get d.descriptors.items e ≡ Some own → DescribesEntry group.now d.enumerators.items e own) }
+    ensures entries { IfOk result (λ d. (e : ℕ) (own : Descriptor) → slice_get d.descriptors.items e ≡ Some own
+        → DescribesEntry group.now d.enumerators.items e own) }
 {
     let descriptors = descriptors_of(alloc, group, enumerators)?;
     Ok(DescribedEntries {
@@ -227,7 +249,8 @@ fn described(alloc: Global, group: &SettingGroup) -> Result<DescribedEntries, Al
     ensures small { group.now.settings_size ≤ 255 }
     ensures enumerators { IfOk result (λ d. d.enumerators.items ≡ enumerators_of group.now.settings) }
     ensures names { IfOk result (λ d. names_in d.descriptors.items ≡ entry_names group.now) }
-    ensures entries { IfOk result (λ d. (e : ℕ) (own : Descriptor) → slice_get d.descriptors.items e ≡ Some own → DescribesEntry group.now d.enumerators.items e own) }
+    ensures entries { IfOk result (λ d. (e : ℕ) (own : Descriptor) → slice_get d.descriptors.items e ≡ Some own
+        → DescribesEntry group.now d.enumerators.items e own) }
 {
     let mut enumerators = Enumerators::new(alloc);
     described_by(alloc, group, &mut enumerators)
@@ -290,7 +313,7 @@ impl GroupTables {
     /// The tables with these parts, which well-formed tables can have.
     pub(crate) fn with_parts(alloc: Global, parts: GroupParts) -> Result<GroupTables, AllocError>
         requires { AreGoodParts parts }
-        ensures parts { IfOk result (HasParts parts) }
+        ensures parts { IfOk result (HasGroupParts parts) }
         ensures well_formed { IfOk result IsWellFormedGroup }
     {
         let slots = entry_slots(alloc, parts.descriptors.as_slice())?;
@@ -383,8 +406,9 @@ impl GroupTables {
     /// The entry with this number, from 0, and `None` exactly where there is no such entry.
     pub fn descriptor(&self, index: u16) -> Option<&Descriptor>
         ensures entry { option_map (λ d. d.now) result ≡ slice_get self.now.descriptors index }
-        ensures none { (g : Layout) → AreTablesOfGroup g self.now → (IsSome result ↔ (index < entry_count g)) }
-        ensures meaning { (g : Layout) → AreTablesOfGroup g self.now → IfSome result (λ d. DescribesEntry g self.now.enumerators index d.now) }
+        ensures none { (g : Layout) → AreTablesOfGroup g self.now → (IsSome result ↔ (index < laid_entry_count g)) }
+        ensures meaning { (g : Layout) → AreTablesOfGroup g self.now
+            → IfSome result (λ d. DescribesEntry g self.now.enumerators index d.now) }
     {
         self.descriptors.get(index as usize)
     }
@@ -392,7 +416,8 @@ impl GroupTables {
     /// What the setting with this number is by default: 0 or 1 for a boolean, 0 for an enum, which is its first value, and the
     /// number. It is `None` exactly for a preset and where there is no such entry.
     pub fn default_value(&self, index: u16) -> Option<u8>
-        ensures entry { (d : Descriptor) → slice_get self.now.descriptors index ≡ Some d → result ≡ default_in (slice_index_or self.now.defaults d.offset 0) d.detail }
+        ensures entry { (d : Descriptor) → slice_get self.now.descriptors index ≡ Some d
+            → result ≡ default_in (slice_index_or self.now.defaults d.offset 0) d.detail }
         ensures absent { slice_get self.now.descriptors index ≡ None → result ≡ None }
         ensures meaning { (g : Layout) → AreTablesOfGroup g self.now → AnswersDefault g index result }
     {
@@ -414,7 +439,8 @@ impl GroupTables {
     pub fn find_setting(&self, name: &[u8]) -> Option<u16>
         ensures found { FindsEntry (names_in self.now.descriptors) name.now result }
         ensures meaning { (g : Layout) → AreTablesOfGroup g self.now → FindsEntry (entry_names g) name.now result }
-        ensures exact { (g : Layout) → AreTablesOfGroup g self.now → AreDifferentNames (entry_names g) → (e : ℕ) → ((result ≡ Some e) ↔ (slice_get (entry_names g) e ≡ Some name.now)) }
+        ensures exact { (g : Layout) → AreTablesOfGroup g self.now → AreDifferentNames (entry_names g) → (e : ℕ)
+            → ((result ≡ Some e) ↔ (slice_get (entry_names g) e ≡ Some name.now)) }
     {
         probe(self.slots.as_slice(), simple_hash(name), |index| {
             self.is_named(index, name)
@@ -425,8 +451,10 @@ impl GroupTables {
     pub fn find_setting_counted<L: Ledger>(&self, name: &[u8], steps: &mut Steps<L>) -> Option<u16>
         ensures found { FindsEntry (names_in self.now.descriptors) name.now result }
         ensures meaning { (g : Layout) → AreTablesOfGroup g self.now → FindsEntry (entry_names g) name.now result }
-        ensures exact { (g : Layout) → AreTablesOfGroup g self.now → AreDifferentNames (entry_names g) → (e : ℕ) → ((result ≡ Some e) ↔ (slice_get (entry_names g) e ≡ Some name.now)) }
-        ensures counted { (last : ℕ) × IsNameLookup 0 (names_in self.now.descriptors) self.now.slots name.now result last × (steps.new ≡ steps.old + (last + 1)) }
+        ensures exact { (g : Layout) → AreTablesOfGroup g self.now → AreDifferentNames (entry_names g) → (e : ℕ)
+            → ((result ≡ Some e) ↔ (slice_get (entry_names g) e ≡ Some name.now)) }
+        ensures counted { (last : ℕ) × IsNameLookup 0 (names_in self.now.descriptors) self.now.slots name.now result
+            last × (steps.new ≡ steps.old + (last + 1)) }
         ensures most { steps.new ≤ steps.old + length self.now.slots }
     {
         probe_counted(
@@ -440,7 +468,8 @@ impl GroupTables {
     /// The masks of the preset with this number among the entries, one a setting byte, in which the bits of what it turns on are on, and
     /// `None` exactly where it is no preset.
     pub fn masks_of(&self, preset: u16) -> Option<&[u8]>
-        ensures masks { IfSome result (λ masks. (d : Descriptor) × IsPresetIn self.now.descriptors preset d × (masks.now ≡ take (length self.now.defaults) (drop d.offset self.now.preset_masks))) }
+        ensures masks { IfSome result (λ masks. (d : Descriptor) × IsPresetIn self.now.descriptors preset d
+            × (masks.now ≡ take (length self.now.defaults) (drop d.offset self.now.preset_masks))) }
         ensures size { IfSome result (λ masks. length masks.now ≡ length self.now.defaults) }
         ensures none { IfNone result ((d : Descriptor) → IsPresetIn self.now.descriptors preset d → ⊥) }
     {
@@ -455,8 +484,10 @@ impl GroupTables {
     /// Turns on the bits of what a preset turns on, in setting bytes, where `preset` is the number of its entry. It answers
     /// false and changes nothing exactly where that is no preset of the group or there aren't `settings_size` bytes.
     pub fn apply_preset(&self, preset: u16, bytes: &mut [u8]) -> bool
-        ensures answer { IsTrue result ↔ (((d : Descriptor) × IsPresetIn self.now.descriptors preset d) × (length bytes.old ≡ length self.now.defaults)) }
-        ensures joined { IsTrue result → (d : Descriptor) → IsPresetIn self.now.descriptors preset d → AreJoined bytes.old (take (length self.now.defaults) (drop d.offset self.now.preset_masks)) bytes.new }
+        ensures answer { IsTrue result ↔ (((d : Descriptor) × IsPresetIn self.now.descriptors preset d)
+            × (length bytes.old ≡ length self.now.defaults)) }
+        ensures joined { IsTrue result → (d : Descriptor) → IsPresetIn self.now.descriptors preset d
+            → AreJoined bytes.old (take (length self.now.defaults) (drop d.offset self.now.preset_masks)) bytes.new }
         ensures unchanged { result ≡ false → bytes.new ≡ bytes.old }
         ensures meaning { (g : Layout) → AreTablesOfGroup g self.now → Applies g preset bytes.old bytes.new result }
     {

@@ -7,40 +7,9 @@ ghost use Rattle.meta_setting_tables.specs.GroupTables.{names_in};
 ghost use Rattle.meta_setting_tables.specs.WellFormed.{AreWellNamed};
 
 use super::descriptor::Descriptor;
-use meta_types::{EarlierNames, Text, is_name};
+use meta_settings::is_plain_description;
+use meta_types::{EarlierNames, Text, are_names, is_name};
 use std::alloc::{AllocError, Global};
-
-/// Whether a description may have this byte.
-fn is_plain_byte(c: u8) -> bool
-    ensures { IsTrue result ↔ IsPlainByte c }
-{
-    (0x20..=0x7e).contains(&c) && c != b'"' && c != b'\\'
-}
-
-/// Whether a description needs no escape.
-fn is_plain(text: &Text) -> bool
-    ensures { IsTrue result ↔ All IsPlainByte text.now }
-{
-    let bytes = text.as_bytes();
-    for byte in bytes {
-        if !is_plain_byte(*byte) {
-            return false;
-        }
-    }
-    true
-}
-
-/// Whether all of these are names.
-fn are_names(texts: &[Text]) -> bool
-    ensures { IsTrue result ↔ All IsName texts.now }
-{
-    for text in texts {
-        if !is_name(text) {
-            return false;
-        }
-    }
-    true
-}
 
 /// Whether the entries have names.
 fn have_names(entries: &[Descriptor]) -> bool
@@ -59,24 +28,11 @@ fn have_plain_descriptions(entries: &[Descriptor]) -> bool
     ensures { IsTrue result ↔ All (λ (d : Descriptor). All IsPlainByte d.description) entries.now }
 {
     for entry in entries {
-        if !is_plain(&entry.description) {
+        if !is_plain_description(&entry.description) {
             return false;
         }
     }
     true
-}
-
-/// Whether no two of the names are the same or have the same camel case.
-pub(crate) fn are_distinct(alloc: Global, names: &[Text]) -> Result<bool, AllocError>
-    ensures { IfOk result (λ b. IsTrue b ↔ AreDistinct names.now) }
-{
-    let mut earlier = EarlierNames::new(alloc);
-    for name in names {
-        if earlier.add(alloc, name)?.is_some() {
-            return Ok(false);
-        }
-    }
-    Ok(true)
 }
 
 /// Whether no two of the entries have the same name or the same camel case.

@@ -1,8 +1,8 @@
 ghost use Rattle.std.specs.Prelude.{◌≡◌, ◌↔◌, ◌≤◌, ◌<◌, length, IfOk, IfSome, IfNone, IsTrue};
 ghost use Rattle.meta_setting_tables.specs.GroupTables.{GroupContents};
 ghost use Rattle.meta_setting_tables.specs.WellFormed.{KeepLimits, IsWellFormedGroup};
-ghost use Rattle.meta_setting_tables.specs.Shape.{IsShapeOf, IsSmall};
-ghost use Rattle.meta_setting_tables.specs.Parts.{HasParts, AreGoodParts};
+ghost use Rattle.meta_setting_tables.specs.Shape.{IsShapeOf, HasSmallCounts};
+ghost use Rattle.meta_setting_tables.specs.Parts.{HasGroupParts, AreGoodParts};
 
 use super::descriptor::Descriptor;
 use super::entries::{are_placed, have_their_values};
@@ -83,9 +83,9 @@ fn are_good(alloc: Global, parts: &GroupParts) -> Result<bool, AllocError>
 /// values, or the default bytes or the masks aren't those of such entries (this project's own). It costs the length of the parts,
 /// and the logarithm of the counts of names. The only error is want of memory.
 pub fn group_from_parts(alloc: Global, parts: GroupParts) -> Result<Option<GroupTables>, AllocError>
-    ensures some { IfOk result (λ o. IfSome o (HasParts parts)) }
+    ensures some { IfOk result (λ o. IfSome o (HasGroupParts parts)) }
     ensures well_formed { IfOk result (λ o. IfSome o IsWellFormedGroup) }
-    ensures none { IfOk result (λ o. IfNone o ((t : GroupContents) → IsWellFormedGroup t → HasParts parts t → ⊥)) }
+    ensures none { IfOk result (λ o. IfNone o ((t : GroupContents) → IsWellFormedGroup t → HasGroupParts parts t → ⊥)) }
 {
     if !are_good(alloc, &parts)? {
         return Ok(None);

@@ -2,7 +2,7 @@ ghost use Rattle.std.specs.Prelude.{◌≡◌, ◌↔◌, ◌≤◌, ◌<◌, �
 ghost use Rattle.std.specs.Int.{bit_at};
 ghost use Rattle.meta_setting_tables.specs.declared.descriptor.Descriptor.{Descriptor};
 ghost use Rattle.meta_setting_tables.specs.WellFormed.{IsBooleanBit, HoldsBooleansAlone, HasFirstValue, AreGoodDefaults, AreGoodMasks};
-ghost use Rattle.meta_setting_tables.specs.Shape.{IsShapeOf, IsSmall};
+ghost use Rattle.meta_setting_tables.specs.Shape.{IsShapeOf, HasSmallCounts};
 
 use super::descriptor::{Descriptor, Detail};
 use super::shape::Shape;
@@ -71,7 +71,8 @@ fn have_first_values(defaults: &[u8], entries: &[Descriptor]) -> bool
 /// Whether in the default bytes behind those of the enums and numbers only bits of booleans are on.
 fn are_boolean_bytes(shape: &Shape, defaults: &[u8]) -> bool
     requires { length defaults.now ≤ 255 }
-    ensures { IsTrue result ↔ ((byte b : ℕ) → shape.now.own_bytes ≤ byte → slice_get defaults.now byte ≡ Some b → HoldsBooleansAlone shape.now.own_bytes shape.now.booleans byte b) }
+    ensures { IsTrue result ↔ ((byte b : ℕ) → shape.now.own_bytes ≤ byte → slice_get defaults.now byte ≡ Some b
+        → HoldsBooleansAlone shape.now.own_bytes shape.now.booleans byte b) }
 {
     for byte in shape.own_bytes..defaults.len() {
         if !holds_booleans_alone(shape, byte, defaults[byte]) {
@@ -83,7 +84,7 @@ fn are_boolean_bytes(shape: &Shape, defaults: &[u8]) -> bool
 
 /// Whether these can be the default bytes of the entries, of which these are the counts.
 pub(crate) fn are_good_defaults(shape: &Shape, entries: &[Descriptor], defaults: &[u8]) -> bool
-    requires small { IsSmall shape.now }
+    requires small { HasSmallCounts shape.now }
     requires shape { IsShapeOf entries.now shape.now }
     ensures { IsTrue result ↔ AreGoodDefaults entries.now defaults.now }
 {
@@ -99,7 +100,8 @@ pub(crate) fn are_good_defaults(shape: &Shape, entries: &[Descriptor], defaults:
 /// Whether only bits of booleans are on in the masks, one a setting byte for each preset in turn.
 fn are_boolean_masks(shape: &Shape, masks: &[u8]) -> bool
     requires { shape.now.bytes ≤ 255 }
-    ensures { IsTrue result ↔ ((k byte m : ℕ) → byte < shape.now.bytes → slice_get masks.now (k * shape.now.bytes + byte) ≡ Some m → HoldsBooleansAlone shape.now.own_bytes shape.now.booleans byte m) }
+    ensures { IsTrue result ↔ ((k byte m : ℕ) → byte < shape.now.bytes
+        → slice_get masks.now (k * shape.now.bytes + byte) ≡ Some m → HoldsBooleansAlone shape.now.own_bytes shape.now.booleans byte m) }
 {
     if shape.bytes == 0 {
         return true;
@@ -114,7 +116,7 @@ fn are_boolean_masks(shape: &Shape, masks: &[u8]) -> bool
 
 /// Whether these can be the masks of the presets among the entries, of which these are the counts.
 pub(crate) fn are_good_masks(shape: &Shape, entries: &[Descriptor], masks: &[u8]) -> bool
-    requires small { IsSmall shape.now }
+    requires small { HasSmallCounts shape.now }
     requires shape { IsShapeOf entries.now shape.now }
     ensures { IsTrue result ↔ AreGoodMasks entries.now masks.now }
 {

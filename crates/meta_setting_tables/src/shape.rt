@@ -1,5 +1,5 @@
 ghost use Rattle.std.specs.Prelude.{◌≡◌, ◌≤◌, length};
-ghost use Rattle.meta_setting_tables.specs.WellFormed.{own_byte_count, boolean_count};
+ghost use Rattle.meta_setting_tables.specs.WellFormed.{own_byte_count, described_boolean_count};
 ghost use Rattle.meta_setting_tables.specs.Shape.{IsShapeOf};
 
 use super::descriptor::Descriptor;
@@ -32,7 +32,7 @@ fn own_bytes_in(entries: &[Descriptor]) -> usize
 
 /// How many of the entries are booleans.
 fn booleans_in(entries: &[Descriptor]) -> usize
-    ensures { result ≡ boolean_count entries.now }
+    ensures { result ≡ described_boolean_count entries.now }
 {
     let mut count = 0;
     for entry in entries {

@@ -1,5 +1,6 @@
 -- One more boolean turned on in a layout.
-use Rattle.std.proofs.Common.{◌≡◌, ◌≢◌, ◌↔◌, ℕ, ◌+◌, ◌<◌, ◌/◌, ◌%◌, ◌^◌, ◌*◌, List, [], ◌∷◌, ◌++◌, length, length-append, take, drop, All, slice_get, slice_index_or, Some, zero, suc, refl, sym, ap, ◌∙◌, subst, arith, inl, inr, ◌⊎◌, ⊎_elim, Contains}
+use Rattle.std.proofs.Common.{◌≡◌, ◌≢◌, ◌↔◌, ℕ, ◌+◌, ◌<◌, ◌/◌, ◌%◌, ◌^◌, ◌*◌, List, [], ◌∷◌, ◌++◌, length, length-append, take, drop, All}
+use Rattle.std.proofs.Common.{slice_get, slice_index_or, Some, zero, suc, refl, sym, ap, ◌∙◌, subst, arith, inl, inr, ◌⊎◌, ⊎_elim, Contains}
 use Rattle.std.specs.Int.{bit_at, w8}
 use Rattle.std.proofs.lemmas.Nat.{or_lt}
 use Rattle.std.proofs.lemmas.Nat.Bits.{bit_at_set_same, bit_at_set_other, bit_at-zero}
@@ -23,7 +24,13 @@ module _ (start : ℕ) (bs : List ℕ) (b : ℕ) where
   new_on = record { boolean = b; is_on = Contains-append_right bs (b ∷ []) b (0, omega arith, refl); byte_is = refl; bit_is = refl }
 
   on_before : (byte bit : ℕ) → IsOnAt start bs byte bit → IsOnAt start (bs ++ b ∷ []) byte bit
-  on_before byte bit h = record { boolean = h.boolean; is_on = Contains-append_left bs (b ∷ []) h.boolean h.is_on; byte_is = h.byte_is; bit_is = h.bit_is }
+  on_before byte bit h = record {
+    boolean = h.boolean;
+    is_on = Contains-append_left bs (b ∷ []) h.boolean h.is_on;
+    byte_is =
+        h.byte_is;
+    bit_is = h.bit_is;
+  }
 
   -- what is on is the new boolean, or was on before
   on_after : (byte bit : ℕ) → IsOnAt start (bs ++ b ∷ []) byte bit → IsOnAt start bs byte bit ⊎ ((byte ≡ start + b / 8) × (bit ≡ b % 8))
@@ -37,7 +44,10 @@ module _ (start : ℕ) (bs : List ℕ) (b : ℕ) where
   other_byte : (byte m : ℕ) → byte ≢ start + b / 8 → HasBitsOf start bs byte m → HasBitsOf start (bs ++ b ∷ []) byte m
   other_byte byte m n h = record {
     fits = h.fits;
-    bits = λ bit l. (λ e. on_before byte bit ((h.bits bit l).0 e), λ on. ⊎_elim (λ o. (h.bits bit l).1 o) (λ o. absurd (n o.0)) (on_after byte bit on));
+    bits = λ bit l. (
+      λ e. on_before byte bit ((h.bits bit l).0 e),
+      λ on. ⊎_elim (λ o. (h.bits bit l).1 o) (λ o. absurd (n o.0)) (on_after byte bit on),
+    );
   }
 
   -- its byte gets its bit
@@ -50,14 +60,21 @@ module _ (start : ℕ) (bs : List ℕ) (b : ℕ) where
       bits : (bit : ℕ) → bit < 8 → ((bit_at (with_bit m (b % 8)) bit ≡ 1) ↔ IsOnAt start (bs ++ b ∷ []) (start + b / 8) bit)
       bits bit l =
           ⊎_elim
-          (λ s. (λ e. subst (λ z. IsOnAt start (bs ++ b ∷ []) (start + b / 8) z) (sym s) new_on, λ on. subst (λ z. bit_at (with_bit m (b % 8)) z ≡ 1) (sym s) (bit_at_set_same w8 m (b % 8) below)))
+          (λ s. (
+            λ e. subst (λ z. IsOnAt start (bs ++ b ∷ []) (start + b / 8) z) (sym s) new_on,
+            λ on. subst (λ z. bit_at (with_bit m (b % 8)) z ≡ 1) (sym s) (bit_at_set_same w8 m (b % 8) below),
+          ))
           (λ n.
-          let same = bit_at_set_other w8 m (b % 8) below bit n in
-          (λ e. on_before (start + b / 8) bit ((h.bits bit l).0 (sym same ∙ e)), λ on. same ∙ ⊎_elim (λ o. (h.bits bit l).1 o) (λ o. absurd (n o.1)) (on_after (start + b / 8) bit on)))
+          let same = bit_at_set_other w8 m (b % 8) below bit n in (
+            λ e. on_before (start + b / 8) bit ((h.bits bit l).0 (sym same ∙ e)),
+            λ on. same
+                ∙ ⊎_elim (λ o. (h.bits bit l).1 o) (λ o. absurd (n o.1)) (on_after (start + b / 8) bit on),
+          ))
           (cases_eq bit (b % 8))
 
   -- one more boolean is turned on
-  pub turned_on_more : (size : ℕ) (layout : List (ℕ × ℕ)) → start + b / 8 < size → IsLayoutOn start size bs layout → IsLayoutOn start size (bs ++ b ∷ []) (with_bit_at layout (start + b / 8) (b % 8))
+  pub turned_on_more : (size : ℕ) (layout : List (ℕ × ℕ)) → start + b / 8 < size → IsLayoutOn start size bs layout
+      → IsLayoutOn start size (bs ++ b ∷ []) (with_bit_at layout (start + b / 8) (b % 8))
   turned_on_more size layout l h = record { size_is = size_is; masks = masks; values = values }
     where
       old : ℕ × ℕ
@@ -79,12 +96,15 @@ module _ (start : ℕ) (bs : List ℕ) (b : ℕ) where
       size_is : length (with_bit_at layout (start + b / 8) (b % 8)) ≡ size
       size_is = length-set layout (start + b / 8) new ∙ h.size_is
 
-      masks : (byte : ℕ) (pair : ℕ × ℕ) → slice_get (with_bit_at layout (start + b / 8) (b % 8)) byte ≡ Some pair → HasBitsOf start (bs ++ b ∷ []) byte pair.0
+      masks : (byte : ℕ) (pair : ℕ × ℕ) → slice_get (with_bit_at layout (start + b / 8) (b % 8)) byte ≡ Some pair
+          → HasBitsOf start (bs ++ b ∷ []) byte pair.0
       masks byte pair e =
           ⊎_elim
           (λ s.
           let same = found pair (ap (slice_get (with_bit_at layout (start + b / 8) (b % 8))) (sym s) ∙ e) in
-          subst (λ z. HasBitsOf start (bs ++ b ∷ []) z pair.0) (sym s) (subst (λ (p : ℕ × ℕ). HasBitsOf start (bs ++ b ∷ []) (start + b / 8) p.0) same (own_byte old.0 (h.masks (start + b / 8) old old_at))))
+          subst (λ z. HasBitsOf start (bs ++ b ∷ []) z pair.0) (sym s)
+          (subst (λ (p : ℕ × ℕ). HasBitsOf start (bs ++ b ∷ []) (start + b / 8) p.0) same
+          (own_byte old.0 (h.masks (start + b / 8) old old_at))))
           (λ n. other_byte byte pair.0 n (h.masks byte pair (sym (get_set_other layout (start + b / 8) byte new n) ∙ e)))
           (cases_eq byte (start + b / 8))
 
@@ -108,18 +128,24 @@ no_bits start byte = record {
 pub empty_more : (start n : ℕ) (layout : List (ℕ × ℕ)) → IsLayoutOn start n [] layout → IsLayoutOn start (n + 1) [] (layout ++ (0, 0) ∷ [])
 empty_more start n layout h = record {
   size_is = length-append layout ((0, 0) ∷ []) ∙ ap (λ z. z + 1) h.size_is;
-  masks = λ byte pair e. ⊎_elim (λ old. h.masks byte pair old) (λ new. subst (λ (p : ℕ × ℕ). HasBitsOf start [] byte p.0) new.1 (no_bits start byte)) (get_pushed layout (0, 0) byte pair e);
-  values = λ byte pair e. ⊎_elim (λ old. h.values byte pair old) (λ new. subst (λ (p : ℕ × ℕ). p.1 ≡ p.0) new.1 refl) (get_pushed layout (0, 0) byte pair e);
+  masks = λ byte pair e. ⊎_elim (λ old. h.masks byte pair old)
+      (λ new. subst (λ (p : ℕ × ℕ). HasBitsOf start [] byte p.0) new.1 (no_bits start byte)) (get_pushed layout (0, 0) byte pair e);
+  values = λ byte pair e. ⊎_elim (λ old. h.values byte pair old) (λ new. subst (λ (p : ℕ × ℕ). p.1 ≡ p.0) new.1 refl)
+      (get_pushed layout (0, 0) byte pair e);
 }
 
 pub length-with_bit : (layout : List (ℕ × ℕ)) (byte bit : ℕ) → length (with_bit_at layout byte bit) ≡ length layout
-length-with_bit layout byte bit = length-set layout byte (with_bit (slice_index_or layout byte (0, 0)).0 bit, with_bit (slice_index_or layout byte (0, 0)).1 bit)
+length-with_bit layout byte bit =
+    length-set layout byte (with_bit (slice_index_or layout byte (0, 0)).0 bit, with_bit (slice_index_or layout byte (0, 0)).1 bit)
 
 -- a list that was written whole through a reference to its elements
-pub written_back : {X : Type 0} (n : ℕ) (new old : List X) → length new ≡ length old → n ≡ length old → take n (new ++ drop (length new) old) ≡ new
+pub written_back : {X : Type 0} (n : ℕ) (new old : List X) → length new ≡ length old → n ≡ length old
+    → take n (new ++ drop (length new) old) ≡ new
 written_back n new old e l =
-    ap (λ z. take n (new ++ z)) (drop_all (length new) old (omega (arith, e))) ∙ ap (take n) (append-nil new) ∙ take_all n new (omega (arith, e, l))
+    ap (λ z. take n (new ++ z)) (drop_all (length new) old (omega (arith, e))) ∙ ap (take n) (append-nil new)
+    ∙ take_all n new (omega (arith, e, l))
 
 -- the byte of a boolean of the group is one of its bytes
-pub byte_within : (g : Layout) (p : BuiltPreset) (bytes : ℕ) → IsSized g.settings g.bool_start_byte_offset g.settings_size → bytes ≡ g.settings_size → HasAll g p → All (λ b. g.bool_start_byte_offset + b / 8 < bytes) p.booleans
+pub byte_within : (g : Layout) (p : BuiltPreset) (bytes : ℕ) → IsSized g.settings g.bool_start_byte_offset g.settings_size
+    → bytes ≡ g.settings_size → HasAll g p → All (λ b. g.bool_start_byte_offset + b / 8 < bytes) p.booleans
 byte_within g p bytes sized e all = λ k d l. let below = all k d l in let size = sized.bytes in omega arith

@@ -43,23 +43,27 @@ module _ (n x : ℕ) (xs : List ℕ) (p : Pushed n xs) where
   same e =
       elim (stands_in n (firsts xs)) as (λ b. stands_in n (firsts xs) ≡ b → without x (firsts (xs ++ n ∷ [])) ≡ without x (firsts xs)) [
         | true ↦ λ t. ap (without x) (p.before t)
-        | false ↦ λ t. ap (without x) (p.first t) ∙ filter-append (λ m. not (eqb m x)) (firsts xs) (n ∷ []) ∙ ap (λ z. without x (firsts xs) ++ z) (left_out n x e) ∙ append-nil (without x (firsts xs))
+        | false ↦ λ t. ap (without x) (p.first t) ∙ filter-append (λ m. not (eqb m x)) (firsts xs) (n ∷ [])
+            ∙ ap (λ z. without x (firsts xs) ++ z) (left_out n x e) ∙ append-nil (without x (firsts xs))
       ] refl
 
   more_before : stands_in n (firsts (x ∷ xs)) ≡ true → firsts (x ∷ (xs ++ n ∷ [])) ≡ firsts (x ∷ xs)
   more_before t =
-      elim (eqb x n) as (λ b. eqb x n ≡ b → (b || stands_in n (without x (firsts xs))) ≡ true → x ∷ without x (firsts (xs ++ n ∷ [])) ≡ x ∷ without x (firsts xs)) [
+      elim (eqb x n) as (λ b. eqb x n ≡ b → (b || stands_in n (without x (firsts xs))) ≡ true
+      → x ∷ without x (firsts (xs ++ n ∷ [])) ≡ x ∷ without x (firsts xs)) [
         | true ↦ λ e s. ap (λ z. x ∷ z) (same e)
         | false ↦ λ e s. ap (λ z. x ∷ without x z) (p.before (sym (stands_without n x (firsts xs) e) ∙ s))
       ] refl t
 
   more_first : stands_in n (firsts (x ∷ xs)) ≡ false → firsts (x ∷ (xs ++ n ∷ [])) ≡ firsts (x ∷ xs) ++ n ∷ []
   more_first t =
-      elim (eqb x n) as (λ b. eqb x n ≡ b → (b || stands_in n (without x (firsts xs))) ≡ false → x ∷ without x (firsts (xs ++ n ∷ [])) ≡ x ∷ (without x (firsts xs) ++ n ∷ [])) [
+      elim (eqb x n) as (λ b. eqb x n ≡ b → (b || stands_in n (without x (firsts xs))) ≡ false
+      → x ∷ without x (firsts (xs ++ n ∷ [])) ≡ x ∷ (without x (firsts xs) ++ n ∷ [])) [
         | true ↦ λ e s. absurd (false≢true (sym s))
         | false ↦ λ e s.
             ap (λ z. x ∷ without x z) (p.first (sym (stands_without n x (firsts xs) e) ∙ s))
-            ∙ ap (λ z. x ∷ z) (filter-append (λ m. not (eqb m x)) (firsts xs) (n ∷ []) ∙ ap (λ z. without x (firsts xs) ++ z) (kept_in n x e))
+            ∙ ap (λ z. x ∷ z) (filter-append (λ m. not (eqb m x)) (firsts xs) (n ∷ [])
+            ∙ ap (λ z. without x (firsts xs) ++ z) (kept_in n x e))
       ] refl t
 
 pub pushed : (n : ℕ) (xs : List ℕ) → Pushed n xs

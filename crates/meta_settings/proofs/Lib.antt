@@ -1,15 +1,14 @@
 -- what a search tells
 -- faults
 mod Rules
-mod Valid
+pub mod Valid
 -- counts and lists
 mod Counting
 mod Firsts
 mod Bits
-mod Placing
+pub mod Placing
 mod Meaning
 mod Turning
 mod Once
 mod TurnedSets
 mod Places
-mod Everywhere

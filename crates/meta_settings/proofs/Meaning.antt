@@ -8,7 +8,8 @@ use Rattle.meta_settings.specs.Layout.{BuiltPreset}
 use Rattle.meta_settings.specs.TurnedOn.{meant_by}
 
 -- one name more
-pub meant_more : (earlier : List BuiltPreset) (args : List PresetType) (i : ℕ) (arg : PresetType) → i < length args → arg ≡ slice_index_or args i arg
+pub meant_more : (earlier : List BuiltPreset) (args : List PresetType) (i : ℕ) (arg : PresetType) → i < length args
+    → arg ≡ slice_index_or args i arg
     → flat_map (meant_by earlier) (take (i + 1) args) ≡ flat_map (meant_by earlier) (take i args) ++ meant_by earlier arg
 meant_more earlier args i arg l is =
     ap (flat_map (meant_by earlier)) (take_more args i arg l ∙ ap (λ a. take i args ++ a ∷ []) (sym is))

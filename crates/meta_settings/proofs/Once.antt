@@ -1,5 +1,6 @@
 -- The numbers, each once.
-use Rattle.std.proofs.Common.{◌≡◌, ◌≢◌, ◌<◌, ⊎_elim, ℕ, zero, suc, true, false, not, cond, eqb, List, [], ◌∷◌, length, slice_index_or, Contains, refl, sym, ◌∙◌, subst, arith}
+use Rattle.std.proofs.Common.{◌≡◌, ◌≢◌, ◌<◌, ⊎_elim, ℕ, zero, suc, true, false, not, cond, eqb, List, [], ◌∷◌, length, slice_index_or}
+use Rattle.std.proofs.Common.{Contains, refl, sym, ◌∙◌, subst, arith}
 use Rattle.std.specs.List.{filter}
 use Rattle.std.proofs.lemmas.Bool.{cases_eq, false≢true}
 use Rattle.std.proofs.lemmas.Bool.Decides.{Decides-eqb}
@@ -11,11 +12,15 @@ use Rattle.meta_settings.specs.Laws.{IsEachOnce}
 kept_from : (n y : ℕ) (xs : List ℕ) → Contains (filter (λ m. not (eqb m n)) xs) y → Contains xs y × (y ≢ n)
 kept_from n y [] c = absurd (contains_none y c)
 kept_from n y (x ∷ xs) c =
-    elim (eqb x n) as (λ b. eqb x n ≡ b → Contains (cond (not b) (x ∷ filter (λ m. not (eqb m n)) xs) (filter (λ m. not (eqb m n)) xs)) y → Contains (x ∷ xs) y × (y ≢ n)) [
+    elim (eqb x n) as (λ b. eqb x n ≡ b → Contains (cond (not b) (x ∷ filter (λ m. not (eqb m n)) xs) (filter (λ m. not (eqb m n)) xs)) y
+    → Contains (x ∷ xs) y × (y ≢ n)) [
       | true ↦ λ e c. let (at, differs) = kept_from n y xs c in (contains_behind x y xs at, differs)
       | false ↦ λ e c.
           ⊎_elim
-          (λ same. (subst (λ z. Contains (x ∷ xs) z) same (contains_first x xs), λ is. false≢true (sym e ∙ (Decides-eqb x n).1 (same ∙ is))))
+          (λ same. (
+            subst (λ z. Contains (x ∷ xs) z) same (contains_first x xs),
+            λ is. false≢true (sym e ∙ (Decides-eqb x n).1 (same ∙ is)),
+          ))
           (λ later. let (at, differs) = kept_from n y xs later in (contains_behind x y xs at, differs))
           (contains_cases x y (filter (λ m. not (eqb m n)) xs) c)
     ] refl c
@@ -24,7 +29,8 @@ kept_to : (n y : ℕ) (xs : List ℕ) → y ≢ n → Contains xs y → Contains
 kept_to n y [] differs c = absurd (contains_none y c)
 kept_to n y (x ∷ xs) differs c =
     elim (eqb x n) as (λ b. eqb x n ≡ b → Contains (cond (not b) (x ∷ filter (λ m. not (eqb m n)) xs) (filter (λ m. not (eqb m n)) xs)) y) [
-      | true ↦ λ e. ⊎_elim (λ same. absurd (differs (sym same ∙ (Decides-eqb x n).0 e))) (λ later. kept_to n y xs differs later) (contains_cases x y xs c)
+      | true ↦ λ e. ⊎_elim (λ same. absurd (differs (sym same ∙ (Decides-eqb x n).0 e))) (λ later. kept_to n y xs differs later)
+          (contains_cases x y xs c)
       | false ↦ λ e.
           ⊎_elim
           (λ same. subst (λ z. Contains (x ∷ filter (λ m. not (eqb m n)) xs) z) same (contains_first x (filter (λ m. not (eqb m n)) xs)))
@@ -69,7 +75,8 @@ once_more x xs before = pairs
 
     pairs : IsEachOnce (x ∷ filter (λ m. not (eqb m x)) (firsts xs))
     pairs zero zero d l m = absurd (omega (arith, l))
-    pairs zero (suc j) d l m = λ e. (kept_from x _ (firsts xs) (stands (filter (λ m. not (eqb m x)) (firsts xs)) j d (omega (arith, m)))).1 (sym e)
+    pairs zero (suc j) d l m = λ e. (kept_from x _ (firsts xs) (stands (filter (λ m. not (eqb m x)) (firsts xs)) j d (omega (arith, m)))).1
+        (sym e)
     pairs (suc i) zero d l m = absurd (omega (arith, l))
     pairs (suc i) (suc j) d l m = once i j d (omega (arith, l)) (omega (arith, m))
 

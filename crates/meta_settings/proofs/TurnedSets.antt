@@ -1,5 +1,6 @@
 -- The laws on what presets turn on.
-use Rattle.std.proofs.Common.{◌≡◌, ◌↔◌, ◌<◌, ◌≤◌, ◌+◌, inl, inr, ⊎_elim, ℕ, List, [], length, take, slice_get, Option, Some, Contains, sym, ap, subst, arith}
+use Rattle.std.proofs.Common.{◌≡◌, ◌↔◌, ◌<◌, ◌≤◌, ◌+◌, inl, inr, ⊎_elim, ℕ, List, [], length, take, slice_get, Option, Some, Contains, sym}
+use Rattle.std.proofs.Common.{ap, subst, arith}
 use Rattle.std.specs.Prelude.{option_map, unwrap_or}
 use Rattle.std.specs.List.{flat_map}
 use Rattle.std.proofs.lemmas.Bool.{cases_lt}
@@ -27,7 +28,8 @@ module _ (presets : List PresetDeclaration) (k : ℕ) where
   here : (p : PresetDeclaration) → slice_get presets k ≡ Some p → booleans_at (built_presets presets) k ≡ turned_on before p.args
   here p at =
       let place : length {A = BuiltPreset} [] + k ≡ k = omega arith in
-      let built = subst (λ n. slice_get (built_presets presets) n ≡ Some (built_preset (take n (built_presets presets)) p)) place (built_at [] presets k p at) in
+      let built = subst (λ n. slice_get (built_presets presets) n ≡ Some (built_preset (take n (built_presets presets)) p)) place
+      (built_at [] presets k p at) in
       ap booleans_of built
 
   -- an earlier preset is among those before
@@ -38,8 +40,11 @@ module _ (presets : List PresetDeclaration) (k : ℕ) where
   later : (q : ℕ) → k ≤ q → booleans_at before q ≡ []
   later q l = ap booleans_of (slice_get_past before q (omega (arith, length-take k (built_presets presets))))
 
-  named_from : (p : PresetDeclaration) (b : ℕ) (a : PresetType) → Contains p.args a → Contains (meant_by before a) b → IsNamedIn presets k p b
-  named_from p b (BoolSetting n) at meant = ⊎_elim (λ same. inl (subst (λ z. Contains p.args (BoolSetting z)) same at)) (λ c. absurd (contains_none b c)) (contains_cases n b [] meant)
+  named_from : (p : PresetDeclaration) (b : ℕ) (a : PresetType) → Contains p.args a → Contains (meant_by before a) b
+      → IsNamedIn presets k p b
+  named_from p b (BoolSetting n) at meant =
+      ⊎_elim (λ same. inl (subst (λ z. Contains p.args (BoolSetting z)) same at)) (λ c. absurd (contains_none b c))
+      (contains_cases n b [] meant)
   named_from p b (OtherPreset q) at meant =
       ⊎_elim
       (λ l. inr (q, at, l, subst (λ bs. Contains bs b) (earlier q l) meant))
@@ -52,7 +57,8 @@ module _ (presets : List PresetDeclaration) (k : ℕ) where
 
   pub turned_named : (b : ℕ) (p : PresetDeclaration) → slice_get presets k ≡ Some p → TurnsOn presets k b ↔ IsNamedIn presets k p b
   turned_named b p at = (
-    λ on. let (a, named, meant) = meant_from before p.args b (firsts_from (flat_map (meant_by before) p.args) b (subst (λ bs. Contains bs b) (here p at) on)) in named_from p b a named meant,
+    λ on. let (a, named, meant) = meant_from before p.args b
+        (firsts_from (flat_map (meant_by before) p.args) b (subst (λ bs. Contains bs b) (here p at) on)) in named_from p b a named meant,
     λ named. subst (λ bs. Contains bs b) (sym (here p at)) (firsts_to (flat_map (meant_by before) p.args) b (named_to p b named)),
   )
 

@@ -84,5 +84,5 @@ abbrev pub entry_count : GroupDeclaration → ℕ
 entry_count d = length d.settings + length d.presets
 
 -- the names of the entries
-abbrev pub names_of : GroupDeclaration → List (List ℕ)
-names_of d = map (λ e. e.name) (entries_of d)
+abbrev pub names_of_entries : GroupDeclaration → List (List ℕ)
+names_of_entries d = map (λ e. e.name) (entries_of d)

@@ -1,5 +1,5 @@
 -- The faults of a declared group, and the order in which they are looked for.
---     ShowsAt d g p e            the group with the number g shows the fault e at the position p
+--     GroupShowsAt d g p e       the group with the number g shows the fault e at the position p
 --     IsFirstGroupFault d g e    e is the first fault of the group
 --     IsValidGroup d             it has none
 use Rattle.std.specs.Prelude.{◌≡◌, ◌≢◌, ◌<◌, ◌≤◌, ◌-◌, ◌⊎◌, ℕ, List, [], length, slice_get, Some, IfSome, All, unwrap_or}
@@ -11,7 +11,8 @@ use Rattle.meta_settings.specs.declared.index.PresetType.{PresetType}
 use Rattle.meta_settings.specs.declared.index.PresetType.TheVariants.{BoolSetting, OtherPreset}
 use Rattle.meta_types.specs.SharedNames.{IsDuplicate, AreDistinct}
 use Rattle.meta_types.specs.FirstFault.{Key, key_at, IsFirstShown, ShowsNone}
-use Rattle.meta_settings.specs.GroupDeclaration.{GroupDeclaration, Entry, entries_of, names_of, entry_count, boolean_count, byte_count}
+use Rattle.meta_settings.specs.GroupDeclaration.{GroupDeclaration, Entry, entries_of, names_of_entries, entry_count, boolean_count}
+use Rattle.meta_settings.specs.GroupDeclaration.{byte_count}
 
 -- a byte that a description may have: one of 0x20 to 0x7e, but no double quote and no backslash
 pub record IsPlainByte (c : ℕ) : Type 0 where
@@ -46,52 +47,52 @@ abbrev pub HasTooMany : GroupDeclaration → Type 0
 HasTooMany d = (248 < boolean_count d) ⊎ (255 < byte_count d) ⊎ (65535 < entry_count d)
 
 -- the rules for an entry
-pub data Rule : Type 0 where
-  NameRule : Rule
-  DuplicateRule : Rule
-  EnumRule : Rule
-  PresetRule : Rule
+pub data EntryRule : Type 0 where
+  EntryNameRule : EntryRule
+  EntryDuplicateRule : EntryRule
+  EnumRule : EntryRule
+  PresetRule : EntryRule
 
 -- their order
-abbrev pub rule_number : Rule → ℕ
-rule_number NameRule = 0
-rule_number DuplicateRule = 1
-rule_number EnumRule = 2
-rule_number PresetRule = 3
+abbrev pub entry_rule_number : EntryRule → ℕ
+entry_rule_number EntryNameRule = 0
+entry_rule_number EntryDuplicateRule = 1
+entry_rule_number EnumRule = 2
+entry_rule_number PresetRule = 3
 
 -- where a fault is looked for: at the group's name; at the entry of a place, by a rule; in the counts of all entries
-pub data Position : Type 0 where
-  OfGroupName : Position
-  OfEntry : ℕ → Rule → Position
-  OfCounts : Position
+pub data GroupPosition : Type 0 where
+  OfGroupName : GroupPosition
+  OfEntry : ℕ → EntryRule → GroupPosition
+  OfCounts : GroupPosition
 
 -- their order: the group's name, then entry by entry, and the counts last
-abbrev pub position_key : Position → Key
-position_key OfGroupName = key_at 0 0 0
-position_key (OfEntry k rule) = key_at 1 k (rule_number rule)
-position_key OfCounts = key_at 2 0 0
+abbrev pub group_position_key : GroupPosition → Key
+group_position_key OfGroupName = key_at 0 0 0
+group_position_key (OfEntry k rule) = key_at 1 k (entry_rule_number rule)
+group_position_key OfCounts = key_at 2 0 0
 
 -- the entry x at place k breaks the rule, and e tells of it, with the numbers of the group and of the entry
-abbrev pub BreaksRule : GroupDeclaration → ℕ → ℕ → Entry → Rule → DefinitionError → Type 0
+abbrev pub BreaksRule : GroupDeclaration → ℕ → ℕ → Entry → EntryRule → DefinitionError → Type 0
 -- its name or one of its enumerators is no name, or its description needs an escape
-BreaksRule d g k x NameRule e = (e ≡ BadName (AtEntry g k)) × (IsWellNamed x → ⊥)
+BreaksRule d g k x EntryNameRule e = (e ≡ BadName (AtEntry g k)) × (IsWellNamed x → ⊥)
 -- an earlier entry has the same name or the same camel case, and the first such is told
-BreaksRule d g k x DuplicateRule e = (j : ℕ) × (e ≡ DuplicateName (AtEntry g k) j) × IsDuplicate (names_of d) k j
+BreaksRule d g k x EntryDuplicateRule e = (j : ℕ) × (e ≡ DuplicateName (AtEntry g k) j) × IsDuplicate (names_of_entries d) k j
 -- it is an enum without values, with more than 256, or with two of the same name or camel case
 BreaksRule d g k x EnumRule e = (e ≡ BadEnum g k) × (IfSome x.values IsGoodEnum → ⊥)
 -- it is a preset, and names a boolean that the group hasn't, or a preset that isn't earlier
 BreaksRule d g k x PresetRule e = (e ≡ BadPreset g k) × (AreMet (boolean_count d) (k - length d.settings) x.args → ⊥)
 
 -- what is at the position breaks the rule that is looked at there, and e tells of it
-abbrev pub ShowsAt : GroupDeclaration → ℕ → Position → DefinitionError → Type 0
-ShowsAt d g OfGroupName e = (e ≡ BadName (AtGroup g)) × (IsName d.name → ⊥)
-ShowsAt d g (OfEntry k rule) e = (x : Entry) × (slice_get (entries_of d) k ≡ Some x) × BreaksRule d g k x rule e
-ShowsAt d g OfCounts e = (e ≡ TooManySettings g (boolean_count d) (byte_count d) (entry_count d)) × HasTooMany d
+abbrev pub GroupShowsAt : GroupDeclaration → ℕ → GroupPosition → DefinitionError → Type 0
+GroupShowsAt d g OfGroupName e = (e ≡ BadName (AtGroup g)) × (IsName d.name → ⊥)
+GroupShowsAt d g (OfEntry k rule) e = (x : Entry) × (slice_get (entries_of d) k ≡ Some x) × BreaksRule d g k x rule e
+GroupShowsAt d g OfCounts e = (e ≡ TooManySettings g (boolean_count d) (byte_count d) (entry_count d)) × HasTooMany d
 
 -- e is the first fault of the group with the number g
 abbrev pub IsFirstGroupFault : GroupDeclaration → ℕ → DefinitionError → Type 0
-IsFirstGroupFault d g e = IsFirstShown position_key (ShowsAt d g) e
+IsFirstGroupFault d g e = IsFirstShown group_position_key (GroupShowsAt d g) e
 
 -- the group breaks no rule, whatever its number is
 abbrev pub IsValidGroup : GroupDeclaration → Type 0
-IsValidGroup d = (g : ℕ) → ShowsNone (ShowsAt d g)
+IsValidGroup d = (g : ℕ) → ShowsNone (GroupShowsAt d g)

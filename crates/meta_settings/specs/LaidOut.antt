@@ -18,7 +18,13 @@ placed_specific k (ANum default) = Num default
 
 -- the setting in this byte, as boolean k if it is a boolean
 abbrev pub placed_at : SettingDeclaration → ℕ → ℕ → PlacedSetting
-placed_at s byte k = record { name = s.name; description = s.description; comment = s.comment; specific = placed_specific k s.specific; byte_offset = byte }
+placed_at s byte k = record {
+  name = s.name;
+  description = s.description;
+  comment = s.comment;
+  specific = placed_specific k s.specific;
+  byte_offset = byte;
+}
 
 -- enums and numbers, each in a byte of its own, from this byte on
 abbrev pub in_bytes : ℕ → List SettingDeclaration → List PlacedSetting
@@ -36,4 +42,10 @@ laid_out d = in_bytes 0 (others_among d.settings) ++ in_bits (start_of d) 0 (boo
 
 -- the group as it is built: with its layout, and what its presets turn on
 abbrev pub built_of : GroupDeclaration → Layout
-built_of d = record { name = d.name; settings = laid_out d; bool_start_byte_offset = start_of d; settings_size = byte_count d; presets = built_presets d.presets }
+built_of d = record {
+  name = d.name;
+  settings = laid_out d;
+  bool_start_byte_offset = start_of d;
+  settings_size = byte_count d;
+  presets = built_presets d.presets;
+}

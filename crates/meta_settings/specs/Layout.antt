@@ -37,11 +37,11 @@ pub record IsSized (settings : List PlacedSetting) (start size : ℕ) : Type 0 w
   pub bytes : size ≡ start + (length (drop start settings) + 7) / 8
 
 -- the byte that a setting gives to the default bytes: a true boolean its bit, a false one 0, an enum 0, a number its default
-abbrev pub default_of : SpecificSetting → ℕ
-default_of (Bool b) = if b.default then 2 ^ b.bit_offset else 0
-default_of (Enum values) = 0
-default_of (Num default) = default
+abbrev pub specific_default : SpecificSetting → ℕ
+specific_default (Bool b) = if b.default then 2 ^ b.bit_offset else 0
+specific_default (Enum values) = 0
+specific_default (Num default) = default
 
 -- the same of a setting with its place
 abbrev pub default_byte_of : PlacedSetting → ℕ
-default_byte_of s = default_of s.specific
+default_byte_of s = specific_default s.specific

@@ -7,5 +7,5 @@ abbrev pub stands_in : ℕ → List ℕ → Bool
 stands_in n numbers = list_any (λ m. m == n) numbers
 
 -- of the numbers below 256 exactly those are marked that stand in the list
-abbrev pub Marks : List Bool → List ℕ → Type 0
-Marks marks numbers = (n : ℕ) → n < 256 → slice_index_or marks n false ≡ stands_in n numbers
+abbrev pub MarksNumbers : List Bool → List ℕ → Type 0
+MarksNumbers marks numbers = (n : ℕ) → n < 256 → slice_index_or marks n false ≡ stands_in n numbers

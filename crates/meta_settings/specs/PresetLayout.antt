@@ -1,5 +1,6 @@
 -- What a preset does to the setting bytes of a group.
-use Rattle.std.specs.Prelude.{◌≡◌, ◌↔◌, ℕ, ◌+◌, ◌*◌, ◌<◌, ◌/◌, ◌%◌, ◌^◌, List, [], unwrap_or, option_map, slice_get, slice_set, slice_index_or, Some, length, map, All, Contains}
+use Rattle.std.specs.Prelude.{◌≡◌, ◌↔◌, ℕ, ◌+◌, ◌*◌, ◌<◌, ◌/◌, ◌%◌, ◌^◌, List, [], unwrap_or, option_map, slice_get, slice_set}
+use Rattle.std.specs.Prelude.{slice_index_or, Some, length, map, All, Contains}
 use Rattle.std.specs.Int.{bit_at}
 use Rattle.std.specs.Int.RustNames.{bit_or}
 use Rattle.meta_settings.specs.Layout.{PlacedSetting, BuiltPreset, Layout, booleans_in}
@@ -35,8 +36,8 @@ abbrev pub boolean_name : List PlacedSetting → ℕ → List ℕ
 boolean_name booleans b = unwrap_or (option_map (λ s. s.name) (slice_get booleans b)) []
 
 -- the names of the booleans that a preset turns on
-abbrev pub names_on : Layout → BuiltPreset → List (List ℕ)
-names_on g p = map (boolean_name (booleans_in g)) p.booleans
+abbrev pub names_turned_on : Layout → BuiltPreset → List (List ℕ)
+names_turned_on g p = map (boolean_name (booleans_in g)) p.booleans
 
 -- m with this bit, below 8, turned on
 abbrev pub with_bit : ℕ → ℕ → ℕ
@@ -44,4 +45,5 @@ with_bit m bit = bit_or m (1 * 2 ^ bit % 256)
 
 -- the layout with this bit of this byte turned on, as mask and as value
 abbrev pub with_bit_at : List (ℕ × ℕ) → ℕ → ℕ → List (ℕ × ℕ)
-with_bit_at layout byte bit = let pair = slice_index_or layout byte (0, 0) in slice_set layout byte (with_bit pair.0 bit, with_bit pair.1 bit)
+with_bit_at layout byte bit =
+    let pair = slice_index_or layout byte (0, 0) in slice_set layout byte (with_bit pair.0 bit, with_bit pair.1 bit)

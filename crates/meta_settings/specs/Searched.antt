@@ -2,11 +2,11 @@
 use Rattle.std.specs.Prelude.{◌≡◌, ℕ, List, slice_get, Some}
 use Rattle.meta_types.specs.FirstFault.{ShowsNoneBefore}
 use Rattle.meta_settings.specs.GroupDeclaration.{GroupDeclaration, PresetDeclaration}
-use Rattle.meta_settings.specs.GroupFaults.{Position, position_key, ShowsAt, AreMet}
+use Rattle.meta_settings.specs.GroupFaults.{GroupPosition, group_position_key, GroupShowsAt, AreMet}
 
 -- nothing before the position breaks a rule
-abbrev pub IsCleanBefore : GroupDeclaration → Position → Type 0
-IsCleanBefore d p = (g : ℕ) → ShowsNoneBefore position_key (ShowsAt d g) (position_key p)
+abbrev pub IsGroupCleanBefore : GroupDeclaration → GroupPosition → Type 0
+IsGroupCleanBefore d p = (g : ℕ) → ShowsNoneBefore group_position_key (GroupShowsAt d g) (group_position_key p)
 
 -- each preset names booleans below this number and earlier presets alone
 abbrev pub AreAllMet : ℕ → List PresetDeclaration → Type 0

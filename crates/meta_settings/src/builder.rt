@@ -68,7 +68,8 @@ impl SettingGroupBuilder {
     ) -> Result<BoolSettingIndex, AllocError>
         requires { entry_count self.old + 1 < 2 ^ 32 }
         ensures number { IfOk result (λ index. index ≡ boolean_count self.old) }
-        ensures added { OnOk result (self.new ≡ with_setting self.old (record { name = name; description = description; comment = comment; specific = Bool default })) }
+        ensures added { OnOk result (self.new ≡ with_setting self.old
+            (record { name = name; description = description; comment = comment; specific = Bool default })) }
         ensures unchanged { OnErr result (self.new ≡ self.old) }
     {
         let number = self.booleans;
@@ -89,7 +90,8 @@ impl SettingGroupBuilder {
         values: Vec<Text>,
     ) -> Result<(), AllocError>
         requires { entry_count self.old + 1 < 2 ^ 32 }
-        ensures added { OnOk result (self.new ≡ with_setting self.old (record { name = name; description = description; comment = comment; specific = Enum values.items })) }
+        ensures added { OnOk result (self.new ≡ with_setting self.old
+            (record { name = name; description = description; comment = comment; specific = Enum values.items })) }
         ensures unchanged { OnErr result (self.new ≡ self.old) }
     {
         let specific = ProtoSpecificSetting::Enum(ValueNames::from(values));
@@ -107,7 +109,8 @@ impl SettingGroupBuilder {
         default: u8,
     ) -> Result<(), AllocError>
         requires { entry_count self.old + 1 < 2 ^ 32 }
-        ensures added { OnOk result (self.new ≡ with_setting self.old (record { name = name; description = description; comment = comment; specific = Num default })) }
+        ensures added { OnOk result (self.new ≡ with_setting self.old
+            (record { name = name; description = description; comment = comment; specific = Num default })) }
         ensures unchanged { OnErr result (self.new ≡ self.old) }
     {
         let specific = ProtoSpecificSetting::Num(default);
@@ -126,7 +129,8 @@ impl SettingGroupBuilder {
     ) -> Result<PresetIndex, AllocError>
         requires { entry_count self.old + 1 < 2 ^ 32 }
         ensures number { IfOk result (λ index. index ≡ length self.old.presets) }
-        ensures added { OnOk result (self.new ≡ with_preset self.old (record { name = name; description = description; args = args.items })) }
+        ensures added { OnOk result (self.new ≡ with_preset self.old
+            (record { name = name; description = description; args = args.items })) }
         ensures unchanged { OnErr result (self.new ≡ self.old) }
     {
         let number = self.presets.len() as u32;

@@ -21,7 +21,12 @@ impl<'a> Model for Entry<'a> {
 
     ghost Value = { EntryValue };
 
-    ghost view = { λ e. record { name = e.name.now; description = e.description.now; values = option_map (λ v. v.now) e.values; args = e.args.now } };
+    ghost view = { λ e. record {
+      name = e.name.now;
+      description = e.description.now;
+      values = option_map (λ v. v.now) e.values;
+      args = e.args.now;
+    } };
 }
 
 impl<'a> Entry<'a> {
@@ -31,7 +36,12 @@ impl<'a> Entry<'a> {
         values: Option<&'a ValueNames>,
         args: &'a [PresetType],
     ) -> Entry<'a>
-        ensures { result ≡ record { name = name.now; description = description.now; values = option_map (λ v. v.now) values.entry; args = args.now } }
+        ensures { result ≡ record {
+          name = name.now;
+          description = description.now;
+          values = option_map (λ v. v.now) values.entry;
+          args = args.now;
+        } }
     {
         Entry {
             name,

@@ -1,14 +1,14 @@
-ghost use Rattle.std.specs.Prelude.{◌≡◌, ◌↔◌, ◌<◌, ◌+◌, ◌-◌, ℕ, IsTrue, MatchOption, IfOk, IfNone, IfSome, All, length, take, unwrap_or, []};
-ghost use Rattle.meta_types.specs.Name.{IsName};
-ghost use Rattle.meta_types.specs.SharedNames.{AreDistinct};
-ghost use Rattle.meta_settings.specs.GroupDeclaration.{boolean_count, byte_count, entry_count, names_of};
-ghost use Rattle.meta_settings.specs.GroupFaults.{IsPlainByte, IsWellNamed, IsGoodEnum, IsMet, AreMet, NameRule, OfEntry, OfCounts, IsFirstGroupFault, IsValidGroup};
-ghost use Rattle.meta_settings.specs.Searched.{IsCleanBefore};
+ghost use Rattle.std.specs.Prelude.{◌≡◌, ◌↔◌, ◌<◌, ◌+◌, ◌-◌, ℕ, IsTrue, MatchOption, IfOk, IfNone, IfSome, All, length, take, unwrap_or};
+ghost use Rattle.std.specs.Prelude.{[]};
+ghost use Rattle.meta_settings.specs.GroupDeclaration.{boolean_count, byte_count, entry_count, names_of_entries};
+ghost use Rattle.meta_settings.specs.GroupFaults.{IsPlainByte, IsWellNamed, IsGoodEnum, IsMet, AreMet, EntryNameRule, OfEntry, OfCounts};
+ghost use Rattle.meta_settings.specs.GroupFaults.{IsFirstGroupFault, IsValidGroup};
+ghost use Rattle.meta_settings.specs.Searched.{IsGroupCleanBefore};
 
 use super::builder::SettingGroupBuilder;
 use super::entry::Entry;
 use super::index::PresetType;
-use meta_types::{DefinitionError, EarlierNames, Place, Text, is_name};
+use meta_types::{DefinitionError, EarlierNames, Place, Text, are_distinct, are_names, is_name};
 use std::alloc::{AllocError, Global};
 
 /// The most booleans that a group may have.
@@ -27,25 +27,13 @@ fn is_plain_byte(c: u8) -> bool
     (0x20..=0x7e).contains(&c) && c != b'"' && c != b'\\'
 }
 
-/// Whether a description needs no escape.
-fn is_plain(text: &Text) -> bool
+/// Whether a description needs no escape: each byte is one of 0x20 to 0x7e, but no double quote and no backslash.
+pub fn is_plain_description(text: &Text) -> bool
     ensures { IsTrue result ↔ All IsPlainByte text.now }
 {
     let bytes = text.as_bytes();
     for byte in bytes {
         if !is_plain_byte(*byte) {
-            return false;
-        }
-    }
-    true
-}
-
-/// Whether all of these are names.
-fn are_names(texts: &[Text]) -> bool
-    ensures { IsTrue result ↔ All IsName texts.now }
-{
-    for text in texts {
-        if !is_name(text) {
             return false;
         }
     }
@@ -59,26 +47,13 @@ fn is_well_named(entry: &Entry<'_>) -> bool
     if !is_name(entry.name()) {
         return false;
     }
-    if !is_plain(entry.description()) {
+    if !is_plain_description(entry.description()) {
         return false;
     }
     match entry.values() {
         Some(values) => are_names(values.as_slice()),
         None => true,
     }
-}
-
-/// Whether no two of the names are the same or have the same camel case.
-fn are_distinct(alloc: Global, names: &[Text]) -> Result<bool, AllocError>
-    ensures { IfOk result (λ b. IsTrue b ↔ AreDistinct names.now) }
-{
-    let mut earlier = EarlierNames::new(alloc);
-    for name in names {
-        if earlier.add(alloc, name)?.is_some() {
-            return Ok(false);
-        }
-    }
-    Ok(true)
 }
 
 /// Whether an enum may have these values.
@@ -136,10 +111,11 @@ fn entry_fault<'b>(
     names: &mut EarlierNames<'b>,
 ) -> Result<Option<DefinitionError>, AllocError>
     requires within { place < entry_count builder.now }
-    requires kept { names.old ≡ take place (names_of builder.now) }
-    requires clean { IsCleanBefore builder.now (OfEntry place NameRule) }
-    ensures kept { IfOk result (λ o. IfNone o (names.new ≡ take (place + 1) (names_of builder.now))) }
-    ensures fault { IfOk result (λ o. MatchOption o (IsCleanBefore builder.now (OfEntry (place + 1) NameRule)) (IsFirstGroupFault builder.now group)) }
+    requires kept { names.old ≡ take place (names_of_entries builder.now) }
+    requires clean { IsGroupCleanBefore builder.now (OfEntry place EntryNameRule) }
+    ensures kept { IfOk result (λ o. IfNone o (names.new ≡ take (place + 1) (names_of_entries builder.now))) }
+    ensures fault { IfOk result (λ o. MatchOption o (IsGroupCleanBefore builder.now
+        (OfEntry (place + 1) EntryNameRule)) (IsFirstGroupFault builder.now group)) }
 {
     let entry = builder.entry(place);
     let number = place as u64;
@@ -166,8 +142,8 @@ fn entries_fault(
     builder: &SettingGroupBuilder,
     group: u64,
 ) -> Result<Option<DefinitionError>, AllocError>
-    requires { IsCleanBefore builder.now (OfEntry 0 NameRule) }
-    ensures { IfOk result (λ o. MatchOption o (IsCleanBefore builder.now OfCounts) (IsFirstGroupFault builder.now group)) }
+    requires { IsGroupCleanBefore builder.now (OfEntry 0 EntryNameRule) }
+    ensures { IfOk result (λ o. MatchOption o (IsGroupCleanBefore builder.now OfCounts) (IsFirstGroupFault builder.now group)) }
 {
     let mut names = EarlierNames::new(alloc);
     for place in 0..builder.entry_count() {

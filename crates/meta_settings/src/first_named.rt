@@ -64,13 +64,13 @@ pub(crate) struct FirstNamed {
 
 impl Model for FirstNamed {
     ghost use Rattle.std.specs.Prelude.{List, ℕ};
-    ghost use Rattle.meta_settings.specs.Marked.{Marks};
+    ghost use Rattle.meta_settings.specs.Marked.{MarksNumbers};
 
     ghost Value = { List ℕ };
 
     ghost view = { λ f. f.numbers.items };
 
-    ghost invariant = { λ f. Marks f.is_named f.numbers.items };
+    ghost invariant = { λ f. MarksNumbers f.is_named f.numbers.items };
 }
 
 impl FirstNamed {

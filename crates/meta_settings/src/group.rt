@@ -22,7 +22,13 @@ impl Model for SettingGroup {
 
     ghost Value = { Layout };
 
-    ghost view = { λ g. record { name = g.name; settings = g.settings.items; bool_start_byte_offset = g.bool_start_byte_offset; settings_size = g.settings_size; presets = g.presets.items } };
+    ghost view = { λ g. record {
+      name = g.name;
+      settings = g.settings.items;
+      bool_start_byte_offset = g.bool_start_byte_offset;
+      settings_size = g.settings_size;
+      presets = g.presets.items;
+    } };
 
     ghost invariant = { λ g. IsSized g.settings.items g.bool_start_byte_offset g.settings_size };
 }
@@ -48,7 +54,13 @@ impl SettingGroup {
         presets: Vec<Preset>,
     ) -> SettingGroup
         requires { IsSized settings.items bool_start_byte_offset settings_size }
-        ensures { result ≡ record { name = name; settings = settings.items; bool_start_byte_offset = bool_start_byte_offset; settings_size = settings_size; presets = presets.items } }
+        ensures { result ≡ record {
+          name = name;
+          settings = settings.items;
+          bool_start_byte_offset = bool_start_byte_offset;
+          settings_size = settings_size;
+          presets = presets.items;
+        } }
     {
         SettingGroup {
             name,

@@ -18,6 +18,7 @@ mod setting;
 mod value_names;
 
 pub use builder::SettingGroupBuilder;
+pub use fault::is_plain_description;
 pub use group::SettingGroup;
 pub use index::{BoolSettingIndex, PresetIndex, PresetType};
 pub use isa::TargetIsa;

@@ -1,5 +1,5 @@
 ghost use Rattle.std.specs.Prelude.{◌≡◌, ◌<◌, ◌+◌, ◌/◌, ℕ, List, [], ◌++◌, IfOk, OnOk, All, length};
-ghost use Rattle.meta_settings.specs.PresetLayout.{HasAll, IsLayoutOf, IsLayoutOn, with_bit_at, names_on};
+ghost use Rattle.meta_settings.specs.PresetLayout.{HasAll, IsLayoutOf, IsLayoutOn, with_bit_at, names_turned_on};
 ghost use Rattle.meta_settings.specs.TurnedOn.{firsts, meant_by, turned_on, built_preset};
 ghost use Rattle.meta_settings.specs.GroupFaults.{IsMet, AreMet};
 
@@ -144,7 +144,7 @@ impl Preset {
     /// preset that is named stands for its own names in their order. `SettingGroup::has` tells whether they are of the group.
     pub fn setting_names<'a>(&'a self, group: &'a SettingGroup) -> SettingNames<'a>
         requires { HasAll group.now self.now }
-        ensures { result ≡ names_on group.now self.now }
+        ensures { result ≡ names_turned_on group.now self.now }
     {
         SettingNames {
             numbers: self.booleans(),

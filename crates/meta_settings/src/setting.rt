@@ -42,11 +42,23 @@ impl Model for Setting {
 
     ghost Value = { PlacedSetting };
 
-    ghost view = { λ s. record { name = s.name; description = s.description; comment = s.comment; specific = s.specific; byte_offset = s.byte_offset } };
+    ghost view = { λ s. record {
+      name = s.name;
+      description = s.description;
+      comment = s.comment;
+      specific = s.specific;
+      byte_offset = s.byte_offset;
+    } };
 
     ghost invariant = { λ s. (b : BoolSetting) → s.specific ≡ Bool b → b.bit_offset < 8 };
 
-    ghost inverse = { λ v. record { name = v.name; description = v.description; comment = v.comment; specific = v.specific; byte_offset = v.byte_offset } };
+    ghost inverse = { λ v. record {
+      name = v.name;
+      description = v.description;
+      comment = v.comment;
+      specific = v.specific;
+      byte_offset = v.byte_offset;
+    } };
 }
 
 /// What the setting is, where it is the boolean of this number if it is a boolean.

@@ -1,7 +1,8 @@
 ghost use Rattle.std.specs.Prelude.{◌≡◌, ◌++◌, IfOk, OnOk, string_bytes};
 ghost use Rattle.std.specs.List.{flat_map};
 ghost use Rattle.meta_types.specs.CamelCase.{camel_case_of};
-ghost use Rattle.meta_settings_text.specs.ValueText.{variant_lines, variant_text, member_line, member_text, shown_line, shown_text, read_line, read_text, arm_line, arms_text};
+ghost use Rattle.meta_settings_text.specs.ValueText.{variant_lines, variant_text, member_line, member_text, shown_line, shown_text};
+ghost use Rattle.meta_settings_text.specs.ValueText.{read_line, read_text, arm_line, arms_text};
 
 use meta_types::{Text, camel_case};
 use std::alloc::{AllocError, Global};

@@ -1,5 +1,6 @@
 ghost use Rattle.std.specs.Prelude.{◌≡◌, ◌++◌, OnOk, string_bytes};
-ghost use Rattle.meta_settings_text.specs.FlagsText.{struct_text, constructor_head, constructor_copy, constructor_text, iterator_text, flags_text, builder_function_text, display_text, hash_key_text, flags_used_text};
+ghost use Rattle.meta_settings_text.specs.FlagsText.{struct_text, constructor_head, constructor_copy, constructor_text, iterator_text};
+ghost use Rattle.meta_settings_text.specs.FlagsText.{flags_text, builder_function_text, display_text, hash_key_text, flags_used_text};
 
 use super::parent_group::ParentGroup;
 use meta_rust_lines::push_text;

@@ -5,7 +5,7 @@ use Rattle.meta_lists.proofs.Places.{get_left}
 use Rattle.meta_lists.proofs.Pairs.{pairs_imply}
 use Rattle.meta_typevar.specs.TypeSetParts.{TypeSetParts}
 use Rattle.meta_typevar.specs.Variable.{Variable}
-use Rattle.meta_typevar.specs.Registry.{variable_of, set_at}
+use Rattle.meta_typevar.specs.Registry.{variable_from, set_at}
 use Rattle.meta_typevar.specs.declared.content.TypeVarContent.{TypeVarContent}
 use Rattle.meta_operands.specs.declared.kind.OperandKind.{OperandKind}
 use Rattle.meta_operands.specs.declared.operand.Operand.{Operand}
@@ -16,7 +16,7 @@ use Rattle.meta_shared_core.specs.declared.word.Word.{Word}
 use Rattle.meta_shared_core.specs.declared.word.Word.TheVariants.{Kind, Root, Derived}
 use Rattle.meta_shared_core.specs.Roots.{IsRootWith, root_of, set_of_root}
 use Rattle.meta_shared_core.specs.Words.{Meanings, AreMeant, Grows, IsValueOf, IsKindOfWord}
-use Rattle.meta_shared_core.specs.Rows.{IsOperandOf, AreOperandsOf, IsBuilderOf, AreBuildersOf}
+use Rattle.meta_shared_core.specs.Rows.{IsOperandOf, AreOperandsOfRows, IsBuilderOf, AreBuildersOf}
 
 pub grows_more : {n k : ℕ} {old now new : List TypeVarContent} → Grows n old now → Grows k now new → Grows (n + k) old new
 grows_more {n} {k} {old} {now} {new} g h =
@@ -38,13 +38,14 @@ grown_count {n} {old} {new} g =
     let all : length new ≡ length old + length g.more = ap length g.is ∙ length-append old g.more in
     omega arith
 
-pub root_stays : {vars : List TypeVarContent} {v : ℕ} {s : TypeSetParts} (more : List TypeVarContent) → IsRootWith vars v s → IsRootWith (vars ++ more) v s
+pub root_stays : {vars : List TypeVarContent} {v : ℕ} {s : TypeSetParts} (more : List TypeVarContent) → IsRootWith vars v s
+    → IsRootWith (vars ++ more) v s
 root_stays {vars} {v} {s} more r =
     let same : slice_get (vars ++ more) v ≡ slice_get vars v = get_left vars more v r.of in
     let of : v < length vars = r.of in
     record {
       of = omega (arith, length-append vars more);
-      root = ap (variable_of v) same ∙ r.root;
+      root = ap (variable_from v) same ∙ r.root;
       set_is = ap set_at same ∙ r.set_is;
     }
 
@@ -55,31 +56,37 @@ meant_grows {new = new} {m = m} g h = record {
   roots = λ root. subst (λ xs. IsRootWith xs (root_of m.roots root) (set_of_root root)) (sym g.is) (root_stays g.more (h.roots root));
 }
 
-value_stays : {vars : List TypeVarContent} {v : Variable} {kind : OperandKind} (more : List TypeVarContent) → IsValueOf vars v kind → IsValueOf (vars ++ more) v kind
+value_stays : {vars : List TypeVarContent} {v : Variable} {kind : OperandKind} (more : List TypeVarContent) → IsValueOf vars v kind
+    → IsValueOf (vars ++ more) v kind
 value_stays {vars} more h =
     let of : h.number < length vars = h.of in
     record {
       number = h.number;
       fields_are = h.fields_are;
       of = omega (arith, length-append vars more);
-      variable = ap (variable_of h.number) (get_left vars more h.number h.of) ∙ h.variable;
+      variable = ap (variable_from h.number) (get_left vars more h.number h.of) ∙ h.variable;
       field_name = h.field_name;
       rust_type = h.rust_type;
       doc = h.doc;
     }
 
-kind_stays : (vars more : List TypeVarContent) (m : Meanings) (word : Word) (kind : OperandKind) → IsKindOfWord vars m word kind → IsKindOfWord (vars ++ more) m word kind
+kind_stays : (vars more : List TypeVarContent) (m : Meanings) (word : Word) (kind : OperandKind) → IsKindOfWord vars m word kind
+    → IsKindOfWord (vars ++ more) m word kind
 kind_stays vars more m (Kind k) kind h = h
 kind_stays vars more m (Root root) kind h = value_stays more h
 kind_stays vars more m (Derived function root) kind h = value_stays more h
 
-operand_stays : (vars more : List TypeVarContent) (m : Meanings) (row : OperandRow) (o : Operand) → IsOperandOf vars m row o → IsOperandOf (vars ++ more) m row o
+operand_stays : (vars more : List TypeVarContent) (m : Meanings) (row : OperandRow) (o : Operand) → IsOperandOf vars m row o
+    → IsOperandOf (vars ++ more) m row o
 operand_stays vars more m row o h = record { name = h.name; doc = h.doc; kind = kind_stays vars more m row.word o.kind h.kind }
 
-operands_stay : (vars more : List TypeVarContent) (m : Meanings) (rows : List OperandRow) (operands : List Operand) → AreOperandsOf vars m rows operands → AreOperandsOf (vars ++ more) m rows operands
-operands_stay vars more m rows operands h = pairs_imply (IsOperandOf vars m) (IsOperandOf (vars ++ more) m) (operand_stays vars more m) rows operands h
+operands_stay : (vars more : List TypeVarContent) (m : Meanings) (rows : List OperandRow) (operands : List Operand)
+    → AreOperandsOfRows vars m rows operands → AreOperandsOfRows (vars ++ more) m rows operands
+operands_stay vars more m rows operands h =
+    pairs_imply (IsOperandOf vars m) (IsOperandOf (vars ++ more) m) (operand_stays vars more m) rows operands h
 
-builder_stays : (vars more : List TypeVarContent) (m : Meanings) (row : Row) (b : Builder) → IsBuilderOf vars m row b → IsBuilderOf (vars ++ more) m row b
+builder_stays : (vars more : List TypeVarContent) (m : Meanings) (row : Row) (b : Builder) → IsBuilderOf vars m row b
+    → IsBuilderOf (vars ++ more) m row b
 builder_stays vars more m row b h = record {
   name = h.name;
   doc = h.doc;
@@ -90,8 +97,13 @@ builder_stays vars more m row b h = record {
   second = h.second;
 }
 
-pub operands_grow : {n : ℕ} {old new : List TypeVarContent} (m : Meanings) (rows : List OperandRow) (operands : List Operand) → Grows n old new → AreOperandsOf old m rows operands → AreOperandsOf new m rows operands
-operands_grow {old = old} m rows operands g h = subst (λ vars. AreOperandsOf vars m rows operands) (sym g.is) (operands_stay old g.more m rows operands h)
+pub operands_grow : {n : ℕ} {old new : List TypeVarContent} (m : Meanings) (rows : List OperandRow) (operands : List Operand)
+    → Grows n old new → AreOperandsOfRows old m rows operands → AreOperandsOfRows new m rows operands
+operands_grow {old = old} m rows operands g h =
+    subst (λ vars. AreOperandsOfRows vars m rows operands) (sym g.is) (operands_stay old g.more m rows operands h)
 
-pub builders_grow : {n : ℕ} {old new : List TypeVarContent} (m : Meanings) (rows : List Row) (builders : List Builder) → Grows n old new → AreBuildersOf old m rows builders → AreBuildersOf new m rows builders
-builders_grow {old = old} m rows builders g h = subst (λ vars. AreBuildersOf vars m rows builders) (sym g.is) (pairs_imply (IsBuilderOf old m) (IsBuilderOf (old ++ g.more) m) (builder_stays old g.more m) rows builders h)
+pub builders_grow : {n : ℕ} {old new : List TypeVarContent} (m : Meanings) (rows : List Row) (builders : List Builder) → Grows n old new
+    → AreBuildersOf old m rows builders → AreBuildersOf new m rows builders
+builders_grow {old = old} m rows builders g h =
+    subst (λ vars. AreBuildersOf vars m rows builders) (sym g.is)
+    (pairs_imply (IsBuilderOf old m) (IsBuilderOf (old ++ g.more) m) (builder_stays old g.more m) rows builders h)

@@ -9,7 +9,8 @@ use Rattle.meta_operands.specs.declared.kind.OperandKindFields.TheVariants.{Enti
 use Rattle.meta_shared_core.specs.declared.entities.EntityRefs.{EntityRefs}
 use Rattle.meta_shared_core.specs.declared.immediates.Immediates.{Immediates}
 use Rattle.meta_shared_core.specs.Kinds.{IsKindOf, IsEnum, AreEntities, AreImmediates, EntitiesHoldNoVariable, ImmediatesHoldNoVariable}
-use Rattle.meta_shared_core.specs.KindRows.{KindKey, key, key_of_kind, without_values, entity_keys, immediate_keys, kinds_of_entities, kinds_of_immediates, BeginWith}
+use Rattle.meta_shared_core.specs.KindRows.{KindKey, key, key_of_kind, without_values, entity_keys, immediate_keys, kinds_of_entities}
+use Rattle.meta_shared_core.specs.KindRows.{kinds_of_immediates, BeginWith}
 
 plain : (fields wanted : OperandKindFields) → without_values fields ≡ wanted → (ImmEnum [] ≡ wanted → ⊥) → fields ≡ wanted
 plain EntityRef wanted is not = is
@@ -19,20 +20,24 @@ plain (ImmEnum values) wanted is not = absurd (not is)
 plain (TypeVar v) wanted is not = is
 
 -- a kind that isn't of an enum
-of_key : (fields : OperandKindFields) (field_name rust_type : List ℕ) (kind : OperandKind) → (ImmEnum [] ≡ fields → ⊥) → key_of_kind kind ≡ key fields field_name rust_type → IsKindOf fields field_name rust_type kind
+of_key : (fields : OperandKindFields) (field_name rust_type : List ℕ) (kind : OperandKind) → (ImmEnum [] ≡ fields → ⊥)
+    → key_of_kind kind ≡ key fields field_name rust_type → IsKindOf fields field_name rust_type kind
 of_key fields field_name rust_type kind not is = record {
   fields_are = plain kind.fields fields (ap (λ (k : KindKey). k.fields) is) not;
   field_name_is = ap (λ (k : KindKey). k.field_name) is;
   rust_type_is = ap (λ (k : KindKey). k.rust_type) is;
 }
 
-entity : (field_name rust_type : List ℕ) (kind : OperandKind) → key_of_kind kind ≡ key EntityRef field_name rust_type → IsKindOf EntityRef field_name rust_type kind
+entity : (field_name rust_type : List ℕ) (kind : OperandKind) → key_of_kind kind ≡ key EntityRef field_name rust_type
+    → IsKindOf EntityRef field_name rust_type kind
 entity field_name rust_type kind = of_key EntityRef field_name rust_type kind (λ bad. cc)
 
-varargs : (field_name rust_type : List ℕ) (kind : OperandKind) → key_of_kind kind ≡ key VariableArgs field_name rust_type → IsKindOf VariableArgs field_name rust_type kind
+varargs : (field_name rust_type : List ℕ) (kind : OperandKind)
+    → key_of_kind kind ≡ key VariableArgs field_name rust_type → IsKindOf VariableArgs field_name rust_type kind
 varargs field_name rust_type kind = of_key VariableArgs field_name rust_type kind (λ bad. cc)
 
-number : (field_name rust_type : List ℕ) (kind : OperandKind) → key_of_kind kind ≡ key ImmValue field_name rust_type → IsKindOf ImmValue field_name rust_type kind
+number : (field_name rust_type : List ℕ) (kind : OperandKind) → key_of_kind kind ≡ key ImmValue field_name rust_type
+    → IsKindOf ImmValue field_name rust_type kind
 number field_name rust_type kind = of_key ImmValue field_name rust_type kind (λ bad. cc)
 
 record HasValues (fields : OperandKindFields) : Type 0 where
@@ -47,7 +52,8 @@ values_in (ImmEnum values) is = record { values = values; is = refl }
 values_in (TypeVar v) is = absurd (cc)
 
 -- a kind of an enum
-choice : (field_name rust_type : List ℕ) (kind : OperandKind) → key_of_kind kind ≡ key (ImmEnum []) field_name rust_type → IsEnum field_name rust_type kind
+choice : (field_name rust_type : List ℕ) (kind : OperandKind)
+    → key_of_kind kind ≡ key (ImmEnum []) field_name rust_type → IsEnum field_name rust_type kind
 choice field_name rust_type kind is =
     let has = values_in kind.fields (ap (λ (k : KindKey). k.fields) is) in
     record {
@@ -58,13 +64,15 @@ choice field_name rust_type kind is =
     }
 
 -- each kind has its key
-keyed : (kinds : List OperandKind) (keys : List KindKey) → map key_of_kind kinds ≡ keys → AllZip (λ (kind : OperandKind) (k : KindKey). key_of_kind kind ≡ k) kinds keys
+keyed : (kinds : List OperandKind) (keys : List KindKey) → map key_of_kind kinds ≡ keys
+    → AllZip (λ (kind : OperandKind) (k : KindKey). key_of_kind kind ≡ k) kinds keys
 keyed [] [] is = tt
 keyed [] (k ∷ keys) is = absurd (cc)
 keyed (kind ∷ kinds) [] is = absurd (cc)
 keyed (kind ∷ kinds) (k ∷ keys) is = (ap (λ ks. get_or ks 0 k) is, keyed kinds keys (ap (drop 1) is))
 
-pub are_entities : (e : EntityRefs) (all : List OperandKind) → BeginWith (kinds_of_entities e) all → map key_of_kind all ≡ entity_keys → AreEntities e
+pub are_entities : (e : EntityRefs) (all : List OperandKind) → BeginWith (kinds_of_entities e) all
+    → map key_of_kind all ≡ entity_keys → AreEntities e
 are_entities e all begin keys =
     let h0 = keyed (kinds_of_entities e ++ begin.rest) entity_keys (ap (map key_of_kind) (sym begin.is) ∙ keys) in
     let h1 = h0.1 in
@@ -115,7 +123,8 @@ entities_hold_none e are = record {
   uimm128 = ap variable_in are.uimm128.fields_are;
 }
 
-pub are_immediates : (i : Immediates) (all : List OperandKind) → BeginWith (kinds_of_immediates i) all → map key_of_kind all ≡ immediate_keys → AreImmediates i
+pub are_immediates : (i : Immediates) (all : List OperandKind) → BeginWith (kinds_of_immediates i) all
+    → map key_of_kind all ≡ immediate_keys → AreImmediates i
 are_immediates i all begin keys =
     let h0 = keyed (kinds_of_immediates i ++ begin.rest) immediate_keys (ap (map key_of_kind) (sym begin.is) ∙ keys) in
     let h1 = h0.1 in

@@ -5,7 +5,7 @@ mod Parts
 mod Added
 mod SettingRows
 mod Rooted
-pub mod Growing
+mod Growing
 pub mod Made
 pub mod Fitting
 pub mod Named

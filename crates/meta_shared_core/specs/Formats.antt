@@ -1,61 +1,67 @@
 -- The formats of the shared instruction set.
---     place_of w                 the place of the format w among the 36, from 0
+--     format_place w             the place of the format w among the 36, from 0
 --     id_of f w                  its number
 --     name_at w                  its name
 --     format_of imm entities row      the format that a row describes
 --     AreFormatsOf n f           each number is below n
-use Rattle.std.specs.Prelude.{◌≡◌, ℕ, ◌+◌, ◌<◌, ◌^◌, ◌&&◌, nat_lt, Bool, true, false, List, [], ◌∷◌, ◌++◌, Option, None, Some, length, map, take, slice_get, codes, count_by}
+use Rattle.std.specs.Prelude.{◌≡◌, ℕ, ◌+◌, ◌<◌, ◌^◌, ◌&&◌, nat_lt, Bool, true, false, List, [], ◌∷◌, ◌++◌, Option, None, Some, length, map}
+use Rattle.std.specs.Prelude.{take, slice_get, codes, count_by}
 use Rattle.std.specs.List.{list_all}
-use Rattle.meta_operands.specs.Format.{empty_format, with_field, built_of, CanDesignate}
+use Rattle.meta_operands.specs.Format.{empty_format, with_field, built_format, CanDesignate}
 use Rattle.meta_operands.specs.declared.format.InstructionFormat.{InstructionFormat}
 use Rattle.meta_shared_core.specs.Kinds.{kind_of}
 use Rattle.meta_shared_core.specs.declared.entities.EntityRefs.{EntityRefs}
 use Rattle.meta_shared_core.specs.declared.immediates.Immediates.{Immediates}
 use Rattle.meta_shared_core.specs.declared.format.Format.{Format}
-use Rattle.meta_shared_core.specs.declared.format.Format.TheVariants.{Unary, UnaryImm, UnaryIeee16, UnaryIeee32, UnaryIeee64, UnaryConst, UnaryGlobalValue, Binary, BinaryImm8, Ternary, TernaryImm8, MultiAry, NullAry, Shuffle, IntCompare, FloatCompare, Jump, Brif, BranchTable, Call, CallIndirect, TryCall, TryCallIndirect, FuncAddr, AtomicRmw, AtomicCas, Load, LoadNoOffset, Store, StoreNoOffset, StackAddr, DynamicStackAddr, Trap, CondTrap, IntAddTrap, ExceptionHandlerAddress}
+use Rattle.meta_shared_core.specs.declared.format.Format.TheVariants.{Unary, UnaryImm, UnaryIeee16, UnaryIeee32, UnaryIeee64, UnaryConst}
+use Rattle.meta_shared_core.specs.declared.format.Format.TheVariants.{UnaryGlobalValue, Binary, BinaryImm8, Ternary, TernaryImm8, MultiAry}
+use Rattle.meta_shared_core.specs.declared.format.Format.TheVariants.{NullAry, Shuffle, IntCompare, FloatCompare, Jump, Brif, BranchTable}
+use Rattle.meta_shared_core.specs.declared.format.Format.TheVariants.{Call, CallIndirect, TryCall, TryCallIndirect, FuncAddr, AtomicRmw}
+use Rattle.meta_shared_core.specs.declared.format.Format.TheVariants.{AtomicCas, Load, LoadNoOffset, Store, StoreNoOffset, StackAddr}
+use Rattle.meta_shared_core.specs.declared.format.Format.TheVariants.{DynamicStackAddr, Trap, CondTrap, IntAddTrap, ExceptionHandlerAddress}
 use Rattle.meta_shared_core.specs.declared.formats.Formats.{Formats}
 use Rattle.meta_shared_core.specs.declared.formats.FormatRow.{FormatRow}
-use Rattle.meta_shared_core.specs.declared.formats.Part.{Part}
-use Rattle.meta_shared_core.specs.declared.formats.Part.TheVariants.{Value, Varargs, Block, RawBlock, Immediate}
+use Rattle.meta_shared_core.specs.declared.formats.FormatPart.{FormatPart}
+use Rattle.meta_shared_core.specs.declared.formats.FormatPart.TheVariants.{Value, Varargs, Block, RawBlock, Immediate}
 
 -- the place of a format among the 36
-abbrev pub place_of : Format → ℕ
-place_of Unary = 0
-place_of UnaryImm = 1
-place_of UnaryIeee16 = 2
-place_of UnaryIeee32 = 3
-place_of UnaryIeee64 = 4
-place_of UnaryConst = 5
-place_of UnaryGlobalValue = 6
-place_of Binary = 7
-place_of BinaryImm8 = 8
-place_of Ternary = 9
-place_of TernaryImm8 = 10
-place_of MultiAry = 11
-place_of NullAry = 12
-place_of Shuffle = 13
-place_of IntCompare = 14
-place_of FloatCompare = 15
-place_of Jump = 16
-place_of Brif = 17
-place_of BranchTable = 18
-place_of Call = 19
-place_of CallIndirect = 20
-place_of TryCall = 21
-place_of TryCallIndirect = 22
-place_of FuncAddr = 23
-place_of AtomicRmw = 24
-place_of AtomicCas = 25
-place_of Load = 26
-place_of LoadNoOffset = 27
-place_of Store = 28
-place_of StoreNoOffset = 29
-place_of StackAddr = 30
-place_of DynamicStackAddr = 31
-place_of Trap = 32
-place_of CondTrap = 33
-place_of IntAddTrap = 34
-place_of ExceptionHandlerAddress = 35
+abbrev pub format_place : Format → ℕ
+format_place Unary = 0
+format_place UnaryImm = 1
+format_place UnaryIeee16 = 2
+format_place UnaryIeee32 = 3
+format_place UnaryIeee64 = 4
+format_place UnaryConst = 5
+format_place UnaryGlobalValue = 6
+format_place Binary = 7
+format_place BinaryImm8 = 8
+format_place Ternary = 9
+format_place TernaryImm8 = 10
+format_place MultiAry = 11
+format_place NullAry = 12
+format_place Shuffle = 13
+format_place IntCompare = 14
+format_place FloatCompare = 15
+format_place Jump = 16
+format_place Brif = 17
+format_place BranchTable = 18
+format_place Call = 19
+format_place CallIndirect = 20
+format_place TryCall = 21
+format_place TryCallIndirect = 22
+format_place FuncAddr = 23
+format_place AtomicRmw = 24
+format_place AtomicCas = 25
+format_place Load = 26
+format_place LoadNoOffset = 27
+format_place Store = 28
+format_place StoreNoOffset = 29
+format_place StackAddr = 30
+format_place DynamicStackAddr = 31
+format_place Trap = 32
+format_place CondTrap = 33
+format_place IntAddTrap = 34
+format_place ExceptionHandlerAddress = 35
 
 -- its number
 abbrev pub id_of : Formats → Format → ℕ
@@ -138,7 +144,7 @@ format_names =
     []
 
 -- the format with one more part
-abbrev pub with_part : Immediates → EntityRefs → InstructionFormat → Part → InstructionFormat
+abbrev pub with_part : Immediates → EntityRefs → InstructionFormat → FormatPart → InstructionFormat
 with_part imm entities f Value = record f { num_value_operands = f.num_value_operands + 1 }
 with_part imm entities f Varargs = record f { has_value_list = true }
 with_part imm entities f Block = record f { num_block_operands = f.num_block_operands + 1 }
@@ -146,7 +152,7 @@ with_part imm entities f RawBlock = record f { num_raw_block_operands = f.num_ra
 with_part imm entities f (Immediate kind) = with_field f (kind_of imm entities kind)
 
 -- with all these, one after the other
-abbrev pub parts_added : Immediates → EntityRefs → InstructionFormat → List Part → InstructionFormat
+abbrev pub parts_added : Immediates → EntityRefs → InstructionFormat → List FormatPart → InstructionFormat
 parts_added imm entities f [] = f
 parts_added imm entities f (part ∷ parts) = parts_added imm entities (with_part imm entities f part) parts
 
@@ -157,13 +163,13 @@ designating f (Some place) = record f { typevar_operand = Some place }
 
 -- the format that a row describes
 abbrev pub format_of : Immediates → EntityRefs → FormatRow → InstructionFormat
-format_of imm entities row = built_of (designating (parts_added imm entities (empty_format row.name.now) row.parts.now) row.designated)
+format_of imm entities row = built_format (designating (parts_added imm entities (empty_format row.name.now) row.parts.now) row.designated)
 
 abbrev pub formats_of : Immediates → EntityRefs → List FormatRow → List InstructionFormat
 formats_of imm entities rows = map (format_of imm entities) rows
 
 -- whether a part is a value
-abbrev pub is_value : Part → Bool
+abbrev pub is_value : FormatPart → Bool
 is_value Value = true
 is_value Varargs = false
 is_value Block = false
@@ -190,7 +196,7 @@ format_name format = format.name
 
 -- the name that stands at the place of a format
 abbrev pub name_at : Format → Option (List ℕ)
-name_at format = slice_get format_names (place_of format)
+name_at format = slice_get format_names (format_place format)
 
 -- the rows have the names of the formats, and each can be built
 pub record AreFormatRows (rows : List FormatRow) : Type 0 where
@@ -229,7 +235,7 @@ pub record AreNumbered (first count : ℕ) (ids : List ℕ) : Type 0 where
 
 -- the numbers count on from the first in the order of the names
 abbrev pub AreNumberedFrom : ℕ → Formats → Type 0
-AreNumberedFrom first f = (format : Format) → id_of f format ≡ first + place_of format
+AreNumberedFrom first f = (format : Format) → id_of f format ≡ first + format_place format
 
 -- each number is below n
 abbrev pub AreFormatsOf : ℕ → Formats → Type 0

@@ -7,7 +7,7 @@ use Rattle.meta_operands.specs.Kind.{doc_of_kind}
 use Rattle.meta_operands.specs.declared.kind.OperandKind.{OperandKind}
 use Rattle.meta_operands.specs.declared.kind.OperandKindFields.{OperandKindFields}
 use Rattle.meta_operands.specs.declared.kind.OperandKindFields.TheVariants.{EntityRef, VariableArgs, ImmValue, ImmEnum, TypeVar}
-use Rattle.meta_shared_core.specs.Kinds.{values_of}
+use Rattle.meta_shared_core.specs.Kinds.{pairs_as_values}
 use Rattle.meta_shared_core.specs.declared.entities.EntityRefs.{EntityRefs}
 use Rattle.meta_shared_core.specs.declared.immediates.Immediates.{Immediates}
 use Rattle.meta_shared_core.specs.declared.kind_rows.Class.{Class}
@@ -19,7 +19,7 @@ abbrev pub fields_of : Class → OperandKindFields
 fields_of Entity = EntityRef
 fields_of Varargs = VariableArgs
 fields_of Number = ImmValue
-fields_of (Choice pairs) = ImmEnum (values_of pairs.now)
+fields_of (Choice pairs) = ImmEnum (pairs_as_values pairs.now)
 
 -- the kind is what the row says
 pub record IsKindOfRow (row : KindRow) (kind : OperandKind) : Type 0 where
@@ -92,10 +92,12 @@ pub record AreImmediateRows (rows : List KindRow) : Type 0 where
 
 -- the kinds in the order of the tables
 abbrev pub kinds_of_entities : EntityRefs → List OperandKind
-kinds_of_entities e = e.block_call ∷ e.block_then ∷ e.block_else ∷ e.raw_block ∷ e.stack_slot ∷ e.dynamic_stack_slot ∷ e.global_value ∷ e.sig_ref ∷ e.func_ref ∷ e.jump_table ∷ e.exception_table ∷ e.varargs ∷ e.pool_constant ∷ e.uimm128 ∷ []
+kinds_of_entities e = e.block_call ∷ e.block_then ∷ e.block_else ∷ e.raw_block ∷ e.stack_slot ∷ e.dynamic_stack_slot
+    ∷ e.global_value ∷ e.sig_ref ∷ e.func_ref ∷ e.jump_table ∷ e.exception_table ∷ e.varargs ∷ e.pool_constant ∷ e.uimm128 ∷ []
 
 abbrev pub kinds_of_immediates : Immediates → List OperandKind
-kinds_of_immediates i = i.imm64 ∷ i.uimm8 ∷ i.offset32 ∷ i.ieee16 ∷ i.ieee32 ∷ i.ieee64 ∷ i.intcc ∷ i.floatcc ∷ i.memflags ∷ i.trapcode ∷ i.atomic_rmw_op ∷ []
+kinds_of_immediates i = i.imm64 ∷ i.uimm8 ∷ i.offset32 ∷ i.ieee16 ∷ i.ieee32 ∷ i.ieee64 ∷ i.intcc ∷ i.floatcc
+    ∷ i.memflags ∷ i.trapcode ∷ i.atomic_rmw_op ∷ []
 
 -- the list begins with these
 pub record BeginWith (front all : List OperandKind) : Type 0 where

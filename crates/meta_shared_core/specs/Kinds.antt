@@ -12,15 +12,18 @@ use Rattle.meta_operands.specs.declared.kind.OperandKindFields.TheVariants.{Enti
 use Rattle.meta_shared_core.specs.declared.entities.EntityRefs.{EntityRefs}
 use Rattle.meta_shared_core.specs.declared.immediates.Immediates.{Immediates}
 use Rattle.meta_shared_core.specs.declared.kind.Kind.{Kind}
-use Rattle.meta_shared_core.specs.declared.kind.Kind.TheVariants.{BlockCall, BlockThen, BlockElse, RawBlock, StackSlot, DynamicStackSlot, GlobalValue, SigRef, FuncRef, JumpTable, ExceptionTable, Varargs, PoolConstant, Uimm128, Imm64, Uimm8, Offset32, Ieee16, Ieee32, Ieee64, Intcc, Floatcc, Memflags, Trapcode, AtomicRmwOp}
+use Rattle.meta_shared_core.specs.declared.kind.Kind.TheVariants.{BlockCall, BlockThen, BlockElse, RawBlock, StackSlot, DynamicStackSlot}
+use Rattle.meta_shared_core.specs.declared.kind.Kind.TheVariants.{GlobalValue, SigRef, FuncRef, JumpTable, ExceptionTable, Varargs}
+use Rattle.meta_shared_core.specs.declared.kind.Kind.TheVariants.{PoolConstant, Uimm128, Imm64, Uimm8, Offset32, Ieee16, Ieee32, Ieee64}
+use Rattle.meta_shared_core.specs.declared.kind.Kind.TheVariants.{Intcc, Floatcc, Memflags, Trapcode, AtomicRmwOp}
 
 -- the values of an enum, put in one after the other
 abbrev pub with_values : List (Bor (List ℕ) × Bor (List ℕ)) → EnumEntries → EnumEntries
 with_values [] es = es
 with_values (pair ∷ pairs) es = with_values pairs (with_value es pair.0.now pair.1.now)
 
-abbrev pub values_of : List (Bor (List ℕ) × Bor (List ℕ)) → EnumEntries
-values_of pairs = with_values pairs []
+abbrev pub pairs_as_values : List (Bor (List ℕ) × Bor (List ℕ)) → EnumEntries
+pairs_as_values pairs = with_values pairs []
 
 -- a kind with this field name, Rust type and documentation
 pub record IsKind (field_name rust_type : List ℕ) (fields : OperandKindFields) (doc : List ℕ) (kind : OperandKind) : Type 0 where

@@ -1,5 +1,5 @@
 -- The root variables.
---     place_of w               the place of the root w among the 50, from 0
+--     root_place w             the place of the root w among the 50, from 0
 --     root_of r w              its number
 --     set_of_root w            its set
 --     AreRoots vars r          each is a variable without a parent, with its set
@@ -9,61 +9,65 @@ use Rattle.meta_typevar.specs.Variable.{underived}
 use Rattle.meta_typevar.specs.Registry.{variable_at, sets_of}
 use Rattle.meta_typevar.specs.declared.content.TypeVarContent.{TypeVarContent}
 use Rattle.meta_shared_core.specs.declared.root.Root.{Root}
-use Rattle.meta_shared_core.specs.declared.root.Root.TheVariants.{ST1, ST2, I32, A1, A2, V1, B1, B2, Int1, Int4, IxN, I8, F16, F32, F64, F128, Int2, NarrowInt, NarrowScalar, IB, Truthy, AtomicMem, IntTo1, IntTo2, Int3, ISwappable, WideInt, V2, Any, Bits, Mem, IExt8, IExt16, I32_64, IExt32, I16x8, I32x4, I64x2, Tx16, I16or32, Float, W, N, FloatScalar, F64x2, F32x4, IntTo3, FloatTo, V3, MemTo}
+use Rattle.meta_shared_core.specs.declared.root.Root.TheVariants.{ST1, ST2, I32, A1, A2, V1, B1, B2, Int1, Int4, IxN, I8, F16, F32, F64}
+use Rattle.meta_shared_core.specs.declared.root.Root.TheVariants.{F128, Int2, NarrowInt, NarrowScalar, IB, Truthy, AtomicMem, IntTo1}
+use Rattle.meta_shared_core.specs.declared.root.Root.TheVariants.{IntTo2, Int3, ISwappable, WideInt, V2, Any, Bits, Mem, IExt8, IExt16}
+use Rattle.meta_shared_core.specs.declared.root.Root.TheVariants.{I32_64, IExt32, I16x8, I32x4, I64x2, Tx16, I16or32, Float, W, N}
+use Rattle.meta_shared_core.specs.declared.root.Root.TheVariants.{FloatScalar, F64x2, F32x4, IntTo3, FloatTo, V3, MemTo}
 use Rattle.meta_shared_core.specs.declared.roots.Roots.{Roots}
 
 -- the place of a root among the 50
-abbrev pub place_of : Root → ℕ
-place_of ST1 = 0
-place_of ST2 = 1
-place_of I32 = 2
-place_of A1 = 3
-place_of A2 = 4
-place_of V1 = 5
-place_of B1 = 6
-place_of B2 = 7
-place_of Int1 = 8
-place_of Int4 = 9
-place_of IxN = 10
-place_of I8 = 11
-place_of F16 = 12
-place_of F32 = 13
-place_of F64 = 14
-place_of F128 = 15
-place_of Int2 = 16
-place_of NarrowInt = 17
-place_of NarrowScalar = 18
-place_of IB = 19
-place_of Truthy = 20
-place_of AtomicMem = 21
-place_of IntTo1 = 22
-place_of IntTo2 = 23
-place_of Int3 = 24
-place_of ISwappable = 25
-place_of WideInt = 26
-place_of V2 = 27
-place_of Any = 28
-place_of Bits = 29
-place_of Mem = 30
-place_of IExt8 = 31
-place_of IExt16 = 32
-place_of I32_64 = 33
-place_of IExt32 = 34
-place_of I16x8 = 35
-place_of I32x4 = 36
-place_of I64x2 = 37
-place_of Tx16 = 38
-place_of I16or32 = 39
-place_of Float = 40
-place_of W = 41
-place_of N = 42
-place_of FloatScalar = 43
-place_of F64x2 = 44
-place_of F32x4 = 45
-place_of IntTo3 = 46
-place_of FloatTo = 47
-place_of V3 = 48
-place_of MemTo = 49
+abbrev pub root_place : Root → ℕ
+root_place ST1 = 0
+root_place ST2 = 1
+root_place I32 = 2
+root_place A1 = 3
+root_place A2 = 4
+root_place V1 = 5
+root_place B1 = 6
+root_place B2 = 7
+root_place Int1 = 8
+root_place Int4 = 9
+root_place IxN = 10
+root_place I8 = 11
+root_place F16 = 12
+root_place F32 = 13
+root_place F64 = 14
+root_place F128 = 15
+root_place Int2 = 16
+root_place NarrowInt = 17
+root_place NarrowScalar = 18
+root_place IB = 19
+root_place Truthy = 20
+root_place AtomicMem = 21
+root_place IntTo1 = 22
+root_place IntTo2 = 23
+root_place Int3 = 24
+root_place ISwappable = 25
+root_place WideInt = 26
+root_place V2 = 27
+root_place Any = 28
+root_place Bits = 29
+root_place Mem = 30
+root_place IExt8 = 31
+root_place IExt16 = 32
+root_place I32_64 = 33
+root_place IExt32 = 34
+root_place I16x8 = 35
+root_place I32x4 = 36
+root_place I64x2 = 37
+root_place Tx16 = 38
+root_place I16or32 = 39
+root_place Float = 40
+root_place W = 41
+root_place N = 42
+root_place FloatScalar = 43
+root_place F64x2 = 44
+root_place F32x4 = 45
+root_place IntTo3 = 46
+root_place FloatTo = 47
+root_place V3 = 48
+root_place MemTo = 49
 
 -- its number
 abbrev pub root_of : Roots → Root → ℕ
@@ -121,8 +125,8 @@ root_of r MemTo = r.tv_memto
 abbrev pub set : List ℕ → List ℕ → List ℕ → List ℕ → TypeSetParts
 set lanes dynamic_lanes ints floats = record { lanes = lanes; dynamic_lanes = dynamic_lanes; ints = ints; floats = floats }
 
-abbrev pub one : List ℕ
-one = 1 ∷ []
+abbrev pub scalars_alone : List ℕ
+scalars_alone = 1 ∷ []
 
 abbrev pub vectors : List ℕ
 vectors = 2 ∷ 4 ∷ 8 ∷ 16 ∷ 32 ∷ 64 ∷ 128 ∷ 256 ∷ []
@@ -138,41 +142,41 @@ all_ints = 8 ∷ all_floats
 
 -- the set of a root: lanes, dynamic lanes, ints, floats
 abbrev pub set_of_root : Root → TypeSetParts
-set_of_root ST1 = set one [] all_ints []
-set_of_root ST2 = set one [] all_ints []
-set_of_root I32 = set one [] (32 ∷ []) []
-set_of_root A1 = set one [] (32 ∷ 64 ∷ []) []
-set_of_root A2 = set one [] (32 ∷ 64 ∷ []) []
+set_of_root ST1 = set scalars_alone [] all_ints []
+set_of_root ST2 = set scalars_alone [] all_ints []
+set_of_root I32 = set scalars_alone [] (32 ∷ []) []
+set_of_root A1 = set scalars_alone [] (32 ∷ 64 ∷ []) []
+set_of_root A2 = set scalars_alone [] (32 ∷ 64 ∷ []) []
 set_of_root V1 = set vectors vectors all_ints all_floats
 set_of_root B1 = set (16 ∷ []) [] (8 ∷ []) []
 set_of_root B2 = set (16 ∷ []) [] (8 ∷ []) []
 set_of_root Int1 = set all_lanes [] all_ints []
 set_of_root Int4 = set all_lanes [] all_ints []
 set_of_root IxN = set vectors [] all_ints []
-set_of_root I8 = set one [] (8 ∷ []) []
-set_of_root F16 = set one [] [] (16 ∷ [])
-set_of_root F32 = set one [] [] (32 ∷ [])
-set_of_root F64 = set one [] [] (64 ∷ [])
-set_of_root F128 = set one [] [] (128 ∷ [])
+set_of_root I8 = set scalars_alone [] (8 ∷ []) []
+set_of_root F16 = set scalars_alone [] [] (16 ∷ [])
+set_of_root F32 = set scalars_alone [] [] (32 ∷ [])
+set_of_root F64 = set scalars_alone [] [] (64 ∷ [])
+set_of_root F128 = set scalars_alone [] [] (128 ∷ [])
 set_of_root Int2 = set all_lanes vectors all_ints []
-set_of_root NarrowInt = set one [] (8 ∷ 16 ∷ 32 ∷ 64 ∷ []) []
-set_of_root NarrowScalar = set one [] (8 ∷ 16 ∷ 32 ∷ 64 ∷ []) []
-set_of_root IB = set one [] all_ints []
-set_of_root Truthy = set one [] all_ints []
-set_of_root AtomicMem = set one [] all_ints []
-set_of_root IntTo1 = set one [] all_ints []
-set_of_root IntTo2 = set one [] all_ints []
-set_of_root Int3 = set one [] all_ints []
-set_of_root ISwappable = set one [] (16 ∷ 32 ∷ 64 ∷ 128 ∷ []) []
-set_of_root WideInt = set one [] (16 ∷ 32 ∷ 64 ∷ 128 ∷ []) []
+set_of_root NarrowInt = set scalars_alone [] (8 ∷ 16 ∷ 32 ∷ 64 ∷ []) []
+set_of_root NarrowScalar = set scalars_alone [] (8 ∷ 16 ∷ 32 ∷ 64 ∷ []) []
+set_of_root IB = set scalars_alone [] all_ints []
+set_of_root Truthy = set scalars_alone [] all_ints []
+set_of_root AtomicMem = set scalars_alone [] all_ints []
+set_of_root IntTo1 = set scalars_alone [] all_ints []
+set_of_root IntTo2 = set scalars_alone [] all_ints []
+set_of_root Int3 = set scalars_alone [] all_ints []
+set_of_root ISwappable = set scalars_alone [] (16 ∷ 32 ∷ 64 ∷ 128 ∷ []) []
+set_of_root WideInt = set scalars_alone [] (16 ∷ 32 ∷ 64 ∷ 128 ∷ []) []
 set_of_root V2 = set vectors [] all_ints all_floats
 set_of_root Any = set all_lanes [] all_ints all_floats
 set_of_root Bits = set all_lanes [] all_ints all_floats
 set_of_root Mem = set all_lanes vectors all_ints all_floats
-set_of_root IExt8 = set one [] (16 ∷ 32 ∷ 64 ∷ []) []
-set_of_root IExt16 = set one [] (32 ∷ 64 ∷ []) []
-set_of_root I32_64 = set one [] (32 ∷ 64 ∷ []) []
-set_of_root IExt32 = set one [] (64 ∷ []) []
+set_of_root IExt8 = set scalars_alone [] (16 ∷ 32 ∷ 64 ∷ []) []
+set_of_root IExt16 = set scalars_alone [] (32 ∷ 64 ∷ []) []
+set_of_root I32_64 = set scalars_alone [] (32 ∷ 64 ∷ []) []
+set_of_root IExt32 = set scalars_alone [] (64 ∷ []) []
 set_of_root I16x8 = set (8 ∷ []) [] (16 ∷ []) []
 set_of_root I32x4 = set (4 ∷ []) [] (32 ∷ []) []
 set_of_root I64x2 = set (2 ∷ []) [] (64 ∷ []) []
@@ -181,12 +185,12 @@ set_of_root I16or32 = set (4 ∷ 8 ∷ []) [] (16 ∷ 32 ∷ []) []
 set_of_root Float = set all_lanes vectors [] all_floats
 set_of_root W = set (2 ∷ 4 ∷ 8 ∷ []) (2 ∷ 4 ∷ 8 ∷ []) (16 ∷ 32 ∷ 64 ∷ []) []
 set_of_root N = set (2 ∷ 4 ∷ 8 ∷ 16 ∷ []) (2 ∷ 4 ∷ 8 ∷ 16 ∷ []) (8 ∷ 16 ∷ 32 ∷ []) []
-set_of_root FloatScalar = set one [] [] all_floats
+set_of_root FloatScalar = set scalars_alone [] [] all_floats
 set_of_root F64x2 = set (2 ∷ []) [] [] (64 ∷ [])
 set_of_root F32x4 = set (4 ∷ []) [] [] (32 ∷ [])
 set_of_root IntTo3 = set all_lanes [] all_ints []
 set_of_root FloatTo = set all_lanes [] [] all_floats
-set_of_root V3 = set one vectors all_ints all_floats
+set_of_root V3 = set scalars_alone vectors all_ints all_floats
 set_of_root MemTo = set all_lanes vectors all_ints all_floats
 
 -- v is a variable without a parent, and has the set s
@@ -201,4 +205,4 @@ AreRoots vars r = (root : Root) → IsRootWith vars (root_of r root) (set_of_roo
 
 -- the roots are numbered in the order of their names
 abbrev pub AreNumberedRoots : Roots → Type 0
-AreNumberedRoots r = (root : Root) → root_of r root ≡ place_of root
+AreNumberedRoots r = (root : Root) → root_of r root ≡ root_place root

@@ -20,7 +20,8 @@ use Rattle.meta_shared_core.specs.Words.{Meanings, IsKindOfWord, is_derived, is_
 use Rattle.meta_shared_core.specs.declared.format.Format.{Format}
 use Rattle.meta_shared_core.specs.declared.formats.Formats.{Formats}
 use Rattle.meta_shared_core.specs.declared.row.Mark.{Mark}
-use Rattle.meta_shared_core.specs.declared.row.Mark.TheVariants.{Branch, Terminator, Call, Return, Load, Store, Trap, OtherEffect, Idempotent, ImmMethod}
+use Rattle.meta_shared_core.specs.declared.row.Mark.TheVariants.{Branch, Terminator, Call, Return, Load, Store, Trap, OtherEffect}
+use Rattle.meta_shared_core.specs.declared.row.Mark.TheVariants.{Idempotent, ImmMethod}
 use Rattle.meta_shared_core.specs.declared.row.OperandRow.{OperandRow}
 use Rattle.meta_shared_core.specs.declared.row.Row.{Row}
 
@@ -53,16 +54,16 @@ pub record IsOperandOf (vars : List TypeVarContent) (m : Meanings) (row : Operan
   pub kind : IsKindOfWord vars m row.word o.kind
 
 -- the operands are what the rows say, in order
-abbrev pub AreOperandsOf : List TypeVarContent → Meanings → List OperandRow → List Operand → Type 0
-AreOperandsOf vars m rows operands = AllZip (IsOperandOf vars m) rows operands
+abbrev pub AreOperandsOfRows : List TypeVarContent → Meanings → List OperandRow → List Operand → Type 0
+AreOperandsOfRows vars m rows operands = AllZip (IsOperandOf vars m) rows operands
 
 -- the instruction is what the row says
 pub record IsBuilderOf (vars : List TypeVarContent) (m : Meanings) (row : Row) (b : Builder) : Type 0 where
   pub name : b.name ≡ row.name.now
   pub doc : b.doc ≡ row.doc.now
   pub format : b.format ≡ id_of m.formats row.format
-  pub inputs : AreOperandsOf vars m row.inputs.now (inputs_of b)
-  pub outputs : AreOperandsOf vars m row.outputs.now (outputs_of b)
+  pub inputs : AreOperandsOfRows vars m row.inputs.now (inputs_of b)
+  pub outputs : AreOperandsOfRows vars m row.outputs.now (outputs_of b)
   pub marks : b.marks ≡ marks_added no_marks row.marks.now
   pub second : b.second ≡ None
 

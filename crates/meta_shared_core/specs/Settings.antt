@@ -47,10 +47,10 @@ abbrev pub texts_of : List (Bor (List ℕ)) → List (List ℕ)
 texts_of texts = map (λ text. text.now) texts
 
 -- the values of an enum, and none of another setting
-abbrev pub values_of : Choice → List (List ℕ)
-values_of (Bool default) = []
-values_of (Enum values) = texts_of values.now
-values_of (Num default) = []
+abbrev pub choice_values : Choice → List (List ℕ)
+choice_values (Bool default) = []
+choice_values (Enum values) = texts_of values.now
+choice_values (Num default) = []
 
 -- what a setting is
 abbrev pub specific_of : Choice → ProtoSpecificSetting

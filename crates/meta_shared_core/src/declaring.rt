@@ -4,7 +4,8 @@ ghost use Rattle.meta_inst.specs.Marks.{no_marks};
 ghost use Rattle.meta_operands.specs.Operand.{own_doc};
 ghost use Rattle.meta_shared_core.specs.Formats.{id_of};
 ghost use Rattle.meta_shared_core.specs.Words.{AreMeant, Grows, is_derivable, derived_count};
-ghost use Rattle.meta_shared_core.specs.Rows.{IsOperandOf, AreOperandsOf, IsBuilderOf, AddsRows, with_mark, marks_added, derived_among, derived_in_row, derived_in, rows_in, are_derivable, is_derivable_row};
+ghost use Rattle.meta_shared_core.specs.Rows.{IsOperandOf, AreOperandsOfRows, IsBuilderOf, AddsRows, with_mark, marks_added, derived_among};
+ghost use Rattle.meta_shared_core.specs.Rows.{derived_in_row, derived_in, rows_in, are_derivable, is_derivable_row};
 
 use super::names::Names;
 use super::row::{Mark, OperandRow, Row};
@@ -66,7 +67,7 @@ fn operands(
     requires meant { AreMeant vars.old names.now }
     requires room { length vars.old + derived_among rows.now < 2 ^ 32 - 1 }
     requires derivable { are_derivable rows.now ≡ true }
-    ensures operands { IfOk result (λ v. AreOperandsOf vars.new names.now rows.now v.items) }
+    ensures operands { IfOk result (λ v. AreOperandsOfRows vars.new names.now rows.now v.items) }
     ensures grows { OnOk result (Grows (derived_among rows.now) vars.old vars.new) }
 {
     let mut operands = Vec::new(alloc);
@@ -110,7 +111,15 @@ fn without_operands(
     names: &Names<'_>,
     row: &Row,
 ) -> Result<InstructionBuilder, AllocError>
-    ensures { IfOk result (λ b. b ≡ record { name = row.now.name.now; doc = row.now.doc.now; format = id_of names.now.formats row.now.format; operands_in = None; operands_out = None; marks = no_marks; second = None }) }
+    ensures { IfOk result (λ b. b ≡ record {
+      name = row.now.name.now;
+      doc = row.now.doc.now;
+      format = id_of names.now.formats row.now.format;
+      operands_in = None;
+      operands_out = None;
+      marks = no_marks;
+      second = None;
+    }) }
 {
     let name = Text::new(alloc, row.name)?;
     let doc = Text::new(alloc, row.doc)?;

@@ -1,6 +1,8 @@
 ghost use Rattle.std.specs.Prelude.{◌≡◌, ◌+◌, ◌<◌, ◌≤◌, ◌^◌, ◌++◌, ◌∷◌, [], IfOk, OnOk, OnErr, length, slice_get, Some};
 ghost use Rattle.meta_operands.specs.Format.{HasRoom};
-ghost use Rattle.meta_shared_core.specs.Formats.{place_of, id_of, with_part, parts_added, designating, format_of, AreFormatRows, IsFormatRow, CanAdd, CanPlace, AddsFront, AddsAll, AreNumbered, AreNumberedFrom, AreFormatsOf};
+ghost use Rattle.meta_shared_core.specs.Formats.{format_place, id_of, with_part, parts_added, designating, format_of, AreFormatRows};
+ghost use Rattle.meta_shared_core.specs.Formats.{IsFormatRow, CanAdd, CanPlace, AddsFront, AddsAll, AreNumbered, AreNumberedFrom};
+ghost use Rattle.meta_shared_core.specs.Formats.{AreFormatsOf};
 
 use super::entities::EntityRefs;
 use super::format::Format;
@@ -12,7 +14,7 @@ use std::alloc::{AllocError, Global};
 
 /// A part of a format.
 #[derive(Clone, Copy)]
-pub(crate) enum Part {
+pub(crate) enum FormatPart {
     /// A value.
     Value,
     /// A variable number of values.
@@ -29,17 +31,17 @@ pub(crate) enum Part {
 #[derive(Clone, Copy)]
 pub(crate) struct FormatRow {
     name: &'static str,
-    parts: &'static [Part],
+    parts: &'static [FormatPart],
     designated: Option<usize>,
 }
 
 /// What a word of the table means: any other word is an immediate of that kind.
 macro_rules! part {
-    (value) => { Part::Value };
-    (varargs) => { Part::Varargs };
-    (block) => { Part::Block };
-    (raw_block) => { Part::RawBlock };
-    ($kind:ident) => { Part::Immediate(Kind::$kind) };
+    (value) => { FormatPart::Value };
+    (varargs) => { FormatPart::Varargs };
+    (block) => { FormatPart::Block };
+    (raw_block) => { FormatPart::RawBlock };
+    ($kind:ident) => { FormatPart::Immediate(Kind::$kind) };
 }
 
 /// The place of the designated value.
@@ -182,7 +184,7 @@ pub struct Formats {
 /// The format with one more part.
 fn with_part(
     builder: InstructionFormatBuilder,
-    part: Part,
+    part: FormatPart,
     imm: &Immediates,
     entities: &EntityRefs,
 ) -> Result<InstructionFormatBuilder, AllocError>
@@ -190,18 +192,18 @@ fn with_part(
     ensures { IfOk result (λ b. b ≡ with_part imm.now entities.now builder part) }
 {
     match part {
-        Part::Value => Ok(builder.value()),
-        Part::Varargs => Ok(builder.varargs()),
-        Part::Block => Ok(builder.block()),
-        Part::RawBlock => Ok(builder.raw_block()),
-        Part::Immediate(kind) => builder.imm(kind.of(imm, entities)),
+        FormatPart::Value => Ok(builder.value()),
+        FormatPart::Varargs => Ok(builder.varargs()),
+        FormatPart::Block => Ok(builder.block()),
+        FormatPart::RawBlock => Ok(builder.raw_block()),
+        FormatPart::Immediate(kind) => builder.imm(kind.of(imm, entities)),
     }
 }
 
 /// The format with all these parts.
 fn with_parts(
     mut builder: InstructionFormatBuilder,
-    parts: &[Part],
+    parts: &[FormatPart],
     imm: &Immediates,
     entities: &EntityRefs,
 ) -> Result<InstructionFormatBuilder, AllocError>
@@ -270,7 +272,7 @@ fn add_formats(
 /// The number of a format.
 fn id_at(ids: &[FormatId], format: Format) -> FormatId
     requires { length ids.now ≡ 36 }
-    ensures { slice_get ids.now (place_of format) ≡ Some result }
+    ensures { slice_get ids.now (format_place format) ≡ Some result }
 {
     ids[format as usize]
 }
@@ -278,7 +280,7 @@ fn id_at(ids: &[FormatId], format: Format) -> FormatId
 /// The numbers by their names.
 fn named(ids: &[FormatId]) -> Formats
     requires { length ids.now ≡ 36 }
-    ensures { (format : Format) → slice_get ids.now (place_of format) ≡ Some (id_of result format) }
+    ensures { (format : Format) → slice_get ids.now (format_place format) ≡ Some (id_of result format) }
 {
     Formats {
         unary: id_at(ids, Format::Unary),

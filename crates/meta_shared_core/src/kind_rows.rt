@@ -2,7 +2,7 @@
 ghost use Rattle.std.specs.Prelude.{◌≡◌, ◌∷◌, ◌<◌, ◌+◌, IfOk, OnOk, map};
 ghost use Rattle.std.specs.Vec.Iter.{into_iter_items, into_iter_len};
 ghost use Rattle.meta_operands.specs.EnumEntries.{with_value};
-ghost use Rattle.meta_shared_core.specs.Kinds.{values_of};
+ghost use Rattle.meta_shared_core.specs.Kinds.{pairs_as_values};
 ghost use Rattle.meta_shared_core.specs.KindRows.{fields_of, key_of_kind, key_of_row, IsKindOfRow};
 
 use super::kind::make_kind;
@@ -59,7 +59,7 @@ fn insert(
 
 /// The values of an enum, each with the variant that it stands for.
 fn values(alloc: Global, pairs: &[(&str, &str)]) -> Result<EnumValues, AllocError>
-    ensures { IfOk result (λ v. v ≡ values_of pairs.now) }
+    ensures { IfOk result (λ v. v ≡ pairs_as_values pairs.now) }
 {
     let mut values = EnumValues::new(alloc);
     for (name, variant) in pairs {

@@ -1,5 +1,5 @@
 ghost use Rattle.std.specs.Prelude.{◌≡◌, ◌+◌, ◌<◌, ◌-◌, ◌^◌, ◌++◌, ◌∷◌, [], IfOk, OnOk, OnErr, length};
-ghost use Rattle.meta_shared_core.specs.RootRows.{interval_of, parts_of, content_of, CanBuildRow, AreRootRows, AreFirstRoots};
+ghost use Rattle.meta_shared_core.specs.RootRows.{interval_meant, parts_of, root_row_content, CanBuildRow, AreRootRows, AreFirstRoots};
 
 use meta_types::{Float, Int, LaneType, Text, ValueType};
 use meta_typevar::{Interval, TypeSetBuilder, TypeVar, TypeVars};
@@ -104,7 +104,8 @@ static ROOTS: [RootRow; 49] = root_rows! {
     I16x8: I16x8(8, none, 16, none) "A SIMD vector with exactly 8 lanes of 16-bit values";
     I32x4: I32x4(4, none, 32, none) "A SIMD vector with exactly 4 lanes of 32-bit values";
     I64x2: I64x2(2, none, 64, none) "A SIMD vector with exactly 2 lanes of 64-bit values";
-    Tx16: Tx16(16, none, 8, none) "A SIMD vector with exactly 16 lanes of 8-bit values; eventually this may support other lane counts and widths";
+    Tx16: Tx16(16, none, 8,
+        none) "A SIMD vector with exactly 16 lanes of 8-bit values; eventually this may support other lane counts and widths";
     I16or32: I16or32([4..8], none, [16..32], none) "A vector integer type with 16- or 32-bit numbers";
     Float: Float([1..256], [2..256], none, all) "A scalar or vector floating point number";
     W: I16or32or64xN([2..8], [2..8], [16..64], none) "A SIMD vector type containing integer lanes 16, 32, or 64 bits wide";
@@ -127,7 +128,7 @@ fn rows() -> &'static [RootRow]
 impl Span {
     /// The interval that is meant.
     fn interval(self) -> Interval
-        ensures { result ≡ interval_of self }
+        ensures { result ≡ interval_meant self }
     {
         match self {
             Span::Nothing => Interval::None,
@@ -155,7 +156,7 @@ fn add_root(alloc: Global, vars: &mut TypeVars, row: RootRow) -> Result<TypeVar,
     requires room { length vars.old < 2 ^ 32 - 1 }
     requires buildable { CanBuildRow row }
     ensures number { IfOk result (λ v. v ≡ length vars.old) }
-    ensures added { OnOk result (vars.new ≡ vars.old ++ content_of row (length vars.old) ∷ []) }
+    ensures added { OnOk result (vars.new ≡ vars.old ++ root_row_content row (length vars.old) ∷ []) }
 {
     match row {
         RootRow::Set(row) => {

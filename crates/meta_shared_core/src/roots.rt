@@ -1,5 +1,5 @@
 ghost use Rattle.std.specs.Prelude.{◌≡◌, [], IfOk, length, slice_get, Some};
-ghost use Rattle.meta_shared_core.specs.Roots.{place_of, root_of, AreRoots, AreNumberedRoots};
+ghost use Rattle.meta_shared_core.specs.Roots.{root_place, root_of, AreRoots, AreNumberedRoots};
 
 use super::root::Root;
 use super::root_rows::add_roots;
@@ -115,7 +115,7 @@ pub struct Roots {
 /// The variable of this name.
 fn root_at(found: &[TypeVar], root: Root) -> TypeVar
     requires { length found.now ≡ 50 }
-    ensures { slice_get found.now (place_of root) ≡ Some result }
+    ensures { slice_get found.now (root_place root) ≡ Some result }
 {
     found[root as usize]
 }
@@ -123,7 +123,7 @@ fn root_at(found: &[TypeVar], root: Root) -> TypeVar
 /// The variables by their names.
 fn named(found: &[TypeVar]) -> Roots
     requires { length found.now ≡ 50 }
-    ensures { (root : Root) → slice_get found.now (place_of root) ≡ Some (root_of result root) }
+    ensures { (root : Root) → slice_get found.now (root_place root) ≡ Some (root_of result root) }
 {
     Roots {
         tv_st1: root_at(found, Root::ST1),

@@ -2,7 +2,8 @@
 ghost use Rattle.std.specs.Prelude.{◌≡◌, ◌+◌, ◌<◌, ◌^◌, [], IfOk, OnOk, length, map, take, drop};
 ghost use Rattle.meta_settings.specs.GroupDeclaration.{entry_count};
 ghost use Rattle.meta_settings.specs.Declaring.{with_setting};
-ghost use Rattle.meta_shared_core.specs.Settings.{texts_of, values_of, setting_of, setting_name, setting_names, with_settings, HasSharedSettings, IsSharedGroup};
+ghost use Rattle.meta_shared_core.specs.Settings.{texts_of, choice_values, setting_of, setting_name, setting_names, with_settings};
+ghost use Rattle.meta_shared_core.specs.Settings.{HasSharedSettings, IsSharedGroup};
 
 use meta_settings::SettingGroupBuilder;
 use meta_types::Text;
@@ -53,7 +54,8 @@ static FIRST_SETTINGS: [SettingRow; 13] = settings! {
     enable_pinned_reg: bool(false) "Enable the use of the pinned register.";
     tls_model: enum(none elf_gd macho coff) "Defines the model used to perform TLS accesses.";
     stack_switch_model: enum(none basic update_windows_tib) "Defines the model used to performing stack switching.";
-    libcall_call_conv: enum(isa_default fast system_v windows_fastcall apple_aarch64 probestack preserve_all) "Defines the calling convention to use for LibCalls call expansion.";
+    libcall_call_conv: enum(isa_default fast system_v windows_fastcall apple_aarch64 probestack preserve_all)
+        "Defines the calling convention to use for LibCalls call expansion.";
 };
 
 /// Their rows.
@@ -101,7 +103,7 @@ fn texts(alloc: Global, values: &[&str]) -> Result<Vec<Text>, AllocError>
 
 /// The texts of the values, where the setting is an enum, and none else.
 fn values_of(alloc: Global, choice: Choice) -> Result<Vec<Text>, AllocError>
-    ensures { IfOk result (λ v. v.items ≡ values_of choice) }
+    ensures { IfOk result (λ v. v.items ≡ choice_values choice) }
 {
     match choice {
         Choice::Enum(values) => texts(alloc, values),

@@ -1,6 +1,9 @@
 ghost use Rattle.meta_shared_core.specs.Rows.{IsTable, rows_in};
-ghost use Rattle.meta_shared_core.specs.CoreNames.{core_names, control_flow_names, calls_names, lanes_names, vector_integers_names, memory_names, vector_loads_names, addresses_names, constants_names, selection_names};
-ghost use Rattle.meta_shared_core.specs.CoreFormats.{core_formats, control_flow_formats, calls_formats, lanes_formats, vector_integers_formats, memory_formats, vector_loads_formats, addresses_formats, constants_formats, selection_formats};
+ghost use Rattle.meta_shared_core.specs.CoreNames.{core_names, control_flow_names, calls_names, lanes_names, vector_integers_names};
+ghost use Rattle.meta_shared_core.specs.CoreNames.{memory_names, vector_loads_names, addresses_names, constants_names, selection_names};
+ghost use Rattle.meta_shared_core.specs.CoreFormats.{core_formats, control_flow_formats, calls_formats, lanes_formats};
+ghost use Rattle.meta_shared_core.specs.CoreFormats.{vector_integers_formats, memory_formats, vector_loads_formats, addresses_formats};
+ghost use Rattle.meta_shared_core.specs.CoreFormats.{constants_formats, selection_formats};
 
 use super::row::Row;
 use super::rows;
@@ -34,19 +37,24 @@ fn control_flow() -> &'static [Row]
 
 /// Calls.
 static CALLS: [Row; 7] = rows! {
-    call: Call(FN: func_ref "function to call, declared by `function`", args: varargs "call arguments" -> rvals: varargs "return values") Call
+    call: Call(FN: func_ref "function to call, declared by `function`",
+        args: varargs "call arguments" -> rvals: varargs "return values") Call
         "Direct function call.";
-    call_indirect: CallIndirect(SIG: sig_ref "function signature", callee: A1 "address of function to call", args: varargs "call arguments" -> rvals: varargs "return values") Call
+    call_indirect: CallIndirect(SIG: sig_ref "function signature", callee: A1 "address of function to call",
+        args: varargs "call arguments" -> rvals: varargs "return values") Call
         "Indirect function call.";
     return_call: Call(FN: func_ref "function to call, declared by `function`", args: varargs "call arguments" ->) Call Return
         "Direct tail call.";
-    return_call_indirect: CallIndirect(SIG: sig_ref "function signature", callee: A1 "address of function to call", args: varargs "call arguments" ->) Call Return
+    return_call_indirect: CallIndirect(SIG: sig_ref "function signature", callee: A1 "address of function to call",
+        args: varargs "call arguments" ->) Call Return
         "Indirect tail call.";
     func_addr: FuncAddr(FN: func_ref "function to call, declared by `function`" -> addr: A1)
         "Get the address of a function.";
-    try_call: TryCall(callee: func_ref "function to call, declared by `function`", args: varargs "call arguments", ET: exception_table "exception table" ->) Branch Call
+    try_call: TryCall(callee: func_ref "function to call, declared by `function`", args: varargs "call arguments",
+        ET: exception_table "exception table" ->) Branch Call
         "Call a function, catching the specified exceptions.";
-    try_call_indirect: TryCallIndirect(callee: A1 "address of function to call", args: varargs "call arguments", ET: exception_table "exception table" ->) Branch Call
+    try_call_indirect: TryCallIndirect(callee: A1 "address of function to call", args: varargs "call arguments",
+        ET: exception_table "exception table" ->) Branch Call
         "Call a function, catching the specified exceptions.";
 };
 
@@ -210,7 +218,8 @@ static CONSTANTS: [Row; 8] = rows! {
         "Floating point constant.";
     vconst: UnaryConst(N: pool_constant "The 16 immediate bytes of a 128-bit vector" -> a: V2 "A constant vector value")
         "SIMD vector constant.";
-    shuffle: Shuffle(a: Tx16 "A vector value", b: Tx16 "A vector value", mask: uimm128 "The 16 immediate bytes used for selecting the elements to shuffle" -> a: Tx16 "A vector value")
+    shuffle: Shuffle(a: Tx16 "A vector value", b: Tx16 "A vector value",
+        mask: uimm128 "The 16 immediate bytes used for selecting the elements to shuffle" -> a: Tx16 "A vector value")
         "SIMD vector shuffle.";
     nop: NullAry(->)
         "Just a dummy instruction.";
@@ -225,13 +234,17 @@ fn constants() -> &'static [Row]
 
 /// Selection, and vectors that are reduced to a scalar.
 static SELECTION: [Row; 7] = rows! {
-    select: Ternary(c: ST2 "Controlling value to test", x: Any "Value to use when `c` is true", y: Any "Value to use when `c` is false" -> a: Any)
+    select: Ternary(c: ST2 "Controlling value to test", x: Any "Value to use when `c` is true",
+        y: Any "Value to use when `c` is false" -> a: Any)
         "Conditional select.";
-    select_spectre_guard: Ternary(c: ST2 "Controlling value to test", x: Any "Value to use when `c` is true", y: Any "Value to use when `c` is false" -> a: Any)
+    select_spectre_guard: Ternary(c: ST2 "Controlling value to test", x: Any "Value to use when `c` is true",
+        y: Any "Value to use when `c` is false" -> a: Any)
         "Conditional select intended for Spectre guards.";
-    bitselect: Ternary(c: Any "Controlling value to test", x: Any "Value to use when `c` is true", y: Any "Value to use when `c` is false" -> a: Any)
+    bitselect: Ternary(c: Any "Controlling value to test", x: Any "Value to use when `c` is true",
+        y: Any "Value to use when `c` is false" -> a: Any)
         "Conditional select of bits.";
-    blendv: Ternary(c: Any "Controlling value to test", x: Any "Value to use when `c` is true", y: Any "Value to use when `c` is false" -> a: Any)
+    blendv: Ternary(c: Any "Controlling value to test", x: Any "Value to use when `c` is true",
+        y: Any "Value to use when `c` is false" -> a: Any)
         "A bitselect-lookalike instruction except with the semantics of";
     vany_true: Unary(a: V2 -> s: i8)
         "Reduce a vector to a scalar boolean.";

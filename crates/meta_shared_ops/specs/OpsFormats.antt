@@ -2,7 +2,8 @@
 use Rattle.std.specs.Prelude.{List, [], ◌∷◌}
 use Rattle.std.specs.List.{flat_map}
 use Rattle.meta_shared_core.specs.declared.format.Format.{Format}
-use Rattle.meta_shared_core.specs.declared.format.Format.TheVariants.{AtomicCas, AtomicRmw, Binary, BinaryImm8, FloatCompare, IntAddTrap, IntCompare, LoadNoOffset, NullAry, StoreNoOffset, Ternary, Unary}
+use Rattle.meta_shared_core.specs.declared.format.Format.TheVariants.{AtomicCas, AtomicRmw, Binary, BinaryImm8, FloatCompare, IntAddTrap}
+use Rattle.meta_shared_core.specs.declared.format.Format.TheVariants.{IntCompare, LoadNoOffset, NullAry, StoreNoOffset, Ternary, Unary}
 
 abbrev pub arithmetic_formats : List Format
 arithmetic_formats = IntCompare ∷ Binary ∷ Binary ∷ Unary ∷ Unary ∷ Binary ∷ Binary ∷ Binary ∷ Binary ∷ Binary ∷ []
@@ -42,4 +43,6 @@ last_rows_formats = Unary ∷ Binary ∷ AtomicRmw ∷ AtomicCas ∷ LoadNoOffse
 
 -- all of them
 unfoldable pub ops_formats : List Format
-ops_formats = flat_map (λ formats. formats) (arithmetic_formats ∷ division_formats ∷ overflow_formats ∷ bitwise_formats ∷ bit_counts_formats ∷ floats_formats ∷ rounding_formats ∷ casts_formats ∷ lane_widths_formats ∷ extension_formats ∷ number_casts_formats ∷ last_rows_formats ∷ [])
+ops_formats = flat_map (λ formats. formats) (arithmetic_formats ∷ division_formats ∷ overflow_formats ∷ bitwise_formats
+    ∷ bit_counts_formats ∷ floats_formats ∷ rounding_formats ∷ casts_formats ∷ lane_widths_formats ∷ extension_formats
+    ∷ number_casts_formats ∷ last_rows_formats ∷ [])

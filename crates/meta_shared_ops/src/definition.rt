@@ -47,7 +47,8 @@ pub fn define(alloc: Global) -> Result<Declarations, AllocError>
     ensures formats { IfOk result (λ d. length d.set.formats ≡ 36) }
     ensures instructions { IfOk result (λ d. length d.set.instructions ≡ 163) }
     ensures names { IfOk result (λ d. names_of d.set ≡ core_names ++ ops_names) }
-    ensures of_formats { IfOk result (λ d. map (named_format d.set.formats) d.set.instructions ≡ map name_at (core_formats ++ ops_formats)) }
+    ensures of_formats { IfOk result (λ d. map (named_format d.set.formats) d.set.instructions
+        ≡ map name_at (core_formats ++ ops_formats)) }
     ensures groups { IfOk result (λ d. length d.groups ≡ 1) }
     ensures group { IfOk result (λ d. All IsSharedGroup d.groups) }
 {

@@ -1,7 +1,11 @@
 ghost use Rattle.std.specs.Prelude.{take, drop};
 ghost use Rattle.meta_shared_core.specs.Rows.{IsTable, rows_in};
-ghost use Rattle.meta_shared_ops.specs.OpsNames.{ops_names, arithmetic_names, division_names, overflow_names, bitwise_names, bit_counts_names, floats_names, rounding_names, casts_names, lane_widths_names, extension_names, number_casts_names, last_rows_names};
-ghost use Rattle.meta_shared_ops.specs.OpsFormats.{ops_formats, arithmetic_formats, division_formats, overflow_formats, bitwise_formats, bit_counts_formats, floats_formats, rounding_formats, casts_formats, lane_widths_formats, extension_formats, number_casts_formats, last_rows_formats};
+ghost use Rattle.meta_shared_ops.specs.OpsNames.{ops_names, arithmetic_names, division_names, overflow_names, bitwise_names};
+ghost use Rattle.meta_shared_ops.specs.OpsNames.{bit_counts_names, floats_names, rounding_names, casts_names, lane_widths_names};
+ghost use Rattle.meta_shared_ops.specs.OpsNames.{extension_names, number_casts_names, last_rows_names};
+ghost use Rattle.meta_shared_ops.specs.OpsFormats.{ops_formats, arithmetic_formats, division_formats, overflow_formats, bitwise_formats};
+ghost use Rattle.meta_shared_ops.specs.OpsFormats.{bit_counts_formats, floats_formats, rounding_formats, casts_formats};
+ghost use Rattle.meta_shared_ops.specs.OpsFormats.{lane_widths_formats, extension_formats, number_casts_formats, last_rows_formats};
 
 use meta_shared_core::{Row, rows};
 
@@ -307,9 +311,11 @@ fn halves() -> &'static [Row]
 
 /// Atomic operations on memory.
 static ATOMICS: [Row; 5] = rows! {
-    atomic_rmw: AtomicRmw(MemFlags: memflags, AtomicRmwOp: atomic_rmw_op, p: A2, x: AtomicMem "Value to be atomically stored" -> a: AtomicMem "Value atomically loaded") Load Store OtherEffect
+    atomic_rmw: AtomicRmw(MemFlags: memflags, AtomicRmwOp: atomic_rmw_op, p: A2, x: AtomicMem "Value to be atomically stored"
+        -> a: AtomicMem "Value atomically loaded") Load Store OtherEffect
         "Atomically read-modify-write memory at `p`, with second operand `x`.  The old value is";
-    atomic_cas: AtomicCas(MemFlags: memflags, p: A2, e: AtomicMem "Expected value in CAS", x: AtomicMem "Value to be atomically stored" -> a: AtomicMem "Value atomically loaded") Load Store OtherEffect
+    atomic_cas: AtomicCas(MemFlags: memflags, p: A2, e: AtomicMem "Expected value in CAS", x: AtomicMem "Value to be atomically stored"
+        -> a: AtomicMem "Value atomically loaded") Load Store OtherEffect
         "Perform an atomic compare-and-swap operation on memory at `p`, with expected value `e`,";
     atomic_load: LoadNoOffset(MemFlags: memflags, p: A2 -> a: AtomicMem "Value atomically loaded") Load OtherEffect
         "Atomically load from memory at `p`.";
@@ -328,7 +334,8 @@ fn atomics() -> &'static [Row]
 
 /// What stands alone.
 static LAST_ROWS: [Row; 2] = rows! {
-    extract_vector: BinaryImm8(x: V3 "The dynamic vector to extract from", y: uimm8 "128-bit vector index" -> a: dynamic_to_vector(V3) "New fixed vector")
+    extract_vector: BinaryImm8(x: V3 "The dynamic vector to extract from",
+        y: uimm8 "128-bit vector index" -> a: dynamic_to_vector(V3) "New fixed vector")
         "Return a fixed length sub vector, extracted from a dynamic vector.";
     sequence_point: NullAry(->) OtherEffect
         "A compiler barrier that acts as an immovable marker from IR input to machine-code output.";

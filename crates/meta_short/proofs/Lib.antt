@@ -2,7 +2,7 @@ pub mod SplitLemmas
 pub mod ShortLemmas
 pub mod Determined
 pub mod OneLine
-pub mod MannersMean
+mod MannersMean
 pub mod DeclaredLine
-pub mod Meaning
-pub mod Writing
+mod Meaning
+mod Writing

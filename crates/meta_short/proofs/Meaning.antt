@@ -3,12 +3,9 @@ use Rattle.std.proofs.Common.{◌↔◌, List, ℕ}
 use Rattle.meta_inst.specs.InstructionSet.{InstructionSet}
 use Rattle.meta_meaning.specs.Tables.{TableContents}
 use Rattle.meta_answers.specs.Answer.{AllowedReply, AcceptedReply}
-use Rattle.meta_answers.proofs.Meant.{accepted}
 use Rattle.meta_verify.specs.Statement.{Statement, OfParameter, OfApplication, CanBeStated}
-use Rattle.meta_verify.specs.Environment.{Environment, HasNamedTypes}
+use Rattle.meta_verify.specs.Environment.{Environment}
 use Rattle.meta_verify.specs.Wrong.{IsFaultless}
-use Rattle.meta_verify.proofs.Allowed.{unknown_back, allowed, unknown_forth}
-use Rattle.meta_verify.proofs.Meaning.{faultless}
 use Rattle.meta_short.specs.Short.{Manner}
 use Rattle.meta_short.specs.Manners.{IsMannerIn, IsMannerDeclared}
 use Rattle.meta_short.specs.Reading.{HasManner, IsShortIn, IsShortDeclared}
@@ -16,36 +13,31 @@ use Rattle.meta_short.specs.Made.{AreMade}
 use Rattle.meta_short.proofs.MannersMean.{manner_means, manner_back}
 
 module _ (d : InstructionSet) (tables : TableContents) (made : AreMade d tables) where
-  module _ (env : Environment) (named : HasNamedTypes env) where
-    faultless_forth : (s : Statement) → CanBeStated s → IsFaultless (AllowedReply tables) env s → IsFaultless (AcceptedReply d) env s
-    faultless_forth s can h = faultless (AllowedReply tables) (AcceptedReply d) (accepted d tables made.tables_of made.acceptance) (unknown_back d tables made.tables_of) env s named can h
+  manner_forth : (s : Statement) (m : Manner) → HasManner (IsMannerIn tables) s m → HasManner (IsMannerDeclared d) s m
+  manner_forth (OfParameter r) m h = h
+  manner_forth (OfApplication a) m h = manner_means d tables made a.name m h
 
-    faultless_back : (s : Statement) → CanBeStated s → IsFaultless (AcceptedReply d) env s → IsFaultless (AllowedReply tables) env s
-    faultless_back s can h =
-        faultless (AcceptedReply d) (AllowedReply tables) (allowed d tables made.tables_of made.acceptance made.valid) (unknown_forth d tables made.tables_of made.acceptance) env s named can h
+  has_manner_back : (s : Statement) (m : Manner) → HasManner (IsMannerDeclared d) s m → HasManner (IsMannerIn tables) s m
+  has_manner_back (OfParameter r) m h = h
+  has_manner_back (OfApplication a) m h = manner_back d tables made a.name m h
 
-    manner_forth : (s : Statement) (m : Manner) → HasManner (IsMannerIn tables) s m → HasManner (IsMannerDeclared d) s m
-    manner_forth (OfParameter r) m h = h
-    manner_forth (OfApplication a) m h = manner_means d tables made a.name m h
-
-    has_manner_back : (s : Statement) (m : Manner) → HasManner (IsMannerDeclared d) s m → HasManner (IsMannerIn tables) s m
-    has_manner_back (OfParameter r) m h = h
-    has_manner_back (OfApplication a) m h = manner_back d tables made a.name m h
-
-    pub short_means : (line text : List ℕ) → (IsShortIn tables env line text ↔ IsShortDeclared d env line text)
-    short_means line text = (
-      λ h. record {
-        statement = h.statement;
-        right = (h.right.0, faultless_forth h.statement h.right.0.can h.right.1);
-        manner = h.manner;
-        has_manner = manner_forth h.statement h.manner h.has_manner;
-        is = h.is;
-      },
-      λ h. record {
-        statement = h.statement;
-        right = (h.right.0, faultless_back h.statement h.right.0.can h.right.1);
-        manner = h.manner;
-        has_manner = has_manner_back h.statement h.manner h.has_manner;
-        is = h.is;
-      },
-    )
+  -- where tables and declarations have the same right statements
+  pub short_means : (env : Environment) → ((s : Statement) → CanBeStated s
+      → (IsFaultless (AllowedReply tables) env s ↔ IsFaultless (AcceptedReply d) env s))
+      → (line text : List ℕ) → (IsShortIn tables env line text ↔ IsShortDeclared d env line text)
+  short_means env right line text = (
+    λ h. record {
+      statement = h.statement;
+      right = (h.right.0, (right h.statement h.right.0.can).0 h.right.1);
+      manner = h.manner;
+      has_manner = manner_forth h.statement h.manner h.has_manner;
+      is = h.is;
+    },
+    λ h. record {
+      statement = h.statement;
+      right = (h.right.0, (right h.statement h.right.0.can).1 h.right.1);
+      manner = h.manner;
+      has_manner = has_manner_back h.statement h.manner h.has_manner;
+      is = h.is;
+    },
+  )

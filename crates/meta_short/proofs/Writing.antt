@@ -1,10 +1,12 @@
 -- What is written of a line, part by part.
-use Rattle.std.proofs.Common.{◌≡◌, ◌⊎◌, inl, inr, IfSome, is_some, ℕ, zero, suc, ◌+◌, ◌==◌, ◌||◌, Bool, true, false, IsTrue, List, [], ◌∷◌, ◌++◌, map, take, drop, length, get_or, slice_get, Option, None, Some, codes, Result, Ok, Err, is_ok, OnOk, if◌then◌else◌, refl, sym, ap, ap₂, ◌∙◌, append-nil, append_assoc, arith}
+use Rattle.std.proofs.Common.{◌≡◌, ◌⊎◌, inl, inr, IfSome, is_some, ℕ, zero, suc, ◌+◌, ◌==◌, ◌||◌, Bool, true, false, IsTrue, List, [], ◌∷◌}
+use Rattle.std.proofs.Common.{◌++◌, map, take, drop, length, get_or, slice_get, Option, None, Some, codes, Result, Ok, Err, is_ok, OnOk}
+use Rattle.std.proofs.Common.{if◌then◌else◌, refl, sym, ap, ap₂, ◌∙◌, append-nil, append_assoc, arith}
 use Rattle.std.specs.List.{list_any, join_with_byte}
 use Rattle.std.proofs.Math.Seq.{take-length}
 use Rattle.std.proofs.lemmas.Bool.{eqb-true}
 use Rattle.std.proofs.lemmas.Option.{same_Some}
-use Rattle.std.proofs.lemmas.List.{map-append, take-map, drop-map}
+use Rattle.std.proofs.lemmas.List.{length-map, map-append, take-map, drop-map}
 use Rattle.meta_lists.proofs.Places.{take_next}
 use Rattle.meta_lists.proofs.Mapped.{get_map}
 use Rattle.meta_types.specs.TypeParts.{TypeParts, name_of}
@@ -15,9 +17,10 @@ use Rattle.meta_verify.specs.Statement.{TypedValue, Statement, OfParameter, IsSt
 use Rattle.meta_verify.specs.Environment.{Environment}
 use Rattle.meta_verify.specs.Wrong.{Replies, IsMistake, IsWrong}
 use Rattle.meta_verify.specs.declared.reason.Reason.{Reason}
-use Rattle.meta_verify.specs.Numbers.{typed}
+use Rattle.meta_verify.specs.Numbers.{typed_value_of}
 use Rattle.meta_verify.specs.declared.statement.TypedNumber.{TypedNumber}
-use Rattle.meta_short.specs.Short.{shortened, short_results, short_result_text, joined, behind, control_written, values_written, results_part, parameter_text}
+use Rattle.meta_short.specs.Short.{shortened, short_results, short_result_text, joined, behind, control_written, values_written}
+use Rattle.meta_short.specs.Short.{results_part, parameter_text}
 use Rattle.meta_short.specs.Written.{AddsShort, before_place}
 
 -- ---- texts that are added one after the other
@@ -28,11 +31,13 @@ two old a b first second = second ∙ ap (λ o. o ++ b) first ∙ append_assoc o
 pub three : (old a b c : List ℕ) {x y z : List ℕ} → x ≡ old ++ a → y ≡ x ++ b → z ≡ y ++ c → z ≡ old ++ (a ++ (b ++ c))
 three old a b c {x} first second third = two old a (b ++ c) first (two x b c second third)
 
-pub four : (old a b c d : List ℕ) {x y z w : List ℕ} → x ≡ old ++ a → y ≡ x ++ b → z ≡ y ++ c → w ≡ z ++ d → w ≡ old ++ (a ++ (b ++ (c ++ d)))
+pub four : (old a b c d : List ℕ) {x y z w : List ℕ} → x ≡ old ++ a → y ≡ x ++ b → z ≡ y ++ c → w ≡ z ++ d
+    → w ≡ old ++ (a ++ (b ++ (c ++ d)))
 four old a b c d {x} first second third fourth = two old a (b ++ (c ++ d)) first (three x b c d second third fourth)
 
 -- where a call succeeded, and only there, its text was added
-pub where_ok : {X E : Type 0} (r : Result X E) (old part : List ℕ) {x : List ℕ} → x ≡ (if is_ok r then (old ++ part) else old) → OnOk r (x ≡ old ++ part)
+pub where_ok : {X E : Type 0} (r : Result X E) (old part : List ℕ) {x : List ℕ}
+    → x ≡ (if is_ok r then (old ++ part) else old) → OnOk r (x ≡ old ++ part)
 where_ok (Ok v) old part e = e
 where_ok (Err f) old part e = tt
 
@@ -42,10 +47,13 @@ pub any_map : {X Y : Type 0} (p : Y → Bool) (f : X → Y) (xs : List X) → li
 any_map p f [] = refl
 any_map p f (x ∷ xs) = ap (λ b. p (f x) || b) (any_map p f xs)
 
-pub part_of : (held got : List Constraint) (all : List NumberConstraint) (place count from n : ℕ) → got ≡ take count (drop place held) → place ≡ from → count ≡ n → map number_constraint_of held ≡ all → map number_constraint_of got ≡ take n (drop from all)
+pub part_of : (held got : List Constraint) (all : List NumberConstraint) (place count from n : ℕ)
+    → got ≡ take count (drop place held) → place ≡ from → count ≡ n → map number_constraint_of held ≡ all
+    → map number_constraint_of got ≡ take n (drop from all)
 part_of held got all place count from n is at many same =
     ap (map number_constraint_of) is ∙ ap₂ (λ (p k : ℕ). map number_constraint_of (take k (drop p held))) at many
-    ∙ sym (take-map number_constraint_of n (drop from held)) ∙ ap (take n) (sym (drop-map number_constraint_of from held)) ∙ ap (λ cs. take n (drop from cs)) same
+    ∙ sym (take-map number_constraint_of n (drop from held))
+    ∙ ap (take n) (sym (drop-map number_constraint_of from held)) ∙ ap (λ cs. take n (drop from cs)) same
 
 -- a mark of the flags as it is tested
 pub tested_bit : (bit : ℕ) (b : Bool) → ((IsTrue b → bit ≡ 1) × (bit ≡ 1 → IsTrue b)) → (bit == 1) ≡ b
@@ -65,23 +73,29 @@ pub nothing_listed : {X : Type 0} (xs : List X) → (length xs == 0) ≡ true �
 nothing_listed [] h = refl
 nothing_listed (x ∷ xs) h = let e : suc (length xs) ≡ 0 = eqb-true (suc (length xs)) 0 h in absurd (omega (arith, e))
 
-join_more : (c : ℕ) (x : List ℕ) (xs : List (List ℕ)) (u : List ℕ) → join_with_byte c (x ∷ (xs ++ u ∷ [])) ≡ join_with_byte c (x ∷ xs) ++ c ∷ u
+join_more : (c : ℕ) (x : List ℕ) (xs : List (List ℕ)) (u : List ℕ)
+    → join_with_byte c (x ∷ (xs ++ u ∷ [])) ≡ join_with_byte c (x ∷ xs) ++ c ∷ u
 join_more c x [] u = refl
 join_more c x (y ∷ ys) u = ap (λ t. x ++ c ∷ t) (join_more c y ys u) ∙ sym (append_assoc x (c ∷ join_with_byte c (y ∷ ys)) (c ∷ u))
 
 joined_more : (t : List ℕ) (ts : List (List ℕ)) (u : List ℕ) → joined (t ∷ (ts ++ u ∷ [])) ≡ joined (t ∷ ts) ++ 44 ∷ 32 ∷ u
-joined_more t ts u = ap (λ xs. join_with_byte 44 (t ∷ xs)) (map-append (λ (v : List ℕ). 32 ∷ v) ts (u ∷ [])) ∙ join_more 44 t (map (λ (v : List ℕ). 32 ∷ v) ts) (32 ∷ u)
+joined_more t ts u = ap (λ xs. join_with_byte 44 (t ∷ xs)) (map-append (λ (v : List ℕ). 32 ∷ v) ts (u ∷ []))
+    ∙ join_more 44 t (map (λ (v : List ℕ). 32 ∷ v) ts) (32 ∷ u)
 
 -- one text more
-joined_step : (xs : List (List ℕ)) (k : ℕ) (x : List ℕ) → slice_get xs k ≡ Some x → joined (take (k + 1) xs) ≡ joined (take k xs) ++ (before_place k ++ x)
+joined_step : (xs : List (List ℕ)) (k : ℕ) (x : List ℕ) → slice_get xs k ≡ Some x
+    → joined (take (k + 1) xs) ≡ joined (take k xs) ++ (before_place k ++ x)
 joined_step [] k x e = absurd (cc)
 joined_step (y ∷ ys) zero x e = same_Some y x e
 joined_step (y ∷ ys) (suc k) x e = ap joined (take_next (y ∷ ys) (suc k) x e) ∙ joined_more y (take k ys) x
 
-pub joined_next : (old : List ℕ) (xs : List (List ℕ)) (k : ℕ) (x : List ℕ) {a b c : List ℕ} → slice_get xs k ≡ Some x → a ≡ old ++ joined (take k xs) → b ≡ a ++ before_place k → c ≡ b ++ x → c ≡ old ++ joined (take (k + 1) xs)
-joined_next old xs k x at first second third = three old (joined (take k xs)) (before_place k) x first second third ∙ ap (λ t. old ++ t) (sym (joined_step xs k x at))
+pub joined_next : (old : List ℕ) (xs : List (List ℕ)) (k : ℕ) (x : List ℕ) {a b c : List ℕ} → slice_get xs k ≡ Some x
+    → a ≡ old ++ joined (take k xs) → b ≡ a ++ before_place k → c ≡ b ++ x → c ≡ old ++ joined (take (k + 1) xs)
+joined_next old xs k x at first second third = three old (joined (take k xs)) (before_place k) x first second third
+    ∙ ap (λ t. old ++ t) (sym (joined_step xs k x at))
 
-pub joined_all : (old : List ℕ) (xs : List (List ℕ)) (k : ℕ) {a : List ℕ} → k ≡ length xs → a ≡ old ++ joined (take k xs) → a ≡ old ++ joined xs
+pub joined_all : (old : List ℕ) (xs : List (List ℕ)) (k : ℕ) {a : List ℕ} → k ≡ length xs
+    → a ≡ old ++ joined (take k xs) → a ≡ old ++ joined xs
 joined_all old xs k end e = e ∙ ap (λ n. old ++ joined (take n xs)) end ∙ ap (λ ys. old ++ joined ys) (take-length xs)
 
 pub before_first : (k : ℕ) → k ≡ 0 → [] ≡ before_place k
@@ -93,7 +107,8 @@ before_other (suc k) h = refl
 
 -- ---- results
 
-pub opened_text : (o : Bool) (r : TypedValue) → o ≡ true → value_text r.value ++ (codes ":" ++ name_of r.type) ≡ short_result_text (shortened o r)
+pub opened_text : (o : Bool) (r : TypedValue) → o ≡ true
+    → value_text r.value ++ (codes ":" ++ name_of r.type) ≡ short_result_text (shortened o r)
 opened_text true r h = refl
 opened_text false r h = absurd (cc)
 
@@ -101,7 +116,8 @@ pub closed_text : (o : Bool) (r : TypedValue) → o ≡ false → value_text r.v
 closed_text false r h = sym (append-nil (value_text r.value))
 closed_text true r h = absurd (cc)
 
-short_at : (opened : List Bool) (rs : List TypedValue) (k : ℕ) (r : TypedValue) → slice_get rs k ≡ Some r → slice_get (short_results opened rs) k ≡ Some (shortened (get_or opened k false) r)
+short_at : (opened : List Bool) (rs : List TypedValue) (k : ℕ) (r : TypedValue) → slice_get rs k ≡ Some r
+    → slice_get (short_results opened rs) k ≡ Some (shortened (get_or opened k false) r)
 short_at opened [] k r e = absurd (cc)
 short_at [] (q ∷ rs) zero r e = ap (λ x. Some (shortened false x)) (same_Some q r e)
 short_at [] (q ∷ rs) (suc k) r e = short_at [] rs k r e
@@ -115,27 +131,29 @@ short_length (o ∷ os) (r ∷ rs) = ap suc (short_length os rs)
 
 -- the texts of results as the program holds them
 abbrev pub result_texts : List Bool → List TypedNumber → List (List ℕ)
-result_texts opened rs = map short_result_text (short_results opened (map typed rs))
+result_texts opened rs = map short_result_text (short_results opened (map typed_value_of rs))
 
-pub text_at : (opened : List Bool) (rs : List TypedNumber) (k : ℕ) (r : TypedNumber) (o : Bool) → slice_get rs k ≡ Some r → o ≡ get_or opened k false → slice_get (result_texts opened rs) k ≡ Some (short_result_text (shortened o (typed r)))
+pub text_at : (opened : List Bool) (rs : List TypedNumber) (k : ℕ) (r : TypedNumber) (o : Bool)
+    → slice_get rs k ≡ Some r → o ≡ get_or opened k false
+    → slice_get (result_texts opened rs) k ≡ Some (short_result_text (shortened o (typed_value_of r)))
 text_at opened rs k r o at is =
-    get_map short_result_text (short_results opened (map typed rs)) k (shortened (get_or opened k false) (typed r)) (short_at opened (map typed rs) k (typed r) (get_map typed rs k r at))
-    ∙ ap (λ b. Some (short_result_text (shortened b (typed r)))) (sym is)
-
-map_length : {X Y : Type 0} (f : X → Y) (xs : List X) → length (map f xs) ≡ length xs
-map_length f [] = refl
-map_length f (x ∷ xs) = ap suc (map_length f xs)
+    get_map short_result_text (short_results opened (map typed_value_of rs)) k
+    (shortened (get_or opened k false) (typed_value_of r))
+    (short_at opened (map typed_value_of rs) k (typed_value_of r) (get_map typed_value_of rs k r at))
+    ∙ ap (λ b. Some (short_result_text (shortened b (typed_value_of r)))) (sym is)
 
 pub texts_length : (opened : List Bool) (rs : List TypedNumber) → length (result_texts opened rs) ≡ length rs
-texts_length opened rs = map_length short_result_text (short_results opened (map typed rs)) ∙ short_length opened (map typed rs) ∙ map_length typed rs
+texts_length opened rs = length-map (short_results opened (map typed_value_of rs)) short_result_text
+    ∙ short_length opened (map typed_value_of rs) ∙ length-map rs typed_value_of
 
 pub values_length : (vs : List ℕ) → length (map value_text vs) ≡ length vs
-values_length vs = map_length value_text vs
+values_length vs = length-map vs value_text
 
 pub results_none : (opened : List Bool) (rs : List TypedNumber) → (length rs == 0) ≡ true → [] ≡ results_part (result_texts opened rs)
 results_none opened rs h = ap (λ qs. results_part (result_texts opened qs)) (sym (nothing_listed rs h))
 
-pub results_some : (opened : List Bool) (rs : List TypedNumber) → (length rs == 0) ≡ false → joined (result_texts opened rs) ++ codes " = " ≡ results_part (result_texts opened rs)
+pub results_some : (opened : List Bool) (rs : List TypedNumber) → (length rs == 0) ≡ false
+    → joined (result_texts opened rs) ++ codes " = " ≡ results_part (result_texts opened rs)
 results_some opened [] h = absurd (cc)
 results_some [] (r ∷ rs) h = refl
 results_some (o ∷ os) (r ∷ rs) h = refl
@@ -145,7 +163,8 @@ results_some (o ∷ os) (r ∷ rs) h = refl
 pub values_none : (vs : List ℕ) → (length vs == 0) ≡ true → [] ≡ behind 32 (values_written (map value_text vs))
 values_none vs h = ap (λ us. behind 32 (values_written (map value_text us))) (sym (nothing_listed vs h))
 
-pub values_some : (vs : List ℕ) → (length vs == 0) ≡ false → codes " " ++ joined (map value_text vs) ≡ behind 32 (values_written (map value_text vs))
+pub values_some : (vs : List ℕ) → (length vs == 0) ≡ false
+    → codes " " ++ joined (map value_text vs) ≡ behind 32 (values_written (map value_text vs))
 values_some [] h = absurd (cc)
 values_some (v ∷ vs) h = refl
 
@@ -162,10 +181,13 @@ alone_kept true t h = absurd (cc)
 -- ---- what was added, and why nothing was
 
 -- a parameter is written in any manner
-pub adds_parameter : (tables : TableContents) (r : TypedNumber) (old new : List ℕ) → new ≡ old ++ parameter_text (typed r) → AddsShort tables (OfParameter (typed r)) old new
+pub adds_parameter : (tables : TableContents) (r : TypedNumber) (old new : List ℕ)
+    → new ≡ old ++ parameter_text (typed_value_of r) → AddsShort tables (OfParameter (typed_value_of r)) old new
 adds_parameter tables r old new e = record { manner = record { leaves_out = false; opened = [] }; has_manner = tt; is = e }
 
 -- what is stated is a mistake, so the line is wrong
-pub wrong_by : (R : Replies) (env : Environment) (line : List ℕ) (s : Statement) (o : Option Reason) → true ≡ is_some o → IsStatement line s → IfSome o (λ reason. IsMistake R env s reason) → (line ≡ []) ⊎ ((reason : Reason) × IsWrong R env line reason)
+pub wrong_by : (R : Replies) (env : Environment) (line : List ℕ) (s : Statement) (o : Option Reason)
+    → true ≡ is_some o → IsStatement line s → IfSome o (λ reason. IsMistake R env s reason)
+    → (line ≡ []) ⊎ ((reason : Reason) × IsWrong R env line reason)
 wrong_by R env line s None some states h = absurd (cc)
 wrong_by R env line s (Some reason) some states h = inr (reason, inl (s, states, h))

@@ -1,10 +1,11 @@
 -- What is left out of the lines of an instruction: by tables, and by its declaration.
 --     manner_of tables e              the manner of an opcode, by its entry
 --     IsMannerOf sets i control m     that of an instruction, as it is declared
-use Rattle.std.specs.Prelude.{◌≡◌, ◌↔◌, ℕ, ◌+◌, ◌/◌, ◌%◌, ◌==◌, ◌&&◌, Bool, true, false, IsTrue, List, map, take, drop, length, slice_get, Option, Some, None}
+use Rattle.std.specs.Prelude.{◌≡◌, ◌↔◌, ℕ, ◌+◌, ◌/◌, ◌%◌, ◌==◌, ◌&&◌, Bool, true, false, IsTrue, List, map, take, drop, length, slice_get}
+use Rattle.std.specs.Prelude.{Option, Some, None}
 use Rattle.std.specs.List.{list_any}
 use Rattle.meta_lists.specs.First.{IsFirst}
-use Rattle.meta_types.specs.Function.{Function, LaneOf, AsTruthy, HalfWidth, DoubleWidth, SplitLanes, MergeLanes, DynamicToVector, Narrower, Wider}
+use Rattle.meta_types.specs.Function.{Function, Narrower, Wider}
 use Rattle.meta_typevar.specs.TypeSetParts.{HasOne}
 use Rattle.meta_typevar.specs.Variable.{Variable, Sets}
 use Rattle.meta_inst.specs.Which.{First, Second}
@@ -12,7 +13,8 @@ use Rattle.meta_inst.specs.Instruction.{Instruction}
 use Rattle.meta_inst.specs.Builder.{Builder}
 use Rattle.meta_inst.specs.Control.{IsControl}
 use Rattle.meta_inst.specs.InstructionSet.{InstructionSet, root_sets, instruction_in_set}
-use Rattle.meta_meaning.specs.Tables.{TableContents, OpcodeNumbers, NumberConstraint, ConcreteNumber, FreeOf, SameNumber, ByNumber, at_opcode, result_count, value_count, no_type_set, DesignatedControls}
+use Rattle.meta_meaning.specs.Tables.{TableContents, OpcodeNumbers, NumberConstraint, ConcreteNumber, FreeOf, SameNumber, ByNumber}
+use Rattle.meta_meaning.specs.Tables.{at_opcode, result_count, value_count, no_type_set, DesignatedControls}
 use Rattle.meta_meaning.specs.Inference.{EndsInRelation}
 use Rattle.meta_opcode_tables.specs.Contents.{IsOpcodeNamed}
 use Rattle.meta_answers.specs.Answer.{IsAskedFor}
@@ -24,13 +26,7 @@ use Rattle.meta_short.specs.Short.{Manner}
 abbrev pub is_relation : Function → Bool
 is_relation Narrower = true
 is_relation Wider = true
-is_relation LaneOf = false
-is_relation AsTruthy = false
-is_relation HalfWidth = false
-is_relation DoubleWidth = false
-is_relation SplitLanes = false
-is_relation MergeLanes = false
-is_relation DynamicToVector = false
+is_relation f = false
 
 -- a result under this constraint is written with its type
 abbrev pub is_open : NumberConstraint → Bool
@@ -81,7 +77,8 @@ ControlHasOne sets control = (v : Variable) × (control ≡ Some v) × HasOne (s
 pub record IsMannerOf (sets : Sets) (i : Instruction) (control : Option Variable) (m : Manner) : Type 0 where
   pub leaves_out : IsTrue m.leaves_out ↔ ((i.second ≡ None) × DesignatedControls i control × (ControlHasOne sets control → ⊥))
   pub count : length m.opened ≡ length i.results
-  pub opened : (k : ℕ) (w : Variable) (o : Bool) → slice_get i.results k ≡ Some w → slice_get m.opened k ≡ Some o → (IsTrue o ↔ EndsInRelation w)
+  pub opened : (k : ℕ) (w : Variable) (o : Bool)
+      → slice_get i.results k ≡ Some w → slice_get m.opened k ≡ Some o → (IsTrue o ↔ EndsInRelation w)
 
 -- the manner of the instruction that has the name
 pub record IsMannerDeclared (d : InstructionSet) (name : List ℕ) (m : Manner) : Type 0 where

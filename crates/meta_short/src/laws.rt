@@ -9,28 +9,45 @@ ghost use Rattle.meta_short.specs.Manners.{IsMannerIn, IsMannerDeclared};
 ghost use Rattle.meta_short.specs.Made.{AreMade};
 ghost use Rattle.meta_short.specs.Reading.{IsShortIn, ReadsIn, IsShortDeclared, ReadsDeclared};
 
+use meta_verify::mistakes_mean;
+
 /// For one environment a text reads as one line at most: by well-formed tables, and as valid declarations mean.
 pub fn one_line_reads()
-    ensures tables { (tables : TableContents) → IsWellFormedOpcodes tables → (env : Environment) (text a b : List ℕ) → ReadsIn tables env text a → ReadsIn tables env text b → a ≡ b }
-    ensures declared { (d : InstructionSet) → IsValid d → (env : Environment) (text a b : List ℕ) → ReadsDeclared d env text a → ReadsDeclared d env text b → a ≡ b }
+    ensures tables { (tables : TableContents) → IsWellFormedOpcodes tables → (env : Environment) (text a b : List ℕ)
+        → ReadsIn tables env text a → ReadsIn tables env text b → a ≡ b }
+    ensures declared { (d : InstructionSet) → IsValid d → (env : Environment) (text a b : List ℕ)
+        → ReadsDeclared d env text a → ReadsDeclared d env text b → a ≡ b }
 {}
 
 /// What `print_line` wrote of a line reads as that line, and as no other: by well-formed tables, and as valid declarations mean.
 pub fn printed_lines_read()
-    ensures tables { (tables : TableContents) → IsWellFormedOpcodes tables → (env : Environment) (line text : List ℕ) → IsShortIn tables env line text
+    ensures tables { (tables : TableContents) → IsWellFormedOpcodes tables → (env : Environment) (line text : List ℕ)
+        → IsShortIn tables env line text
         → ReadsIn tables env text line × ((other : List ℕ) → ReadsIn tables env text other → other ≡ line) }
-    ensures declared { (d : InstructionSet) → IsValid d → (env : Environment) (line text : List ℕ) → IsShortDeclared d env line text
+    ensures declared { (d : InstructionSet) → IsValid d → (env : Environment) (line text : List ℕ)
+        → IsShortDeclared d env line text
         → ReadsDeclared d env text line × ((other : List ℕ) → ReadsDeclared d env text other → other ≡ line) }
 {}
 
-/// By tables a line has one short form at most.
+/// For one environment a line has one short form at most, and an instruction one manner: by tables, and as valid declarations mean.
 pub fn one_short_form()
-    ensures { (tables : TableContents) (env : Environment) (line a b : List ℕ) → IsShortIn tables env line a → IsShortIn tables env line b → a ≡ b }
+    ensures tables { (tables : TableContents) (env : Environment) (line a b : List ℕ)
+        → IsShortIn tables env line a → IsShortIn tables env line b → a ≡ b }
+    ensures declared { (d : InstructionSet) → IsValid d → (env : Environment) (line a b : List ℕ)
+        → IsShortDeclared d env line a → IsShortDeclared d env line b → a ≡ b }
+    ensures manner_in_tables { (tables : TableContents) (name : List ℕ) (m n : Manner)
+        → IsMannerIn tables name m → IsMannerIn tables name n → m ≡ n }
+    ensures manner_declared { (d : InstructionSet) → IsValid d → (name : List ℕ) (m n : Manner)
+        → IsMannerDeclared d name m → IsMannerDeclared d name n → m ≡ n }
 {}
 
 /// What tables leave out of the lines of an opcode is what its declaration leaves out, and the short form of a line by tables is the
 /// one that the declarations mean, where the tables are made of the declarations.
 pub fn short_forms_mean()
-    ensures manner { (d : InstructionSet) (tables : TableContents) → AreMade d tables → (name : List ℕ) (m : Manner) → (IsMannerIn tables name m ↔ IsMannerDeclared d name m) }
-    ensures short { (d : InstructionSet) (tables : TableContents) → AreMade d tables → (env : Environment) → HasNamedTypes env → (line text : List ℕ) → (IsShortIn tables env line text ↔ IsShortDeclared d env line text) }
-{}
+    ensures manner { (d : InstructionSet) (tables : TableContents) → AreMade d tables → (name : List ℕ) (m : Manner)
+        → (IsMannerIn tables name m ↔ IsMannerDeclared d name m) }
+    ensures short { (d : InstructionSet) (tables : TableContents) → AreMade d tables → (env : Environment) → HasNamedTypes env
+        → (line text : List ℕ) → (IsShortIn tables env line text ↔ IsShortDeclared d env line text) }
+{
+    mistakes_mean();
+}

@@ -1,4 +1,4 @@
-ghost use Rattle.std.specs.Prelude.{◌≡◌, ◌≢◌, ◌↔◌, ◌+◌, ℕ, List, map, take, drop, get_or, false, IsSome, IfSome, IfNone, None, Some};
+ghost use Rattle.std.specs.Prelude.{◌≡◌, ◌≢◌, ◌↔◌, ◌+◌, ℕ, List, map, get_or, false, IsSome, IfSome, IfNone, None, Some};
 ghost use Rattle.std.specs.List.{list_any};
 ghost use Rattle.meta_meaning.specs.Tables.{OpcodeNumbers, at_opcode};
 ghost use Rattle.meta_opcode_tables.specs.Constraint.{number_constraint_of, entry_of};
@@ -7,21 +7,19 @@ ghost use Rattle.meta_opcode_tables.specs.declared.constraint.Constraint.{Constr
 ghost use Rattle.meta_short.specs.Manners.{is_open, is_control, manner_of, value_constraints, result_constraints};
 ghost use Rattle.meta_short.specs.Written.{manner_in};
 
-use meta_gen::{Constraint, NO_TYPE_SET, OpcodeConstraints, Tables};
+use meta_gen::{Constraint, Demand, NO_TYPE_SET, OpcodeConstraints, Tables, constraints_from};
 use meta_types::Text;
 
 /// Whether a result under this constraint is written with its type: the constraint leaves several.
 fn is_open(constraint: Constraint) -> bool
     ensures { result ≡ is_open (number_constraint_of constraint) }
 {
-    matches!(
-        constraint,
-        Constraint::Free(_)
-            | Constraint::Narrower
-            | Constraint::Wider
-            | Constraint::Narrower2
-            | Constraint::Wider2
-    )
+    match constraint.demanded() {
+        Demand::Number(_) => false,
+        Demand::OfSet(_) => true,
+        Demand::Controlling(_) => false,
+        Demand::By(_, derived_func) => derived_func.is_relation(),
+    }
 }
 
 /// Whether a value under this constraint has the controlling type (this project's own).
@@ -31,20 +29,12 @@ pub fn is_control(constraint: Constraint) -> bool
     matches!(constraint, Constraint::Same)
 }
 
-/// So many of the constraints, or those that there are, from this place on.
-fn part(constraints: &[Constraint], place: usize, count: usize) -> &[Constraint]
-    ensures { result.now ≡ take count (drop place constraints.now) }
-{
-    let behind = &constraints[constraints.len().min(place)..];
-    &behind[..behind.len().min(count)]
-}
-
 /// The constraints of the results of an entry.
 fn result_constraints(tables: &Tables, entry: OpcodeConstraints) -> &[Constraint]
     ensures { map number_constraint_of result.now ≡ result_constraints tables.now.opcodes (entry_of entry) }
 {
     let place = entry.constraint_offset as usize;
-    part(tables.operand_constraints(), place, entry.result_count())
+    constraints_from(tables.operand_constraints(), place, entry.result_count())
 }
 
 /// The constraints of the values of an entry (this project's own).
@@ -52,7 +42,7 @@ pub fn value_constraints(tables: &Tables, entry: OpcodeConstraints) -> &[Constra
     ensures { map number_constraint_of result.now ≡ value_constraints tables.now.opcodes (entry_of entry) }
 {
     let place = entry.constraint_offset as usize + entry.result_count();
-    part(tables.operand_constraints(), place, entry.value_count())
+    constraints_from(tables.operand_constraints(), place, entry.value_count())
 }
 
 /// Whether some value has the controlling type.
@@ -91,7 +81,10 @@ impl<'t> Manner<'t> {
     pub fn of(tables: &'t Tables, opcode: u16) -> Option<Manner<'t>>
         ensures opcode { IsSome result ↔ IsOpcode tables.now.opcodes opcode }
         ensures name { IfSome result (λ m. at_opcode tables.now.opcodes.names opcode ≡ Some m.name.now) }
-        ensures manner { IfSome result (λ m. (entry : OpcodeNumbers) × (at_opcode tables.now.opcodes.entries opcode ≡ Some entry) × (manner_in m ≡ manner_of tables.now.opcodes entry)) }
+        ensures manner { IfSome result (λ m. (entry : OpcodeNumbers) × (at_opcode tables.now.opcodes.entries opcode ≡ Some entry)
+            × (manner_in m ≡ manner_of tables.now.opcodes entry)) }
+        ensures results { IfSome result (λ m. (entry : OpcodeNumbers) × (at_opcode tables.now.opcodes.entries opcode ≡ Some entry)
+            × (map number_constraint_of m.results.now ≡ result_constraints tables.now.opcodes entry)) }
         ensures none { IfNone result (at_opcode tables.now.opcodes.names opcode ≡ None) }
     {
         let name = tables.opcode_name(opcode)?;

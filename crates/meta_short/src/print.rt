@@ -23,8 +23,10 @@ fn push_applied(
     out: &mut String,
 ) -> Result<bool, AllocError>
     requires { HasNumbers application.now }
-    ensures written { IfOk result (λ is_written. is_written ≡ true → AddsShort tables.now.opcodes (spec.OfApplication (numbers.applied application.now)) (string_bytes out.old) (string_bytes out.new)) }
-    ensures unnamed { IfOk result (λ is_written. is_written ≡ false → LacksName (AllowedReply tables.now.opcodes) (spec.OfApplication (numbers.applied application.now))) }
+    ensures written { IfOk result (λ is_written. is_written ≡ true → AddsShort tables.now.opcodes
+        (spec.OfApplication (numbers.applied application.now)) (string_bytes out.old) (string_bytes out.new)) }
+    ensures unnamed { IfOk result (λ is_written. is_written ≡ false
+        → LacksName (AllowedReply tables.now.opcodes) (spec.OfApplication (numbers.applied application.now))) }
     ensures kept { IfOk result (λ is_written. is_written ≡ false → out.new ≡ out.old) }
 {
     let Some(opcode) = tables.find_opcode(application.name) else {
@@ -45,7 +47,8 @@ pub fn push_short(
     out: &mut String,
 ) -> Result<bool, AllocError>
     requires { HasTypeNumbers statement.now }
-    ensures written { IfOk result (λ is_written. is_written ≡ true → AddsShort tables.now.opcodes (stated statement.now) (string_bytes out.old) (string_bytes out.new)) }
+    ensures written { IfOk result (λ is_written. is_written ≡ true
+        → AddsShort tables.now.opcodes (stated statement.now) (string_bytes out.old) (string_bytes out.new)) }
     ensures unnamed { IfOk result (λ is_written. is_written ≡ false → LacksName (AllowedReply tables.now.opcodes) (stated statement.now)) }
     ensures kept { IfOk result (λ is_written. is_written ≡ false → out.new ≡ out.old) }
 {
@@ -66,8 +69,10 @@ pub fn push_line(
     line: &[u8],
     out: &mut String,
 ) -> Result<bool, AllocError>
-    ensures written { IfOk result (λ is_written. is_written ≡ true → (text : List ℕ) × IsShortIn tables.now.opcodes (definitions checker.now) line.now text × (string_bytes out.new ≡ string_bytes out.old ++ text)) }
-    ensures wrong { IfOk result (λ is_written. is_written ≡ false → (line.now ≡ []) ⊎ ((reason : Reason) × IsWrong (AllowedReply tables.now.opcodes) (definitions checker.now) line.now reason)) }
+    ensures written { IfOk result (λ is_written. is_written ≡ true → (text : List ℕ)
+        × IsShortIn tables.now.opcodes (definitions checker.now) line.now text × (string_bytes out.new ≡ string_bytes out.old ++ text)) }
+    ensures wrong { IfOk result (λ is_written. is_written ≡ false → (line.now ≡ [])
+        ⊎ ((reason : Reason) × IsWrong (AllowedReply tables.now.opcodes) (definitions checker.now) line.now reason)) }
     ensures kept { IfOk result (λ is_written. is_written ≡ false → out.new ≡ out.old) }
 {
     let Some(statement) = Statement::parse(alloc, line)? else {
@@ -88,7 +93,8 @@ pub fn print_line(
     line: &[u8],
 ) -> Result<Option<Text>, AllocError>
     ensures short { IfOk result (λ o. IfSome o (λ text. IsShortIn tables.now.opcodes (definitions checker.now) line.now text)) }
-    ensures none { IfOk result (λ o. IfNone o ((line.now ≡ []) ⊎ ((reason : Reason) × IsWrong (AllowedReply tables.now.opcodes) (definitions checker.now) line.now reason))) }
+    ensures none { IfOk result (λ o. IfNone o ((line.now ≡ [])
+        ⊎ ((reason : Reason) × IsWrong (AllowedReply tables.now.opcodes) (definitions checker.now) line.now reason))) }
 {
     let mut out = String::new(alloc);
     if !push_line(alloc, tables, checker, line, &mut out)? {

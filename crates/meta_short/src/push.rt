@@ -3,8 +3,9 @@ ghost use Rattle.std.specs.Option.{option_map};
 ghost use Rattle.meta_types.specs.TypeParts.{name_of};
 ghost use Rattle.meta_types.specs.TypeNumber.{type_with, IsTypeNumber};
 ghost use Rattle.meta_verify.specs.Statement.{value_text};
-ghost use Rattle.meta_verify.specs.Numbers.{typed, applied, IsTypedNumber, HasNumbers};
-ghost use Rattle.meta_short.specs.Short.{shortened, short_results, short_result_text, joined, behind, control_written, values_written, results_part, parameter_text, short_application};
+ghost use Rattle.meta_verify.specs.Numbers.{typed_value_of, applied, IsTypedNumber, HasNumbers};
+ghost use Rattle.meta_short.specs.Short.{shortened, short_results, short_result_text, joined, behind, control_written, values_written};
+ghost use Rattle.meta_short.specs.Short.{results_part, parameter_text, short_application};
 ghost use Rattle.meta_short.specs.Written.{manner_in, before_place};
 
 use super::manner::Manner;
@@ -33,7 +34,7 @@ fn push_value(value: u32, out: &mut String) -> Result<(), AllocError>
 /// Adds a result, with its type where that is written: `v1`, or `v1:i32`.
 fn push_result(r: TypedNumber, is_opened: bool, out: &mut String) -> Result<(), AllocError>
     requires { IsTypedNumber r }
-    ensures { OnOk result (string_bytes out.new ≡ string_bytes out.old ++ short_result_text (shortened is_opened (typed r))) }
+    ensures { OnOk result (string_bytes out.new ≡ string_bytes out.old ++ short_result_text (shortened is_opened (typed_value_of r))) }
 {
     push_value(r.value, out)?;
     if is_opened {
@@ -60,7 +61,8 @@ fn push_joined_results(
     out: &mut String,
 ) -> Result<(), AllocError>
     requires { All IsTypedNumber results.now }
-    ensures { OnOk result (string_bytes out.new ≡ string_bytes out.old ++ joined (map short_result_text (short_results (manner_in manner.now).opened (map typed results.now)))) }
+    ensures { OnOk result (string_bytes out.new ≡ string_bytes out.old
+        ++ joined (map short_result_text (short_results (manner_in manner.now).opened (map typed_value_of results.now)))) }
 {
     for k in 0..results.len() {
         push_comma(k, out)?;
@@ -76,7 +78,8 @@ fn push_results(
     out: &mut String,
 ) -> Result<(), AllocError>
     requires { All IsTypedNumber results.now }
-    ensures { OnOk result (string_bytes out.new ≡ string_bytes out.old ++ results_part (map short_result_text (short_results (manner_in manner.now).opened (map typed results.now)))) }
+    ensures { OnOk result (string_bytes out.new ≡ string_bytes out.old
+        ++ results_part (map short_result_text (short_results (manner_in manner.now).opened (map typed_value_of results.now)))) }
 {
     if results.is_empty() {
         return Ok(());
@@ -88,7 +91,8 @@ fn push_results(
 /// Adds what stands behind the name for one controlling type: `.i32`, or nothing where it is left out.
 fn push_alone(leaves_out: bool, number: u16, out: &mut String) -> Result<(), AllocError>
     requires { IsTypeNumber number }
-    ensures { OnOk result (string_bytes out.new ≡ string_bytes out.old ++ behind 46 (control_written leaves_out (Some (type_with number)) None)) }
+    ensures { OnOk result (string_bytes out.new
+        ≡ string_bytes out.old ++ behind 46 (control_written leaves_out (Some (type_with number)) None)) }
 {
     if leaves_out {
         return Ok(());
@@ -106,7 +110,8 @@ fn push_control(
 ) -> Result<(), AllocError>
     requires control { IfSome control IsTypeNumber }
     requires second { IfSome second IsTypeNumber }
-    ensures { OnOk result (string_bytes out.new ≡ string_bytes out.old ++ behind 46 (control_written leaves_out (option_map type_with control) (option_map type_with second))) }
+    ensures { OnOk result (string_bytes out.new
+        ≡ string_bytes out.old ++ behind 46 (control_written leaves_out (option_map type_with control) (option_map type_with second))) }
 {
     let Some(number) = control else {
         return Ok(());
@@ -150,7 +155,8 @@ pub(crate) fn push_application(
 ) -> Result<(), AllocError>
     requires named { manner.now.name.now ≡ application.now.name.now }
     requires known { HasNumbers application.now }
-    ensures { OnOk result (string_bytes out.new ≡ string_bytes out.old ++ short_application (manner_in manner.now) (applied application.now)) }
+    ensures { OnOk result (string_bytes out.new
+        ≡ string_bytes out.old ++ short_application (manner_in manner.now) (applied application.now)) }
 {
     push_results(manner, &application.results, out)?;
     out.push_str(manner.name.as_str())?;
@@ -166,7 +172,7 @@ pub(crate) fn push_application(
 /// Adds the line of a parameter.
 pub(crate) fn push_parameter(parameter: TypedNumber, out: &mut String) -> Result<(), AllocError>
     requires { IsTypedNumber parameter }
-    ensures { OnOk result (string_bytes out.new ≡ string_bytes out.old ++ parameter_text (typed parameter)) }
+    ensures { OnOk result (string_bytes out.new ≡ string_bytes out.old ++ parameter_text (typed_value_of parameter)) }
 {
     out.push_str("param ")?;
     push_value(parameter.value, out)?;

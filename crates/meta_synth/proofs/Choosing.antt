@@ -1,5 +1,6 @@
 -- What is chosen for an instruction: the type set of its root variable.
-use Rattle.std.proofs.Common.{◌≡◌, ◌<◌, ◌≤◌, ◌*◌, ◌/◌, ◌%◌, ◌^◌, ◌==◌, ◌&&◌, ℕ, zero, suc, Bool, true, false, not, cond, IsTrue, Result, Ok, Err, IsOkAnd, IfOk, refl, sym, ap, subst, ◌∙◌, arith}
+use Rattle.std.proofs.Common.{◌≡◌, ◌<◌, ◌≤◌, ◌*◌, ◌/◌, ◌%◌, ◌^◌, ◌==◌, ◌&&◌, ℕ, zero, suc, Bool, true, false, not, cond, IsTrue, Result, Ok}
+use Rattle.std.proofs.Common.{Err, IsOkAnd, IfOk, refl, sym, ap, subst, ◌∙◌, arith}
 use Rattle.std.proofs.lemmas.Nat.{mod_below}
 use Rattle.meta_types.specs.TypeParts.{TypeParts, IntKind, widths, lane_counts, scalar}
 use Rattle.meta_types.specs.Function.{Narrower}
@@ -25,9 +26,14 @@ pub for_each_width : (P : ℕ → Type 0) → P 8 → P 16 → P 32 → (seed : 
 for_each_width P p q r seed = third P p q r (seed / 4 % 3) (mod_below (seed / 4) 3 (omega arith))
 
 -- an integer type of one lane, of a width that the set has
-member : (s : TypeSetParts) (w : ℕ) → is_in (widths IntKind) w ≡ true → is_in s.ints w ≡ true → is_in s.lanes 1 ≡ true → IsMember s (scalar IntKind w)
+member : (s : TypeSetParts) (w : ℕ) → is_in (widths IntKind) w ≡ true → is_in s.ints w ≡ true → is_in s.lanes 1 ≡ true
+    → IsMember s (scalar IntKind w)
 member s w known has one = record {
-  is_type = record { width = contains (widths IntKind) w (is_in_among (widths IntKind) w known); lanes = contains (lane_counts false) 1 (is_in_among (lane_counts false) 1 refl) };
+  is_type = record {
+    width = contains (widths IntKind) w (is_in_among (widths IntKind) w known);
+    lanes =
+        contains (lane_counts false) 1 (is_in_among (lane_counts false) 1 refl);
+  };
   width = contains s.ints w (is_in_among s.ints w has);
   lanes = contains s.lanes 1 (is_in_among s.lanes 1 one);
 }
@@ -68,7 +74,14 @@ can_narrow seed e = subst (λ v. IsTrue (can_derive Narrower (ints_from (least_w
 
 -- the parts of which it is built
 abbrev parts : ℕ → Interval → Intervals
-parts least lanes = record { ints = Between (record { start = least; end = 128 }); floats = Nothing; simd_lanes = lanes; dynamic_simd_lanes = Nothing; includes_scalars = true }
+parts least lanes = record {
+  ints = Between (record { start = least; end = 128 });
+  floats = Nothing;
+  simd_lanes =
+      lanes;
+  dynamic_simd_lanes = Nothing;
+  includes_scalars = true;
+}
 
 abbrev lanes_for : Bool → Interval
 lanes_for vectors = cond vectors Everything Nothing
@@ -76,19 +89,42 @@ lanes_for vectors = cond vectors Everything Nothing
 abbrev pub parts_of : ℕ → Intervals
 parts_of seed = parts (least_width_of seed) (lanes_for (has_vectors seed))
 
-pub parts_are : (seed least : ℕ) (lanes : Interval) (one two three : Intervals) → one ≡ nothing_set → two ≡ record one { ints = Between (record { start = least; end = 128 }) } → three ≡ record two { simd_lanes = lanes }
+pub parts_are : (seed least : ℕ) (lanes : Interval) (one two three : Intervals) → one ≡ nothing_set
+    → two ≡ record one { ints = Between (record { start = least; end = 128 }) } → three ≡ record two { simd_lanes = lanes }
     → least ≡ least_width_of seed → lanes ≡ lanes_for (has_vectors seed) → three ≡ parts_of seed
 parts_are seed least lanes one two three a b c is_least are_lanes =
-    c ∙ ap (λ (p : Intervals). record p { simd_lanes = lanes }) (b ∙ ap (λ (p : Intervals). record p { ints = Between (record { start = least; end = 128 }) }) a)
+    c ∙ ap (λ (p : Intervals). record p { simd_lanes = lanes }) (b
+    ∙ ap (λ (p : Intervals). record p { ints = Between (record { start = least; end = 128 }) }) a)
     ∙ (λ i. parts (is_least i) (are_lanes i))
 
 can_build_parts : (least : ℕ) (v : Bool) → is_in (widths IntKind) least ≡ true → least ≤ 128 → CanBuild (parts least (lanes_for v))
-can_build_parts least true known low = record { ints = (contains (widths IntKind) least (is_in_among (widths IntKind) least known), contains (widths IntKind) 128 (is_in_among (widths IntKind) 128 refl), low); floats = tt; simd_lanes = tt; dynamic_simd_lanes = tt }
-can_build_parts least false known low = record { ints = (contains (widths IntKind) least (is_in_among (widths IntKind) least known), contains (widths IntKind) 128 (is_in_among (widths IntKind) 128 refl), low); floats = tt; simd_lanes = tt; dynamic_simd_lanes = tt }
+can_build_parts least true known low =
+    record {
+      ints = (
+        contains (widths IntKind) least (is_in_among (widths IntKind) least known),
+        contains (widths IntKind) 128 (is_in_among (widths IntKind) 128 refl),
+        low,
+      );
+      floats = tt;
+      simd_lanes = tt;
+      dynamic_simd_lanes = tt;
+    }
+can_build_parts least false known low =
+    record {
+      ints = (
+        contains (widths IntKind) least (is_in_among (widths IntKind) least known),
+        contains (widths IntKind) 128 (is_in_among (widths IntKind) 128 refl),
+        low,
+      );
+      floats = tt;
+      simd_lanes = tt;
+      dynamic_simd_lanes = tt;
+    }
 
 pub can_build : (seed : ℕ) → CanBuild (parts_of seed)
 can_build seed = for_each_width (λ least. (v : Bool) → CanBuild (parts least (lanes_for v)))
-    (λ v. can_build_parts 8 v refl (omega arith)) (λ v. can_build_parts 16 v refl (omega arith)) (λ v. can_build_parts 32 v refl (omega arith))
+    (λ v. can_build_parts 8 v refl (omega arith)) (λ v. can_build_parts 16 v refl (omega arith))
+    (λ v. can_build_parts 32 v refl (omega arith))
     seed (has_vectors seed)
 
 built : (least : ℕ) (v : Bool) → sets_between (parts least (lanes_for v)) ≡ ints_from least v

@@ -1,5 +1,6 @@
 -- What controls an instruction of a shape, and what its type sets are.
-use Rattle.std.proofs.Common.{◌≡◌, ◌⊎◌, inl, inr, ⊎_elim, ◌+◌, ℕ, zero, suc, Bool, true, false, List, [], ◌∷◌, length, map, slice_get, Option, None, Some, refl, sym, ap, subst, ◌∙◌}
+use Rattle.std.proofs.Common.{◌≡◌, ◌⊎◌, inl, inr, ⊎_elim, ◌+◌, ℕ, zero, suc, Bool, true, false, List, [], ◌∷◌, length, map, slice_get}
+use Rattle.std.proofs.Common.{Option, None, Some, refl, sym, ap, subst, ◌∙◌}
 use Rattle.std.proofs.lemmas.Option.{same_Some}
 use Rattle.meta_lists.proofs.Places.{get_stays, get_right}
 use Rattle.meta_types.specs.Function.{Function, AsTruthy, Narrower}
@@ -119,7 +120,8 @@ module _ (sets : Sets) (x : ℕ) (several : HasOne (sets x) → ⊥) where
           of.chain
 
   -- a set of the control, or of an operand, is that of the root
-  pub control_set : (shape : Shape) (control : Option Variable) (a : Which) (s : TypeSetParts) → IsControl sets (model shape x) control → IsControlSet sets (controls_of (model shape x) control) a s → s ≡ sets x
+  pub control_set : (shape : Shape) (control : Option Variable) (a : Which) (s : TypeSetParts)
+      → IsControl sets (model shape x) control → IsControlSet sets (controls_of (model shape x) control) a s → s ≡ sets x
   control_set shape None First s is h = absurd (nothing h.variable h.controls_is)
   control_set shape (Some v) First s is h =
       h.set ∙ ap (λ (w : Variable). sets w.root) (sym (same_Some v h.variable h.controls_is) ∙ control_is shape v is)

@@ -1,9 +1,11 @@
 -- How many opcodes have a property, and the types that an opcode takes everywhere.
-use Rattle.std.proofs.Common.{◌≡◌, inl, inr, ⊎_elim, ◌+◌, ◌≤◌, ◌==◌, ℕ, zero, suc, Bool, true, false, cond, List, [], ◌∷◌, length, replicate, Option, None, Some, MatchBool, refl, sym, ap, subst, ◌∙◌, arith, add-one}
+use Rattle.std.proofs.Common.{◌≡◌, inl, inr, ⊎_elim, ◌+◌, ◌≤◌, ◌==◌, ℕ, zero, suc, Bool, true, false, cond, List, [], ◌∷◌, length}
+use Rattle.std.proofs.Common.{replicate, Option, None, Some, MatchBool, refl, sym, ap, subst, ◌∙◌, arith, add-one}
 use Rattle.std.specs.List.{All}
 use Rattle.std.proofs.lemmas.Option.{same_Some, slice_get_within}
 use Rattle.std.proofs.lemmas.List.Elements.{All-head, All-tail, All-replicate}
-use Rattle.meta_meaning.specs.Tables.{TableContents, OpcodeNumbers, at_opcode, no_type_set, result_count, value_count, ControlNumberFits, SetContains, Allows}
+use Rattle.meta_meaning.specs.Tables.{TableContents, OpcodeNumbers, at_opcode, no_type_set, result_count, value_count, ControlNumberFits}
+use Rattle.meta_meaning.specs.Tables.{SetContains, Allows}
 use Rattle.meta_opcode_tables.specs.Contents.{IsOpcode}
 use Rattle.meta_synth.specs.Summary.{CountsTo, TakesEverywhere}
 
@@ -40,7 +42,8 @@ only_n : (b : Bool) (n c : ℕ) → cond b None (Some n) ≡ Some c → c ≡ n
 only_n true n c e = absurd (cc)
 only_n false n c e = sym (same_Some n c e)
 
-control_so : (Q : ℕ → Type 0) (b : Bool) (n : ℕ) (control : Option ℕ) → MatchBool b (control ≡ None) ((m : ℕ) × (control ≡ Some m) × Q m) → ((m : ℕ) → control ≡ Some m → m ≡ n) → control ≡ cond b None (Some n)
+control_so : (Q : ℕ → Type 0) (b : Bool) (n : ℕ) (control : Option ℕ) → MatchBool b (control ≡ None) ((m : ℕ) × (control ≡ Some m) × Q m)
+    → ((m : ℕ) → control ≡ Some m → m ≡ n) → control ≡ cond b None (Some n)
 control_so Q true n control fits only = fits
 control_so Q false n control fits only = fits.1 ∙ ap Some (only fits.0 fits.1)
 
@@ -54,7 +57,8 @@ module _ (t : TableContents) (op n : ℕ) where
 
   module _ (entry : OpcodeNumbers) (at : at_opcode t.entries op ≡ Some entry) where
     abbrev AllowsAll : Type 0
-    AllowsAll = Allows t op (control_for entry.typeset_offset n) None (replicate (result_count entry.flags) n) (replicate (value_count entry.flags) n)
+    AllowsAll = Allows t op (control_for entry.typeset_offset n) None (replicate (result_count entry.flags) n)
+        (replicate (value_count entry.flags) n)
 
     pub takes : AllowsAll → TakesEverywhere t n op
     takes h = record {
@@ -70,8 +74,10 @@ module _ (t : TableContents) (op n : ℕ) where
     pub taken : TakesEverywhere t n op → AllowsAll
     taken h =
         let same : h.allowed.entry ≡ entry = same_Some h.allowed.entry entry (sym h.allowed.is_opcode ∙ at) in
-        let results = all_same n h.results h.are_results ∙ ap (λ k. replicate k n) (h.allowed.results ∙ ap (λ (e : OpcodeNumbers). result_count e.flags) same) in
-        let values = all_same n h.values h.are_values ∙ ap (λ k. replicate k n) (h.allowed.values ∙ ap (λ (e : OpcodeNumbers). value_count e.flags) same) in
+        let results = all_same n h.results h.are_results
+        ∙ ap (λ k. replicate k n) (h.allowed.results ∙ ap (λ (e : OpcodeNumbers). result_count e.flags) same) in
+        let values = all_same n h.values h.are_values ∙ ap (λ k. replicate k n) (h.allowed.values
+        ∙ ap (λ (e : OpcodeNumbers). value_count e.flags) same) in
         let fits = subst (λ (e : OpcodeNumbers). ControlNumberFits t e.typeset_offset h.control) same h.allowed.control_fits in
         let control = control_so (SetContains t entry.typeset_offset) (entry.typeset_offset == no_type_set) n h.control fits h.is_control in
         subst (λ c. Allows t op c None (replicate (result_count entry.flags) n) (replicate (value_count entry.flags) n)) control

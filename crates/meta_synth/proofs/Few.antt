@@ -1,5 +1,6 @@
 -- Type sets of root variables that are all different are few.
-use Rattle.std.proofs.Common.{◌≡◌, ◌≢◌, ◌<◌, ◌≤◌, ◌+◌, ◌*◌, ◌%◌, ◌==◌, ◌||◌, ℕ, suc, Bool, true, false, cond, eqb, nat_lt, List, [], ◌∷◌, length, map, slice_get, Some, refl, sym, ap, ◌∙◌, arith}
+use Rattle.std.proofs.Common.{◌≡◌, ◌≢◌, ◌<◌, ◌≤◌, ◌+◌, ◌*◌, ◌%◌, ◌==◌, ◌||◌, ℕ, suc, Bool, true, false, cond, eqb, nat_lt, List, [], ◌∷◌}
+use Rattle.std.proofs.Common.{length, map, slice_get, Some, refl, sym, ap, ◌∙◌, arith}
 use Rattle.std.specs.List.{AllByRecursion, IsDistinct, list_any}
 use Rattle.std.proofs.lemmas.Bool.{false≢true, ne_eqb, eqb-true}
 use Rattle.std.proofs.lemmas.List.{length-map}
@@ -38,17 +39,18 @@ known_32 false = record { back = refl; small = omega arith }
 pub is_known : (seed : ℕ) → IsKnown (set_of_seed seed)
 is_known seed = for_each_width (λ least. (v : Bool) → IsKnown (ints_from least v)) known_8 known_16 known_32 seed (has_vectors seed)
 
-abbrev AreKnown : List TypeSetParts → Type 0
-AreKnown sets = (k : ℕ) (s : TypeSetParts) → slice_get sets k ≡ Some s → IsKnown s
+abbrev AreKnownSets : List TypeSetParts → Type 0
+AreKnownSets sets = (k : ℕ) (s : TypeSetParts) → slice_get sets k ≡ Some s → IsKnown s
 
 abbrev AreOnce : List TypeSetParts → Type 0
 AreOnce sets = (j k : ℕ) (s : TypeSetParts) → slice_get sets j ≡ Some s → slice_get sets k ≡ Some s → j ≡ k
 
-apart : (s : TypeSetParts) (sets : List TypeSetParts) → ((k : ℕ) (t : TypeSetParts) → slice_get sets k ≡ Some t → mark_of s ≢ mark_of t) → AllByRecursion (λ m. eqb (mark_of s) m ≡ false) (map mark_of sets)
+apart : (s : TypeSetParts) (sets : List TypeSetParts) → ((k : ℕ) (t : TypeSetParts) → slice_get sets k ≡ Some t → mark_of s ≢ mark_of t)
+    → AllByRecursion (λ m. eqb (mark_of s) m ≡ false) (map mark_of sets)
 apart s [] h = tt
 apart s (t ∷ sets) h = (ne_eqb (mark_of s) (mark_of t) (h 0 t refl), apart s sets (λ k u at. h (suc k) u at))
 
-distinct : (sets : List TypeSetParts) → AreKnown sets → AreOnce sets → IsDistinct eqb (map mark_of sets)
+distinct : (sets : List TypeSetParts) → AreKnownSets sets → AreOnce sets → IsDistinct eqb (map mark_of sets)
 unfolding IsDistinct
 distinct [] known once = tt
 distinct (s ∷ sets) known once = (
@@ -59,7 +61,7 @@ distinct (s ∷ sets) known once = (
   distinct sets (λ k t at. known (suc k) t at) (λ j k t a b. let e : suc j ≡ suc k = once (suc j) (suc k) t a b in omega (arith, e)),
 )
 
-below : (sets : List TypeSetParts) → AreKnown sets → (q : ℕ) → list_any (eqb q) (map mark_of sets) ≡ true → q < 80
+below : (sets : List TypeSetParts) → AreKnownSets sets → (q : ℕ) → list_any (eqb q) (map mark_of sets) ≡ true → q < 80
 below [] known q e = absurd (false≢true e)
 below (s ∷ sets) known q e = here (eqb q (mark_of s)) refl (λ h. below sets (λ k t at. known (suc k) t at) q h)
   where
@@ -70,7 +72,8 @@ below (s ∷ sets) known q e = here (eqb q (mark_of s)) refl (λ h. below sets (
         omega (arith, same, small)
     here false at rest = rest (sym (ap (λ b. b || list_any (eqb q) (map mark_of sets)) at) ∙ e)
 
-pub few_sets : (sets : List TypeSetParts) → AreKnown sets → AreOnce sets → length sets ≤ 80
+pub few_sets : (sets : List TypeSetParts) → AreKnownSets sets → AreOnce sets → length sets ≤ 80
 few_sets sets known once =
-    let few : length (map mark_of sets) ≤ 80 = length-le_from_distinct_below (map mark_of sets) 80 (distinct sets known once) (below sets known) in
+    let few : length (map mark_of sets) ≤ 80 =
+    length-le_from_distinct_below (map mark_of sets) 80 (distinct sets known once) (below sets known) in
     omega (arith, few, length-map sets mark_of)

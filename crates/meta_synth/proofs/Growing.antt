@@ -1,17 +1,18 @@
 -- Instructions that were made stay so where the variables grow, and one more is made.
-use Rattle.std.proofs.Common.{◌≡◌, ⊎_elim, ◌+◌, ◌<◌, ◌≤◌, ℕ, List, [], ◌∷◌, ◌++◌, length, slice_get, None, Some, codes, refl, sym, ap, subst, ◌∙◌, suc, add-one, arith, length-append}
+use Rattle.std.proofs.Common.{◌≡◌, ⊎_elim, ◌+◌, ◌<◌, ◌≤◌, ℕ, List, [], ◌∷◌, ◌++◌, length, slice_get, None, Some, codes, refl, sym, ap}
+use Rattle.std.proofs.Common.{subst, ◌∙◌, suc, add-one, arith, length-append}
 use Rattle.std.specs.List.{AllZip}
 use Rattle.meta_lists.proofs.Places.{get_stays, get_left}
 use Rattle.meta_lists.proofs.Pushed.{get_pushed_below, last}
 use Rattle.meta_lists.proofs.Pairs.{pairs_imply}
 use Rattle.meta_typevar.specs.Variable.{Variable}
-use Rattle.meta_typevar.specs.Registry.{variable_of, set_at, coded_of, coded_at, root_content, IsKept, IsRegistry}
+use Rattle.meta_typevar.specs.Registry.{variable_from, set_at, coded_of, coded_at, root_content, IsKept, IsRegistry}
 use Rattle.meta_typevar.specs.declared.content.TypeVarContent.{TypeVarContent}
 use Rattle.meta_operands.specs.declared.operand.Operand.{Operand}
 use Rattle.meta_operands.specs.declared.format.InstructionFormat.{InstructionFormat}
 use Rattle.meta_inst.specs.Builder.{Builder, inputs_of, outputs_of}
 use Rattle.meta_inst.specs.Marks.{no_marks}
-use Rattle.meta_inst.specs.InstructionSet.{Fits}
+use Rattle.meta_inst.specs.InstructionSet.{AreOfRegistries}
 use Rattle.meta_settings.specs.GroupDeclaration.{GroupDeclaration}
 use Rattle.meta_declared.specs.AllDeclared.{Declared}
 use Rattle.meta_synth.specs.declared.shape.Shape.{Shape}
@@ -32,7 +33,7 @@ module _ (old new : List TypeVarContent) (seed x : ℕ) (at : x ≡ length old) 
   new_root = subst (λ k. IsKept new k (root_of seed k)) (sym at) (last old new (root_of seed (length old)) added (length old) refl)
 
 pub root_coded : (vars : List TypeVarContent) (seed x : ℕ) → IsKept vars x (root_of seed x) → coded_at vars x ≡ set_of_seed seed
-root_coded vars seed x kept = ap (λ o. coded_of vars (variable_of x o)) kept ∙ ap set_at kept
+root_coded vars seed x kept = ap (λ o. coded_of vars (variable_from x o)) kept ∙ ap set_at kept
 
 -- ---- more variables
 
@@ -44,20 +45,24 @@ value_stays vars more p o h =
       doc = h.doc;
       number = h.number;
       of = omega (arith, of, length-append vars more);
-      variable = ap (variable_of h.number) (get_left vars more h.number of) ∙ h.variable;
+      variable = ap (variable_from h.number) (get_left vars more h.number of) ∙ h.variable;
       fields = h.fields;
       field_name = h.field_name;
       rust_type = h.rust_type;
       kind_doc = h.kind_doc;
     }
 
-values_stay : {vars new : List TypeVarContent} {m : ℕ} (ps : List (List ℕ × Variable)) (os : List Operand) → Extends m vars new → AllZip (IsValueOf vars) ps os → AllZip (IsValueOf new) ps os
-values_stay {vars = vars} ps os grows h = subst (λ all. AllZip (IsValueOf all) ps os) (sym grows.is) (pairs_imply (IsValueOf vars) (IsValueOf (vars ++ grows.more)) (value_stays vars grows.more) ps os h)
+values_stay : {vars new : List TypeVarContent} {m : ℕ} (ps : List (List ℕ × Variable)) (os : List Operand) → Extends m vars new
+    → AllZip (IsValueOf vars) ps os → AllZip (IsValueOf new) ps os
+values_stay {vars = vars} ps os grows h =
+    subst (λ all. AllZip (IsValueOf all) ps os) (sym grows.is)
+    (pairs_imply (IsValueOf vars) (IsValueOf (vars ++ grows.more)) (value_stays vars grows.more) ps os h)
 
 kept_stays : {vars new : List TypeVarContent} {m : ℕ} (x : ℕ) (c : TypeVarContent) → Extends m vars new → IsKept vars x c → IsKept new x c
 kept_stays {vars} x c grows kept = subst (λ all. IsKept all x c) (sym grows.is) (get_stays vars grows.more x c kept)
 
-instruction_stays : {vars new : List TypeVarContent} {m : ℕ} (n number x : ℕ) (b : Builder) → Extends m vars new → IsInstruction vars n number x b → IsInstruction new n number x b
+instruction_stays : {vars new : List TypeVarContent} {m : ℕ} (n number x : ℕ) (b : Builder) → Extends m vars new
+    → IsInstruction vars n number x b → IsInstruction new n number x b
 instruction_stays n number x b grows h = record {
   root = kept_stays x (root_of (seed_of n number) x) grows h.root;
   name = h.name;
@@ -82,7 +87,16 @@ extends_count {m} {old} {new} g =
 
 -- an instruction of these parts
 abbrev pub builder_of : ℕ → Shape → List Operand → List Operand → Builder
-builder_of number shape inputs outputs = record { name = name_of_number number; doc = []; format = format_of shape; operands_in = Some inputs; operands_out = Some outputs; marks = no_marks; second = None }
+builder_of number shape inputs outputs = record {
+  name = name_of_number number;
+  doc = [];
+  format = format_of shape;
+  operands_in =
+      Some inputs;
+  operands_out = Some outputs;
+  marks = no_marks;
+  second = None;
+}
 
 pub is_made : {now new : List TypeVarContent} {n number seed x y : ℕ} {shape : Shape} {inputs outputs : List Operand} {b : Builder}
     → seed ≡ seed_of n number → shape ≡ shape_of seed → x ≡ y → IsKept now x (root_of seed x) → Extends 1 now new
@@ -90,7 +104,8 @@ pub is_made : {now new : List TypeVarContent} {n number seed x y : ℕ} {shape :
     → b ≡ builder_of number shape inputs outputs → IsInstruction new n number y b
 is_made {now} {new} {n} {number} {seed} {x} {y} {shape} {inputs} {outputs} {b} is_seed is_shape at kept grows ins outs is =
     let shaped : shape ≡ shape_of (seed_of n number) = is_shape ∙ ap shape_of is_seed in
-    subst (IsInstruction new n number y) (sym is) (subst (λ k. IsInstruction new n number k (builder_of number shape inputs outputs)) at (record {
+    subst (IsInstruction new n number y) (sym is) (subst (λ k. IsInstruction new n number k (builder_of number shape inputs outputs)) at
+    (record {
       root = subst (λ s. IsKept new x (root_of s x)) is_seed (kept_stays x (root_of seed x) grows kept);
       name = refl;
       doc = refl;
@@ -116,7 +131,8 @@ next_variables n k = refl
 
 -- and behind those of the first come those of the next
 more_variables : (n k : ℕ) → variables_to n (k + 1) ≡ variables_to n k ++ variables_of_number n (k + 1) (length (variables_to n k))
-more_variables n k = subst (λ m. variables_to n m ≡ variables_to n k ++ variables_of_number n m (length (variables_to n k))) (sym (add-one k)) (next_variables n k)
+more_variables n k = subst (λ m. variables_to n m ≡ variables_to n k ++ variables_of_number n m (length (variables_to n k)))
+    (sym (add-one k)) (next_variables n k)
 
 pub none_yet : {vars : List TypeVarContent} {n : ℕ} {all : List Builder} → vars ≡ [] → all ≡ [] → AreInstructions vars n all
 none_yet {vars} {n} v e = subst (AreInstructions vars n) (sym e) (record {
@@ -128,20 +144,24 @@ none_yet {vars} {n} v e = subst (AreInstructions vars n) (sym e) (record {
     nothing k b e = cc
 
 pub one_more : {vars new : List TypeVarContent} {n number : ℕ} {all made : List Builder} {b : Builder}
-    → AreInstructions vars n all → Extends 2 vars new → new ≡ vars ++ variables_of_number n number (length vars) → number ≡ length all + 1 → IsInstruction new n number (length vars) b → made ≡ all ++ b ∷ [] → AreInstructions new n made
-one_more {vars} {new} {n} {number} {all} {made} {b} are grows added numbered is pushed = subst (AreInstructions new n) (sym pushed) (record {
-  variables = added ∙ (λ i. are.variables i ++ variables_of_number n (numbered i) (length (are.variables i))) ∙ sym (more_variables n (length all)) ∙ ap (variables_to n) (sym (length-append all (b ∷ [])));
-  each = λ k c at. ⊎_elim
-      (λ i. instruction_stays n (k + 1) (length (variables_to n k)) c grows (are.each k c i.1))
-      (λ i. new_at k c i.0 i.1)
-      (get_pushed_below all b k c at);
-})
+    → AreInstructions vars n all → Extends 2 vars new → new ≡ vars ++ variables_of_number n number (length vars) → number ≡ length all + 1
+    → IsInstruction new n number (length vars) b → made ≡ all ++ b ∷ [] → AreInstructions new n made
+one_more {vars} {new} {n} {number} {all} {made} {b} are grows added numbered is pushed =
+    subst (AreInstructions new n) (sym pushed) (record {
+      variables = added ∙ (λ i. are.variables i ++ variables_of_number n (numbered i) (length (are.variables i)))
+          ∙ sym (more_variables n (length all)) ∙ ap (variables_to n) (sym (length-append all (b ∷ [])));
+      each = λ k c at. ⊎_elim
+          (λ i. instruction_stays n (k + 1) (length (variables_to n k)) c grows (are.each k c i.1))
+          (λ i. new_at k c i.0 i.1)
+          (get_pushed_below all b k c at);
+    })
   where
     new_at : (k : ℕ) (c : Builder) → k ≡ length all → b ≡ c → IsInstruction new n (k + 1) (length (variables_to n k)) c
     new_at k c here same =
         let place : number ≡ k + 1 = omega (arith, numbered, here) in
         let root : length vars ≡ length (variables_to n k) = ap length are.variables ∙ ap (λ m. length (variables_to n m)) (sym here) in
-        subst (IsInstruction new n (k + 1) (length (variables_to n k))) same (subst (λ y. IsInstruction new n (k + 1) y b) root (subst (λ m. IsInstruction new n m (length vars) b) place is))
+        subst (IsInstruction new n (k + 1) (length (variables_to n k))) same
+        (subst (λ y. IsInstruction new n (k + 1) y b) root (subst (λ m. IsInstruction new n m (length vars) b) place is))
 
 -- ---- they fit
 
@@ -151,7 +171,8 @@ three Copying = omega arith
 three Comparing = omega arith
 three Widening = omega arith
 
-pub all_fit : {vars : List TypeVarContent} {formats : List InstructionFormat} {n : ℕ} {all : List Builder} → formats ≡ all_formats → AreInstructions vars n all → Fits vars formats all
+pub all_fit : {vars : List TypeVarContent} {formats : List InstructionFormat} {n : ℕ} {all : List Builder} → formats ≡ all_formats
+    → AreInstructions vars n all → AreOfRegistries vars formats all
 all_fit {vars} {formats} {n} {all} are_formats are k b at =
     let x = length (variables_to n k) in
     let is = are.each k b at in
@@ -169,7 +190,8 @@ all_fit {vars} {formats} {n} {all} are_formats are k b at =
 
 -- ---- the declarations
 
-pub synth_made : {groups : List GroupDeclaration} {vars : List TypeVarContent} {formats : List InstructionFormat} {all : List Builder} {n : ℕ} {d : Declared}
+pub synth_made : {groups : List GroupDeclaration} {vars : List TypeVarContent} {formats : List InstructionFormat} {all : List Builder} {n :
+    ℕ} {d : Declared}
     → d ≡ record { set = record { vars = vars; formats = formats; instructions = all }; groups = groups } → groups ≡ []
     → formats ≡ all_formats → AreInstructions vars n all → length all ≡ 255 → IsRegistry vars → length vars ≤ 510 → IsSynth n d
 synth_made {n = n} e none are_formats are count registry few = subst (IsSynth n) (sym e) (record {

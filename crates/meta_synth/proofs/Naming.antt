@@ -1,5 +1,6 @@
 -- Names of instructions: each is a name, and no two are shared.
-use Rattle.std.proofs.Common.{◌≡◌, ◌<◌, ◌≤◌, ◌+◌, ◌^◌, ◌%◌, ℕ, inl, inr, ⊎_elim, true, false, List, [], ◌∷◌, ◌++◌, codes, refl, sym, ap, ◌∙◌, arith}
+use Rattle.std.proofs.Common.{◌≡◌, ◌<◌, ◌≤◌, ◌+◌, ◌^◌, ◌%◌, ℕ, inl, inr, ⊎_elim, true, false, List, [], ◌∷◌, ◌++◌, codes, refl, sym, ap}
+use Rattle.std.proofs.Common.{◌∙◌, arith}
 use Rattle.std.specs.List.{All}
 use Rattle.std.specs.Fmt.{decimal}
 use Rattle.std.proofs.lemmas.Fmt.{decimal_by_steps, decimal_injective}
@@ -32,11 +33,13 @@ digit_behind c rest low high = grind (arith, nat_tests)
 
 digits_behind : (ds : List ℕ) → All IsDigit ds → camel_from false ds ≡ ds
 digits_behind [] all = refl
-digits_behind (c ∷ ds) all = digit_behind c ds (All-head IsDigit c ds all).0 (All-head IsDigit c ds all).1 ∙ ap (λ rest. c ∷ rest) (digits_behind ds (All-tail IsDigit c ds all))
+digits_behind (c ∷ ds) all = digit_behind c ds (All-head IsDigit c ds all).0 (All-head IsDigit c ds all).1
+    ∙ ap (λ rest. c ∷ rest) (digits_behind ds (All-tail IsDigit c ds all))
 
 digits_first : (ds : List ℕ) → All IsDigit ds → camel_from true ds ≡ ds
 digits_first [] all = refl
-digits_first (c ∷ ds) all = digit_first c ds (All-head IsDigit c ds all).0 (All-head IsDigit c ds all).1 ∙ ap (λ rest. c ∷ rest) (digits_behind ds (All-tail IsDigit c ds all))
+digits_first (c ∷ ds) all = digit_first c ds (All-head IsDigit c ds all).0 (All-head IsDigit c ds all).1
+    ∙ ap (λ rest. c ∷ rest) (digits_behind ds (All-tail IsDigit c ds all))
 
 -- `op_7` is `Op7`
 camel_name : (n : ℕ) → n < 2 ^ 64 → camel_case_of (name_of_number n) ≡ codes "Op" ++ decimal n

@@ -1,5 +1,6 @@
 -- The declarations of a number are one, and so is the line on their tables.
-use Rattle.std.proofs.Common.{◌≡◌, ◌+◌, ◌<◌, ◌⊎◌, inl, inr, ⊎_elim, ℕ, zero, suc, List, [], ◌∷◌, length, slice_get, Option, Some, refl, sym, ap, ◌∙◌, subst, arith}
+use Rattle.std.proofs.Common.{◌≡◌, ◌+◌, ◌<◌, ◌⊎◌, inl, inr, ⊎_elim, ℕ, zero, suc, List, [], ◌∷◌, length, slice_get, Option, Some, refl, sym}
+use Rattle.std.proofs.Common.{ap, ◌∙◌, subst, arith}
 use Rattle.std.specs.List.{AllZip}
 use Rattle.meta_lists.proofs.Places.{get_there, same_places}
 use Rattle.meta_typevar.specs.Variable.{Variable}
@@ -29,9 +30,19 @@ module _ (vars : List TypeVarContent) (registry : IsRegistry vars) where
       let field_name = a.field_name ∙ sym b.field_name in
       let rust_type = a.rust_type ∙ sym b.rust_type in
       let kind_doc = a.kind_doc ∙ sym b.kind_doc in
-      λ i. record { name = name i; kind = record { rust_field_name = field_name i; rust_type = rust_type i; fields = fields i; doc = kind_doc i }; doc = doc i }
+      λ i. record {
+        name = name i;
+        kind = record {
+          rust_field_name = field_name i;
+          rust_type = rust_type i;
+          fields = fields i;
+          doc = kind_doc i;
+        };
+        doc = doc i;
+      }
 
-  one_operands : (expected : List (List ℕ × Variable)) (os ps : List Operand) → AllZip (IsValueOf vars) expected os → AllZip (IsValueOf vars) expected ps → os ≡ ps
+  one_operands : (expected : List (List ℕ × Variable)) (os ps : List Operand) → AllZip (IsValueOf vars) expected os
+      → AllZip (IsValueOf vars) expected ps → os ≡ ps
   one_operands [] [] [] a b = refl
   one_operands [] [] (p ∷ ps) a b = absurd b
   one_operands [] (o ∷ os) ps a b = absurd a
@@ -47,13 +58,26 @@ module _ (vars : List TypeVarContent) (registry : IsRegistry vars) where
       let name = h.name ∙ sym g.name in
       let doc = h.doc ∙ sym g.doc in
       let format = h.format ∙ sym g.format in
-      let inputs = h.inputs_set ∙ ap Some (one_operands (inputs_for (shape_of (seed_of n number)) x) (inputs_of b) (inputs_of c) h.inputs g.inputs) ∙ sym g.inputs_set in
-      let outputs = h.outputs_set ∙ ap Some (one_operands (outputs_for (shape_of (seed_of n number)) x) (outputs_of b) (outputs_of c) h.outputs g.outputs) ∙ sym g.outputs_set in
+      let inputs = h.inputs_set
+      ∙ ap Some (one_operands (inputs_for (shape_of (seed_of n number)) x) (inputs_of b)
+      (inputs_of c) h.inputs g.inputs) ∙ sym g.inputs_set in
+      let outputs = h.outputs_set
+      ∙ ap Some (one_operands (outputs_for (shape_of (seed_of n number)) x) (outputs_of b)
+      (outputs_of c) h.outputs g.outputs) ∙ sym g.outputs_set in
       let marks = h.marks ∙ sym g.marks in
       let second = h.second ∙ sym g.second in
-      λ i. record { name = name i; doc = doc i; format = format i; operands_in = inputs i; operands_out = outputs i; marks = marks i; second = second i }
+      λ i. record {
+        name = name i;
+        doc = doc i;
+        format = format i;
+        operands_in = inputs i;
+        operands_out = outputs i;
+        marks = marks i;
+        second = second i;
+      }
 
-  one_list : (n : ℕ) (all others : List Builder) → AreInstructions vars n all → AreInstructions vars n others → length all ≡ length others → all ≡ others
+  one_list : (n : ℕ) (all others : List Builder) → AreInstructions vars n all → AreInstructions vars n others
+      → length all ≡ length others → all ≡ others
   one_list n all others h g count = same_places all others count (λ j l.
       let (b, at_b) = get_there all j l in
       let (c, at_c) = get_there others j (omega (arith, l, count)) in
@@ -63,7 +87,8 @@ pub one_declared : (n : ℕ) (d e : Declared) → IsSynth n d → IsSynth n e �
 one_declared n d e h g =
     let count : length d.set.instructions ≡ length e.set.instructions = h.count ∙ sym g.count in
     let vars : d.set.vars ≡ e.set.vars = h.instructions.variables ∙ ap (variables_to n) count ∙ sym g.instructions.variables in
-    let instructions = one_list d.set.vars h.registry n d.set.instructions e.set.instructions h.instructions (subst (λ v. AreInstructions v n e.set.instructions) (sym vars) g.instructions) count in
+    let instructions = one_list d.set.vars h.registry n d.set.instructions e.set.instructions h.instructions
+    (subst (λ v. AreInstructions v n e.set.instructions) (sym vars) g.instructions) count in
     let formats = h.formats ∙ sym g.formats in
     let groups = h.groups ∙ sym g.groups in
     λ i. record { set = record { vars = vars i; formats = formats i; instructions = instructions i }; groups = groups i }
@@ -78,7 +103,9 @@ one_count P (suc n) a b (inl y) (inr z) = absurd (z.0 y.0)
 one_count P (suc n) a b (inr y) (inl z) = absurd (y.0 z.0)
 one_count P (suc n) a b (inr y) (inr z) = one_count P n a b y.1 z.1
 
-pub one_line : (n : ℕ) (d : InstructionSet) (t : TableContents) (line other : List ℕ) → IsSummaryOf n d t line → IsSummaryOf n d t other → line ≡ other
+pub one_line : (n : ℕ) (d : InstructionSet) (t : TableContents) (line other : List ℕ) → IsSummaryOf n d t line
+    → IsSummaryOf n d t other → line ≡ other
 one_line n d t line other h g =
     let accepted = one_count (DeclaresEverywhere d i64_number) 255 h.accepted g.accepted h.are_accepted g.are_accepted in
-    h.is ∙ ap (summary_line n (lengths_text 255 (length t.type_sets) (length t.operand_constraints) (length t.opcode_slots)) 255) accepted ∙ sym g.is
+    h.is ∙ ap (summary_line n (lengths_text 255 (length t.type_sets) (length t.operand_constraints)
+    (length t.opcode_slots)) 255) accepted ∙ sym g.is

@@ -1,5 +1,6 @@
 -- What the summary says of the tables of the declarations of a number.
-use Rattle.std.proofs.Common.{◌≡◌, inl, inr, ⊎_elim, ◌<◌, ℕ, zero, suc, List, length, slice_get, Option, None, Some, Result, Ok, Err, IfOk, sym, ap, subst, ◌∙◌, arith}
+use Rattle.std.proofs.Common.{◌≡◌, inl, inr, ⊎_elim, ◌<◌, ℕ, zero, suc, List, length, slice_get, Option, None, Some, sym, ap, subst, ◌∙◌}
+use Rattle.std.proofs.Common.{arith}
 use Rattle.std.proofs.lemmas.List.{length-map}
 use Rattle.meta_lists.proofs.Places.{get_there}
 use Rattle.meta_types.specs.SharedNames.{AreDifferentNames}
@@ -11,7 +12,8 @@ use Rattle.meta_declared.specs.AllDeclared.{Declared}
 use Rattle.meta_declared.proofs.DifferentNames.{different_names}
 use Rattle.meta_gen.specs.WholeTables.{WholeTables, AreWholeTablesOf}
 use Rattle.meta_synth.specs.Synth.{IsSynth}
-use Rattle.meta_synth.specs.Summary.{CountsTo, IsFound, AcceptsEverywhere, TakesEverywhere, DeclaresEverywhere, i64_number, lengths_text, summary_line, IsSummary, IsSummaryOf}
+use Rattle.meta_synth.specs.Summary.{CountsTo, IsFoundByName, AcceptsEverywhere, TakesEverywhere, DeclaresEverywhere, i64_number}
+use Rattle.meta_synth.specs.Summary.{lengths_text, summary_line, IsSummary, IsSummaryOf}
 use Rattle.meta_synth.proofs.Valid.{set_is_valid}
 
 -- where each has the property, all are counted
@@ -31,7 +33,8 @@ counts_like P Q to from (suc n) c h = ⊎_elim
     h
 
 -- accepted everywhere by what accepts no less
-everywhere : (n : ℕ) (A B : Option ℕ → List ℕ → List ℕ → Type 0) → ((c : Option ℕ) (rs vs : List ℕ) → A c rs vs → B c rs vs) → AcceptsEverywhere n A → AcceptsEverywhere n B
+everywhere : (n : ℕ) (A B : Option ℕ → List ℕ → List ℕ → Type 0)
+    → ((c : Option ℕ) (rs vs : List ℕ) → A c rs vs → B c rs vs) → AcceptsEverywhere n A → AcceptsEverywhere n B
 everywhere n A B f h = record {
   control = h.control;
   is_control = h.is_control;
@@ -43,7 +46,7 @@ everywhere n A B f h = record {
 }
 
 -- each of different names is found
-found : (t : TableContents) → AreDifferentNames t.names → (k : ℕ) → k < length t.names → IsFound t (suc k)
+found : (t : TableContents) → AreDifferentNames t.names → (k : ℕ) → k < length t.names → IsFoundByName t (suc k)
 found t different k l =
     let at = get_there t.names k l in
     record {
@@ -61,22 +64,23 @@ found t different k l =
         let same : j ≡ k = different j k name named at in
         omega (arith, same, before)
 
-pub of_synth : (n : ℕ) (d : Declared) (t : WholeTables) (line : List ℕ) → HoldTypeSets d.set.vars → IsSynth n d → AreWholeTablesOf d t → IsSummary n t.opcodes line → IsSummaryOf n d.set t.opcodes line
+pub of_synth : (n : ℕ) (d : Declared) (t : WholeTables) (line : List ℕ) → HoldTypeSets d.set.vars → IsSynth n d
+    → AreWholeTablesOf d t → IsSummary n t.opcodes line → IsSummaryOf n d.set t.opcodes line
 of_synth n d t line hold is made h =
     let entries : length t.opcodes.entries ≡ 255 = made.opcodes.count ∙ is.count in
-    let different : AreDifferentNames t.opcodes.names = subst AreDifferentNames (sym made.opcodes.names) (different_names d.set (set_is_valid n d is)) in
-    let names : length t.opcodes.names ≡ 255 = ap length made.opcodes.names ∙ length-map d.set.instructions (λ (b : Builder). b.name) ∙ is.count in
-    let found_all : h.found ≡ 255 = counts_all (IsFound t.opcodes) 255 h.found (subst (λ m. CountsTo (IsFound t.opcodes) m h.found) entries h.are_found) (λ k l. found t.opcodes different k (omega (arith, l, names))) in
+    let different : AreDifferentNames t.opcodes.names = subst AreDifferentNames (sym made.opcodes.names)
+    (different_names d.set (set_is_valid n d is)) in
+    let names : length t.opcodes.names ≡ 255 = ap length made.opcodes.names
+    ∙ length-map d.set.instructions (λ (b : Builder). b.name) ∙ is.count in
+    let found_all : h.found ≡ 255 = counts_all (IsFoundByName t.opcodes) 255 h.found
+    (subst (λ m. CountsTo (IsFoundByName t.opcodes) m h.found) entries h.are_found)
+    (λ k l. found t.opcodes different k (omega (arith, l, names))) in
     record {
       accepted = h.accepted;
       are_accepted = counts_like (TakesEverywhere t.opcodes i64_number) (DeclaresEverywhere d.set i64_number)
           (λ op. everywhere i64_number _ _ (λ c rs vs. (tables_of_mean d.set t.opcodes op c None rs vs hold made.opcodes).0))
           (λ op. everywhere i64_number _ _ (λ c rs vs. (tables_of_mean d.set t.opcodes op c None rs vs hold made.opcodes).1))
           255 h.accepted (subst (λ m. CountsTo (TakesEverywhere t.opcodes i64_number) m h.accepted) entries h.are_accepted);
-      is = h.is ∙ (λ i. summary_line n (lengths_text (entries i) (length t.opcodes.type_sets) (length t.opcodes.operand_constraints) (length t.opcodes.opcode_slots)) (found_all i) h.accepted);
+      is = h.is ∙ (λ i. summary_line n (lengths_text (entries i) (length t.opcodes.type_sets)
+          (length t.opcodes.operand_constraints) (length t.opcodes.opcode_slots)) (found_all i) h.accepted);
     }
-
--- what is said of a value is so of it in other words
-pub ok_like : {T E : Type 0} (r : Result T E) (P Q : T → Type 0) → ((x : T) → P x → Q x) → IfOk r P → IfOk r Q
-ok_like (Ok x) P Q f h = f x h
-ok_like (Err e) P Q f h = tt

@@ -1,5 +1,6 @@
 -- The declarations of a number show no fault.
-use Rattle.std.proofs.Common.{◌≡◌, ◌⊎◌, inl, inr, ⊎_elim, ◌+◌, ◌<◌, ◌≤◌, ◌^◌, ℕ, zero, suc, ◌==◌, cond, List, [], ◌∷◌, length, map, slice_get, Option, Some, codes, refl, sym, ap, subst, ◌∙◌, arith}
+use Rattle.std.proofs.Common.{◌≡◌, ◌⊎◌, inl, inr, ⊎_elim, ◌+◌, ◌<◌, ◌≤◌, ◌^◌, ℕ, zero, suc, ◌==◌, cond, List, [], ◌∷◌, length, map}
+use Rattle.std.proofs.Common.{slice_get, Option, Some, codes, refl, sym, ap, subst, ◌∙◌, arith}
 use Rattle.std.specs.List.{All, AllZip}
 use Rattle.std.proofs.lemmas.List.Elements.{All-nil, All-cons}
 use Rattle.std.proofs.lemmas.Bool.{false≢true}
@@ -24,8 +25,10 @@ use Rattle.meta_settings.specs.GroupDeclaration.{GroupDeclaration}
 use Rattle.meta_inst.specs.Control.{HasNoControl, HasBadSecond, DerivesBadly, IsControl}
 use Rattle.meta_inst.specs.InstructionSet.{instruction_of_builder, designated_in, begins_with_value}
 use Rattle.meta_inst.specs.Operands.{second_in}
-use Rattle.meta_inst.specs.InstructionFaults.{Rule, NameRule, DuplicateRule, OutputRule, MismatchRule, ControlRule, SecondRule, DerivationRule, CountRule, MethodRule, Breaks}
-use Rattle.meta_inst.specs.Faults.{IsAt, names_of, IsFirstUse, SharesFormat, IsControlSet, IsFreeSet, NeedsSet, FormatRule, FormatNameRule, BlocksRule, ClashRule, OfOpcodes, OfInstruction, OfFormat, OfTypeSets, FormatBreaks, IsValid}
+use Rattle.meta_inst.specs.InstructionFaults.{Rule, NameRule, DuplicateRule, OutputRule, MismatchRule, ControlRule, SecondRule}
+use Rattle.meta_inst.specs.InstructionFaults.{DerivationRule, CountRule, MethodRule, Breaks}
+use Rattle.meta_inst.specs.Faults.{IsAt, names_of, IsFirstUse, SharesFormat, IsControlSet, IsFreeSet, NeedsSet, FormatRule, FormatNameRule}
+use Rattle.meta_inst.specs.Faults.{BlocksRule, ClashRule, OfOpcodes, OfInstruction, OfFormat, OfTypeSets, FormatBreaks, IsValid}
 use Rattle.meta_declared.specs.AllDeclared.{Declared, AreValid}
 use Rattle.meta_synth.specs.declared.shape.Shape.{Shape}
 use Rattle.meta_synth.specs.declared.shape.Shape.TheVariants.{Bare, Copying, Comparing, Widening}
@@ -35,7 +38,8 @@ use Rattle.meta_synth.specs.Synth.{IsValueOf, variables_to, IsInstruction, IsSyn
 use Rattle.meta_synth.proofs.Naming.{names_apart, is_name}
 use Rattle.meta_synth.proofs.Choosing.{several}
 use Rattle.meta_synth.proofs.Few.{IsKnown, is_known, few_sets}
-use Rattle.meta_synth.proofs.Valued.{variables, value_count, variable_count, no_blocks, no_raw_blocks, no_fields, no_varargs, no_bad_output, begins, begins_not}
+use Rattle.meta_synth.proofs.Valued.{variables, value_count, variable_count, no_blocks, no_raw_blocks, no_fields, no_varargs, no_bad_output}
+use Rattle.meta_synth.proofs.Valued.{begins, begins_not}
 use Rattle.meta_synth.proofs.Controlled.{gives, model, has_control, control_set, free_set, derives_well, no_second}
 
 -- ---- the shapes
@@ -53,7 +57,8 @@ format_at Copying = refl
 format_at Comparing = refl
 format_at Widening = refl
 
-begins_so : (vars : List TypeVarContent) (shape : Shape) (x : ℕ) (os : List Operand) → AllZip (IsValueOf vars) (outputs_for shape x) os → begins_with_value os ≡ gives shape
+begins_so : (vars : List TypeVarContent) (shape : Shape) (x : ℕ) (os : List Operand)
+    → AllZip (IsValueOf vars) (outputs_for shape x) os → begins_with_value os ≡ gives shape
 begins_so vars Bare x os h = begins_not vars os h
 begins_so vars Copying x os h = begins vars (codes "a", underived x) [] os h
 begins_so vars Comparing x os h = begins vars (codes "a", longer (underived x) AsTruthy) [] os h
@@ -72,7 +77,8 @@ few_inputs Comparing x = omega arith
 few_inputs Widening x = omega arith
 
 -- inputs of the shape are stored as its format says
-matches : (vars : List TypeVarContent) (shape : Shape) (x : ℕ) (os : List Operand) → AllZip (IsValueOf vars) (inputs_for shape x) os → MatchesFormat (format_for shape) os
+matches : (vars : List TypeVarContent) (shape : Shape) (x : ℕ) (os : List Operand)
+    → AllZip (IsValueOf vars) (inputs_for shape x) os → MatchesFormat (format_for shape) os
 matches vars shape x os h = record {
   values = value_count vars (inputs_for shape x) os h ∙ counts shape;
   blocks = no_blocks vars (inputs_for shape x) os h ∙ blocks_so shape;
@@ -107,7 +113,8 @@ matches vars shape x os h = record {
 
 -- ---- one instruction
 
-module _ (vars : List TypeVarContent) (formats : List InstructionFormat) (n number x : ℕ) (b : Builder) (are : formats ≡ all_formats) (small : number < 2 ^ 64) (is : IsInstruction vars n number x b) where
+module _ (vars : List TypeVarContent) (formats : List InstructionFormat) (n number x : ℕ) (b : Builder)
+    (are : formats ≡ all_formats) (small : number < 2 ^ 64) (is : IsInstruction vars n number x b) where
   abbrev seed : ℕ
   seed = seed_of n number
 
@@ -139,10 +146,12 @@ module _ (vars : List TypeVarContent) (formats : List InstructionFormat) (n numb
   well_made OutputRule e m h = no_bad_output vars (outputs_for shape x) (outputs_of b) is.outputs h.0 h.2
   well_made MismatchRule e m h =
       let format = h.1 in
-      format.2 (subst (λ f. MatchesFormat f (inputs_of b)) (same_Some _ _ (sym its_format ∙ format.1)) (matches vars shape x (inputs_of b) is.inputs))
+      format.2 (subst (λ f. MatchesFormat f (inputs_of b)) (same_Some _ _ (sym its_format ∙ format.1))
+      (matches vars shape x (inputs_of b) is.inputs))
   well_made ControlRule e m h = has_control (sets_of vars) x root_several shape (subst (HasNoControl (sets_of vars)) is_model h.1)
   well_made SecondRule e m h = no_second (sets_of vars) shape x (subst (HasBadSecond (sets_of vars)) is_model h.1)
-  well_made DerivationRule e m h = derives_well (sets_of vars) x root_several shape h.0 (subst (λ (i : Instruction). DerivesBadly (sets_of vars) i h.0) is_model h.2)
+  well_made DerivationRule e m h = derives_well (sets_of vars) x root_several shape h.0
+      (subst (λ (i : Instruction). DerivesBadly (sets_of vars) i h.0) is_model h.2)
   well_made CountRule e m h =
       let results = variable_count vars (outputs_for shape x) (outputs_of b) is.outputs in
       let values = variable_count vars (inputs_for shape x) (inputs_of b) is.inputs in
@@ -154,7 +163,8 @@ module _ (vars : List TypeVarContent) (formats : List InstructionFormat) (n numb
 
   -- what it needs in tables is the set of its root
   pub needed : (s : TypeSetParts) (control : Option Variable) → IsControl (sets_of vars) (instruction_of_builder vars formats b) control
-      → (((a : Which) × IsControlSet (sets_of vars) (controls_of (instruction_of_builder vars formats b) control) a s) ⊎ IsFreeSet (sets_of vars) (instruction_of_builder vars formats b) control s)
+      → (((a : Which) × IsControlSet (sets_of vars) (controls_of (instruction_of_builder vars formats b) control) a s)
+      ⊎ IsFreeSet (sets_of vars) (instruction_of_builder vars formats b) control s)
       → s ≡ set_of_seed seed
   needed s control is_control needs = of_model (instruction_of_builder vars formats b) is_model is_control needs ∙ root_set
     where
@@ -164,8 +174,10 @@ module _ (vars : List TypeVarContent) (formats : List InstructionFormat) (n numb
       of_model i e is needs =
           let at : IsControl (sets_of vars) (model shape x) control = subst (λ j. IsControl (sets_of vars) j control) e is in
           ⊎_elim
-          (λ c. control_set (sets_of vars) x root_several shape control c.0 s at (subst (λ (j : Instruction). IsControlSet (sets_of vars) (controls_of j control) c.0 s) e c.1))
-          (λ f. free_set (sets_of vars) x root_several shape control s (subst (λ (j : Instruction). IsFreeSet (sets_of vars) j control s) e f))
+          (λ c. control_set (sets_of vars) x root_several shape control c.0 s at
+          (subst (λ (j : Instruction). IsControlSet (sets_of vars) (controls_of j control) c.0 s) e c.1))
+          (λ f. free_set (sets_of vars) x root_several shape control s
+          (subst (λ (j : Instruction). IsFreeSet (sets_of vars) j control s) e f))
           needs
 
 -- ---- formats
@@ -206,9 +218,24 @@ is_format : (f : ℕ) (format : InstructionFormat) → slice_get all_formats f �
 is_format zero format at = subst (IsFormat 0) (same_Some (value_format (codes "NullAry") 0) format at)
     (record { named = (inl (omega arith, omega arith), ull_ary); number = refl; values = refl; blocks = refl; raw_blocks = refl })
 is_format (suc zero) format at = subst (IsFormat 1) (same_Some (value_format (codes "Unary") 1) format at)
-    (record { named = (inl (omega arith, omega arith), lower 110 (codes "ary") (omega arith) (omega arith) ary); number = refl; values = refl; blocks = refl; raw_blocks = refl })
+    (record {
+      named = (inl (omega arith, omega arith), lower 110 (codes "ary") (omega arith) (omega arith) ary);
+      number = refl;
+      values = refl;
+      blocks = refl;
+      raw_blocks = refl;
+    })
 is_format (suc (suc zero)) format at = subst (IsFormat 2) (same_Some (value_format (codes "Binary") 2) format at)
-    (record { named = (inl (omega arith, omega arith), lower 105 (codes "nary") (omega arith) (omega arith) (lower 110 (codes "ary") (omega arith) (omega arith) ary)); number = refl; values = refl; blocks = refl; raw_blocks = refl })
+    (record {
+      named = (
+        inl (omega arith, omega arith),
+        lower 105 (codes "nary") (omega arith) (omega arith) (lower 110 (codes "ary") (omega arith) (omega arith) ary),
+      );
+      number = refl;
+      values = refl;
+      blocks = refl;
+      raw_blocks = refl;
+    })
 is_format (suc (suc (suc f))) format at = absurd (cc)
 
 -- formats that can't both be in use are the same
@@ -261,7 +288,8 @@ module _ (n : ℕ) (d : Declared) (is : IsSynth n d) where
   known_set s h =
       let needs = h.1 in
       let found = instruction_at h.0 needs.user needs.at in
-      let same = needed d.set.vars d.set.formats n (h.0 + 1) found.0 needs.user is.formats (small h.0 needs.user needs.at) found.1 s needs.control needs.is_control needs.needs in
+      let same = needed d.set.vars d.set.formats n (h.0 + 1) found.0 needs.user is.formats
+      (small h.0 needs.user needs.at) found.1 s needs.control needs.is_control needs.needs in
       subst IsKnown (sym same) (is_known (seed_of n (h.0 + 1)))
 
   pub set_is_valid : IsValid d.set
@@ -269,7 +297,8 @@ module _ (n : ℕ) (d : Declared) (is : IsSynth n d) where
   set_is_valid (OfInstruction k rule) e h = ⊎_elim
       (λ breaks.
       let found = instruction_at k breaks.builder breaks.at in
-      well_made d.set.vars d.set.formats n (k + 1) found.0 breaks.builder is.formats (small k breaks.builder breaks.at) found.1 rule e (k + 1) breaks.breaks)
+      well_made d.set.vars d.set.formats n (k + 1) found.0 breaks.builder is.formats
+      (small k breaks.builder breaks.at) found.1 rule e (k + 1) breaks.breaks)
       (λ shares. no_duplicate k shares.earlier shares.duplicate)
       h
   set_is_valid (OfFormat k rule) e h = no_format_fault k h.format rule e h.first_use h.breaks

@@ -1,5 +1,6 @@
 -- What is so of operands that are the values of a shape.
-use Rattle.std.proofs.Common.{◌≡◌, ◌<◌, ◌+◌, ◌&&◌, ◌||◌, ℕ, zero, suc, Bool, true, false, not, cond, List, [], ◌∷◌, length, map, get_or, slice_get, Some, codes, refl, sym, ap, subst, ◌∙◌, arith}
+use Rattle.std.proofs.Common.{◌≡◌, ◌<◌, ◌+◌, ◌&&◌, ◌||◌, ℕ, zero, suc, Bool, true, false, not, cond, List, [], ◌∷◌, length, map, get_or}
+use Rattle.std.proofs.Common.{slice_get, Some, codes, refl, sym, ap, subst, ◌∙◌, arith}
 use Rattle.std.specs.List.{AllZip, count_by, filter, cons_option, list_any, position}
 use Rattle.std.specs.Option.{is_some}
 use Rattle.std.proofs.lemmas.Bool.{false≢true}
@@ -13,7 +14,8 @@ use Rattle.meta_operands.specs.Kind.{variable_in, holds_varargs, holds_immediate
 use Rattle.meta_operands.specs.Operand.{variable_of, variables_of, is_varargs_operand}
 use Rattle.meta_operands.specs.declared.operand.Operand.{Operand}
 use Rattle.meta_inst.specs.Operands.{variables_at, AreOf}
-use Rattle.meta_inst.specs.FormatMatch.{is_value_operand, is_block_operand, is_raw_block_operand, is_field_operand, operand_field_name, field_names}
+use Rattle.meta_inst.specs.FormatMatch.{is_value_operand, is_block_operand, is_raw_block_operand, is_field_operand, operand_field_name}
+use Rattle.meta_inst.specs.FormatMatch.{field_names}
 use Rattle.meta_inst.specs.InstructionFaults.{is_bad_output}
 use Rattle.meta_inst.specs.InstructionSet.{begins_with_value}
 use Rattle.meta_synth.specs.Synth.{IsValueOf}
@@ -69,9 +71,11 @@ module _ (vars : List TypeVarContent) where
   are_of [] [] h k n at = absurd (cc)
   are_of [] (o ∷ os) h k n at = absurd h
   are_of (p ∷ ps) [] h k n at = absurd h
-  are_of (p ∷ ps) (o ∷ os) h k n at = told k (sym (ap (λ v. slice_get (cons_option v (variables_of os)) k) (has_variable p o h.0)) ∙ at) (λ j e. are_of ps os h.1 j n e)
+  are_of (p ∷ ps) (o ∷ os) h k n at = told k (sym (ap (λ v. slice_get (cons_option v (variables_of os)) k) (has_variable p o h.0))
+      ∙ at) (λ j e. are_of ps os h.1 j n e)
     where
-      told : (k : ℕ) → slice_get (h.0.number ∷ variables_of os) k ≡ Some n → ((j : ℕ) → slice_get (variables_of os) j ≡ Some n → n < length vars) → n < length vars
+      told : (k : ℕ) → slice_get (h.0.number ∷ variables_of os) k ≡ Some n
+          → ((j : ℕ) → slice_get (variables_of os) j ≡ Some n → n < length vars) → n < length vars
       told zero e rest = subst (λ m. m < length vars) (same_Some h.0.number n e) h.0.of
       told (suc k) e rest = rest k e
 
@@ -85,7 +89,8 @@ module _ (vars : List TypeVarContent) where
   variable_count [] [] h = refl
   variable_count [] (o ∷ os) h = absurd h
   variable_count (p ∷ ps) [] h = absurd h
-  variable_count (p ∷ ps) (o ∷ os) h = ap (λ v. length (cons_option v (variables_of os))) (has_variable p o h.0) ∙ ap suc (variable_count ps os h.1)
+  variable_count (p ∷ ps) (o ∷ os) h = ap (λ v. length (cons_option v (variables_of os))) (has_variable p o h.0)
+      ∙ ap suc (variable_count ps os h.1)
 
   pub no_blocks : (ps : List (List ℕ × Variable)) (os : List Operand) → Are ps os → count_by is_block_operand os ≡ 0
   no_blocks [] [] h = refl
@@ -97,13 +102,15 @@ module _ (vars : List TypeVarContent) where
   no_raw_blocks [] [] h = refl
   no_raw_blocks [] (o ∷ os) h = absurd h
   no_raw_blocks (p ∷ ps) [] h = absurd h
-  no_raw_blocks (p ∷ ps) (o ∷ os) h = omega (arith, counted is_raw_block_operand false o os (is_no_raw_block p o h.0), no_raw_blocks ps os h.1)
+  no_raw_blocks (p ∷ ps) (o ∷ os) h =
+      omega (arith, counted is_raw_block_operand false o os (is_no_raw_block p o h.0), no_raw_blocks ps os h.1)
 
   pub no_fields : (ps : List (List ℕ × Variable)) (os : List Operand) → Are ps os → field_names os ≡ []
   no_fields [] [] h = refl
   no_fields [] (o ∷ os) h = absurd h
   no_fields (p ∷ ps) [] h = absurd h
-  no_fields (p ∷ ps) (o ∷ os) h = ap (λ b. map operand_field_name (cond b (o ∷ filter is_field_operand os) (filter is_field_operand os))) (is_no_field p o h.0) ∙ no_fields ps os h.1
+  no_fields (p ∷ ps) (o ∷ os) h = ap (λ b. map operand_field_name (cond b (o ∷ filter is_field_operand os) (filter is_field_operand os)))
+      (is_no_field p o h.0) ∙ no_fields ps os h.1
 
   pub no_varargs : (ps : List (List ℕ × Variable)) (os : List Operand) → Are ps os → list_any is_varargs_operand os ≡ false
   no_varargs [] [] h = refl
@@ -111,14 +118,16 @@ module _ (vars : List TypeVarContent) where
   no_varargs (p ∷ ps) [] h = absurd h
   no_varargs (p ∷ ps) (o ∷ os) h = ap (λ b. b || list_any is_varargs_operand os) (is_no_varargs p o h.0) ∙ no_varargs ps os h.1
 
-  good_outputs : (ps : List (List ℕ × Variable)) (os : List Operand) → Are ps os → (i : ℕ) (d : Operand) → i < length os → is_bad_output (get_or os i d) ≡ false
+  good_outputs : (ps : List (List ℕ × Variable)) (os : List Operand) → Are ps os → (i : ℕ) (d : Operand) → i < length os
+      → is_bad_output (get_or os i d) ≡ false
   good_outputs [] [] h i d l = absurd (omega arith)
   good_outputs [] (o ∷ os) h i d l = absurd h
   good_outputs (p ∷ ps) [] h i d l = absurd h
   good_outputs (p ∷ ps) (o ∷ os) h zero d l = is_good_output p o h.0
   good_outputs (p ∷ ps) (o ∷ os) h (suc i) d l = good_outputs ps os h.1 i d (omega arith)
 
-  pub no_bad_output : (ps : List (List ℕ × Variable)) (os : List Operand) → Are ps os → (place : ℕ) → position is_bad_output os ≡ Some place → ⊥
+  pub no_bad_output : (ps : List (List ℕ × Variable)) (os : List Operand) → Are ps os → (place : ℕ)
+      → position is_bad_output os ≡ Some place → ⊥
   no_bad_output ps [] h place at = absurd (cc)
   no_bad_output ps (o ∷ os) h place at =
       let found = position-Some is_bad_output (o ∷ os) place o at in

@@ -5,7 +5,7 @@
 use Rattle.std.specs.Prelude.{◌≡◌, ℕ, List, [], ◌∷◌, codes}
 use Rattle.meta_types.specs.Function.{AsTruthy, Narrower}
 use Rattle.meta_typevar.specs.Variable.{Variable, underived, longer}
-use Rattle.meta_operands.specs.Format.{empty_format, built_of}
+use Rattle.meta_operands.specs.Format.{empty_format, built_format}
 use Rattle.meta_operands.specs.declared.format.InstructionFormat.{InstructionFormat}
 use Rattle.meta_synth.specs.declared.formats.Formats.{Formats}
 use Rattle.meta_synth.specs.declared.shape.Shape.{Shape}
@@ -34,7 +34,7 @@ format_of Widening = 1
 
 -- the format of this name and so many value inputs, of which the first is designated
 abbrev pub value_format : List ℕ → ℕ → InstructionFormat
-value_format name count = built_of (record (empty_format name) { num_value_operands = count })
+value_format name count = built_format (record (empty_format name) { num_value_operands = count })
 
 -- the formats, by their numbers
 abbrev pub all_formats : List InstructionFormat

@@ -1,6 +1,6 @@
 -- What the summary of tables says.
 --     CountsTo P n count              so many of the numbers 1 to n have the property P
---     IsFound t op                    the opcode is found by its name
+--     IsFoundByName t op              the opcode is found by its name
 --     AcceptsEverywhere n allows      n is accepted as control, if there is one, and as every result and value
 --     IsSummary n t line              the line says what the tables hold
 --     IsSummaryOf n d t line          the line says what the tables of the declarations of n hold
@@ -16,10 +16,11 @@ use Rattle.meta_opcode_tables.specs.TablesOf.{AcceptsOpcode}
 -- so many of the numbers 1 to n have the property
 abbrev pub CountsTo : (ℕ → Type 0) → ℕ → ℕ → Type 0
 CountsTo P zero count = count ≡ 0
-CountsTo P (suc n) count = (P (suc n) × ((before : ℕ) × (count ≡ before + 1) × CountsTo P n before)) ⊎ ((P (suc n) → ⊥) × CountsTo P n count)
+CountsTo P (suc n) count = (P (suc n) × ((before : ℕ) × (count ≡ before + 1) × CountsTo P n before))
+    ⊎ ((P (suc n) → ⊥) × CountsTo P n count)
 
 -- the opcode has a name, and is the first that has it
-pub record IsFound (t : TableContents) (op : ℕ) : Type 0 where
+pub record IsFoundByName (t : TableContents) (op : ℕ) : Type 0 where
   pub name : List ℕ
   pub named : at_opcode t.names op ≡ Some name
   pub first : IsFirst (IsOpcodeNamed t.names name) op
@@ -46,12 +47,14 @@ i64_number = number_of (scalar IntKind 64)
 -- the lengths of the tables, as they are written
 unfoldable pub lengths_text : ℕ → ℕ → ℕ → ℕ → List ℕ
 lengths_text opcodes type_sets constraints slots =
-    decimal opcodes ++ (codes " opcodes, " ++ (decimal type_sets ++ (codes " type sets, " ++ (decimal constraints ++ (codes " constraints, " ++ (decimal slots ++ codes " slots"))))))
+    decimal opcodes ++ (codes " opcodes, " ++ (decimal type_sets ++ (codes " type sets, "
+    ++ (decimal constraints ++ (codes " constraints, " ++ (decimal slots ++ codes " slots"))))))
 
 -- the line, by the number of the declarations, the lengths as they are written, how many opcodes are found, and how many accept `i64`
 unfoldable pub summary_line : ℕ → List ℕ → ℕ → ℕ → List ℕ
 summary_line n lengths found accepted =
-    codes "synth " ++ (decimal n ++ (codes ": " ++ (lengths ++ (codes ", " ++ (decimal found ++ (codes " found, " ++ (decimal accepted ++ codes " accepted")))))))
+    codes "synth " ++ (decimal n
+    ++ (codes ": " ++ (lengths ++ (codes ", " ++ (decimal found ++ (codes " found, " ++ (decimal accepted ++ codes " accepted")))))))
 
 -- how many entries, type sets, operand constraints and slots the tables have, as it is written
 abbrev pub lengths_of : TableContents → List ℕ
@@ -61,7 +64,7 @@ lengths_of t = lengths_text (length t.entries) (length t.type_sets) (length t.op
 -- names, and how many take `i64` everywhere
 pub record IsSummary (n : ℕ) (t : TableContents) (line : List ℕ) : Type 0 where
   pub found : ℕ
-  pub are_found : CountsTo (IsFound t) (length t.entries) found
+  pub are_found : CountsTo (IsFoundByName t) (length t.entries) found
   pub accepted : ℕ
   pub are_accepted : CountsTo (TakesEverywhere t i64_number) (length t.entries) accepted
   pub is : line ≡ summary_line n (lengths_of t) found accepted

@@ -48,7 +48,14 @@ root_with s x = root_content (codes "X") [] s x
 
 -- what is kept of the variable that is derived from it by f
 abbrev pub derived_with : TypeSetParts → ℕ → DerivedFunc → TypeVarContent
-derived_with s x f = record { name = derived_name (function_of f) (codes "X"); doc = []; base = Some (record { type_var = x; derived_func = f }); type_set = s; root = x; chain = function_of f ∷ [] }
+derived_with s x f = record {
+  name = derived_name (function_of f) (codes "X");
+  doc = [];
+  base = Some (record { type_var = x; derived_func = f });
+  type_set = s;
+  root = x;
+  chain = function_of f ∷ [];
+}
 
 -- the variables that are derived from it for an instruction of this shape
 abbrev pub derived_for : Shape → TypeSetParts → ℕ → List TypeVarContent
@@ -60,7 +67,8 @@ derived_for Widening s x = derived_with s x Narrower ∷ []
 -- the variables of the instruction with this number in the declarations of n: its root, which is the one with the number x, and
 -- what is derived from that
 abbrev pub variables_of_number : ℕ → ℕ → ℕ → List TypeVarContent
-variables_of_number n number x = root_with (set_of_seed (seed_of n number)) x ∷ derived_for (shape_of (seed_of n number)) (set_of_seed (seed_of n number)) x
+variables_of_number n number x = root_with (set_of_seed (seed_of n number)) x ∷ derived_for
+    (shape_of (seed_of n number)) (set_of_seed (seed_of n number)) x
 
 -- the variables of the first k instructions, those of one behind those of the one before
 unfoldable pub variables_to : ℕ → ℕ → List TypeVarContent

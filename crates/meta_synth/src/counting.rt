@@ -1,12 +1,12 @@
 ghost use Rattle.std.specs.Prelude.{◌≡◌, ◌↔◌, ◌<◌, ◌==◌, IsTrue, length, replicate, if◌then◌else◌, Some, None};
 ghost use Rattle.meta_meaning.specs.Tables.{Allows, no_type_set};
-ghost use Rattle.meta_synth.specs.Summary.{IsFound, TakesEverywhere, CountsTo};
+ghost use Rattle.meta_synth.specs.Summary.{IsFoundByName, TakesEverywhere, CountsTo};
 
 use meta_gen::{NO_TYPE_SET, Tables};
 
 /// Whether the opcode is found by its name.
 fn is_found(tables: &Tables, opcode: u16) -> bool
-    ensures { IsTrue result ↔ IsFound tables.now.opcodes opcode }
+    ensures { IsTrue result ↔ IsFoundByName tables.now.opcodes opcode }
 {
     match tables.opcode_name(opcode) {
         Some(name) => tables.find_opcode(name.as_str().as_bytes()) == Some(opcode),
@@ -59,7 +59,7 @@ fn takes_everywhere(tables: &Tables, opcode: u16, number: u16) -> bool
 
 /// How many opcodes are found by their names.
 pub(crate) fn found_count(tables: &Tables) -> u16
-    ensures { CountsTo (IsFound tables.now.opcodes) (length tables.now.opcodes.entries) result }
+    ensures { CountsTo (IsFoundByName tables.now.opcodes) (length tables.now.opcodes.entries) result }
 {
     let mut count = 0;
     for place in 0..tables.opcode_count() {

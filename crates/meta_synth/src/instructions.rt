@@ -30,7 +30,15 @@ fn without_values(
     number: u16,
 ) -> Result<InstructionBuilder, AllocError>
     requires { AreNumbered formats.now }
-    ensures { IfOk result (λ b. b ≡ record { name = name_of_number number; doc = []; format = format_of shape; operands_in = None; operands_out = None; marks = no_marks; second = None }) }
+    ensures { IfOk result (λ b. b ≡ record {
+      name = name_of_number number;
+      doc = [];
+      format = format_of shape;
+      operands_in = None;
+      operands_out = None;
+      marks = no_marks;
+      second = None;
+    }) }
 {
     let name = name_of(alloc, number)?;
     let doc = Text::new(alloc, "")?;

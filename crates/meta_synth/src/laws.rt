@@ -17,5 +17,6 @@ pub fn one_synth()
 
 /// The line on the tables of the declarations of a number is one.
 pub fn one_summary()
-    ensures { (n : ℕ) (d : InstructionSet) (t : TableContents) (line other : List ℕ) → IsSummaryOf n d t line → IsSummaryOf n d t other → line ≡ other }
+    ensures { (n : ℕ) (d : InstructionSet) (t : TableContents) (line other : List ℕ) → IsSummaryOf n d t line
+        → IsSummaryOf n d t other → line ≡ other }
 {}

@@ -3,7 +3,8 @@ ghost use Rattle.meta_typevar.specs.Registry.{HoldTypeSets};
 ghost use Rattle.meta_declared.specs.AllDeclared.{Declared};
 ghost use Rattle.meta_gen.specs.WholeTables.{AreWholeTablesOf};
 ghost use Rattle.meta_synth.specs.Synth.{IsSynth};
-ghost use Rattle.meta_synth.specs.Summary.{CountsTo, IsFound, TakesEverywhere, i64_number, IsSummary, IsSummaryOf, lengths_text, summary_line};
+ghost use Rattle.meta_synth.specs.Summary.{CountsTo, IsFoundByName, TakesEverywhere, i64_number, IsSummary, IsSummaryOf, lengths_text};
+ghost use Rattle.meta_synth.specs.Summary.{summary_line};
 
 use super::counting::{found_count, taking_count};
 use meta_gen::Tables;
@@ -28,7 +29,7 @@ impl Counts {
         ensures type_sets { result.type_sets ≡ length tables.now.opcodes.type_sets }
         ensures constraints { result.constraints ≡ length tables.now.opcodes.operand_constraints }
         ensures slots { result.slots ≡ length tables.now.opcodes.opcode_slots }
-        ensures found { CountsTo (IsFound tables.now.opcodes) (length tables.now.opcodes.entries) result.found }
+        ensures found { CountsTo (IsFoundByName tables.now.opcodes) (length tables.now.opcodes.entries) result.found }
         ensures accepted { CountsTo (TakesEverywhere tables.now.opcodes i64_number) (length tables.now.opcodes.entries) result.accepted }
     {
         let number = LaneType::Int(Int::I64).number();
@@ -45,7 +46,8 @@ impl Counts {
     /// The lengths of the tables.
     #[tactic(auto, unfolding(crate::specs::Summary::lengths_text))]
     fn lengths(&self, alloc: Global) -> Result<String, AllocError>
-        ensures { IfOk result (λ text. string_bytes text ≡ lengths_text self.now.opcodes self.now.type_sets self.now.constraints self.now.slots) }
+        ensures { IfOk result (λ text. string_bytes text
+            ≡ lengths_text self.now.opcodes self.now.type_sets self.now.constraints self.now.slots) }
     {
         let opcodes = self.opcodes;
         let type_sets = self.type_sets;
@@ -76,7 +78,8 @@ fn line(
 /// where they have one, and as every result and value (this project's own).
 pub fn summary(alloc: Global, n: u32, tables: &Tables) -> Result<String, AllocError>
     ensures line { IfOk result (λ line. IsSummary n tables.now.opcodes (string_bytes line)) }
-    ensures of_synth { IfOk result (λ line. (d : Declared) → HoldTypeSets d.set.vars → IsSynth n d → AreWholeTablesOf d tables.now → IsSummaryOf n d.set tables.now.opcodes (string_bytes line)) }
+    ensures of_synth { IfOk result (λ line. (d : Declared) → HoldTypeSets d.set.vars → IsSynth n d
+        → AreWholeTablesOf d tables.now → IsSummaryOf n d.set tables.now.opcodes (string_bytes line)) }
 {
     let counts = Counts::of(tables);
     let lengths = counts.lengths(alloc)?;

@@ -34,7 +34,8 @@ fn value(alloc: Global, name: &str, tv: TypeVar) -> Result<Operand, AllocError>
 
 /// The value of this name alone.
 fn one_value(alloc: Global, name: &str, tv: TypeVar) -> Result<Vec<Operand>, AllocError>
-    ensures { IfOk result (λ v. (vars : List TypeVarContent) → tv < length vars → AllZip (IsValueOf vars) ((name.now, variable_at vars tv) ∷ []) v.items) }
+    ensures { IfOk result (λ v. (vars : List TypeVarContent) → tv < length vars
+        → AllZip (IsValueOf vars) ((name.now, variable_at vars tv) ∷ []) v.items) }
 {
     let mut values = Vec::new(alloc);
     values.push(value(alloc, name, tv)?)?;
@@ -43,7 +44,8 @@ fn one_value(alloc: Global, name: &str, tv: TypeVar) -> Result<Vec<Operand>, All
 
 /// The values `x` and `y`.
 fn two_values(alloc: Global, tv: TypeVar) -> Result<Vec<Operand>, AllocError>
-    ensures { IfOk result (λ v. (vars : List TypeVarContent) → tv < length vars → AllZip (IsValueOf vars) ((codes "x", variable_at vars tv) ∷ (codes "y", variable_at vars tv) ∷ []) v.items) }
+    ensures { IfOk result (λ v. (vars : List TypeVarContent) → tv < length vars
+        → AllZip (IsValueOf vars) ((codes "x", variable_at vars tv) ∷ (codes "y", variable_at vars tv) ∷ []) v.items) }
 {
     let mut values = one_value(alloc, "x", tv)?;
     values.push(value(alloc, "y", tv)?)?;
@@ -55,10 +57,12 @@ fn comparing(alloc: Global, vars: &mut TypeVars, x: TypeVar) -> Result<Values, A
     requires room { length vars.old < 2 ^ 32 - 1 }
     requires of { x < length vars.old }
     requires root { variable_at vars.old x ≡ underived x }
-    requires fresh { (f : DerivedFunc) (m : ℕ) → m < length vars.old → variable_at vars.old m ≢ longer (variable_at vars.old x) (function_of f) }
+    requires fresh { (f : DerivedFunc) (m : ℕ) → m < length vars.old
+        → variable_at vars.old m ≢ longer (variable_at vars.old x) (function_of f) }
     ensures inputs { IfOk result (λ v. AllZip (IsValueOf vars.new) (inputs_for Shape.Comparing x) v.inputs.items) }
     ensures outputs { IfOk result (λ v. AllZip (IsValueOf vars.new) (outputs_for Shape.Comparing x) v.outputs.items) }
-    ensures added { (s : TypeSetParts) → IsKept vars.old x (root_with s x) → OnOk result (vars.new ≡ vars.old ++ derived_for Shape.Comparing s x) }
+    ensures added { (s : TypeSetParts) → IsKept vars.old x (root_with s x)
+        → OnOk result (vars.new ≡ vars.old ++ derived_for Shape.Comparing s x) }
     ensures grows { OnOk result (Extends 1 vars.old vars.new) }
 {
     let truthy = x.as_truthy(vars)?;
@@ -73,10 +77,12 @@ fn widening(alloc: Global, vars: &mut TypeVars, x: TypeVar) -> Result<Values, Al
     requires of { x < length vars.old }
     requires root { variable_at vars.old x ≡ underived x }
     requires derivable { IsTrue (can_derive Narrower (coded_at vars.old x)) }
-    requires fresh { (f : DerivedFunc) (m : ℕ) → m < length vars.old → variable_at vars.old m ≢ longer (variable_at vars.old x) (function_of f) }
+    requires fresh { (f : DerivedFunc) (m : ℕ) → m < length vars.old
+        → variable_at vars.old m ≢ longer (variable_at vars.old x) (function_of f) }
     ensures inputs { IfOk result (λ v. AllZip (IsValueOf vars.new) (inputs_for Shape.Widening x) v.inputs.items) }
     ensures outputs { IfOk result (λ v. AllZip (IsValueOf vars.new) (outputs_for Shape.Widening x) v.outputs.items) }
-    ensures added { (s : TypeSetParts) → IsKept vars.old x (root_with s x) → OnOk result (vars.new ≡ vars.old ++ derived_for Shape.Widening s x) }
+    ensures added { (s : TypeSetParts) → IsKept vars.old x (root_with s x)
+        → OnOk result (vars.new ≡ vars.old ++ derived_for Shape.Widening s x) }
     ensures grows { OnOk result (Extends 1 vars.old vars.new) }
 {
     let narrower = x.narrower(vars)?;
@@ -87,8 +93,10 @@ fn widening(alloc: Global, vars: &mut TypeVars, x: TypeVar) -> Result<Values, Al
 
 /// The values of an instruction that gives one of `x` for one of `x`.
 fn copying(alloc: Global, x: TypeVar) -> Result<Values, AllocError>
-    ensures inputs { IfOk result (λ v. (vars : List TypeVarContent) → x < length vars → variable_at vars x ≡ underived x → AllZip (IsValueOf vars) (inputs_for Shape.Copying x) v.inputs.items) }
-    ensures outputs { IfOk result (λ v. (vars : List TypeVarContent) → x < length vars → variable_at vars x ≡ underived x → AllZip (IsValueOf vars) (outputs_for Shape.Copying x) v.outputs.items) }
+    ensures inputs { IfOk result (λ v. (vars : List TypeVarContent) → x < length vars
+        → variable_at vars x ≡ underived x → AllZip (IsValueOf vars) (inputs_for Shape.Copying x) v.inputs.items) }
+    ensures outputs { IfOk result (λ v. (vars : List TypeVarContent) → x < length vars
+        → variable_at vars x ≡ underived x → AllZip (IsValueOf vars) (outputs_for Shape.Copying x) v.outputs.items) }
 {
     let inputs = one_value(alloc, "x", x)?;
     let outputs = one_value(alloc, "a", x)?;
@@ -106,7 +114,8 @@ pub(crate) fn values_of(
     requires of { x < length vars.old }
     requires root { variable_at vars.old x ≡ underived x }
     requires derivable { shape ≡ Shape.Widening → IsTrue (can_derive Narrower (coded_at vars.old x)) }
-    requires fresh { (f : DerivedFunc) (m : ℕ) → m < length vars.old → variable_at vars.old m ≢ longer (variable_at vars.old x) (function_of f) }
+    requires fresh { (f : DerivedFunc) (m : ℕ) → m < length vars.old
+        → variable_at vars.old m ≢ longer (variable_at vars.old x) (function_of f) }
     ensures inputs { IfOk result (λ v. AllZip (IsValueOf vars.new) (inputs_for shape x) v.inputs.items) }
     ensures outputs { IfOk result (λ v. AllZip (IsValueOf vars.new) (outputs_for shape x) v.outputs.items) }
     ensures added { (s : TypeSetParts) → IsKept vars.old x (root_with s x) → OnOk result (vars.new ≡ vars.old ++ derived_for shape s x) }

@@ -1,8 +1,8 @@
 -- Texts of opcodes, one after the other.
-use Rattle.std.proofs.Common.{◌≡◌, ℕ, zero, suc, ◌+◌, ◌-◌, ◌<◌, ◌≤◌, List, [], ◌++◌, length, slice_get, unwrap_or, ⊎_elim, sym, ap, ◌∙◌, subst, append_assoc, append-nil, add-one, arith}
+use Rattle.std.proofs.Common.{◌≡◌, ℕ, zero, suc, ◌+◌, ◌-◌, ◌<◌, ◌≤◌, List, [], ◌++◌, length, ⊎_elim, sym, ap, ◌∙◌, subst, append_assoc}
+use Rattle.std.proofs.Common.{append-nil, add-one, arith}
 use Rattle.std.proofs.lemmas.Bool.{cases_lt}
-use Rattle.std.proofs.lemmas.List.{length-append, same_lists}
-use Rattle.std.proofs.lemmas.Option.{unwrap_or-slice_get}
+use Rattle.std.proofs.lemmas.List.{length-append}
 use Rattle.meta_table_text.specs.OpcodeText.{each_opcode}
 
 -- what f gives of the next n opcodes behind opcode k
@@ -23,10 +23,12 @@ from_first f n = let same : 0 + n ≡ n = omega arith in sym (ap (each_opcode f)
 
 module _ (f : ℕ → List ℕ) (rest : List ℕ) where
   -- the next opcode's stands first
-  pub next_first : (i n : ℕ) (left : List ℕ) → i < n → left ≡ behind f i (n - i) ++ rest → left ≡ f (suc i) ++ (behind f (i + 1) (n - (i + 1)) ++ rest)
+  pub next_first : (i n : ℕ) (left : List ℕ) → i < n → left ≡ behind f i (n - i) ++ rest
+      → left ≡ f (suc i) ++ (behind f (i + 1) (n - (i + 1)) ++ rest)
   next_first i n left within e =
       let step : n - i ≡ suc (n - (i + 1)) = omega (arith, within) in
-      e ∙ ap (λ k. behind f i k ++ rest) step ∙ append_assoc (f (suc i)) (behind f (suc i) (n - (i + 1))) rest ∙ ap (λ k. f (suc i) ++ (behind f k (n - (i + 1)) ++ rest)) (sym (add-one i))
+      e ∙ ap (λ k. behind f i k ++ rest) step ∙ append_assoc (f (suc i)) (behind f (suc i) (n - (i + 1))) rest
+      ∙ ap (λ k. f (suc i) ++ (behind f k (n - (i + 1)) ++ rest)) (sym (add-one i))
 
   -- nothing is left behind the last
   pub no_more : (i n : ℕ) (left : List ℕ) → n ≤ i → left ≡ behind f i (n - i) ++ rest → left ≡ rest
@@ -43,20 +45,23 @@ module _ (f : ℕ → List ℕ) (rest : List ℕ) where
       omega (arith, more, here, both, regrouped)
 
 -- two texts of opcodes that are the same tell the same, opcode by opcode
-pub cancel_behind : (f g : ℕ → List ℕ) (Q : ℕ → Type 0) (k n : ℕ) → ((i : ℕ) → k ≤ i → i < k + n → (r s : List ℕ) → f (suc i) ++ r ≡ g (suc i) ++ s → Q i × (r ≡ s))
+pub cancel_behind : (f g : ℕ → List ℕ) (Q : ℕ → Type 0) (k n : ℕ)
+    → ((i : ℕ) → k ≤ i → i < k + n → (r s : List ℕ) → f (suc i) ++ r ≡ g (suc i) ++ s → Q i × (r ≡ s))
     → (r s : List ℕ) → behind f k n ++ r ≡ behind g k n ++ s → ((i : ℕ) → k ≤ i → i < k + n → Q i) × (r ≡ s)
 cancel_behind f g Q k zero told r s e = (λ i low high. absurd (omega (arith, low, high)), e)
 cancel_behind f g Q k (suc n) told r s e =
-    let (here, left) = told k (omega arith) (omega arith) (behind f (suc k) n ++ r) (behind g (suc k) n ++ s) (sym (append_assoc (f (suc k)) (behind f (suc k) n) r) ∙ e ∙ append_assoc (g (suc k)) (behind g (suc k) n) s) in
-    let (more, rest) = cancel_behind f g Q (suc k) n (λ i low high. told i (omega (arith, low)) (omega (arith, high))) r s left in
-    (λ i low high. ⊎_elim (λ above. more i (omega (arith, above)) (omega (arith, high))) (λ up_to. let same : k ≡ i = omega (arith, low, up_to) in subst Q same here) (cases_lt k i), rest)
+    let (here, left) = told k (omega arith) (omega arith) (behind f (suc k) n ++ r) (behind g (suc k) n ++ s)
+    (sym (append_assoc (f (suc k)) (behind f (suc k) n) r) ∙ e ∙ append_assoc (g (suc k)) (behind g (suc k) n) s) in
+    let (more, rest) = cancel_behind f g Q (suc k) n (λ i low high. told i (omega (arith, low)) (omega (arith, high))) r s left in (
+      λ i low high. ⊎_elim (λ above. more i (omega (arith, above)) (omega (arith, high)))
+          (λ up_to. let same : k ≡ i = omega (arith, low, up_to) in subst Q same here) (cases_lt k i),
+      rest,
+    )
 
-pub cancel_each : (f g : ℕ → List ℕ) (Q : ℕ → Type 0) (n : ℕ) → ((i : ℕ) → i < n → (r s : List ℕ) → f (suc i) ++ r ≡ g (suc i) ++ s → Q i × (r ≡ s))
+pub cancel_each : (f g : ℕ → List ℕ) (Q : ℕ → Type 0) (n : ℕ)
+    → ((i : ℕ) → i < n → (r s : List ℕ) → f (suc i) ++ r ≡ g (suc i) ++ s → Q i × (r ≡ s))
     → (r s : List ℕ) → each_opcode f n ++ r ≡ each_opcode g n ++ s → ((i : ℕ) → i < n → Q i) × (r ≡ s)
 cancel_each f g Q n told r s e =
-    let (all, rest) = cancel_behind f g Q 0 n (λ i low high. told i (omega (arith, high))) r s (ap (λ w. w ++ r) (sym (from_first f n)) ∙ e ∙ ap (λ w. w ++ s) (from_first g n)) in
+    let (all, rest) = cancel_behind f g Q 0 n (λ i low high. told i (omega (arith, high))) r s
+    (ap (λ w. w ++ r) (sym (from_first f n)) ∙ e ∙ ap (λ w. w ++ s) (from_first g n)) in
     (λ i within. all i (omega arith) (omega (arith, within)), rest)
-
--- lists with the same elements at each place are the same
-pub same_places : {X : Type 0} (xs ys : List X) → length xs ≡ length ys → ((i : ℕ) → i < length xs → slice_get xs i ≡ slice_get ys i) → xs ≡ ys
-same_places xs ys same each = same_lists xs ys same (λ k d within. sym (unwrap_or-slice_get xs k d) ∙ ap (λ r. unwrap_or r d) (each k within) ∙ unwrap_or-slice_get ys k d)

@@ -1,5 +1,7 @@
 -- The comments in the block of an opcode.
-use Rattle.std.proofs.Common.{◌≡◌, ℕ, zero, suc, ◌+◌, ◌/◌, ◌%◌, ◌==◌, cond, ◌&&◌, Bool, true, false, IsTrue, List, [], ◌∷◌, ◌++◌, All, length, map, drop, slice_get, Option, None, Some, codes, refl, sym, ap, ◌∙◌, subst, append_assoc, append-nil, arith}
+use Rattle.std.proofs.Common.{◌≡◌, ℕ, zero, suc, ◌+◌, ◌/◌, ◌%◌, ◌==◌, cond, ◌&&◌, Bool, true, false, IsTrue, List, [], ◌∷◌, ◌++◌, All}
+use Rattle.std.proofs.Common.{length, map, drop, slice_get, Option, None, Some, codes, refl, sym, ap, ◌∙◌, subst, append_assoc, append-nil}
+use Rattle.std.proofs.Common.{arith}
 use Rattle.std.specs.List.{flat_map, list_all}
 use Rattle.std.specs.Fmt.{decimal}
 use Rattle.std.proofs.lemmas.Bool.{and_from}
@@ -11,12 +13,14 @@ use Rattle.std.proofs.lemmas.Option.{get_or_from_slice_get, slice_get_within}
 use Rattle.meta_types.specs.Name.{IsName}
 use Rattle.meta_types.specs.TypeNumber.{type_with}
 use Rattle.meta_types.specs.CamelCase.{camel_case_of}
-use Rattle.meta_meaning.specs.Tables.{TableContents, OpcodeNumbers, NumberConstraint, ConcreteNumber, FreeOf, SameNumber, ByNumber, at_opcode, no_type_set, result_count, value_count}
+use Rattle.meta_meaning.specs.Tables.{TableContents, OpcodeNumbers, NumberConstraint, ConcreteNumber, FreeOf, SameNumber, ByNumber}
+use Rattle.meta_meaning.specs.Tables.{at_opcode, no_type_set, result_count, value_count}
 use Rattle.meta_table_text.specs.declared.version.Version.{Version}
 use Rattle.meta_table_text.specs.declared.version.Version.TheVariants.{One, Two, Three}
 use Rattle.meta_table_text.specs.TypeSetText.{set_or_nothing, set_comment, block_end}
 use Rattle.meta_table_text.specs.ConstraintText.{type_text, constraint_text, quoted, quoted_all, constraints_comment}
-use Rattle.meta_table_text.specs.OpcodeText.{or_nothing, camel_at, bool_text, flags_comment, constraints_of, control_comment, second_comment, entry_comments}
+use Rattle.meta_table_text.specs.OpcodeText.{or_nothing, camel_at, bool_text, flags_comment, constraints_of, control_comment}
+use Rattle.meta_table_text.specs.OpcodeText.{second_comment, entry_comments}
 use Rattle.meta_cursor.specs.Spans.{lacks, is_line}
 use Rattle.meta_cursor.proofs.Ends.{number_lacks}
 use Rattle.meta_cursor.proofs.Lacking.{both_lack, line_behind}
@@ -43,7 +47,8 @@ quoted_lacks c shown = both_lack 10 (constraint_text c) (codes "'") (constraint_
 
 quoted_all_lack : (cs : List NumberConstraint) → All IsShownConstraint cs → HasNoEnd (quoted_all cs)
 unfolding quoted_all
-quoted_all_lack cs shown = parted_lacks [] (map quoted cs) refl (All-map HasNoEnd quoted cs (All-weaker IsShownConstraint (λ c. HasNoEnd (quoted c)) quoted_lacks cs shown))
+quoted_all_lack cs shown = parted_lacks [] (map quoted cs) refl
+    (All-map HasNoEnd quoted cs (All-weaker IsShownConstraint (λ c. HasNoEnd (quoted c)) quoted_lacks cs shown))
 
 name_in_camel_lacks : (name : Option (List ℕ)) → ((n : List ℕ) → name ≡ Some n → IsName n) → HasNoEnd (camel_case_of (or_nothing name))
 name_in_camel_lacks None named = refl
@@ -77,7 +82,8 @@ flags_line name flags free =
     line_behind name first free
     (line_behind results second (number_lacks 10 refl (result_count flags) (omega arith))
     (line_behind designated third (bool_lacks (flags / 8 % 2 == 1))
-    (line_behind differs last (bool_lacks (flags / 16 % 2 == 1)) (line_behind values (10 ∷ []) (number_lacks 10 refl (value_count flags) (omega arith)) refl))))
+    (line_behind differs last (bool_lacks (flags / 16 % 2 == 1))
+    (line_behind values (10 ∷ []) (number_lacks 10 refl (value_count flags) (omega arith)) refl))))
 
 constraints_line : (cs : List NumberConstraint) → All IsShownConstraint cs → is_line (constraints_comment cs) ≡ true
 unfolding constraints_comment
@@ -95,17 +101,20 @@ on_second Two t e = on_control t (codes "Second control over ") e.second_offset
 on_second Three t e = on_control t (codes "Second control over ") e.second_offset
 
 abbrev ends : List (List ℕ)
-ends = codes "    }\n" ∷ (codes "    ,\n" ∷ [])
+ends = codes "    }\n" ∷ codes "    ,\n" ∷ []
 
 abbrev pub block_lines : Version → TableContents → ℕ → OpcodeNumbers → List (List ℕ)
-block_lines v t op e = flags_comment (camel_at t op) e.flags ∷ (constraints_comment (constraints_of t e) ∷ (on_control t (codes "Polymorphic over ") e.typeset_offset ++ (on_second v t e ++ ends)))
+block_lines v t op e = flags_comment (camel_at t op) e.flags
+    ∷ constraints_comment (constraints_of t e) ∷ (on_control t (codes "Polymorphic over ") e.typeset_offset ++ (on_second v t e ++ ends))
 
 -- they are the comments and the end of the block
-on_control_joined : (t : TableContents) (about : List ℕ) (offset : ℕ) → flat_map (λ line. line) (on_control t about offset) ≡ control_comment t about offset
+on_control_joined : (t : TableContents) (about : List ℕ) (offset : ℕ)
+    → flat_map (λ line. line) (on_control t about offset) ≡ control_comment t about offset
 unfolding control_comment
 on_control_joined t about offset = by_test (offset == no_type_set)
   where
-    by_test : (b : Bool) → flat_map (λ line. line) (cond b [] (set_comment about (set_or_nothing (slice_get t.type_sets offset)) ∷ [])) ≡ cond b [] (set_comment about (set_or_nothing (slice_get t.type_sets offset)))
+    by_test : (b : Bool) → flat_map (λ line. line) (cond b [] (set_comment about (set_or_nothing (slice_get t.type_sets offset)) ∷ []))
+        ≡ cond b [] (set_comment about (set_or_nothing (slice_get t.type_sets offset)))
     by_test true = refl
     by_test false = append-nil (set_comment about (set_or_nothing (slice_get t.type_sets offset)))
 
@@ -115,15 +124,21 @@ on_second_joined One t e = refl
 on_second_joined Two t e = on_control_joined t (codes "Second control over ") e.second_offset
 on_second_joined Three t e = on_control_joined t (codes "Second control over ") e.second_offset
 
-pub lines_joined : (v : Version) (t : TableContents) (op : ℕ) (e : OpcodeNumbers) → flat_map (λ line. line) (block_lines v t op e) ≡ entry_comments v t op e ++ block_end
+pub lines_joined : (v : Version) (t : TableContents) (op : ℕ) (e : OpcodeNumbers)
+    → flat_map (λ line. line) (block_lines v t op e) ≡ entry_comments v t op e ++ block_end
 unfolding entry_comments block_end
 lines_joined v t op e =
     let flags = flags_comment (camel_at t op) e.flags in
     let listed = constraints_comment (constraints_of t e) in
     let control = on_control t (codes "Polymorphic over ") e.typeset_offset in
     let second = on_second v t e in
-    let behind = flat_map-append (λ line. line) control (second ++ ends) ∙ ap (λ w. flat_map (λ line. line) control ++ w) (flat_map-append (λ line. line) second ends) in
-    ap (λ w. flags ++ (listed ++ w)) (behind ∙ (λ i. on_control_joined t (codes "Polymorphic over ") e.typeset_offset i ++ (on_second_joined v t e i ++ flat_map (λ line. line) ends))) ∙ sym (grouped flags listed (control_comment t (codes "Polymorphic over ") e.typeset_offset) (second_comment v t e) (flat_map (λ line. line) ends))
+    let behind = flat_map-append (λ line. line) control (second ++ ends)
+    ∙ ap (λ w. flat_map (λ line. line) control ++ w) (flat_map-append (λ line. line) second ends) in
+    ap (λ w. flags ++ (listed ++ w)) (behind
+    ∙ (λ i. on_control_joined t (codes "Polymorphic over ") e.typeset_offset i
+    ++ (on_second_joined v t e i ++ flat_map (λ line. line) ends)))
+    ∙ sym (grouped flags listed (control_comment t (codes "Polymorphic over ") e.typeset_offset) (second_comment v t e)
+    (flat_map (λ line. line) ends))
   where
     grouped : (a b c d f : List ℕ) → (a ++ (b ++ (c ++ d))) ++ f ≡ a ++ (b ++ (c ++ (d ++ f)))
     grouped a b c d f = simp append_assoc
@@ -141,7 +156,8 @@ on_second_count One t e = refl
 on_second_count Two t e = on_control_count t (codes "Second control over ") e.second_offset
 on_second_count Three t e = on_control_count t (codes "Second control over ") e.second_offset
 
-pub lines_count : (v : Version) (t : TableContents) (op : ℕ) (e : OpcodeNumbers) → 4 + control_lines e.typeset_offset + second_lines v e.second_offset ≡ length (block_lines v t op e)
+pub lines_count : (v : Version) (t : TableContents) (op : ℕ) (e : OpcodeNumbers)
+    → 4 + control_lines e.typeset_offset + second_lines v e.second_offset ≡ length (block_lines v t op e)
 lines_count v t op e =
     let control = on_control t (codes "Polymorphic over ") e.typeset_offset in
     let second = on_second v t e in
@@ -157,20 +173,26 @@ on_control_lines t about offset free = by_test (offset == no_type_set)
   where
     by_test : (b : Bool) → list_all is_line (cond b [] (set_comment about (set_or_nothing (slice_get t.type_sets offset)) ∷ [])) ≡ true
     by_test true = refl
-    by_test false = and_from (is_line (set_comment about (set_or_nothing (slice_get t.type_sets offset)))) true (set_comment_line about (set_or_nothing (slice_get t.type_sets offset)) free (set_or_nothing_lacks (slice_get t.type_sets offset))) refl
+    by_test false = and_from (is_line (set_comment about (set_or_nothing (slice_get t.type_sets offset)))) true
+        (set_comment_line about (set_or_nothing (slice_get t.type_sets offset)) free (set_or_nothing_lacks (slice_get t.type_sets offset)))
+        refl
 
 on_second_lines : (v : Version) (t : TableContents) (e : OpcodeNumbers) → list_all is_line (on_second v t e) ≡ true
 on_second_lines One t e = refl
 on_second_lines Two t e = on_control_lines t (codes "Second control over ") e.second_offset refl
 on_second_lines Three t e = on_control_lines t (codes "Second control over ") e.second_offset refl
 
-pub lines_are : (v : Version) (t : TableContents) (op : ℕ) (e : OpcodeNumbers) → All IsName t.names → All IsShownConstraint t.operand_constraints → All (λ line. IsTrue (is_line line)) (block_lines v t op e)
+pub lines_are : (v : Version) (t : TableContents) (op : ℕ) (e : OpcodeNumbers) → All IsName t.names
+    → All IsShownConstraint t.operand_constraints → All (λ line. IsTrue (is_line line)) (block_lines v t op e)
 lines_are v t op e named shown =
     let flags = flags_line (camel_at t op) e.flags (camel_lacks t op named) in
-    let some = All-take IsShownConstraint (result_count e.flags + value_count e.flags) (drop e.constraint_offset t.operand_constraints) (All-drop IsShownConstraint e.constraint_offset t.operand_constraints shown) in
+    let some = All-take IsShownConstraint (result_count e.flags + value_count e.flags) (drop e.constraint_offset t.operand_constraints)
+    (All-drop IsShownConstraint e.constraint_offset t.operand_constraints shown) in
     let listed = constraints_line (constraints_of t e) some in
     let control = on_control t (codes "Polymorphic over ") e.typeset_offset in
     let second = on_second v t e in
     let behind = list_all-append is_line second ends ∙ (λ i. on_second_lines v t e i && true) in
-    let comments = list_all-append is_line control (second ++ ends) ∙ (λ i. on_control_lines t (codes "Polymorphic over ") e.typeset_offset refl i && behind i) in
-    are_lines (block_lines v t op e) (and_from (is_line (flags_comment (camel_at t op) e.flags)) _ flags (and_from (is_line (constraints_comment (constraints_of t e))) _ listed comments))
+    let comments = list_all-append is_line control (second ++ ends)
+    ∙ (λ i. on_control_lines t (codes "Polymorphic over ") e.typeset_offset refl i && behind i) in
+    are_lines (block_lines v t op e) (and_from (is_line (flags_comment (camel_at t op) e.flags)) _ flags
+    (and_from (is_line (constraints_comment (constraints_of t e))) _ listed comments))

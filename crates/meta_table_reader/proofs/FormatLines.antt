@@ -15,5 +15,6 @@ pub format_opened : (t : TableContents) (i : ℕ) (f n rest : List ℕ) → slic
     → format_line t (suc i) ++ rest ≡ before_format ++ (f ++ (codes ", // " ++ (n ++ (codes "\n" ++ rest))))
 unfolding format_line
 format_opened t i f n rest at_format at_name =
-    let line : List ℕ → List ℕ → List ℕ = λ f n. text_of (at 1 (codes "InstructionFormat::" ∷ (f ∷ (codes ", // " ∷ (n ∷ [])))) ∷ []) in
-    (λ k. line (or_nothing (at_format k)) (or_nothing (at_name k)) ++ rest) ∙ ap (λ (w : List ℕ). before_format ++ w) (four f (codes ", // ") n (codes "\n") rest)
+    let line : List ℕ → List ℕ → List ℕ = λ f n. text_of (at 1 (codes "InstructionFormat::" ∷ f ∷ codes ", // " ∷ n ∷ []) ∷ []) in
+    (λ k. line (or_nothing (at_format k)) (or_nothing (at_name k)) ++ rest)
+    ∙ ap (λ (w : List ℕ). before_format ++ w) (four f (codes ", // ") n (codes "\n") rest)

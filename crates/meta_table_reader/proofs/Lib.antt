@@ -5,7 +5,6 @@ mod SetBlocks
 mod TypesRead
 mod Controls
 mod ConstraintLines
-mod Found
 -- opcodes, one after the other
 mod ByOpcode
 mod NameBytes

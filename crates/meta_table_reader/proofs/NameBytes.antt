@@ -53,9 +53,11 @@ capital_no_end false c is = grind (arith, nat_tests)
 
 camel_lacks : (up : Bool) (name : List ℕ) → All IsNameByte name → lacks 10 (camel_from up name) ≡ true
 camel_lacks up [] all = refl
-camel_lacks up (c ∷ cs) all = by_test (c == 95) (camel_lacks true cs (all_behind IsNameByte c cs all)) (camel_lacks false cs (all_behind IsNameByte c cs all))
+camel_lacks up (c ∷ cs) all =
+    by_test (c == 95) (camel_lacks true cs (all_behind IsNameByte c cs all)) (camel_lacks false cs (all_behind IsNameByte c cs all))
   where
-    by_test : (b : Bool) → lacks 10 (camel_from true cs) ≡ true → lacks 10 (camel_from false cs) ≡ true → lacks 10 (cond b (camel_from true cs) (capital_at up c ∷ camel_from false cs)) ≡ true
+    by_test : (b : Bool) → lacks 10 (camel_from true cs) ≡ true → lacks 10 (camel_from false cs) ≡ true
+        → lacks 10 (cond b (camel_from true cs) (capital_at up c ∷ camel_from false cs)) ≡ true
     by_test true dropped kept = dropped
     by_test false dropped kept = (λ i. not (capital_no_end up c (all_first IsNameByte c cs all) i) && kept i)
 

@@ -30,17 +30,21 @@ shown_small v offset (inl below) = let most = most_shown v in let same = shown_o
 shown_small v offset (inr none) = let most = most_shown v in let same = ap (offset_shown v) none ∙ shown_none v in omega (arith, most, same)
 
 -- where what is shown is what stands for none, there is none, and else it is the place
-pub none_back : (v : Version) (offset shown : ℕ) → IsShownOffset v offset → shown ≡ offset_shown v offset → shown ≡ none_of v → 65535 ≡ offset
+pub none_back : (v : Version) (offset shown : ℕ) → IsShownOffset v offset → shown ≡ offset_shown v offset
+    → shown ≡ none_of v → 65535 ≡ offset
 none_back v offset shown (inl below) is none = let same = shown_other v offset below in absurd (omega (arith, same, below, is, none))
 none_back v offset shown (inr no_set) is none = sym no_set
 
-pub place_back : (v : Version) (offset shown : ℕ) → IsShownOffset v offset → shown ≡ offset_shown v offset → (shown ≡ none_of v → ⊥) → shown ≡ offset
+pub place_back : (v : Version) (offset shown : ℕ) → IsShownOffset v offset → shown ≡ offset_shown v offset
+    → (shown ≡ none_of v → ⊥) → shown ≡ offset
 place_back v offset shown (inl below) is some = is ∙ shown_other v offset below
 place_back v offset shown (inr no_set) is some = absurd (some (is ∙ ap (offset_shown v) no_set ∙ shown_none v))
 
 -- what is shown tells the place
 pub offset_told : (v : Version) (m n : ℕ) → IsShownOffset v m → IsShownOffset v n → offset_shown v m ≡ offset_shown v n → m ≡ n
 offset_told v m n (inl one) (inl other) e = sym (shown_other v m one) ∙ e ∙ shown_other v n other
-offset_told v m n (inl one) (inr other) e = let here = shown_other v m one in let there = ap (offset_shown v) other ∙ shown_none v in absurd (omega (arith, one, here, there, e))
-offset_told v m n (inr one) (inl other) e = let here = ap (offset_shown v) one ∙ shown_none v in let there = shown_other v n other in absurd (omega (arith, other, here, there, e))
+offset_told v m n (inl one) (inr other) e =
+    let here = shown_other v m one in let there = ap (offset_shown v) other ∙ shown_none v in absurd (omega (arith, one, here, there, e))
+offset_told v m n (inr one) (inl other) e =
+    let here = ap (offset_shown v) one ∙ shown_none v in let there = shown_other v n other in absurd (omega (arith, other, here, there, e))
 offset_told v m n (inr one) (inr other) e = one ∙ sym other

@@ -1,5 +1,6 @@
 -- The parts of the text of an instruction set.
-use Rattle.std.proofs.Common.{◌≡◌, ◌≢◌, ℕ, ◌==◌, cond, Bool, true, false, IsTrue, List, [], ◌∷◌, ◌++◌, ◌⊎◌, inl, inr, All, length, map, get_or, slice_index, Option, None, Some, codes, refl, sym, ap, subst, arith}
+use Rattle.std.proofs.Common.{◌≡◌, ◌≢◌, ℕ, ◌==◌, cond, Bool, true, false, IsTrue, List, [], ◌∷◌, ◌++◌, ◌⊎◌, inl, inr, All, length, map}
+use Rattle.std.proofs.Common.{get_or, slice_index, Option, None, Some, codes, refl, sym, ap, subst, arith}
 use Rattle.std.specs.List.{flat_map}
 use Rattle.std.specs.Fmt.{digits}
 use Rattle.std.proofs.lemmas.Bool.{eqb-true}
@@ -10,14 +11,15 @@ use Rattle.meta_meaning.specs.Tables.{TableContents, NumberConstraint}
 use Rattle.meta_opcode_tables.specs.Constraint.{number_constraint_of}
 use Rattle.meta_table_text.specs.declared.version.Version.{Version}
 use Rattle.meta_table_text.specs.declared.version.Version.TheVariants.{One, Two, Three}
+use Rattle.meta_table_text.specs.Lists.{list_head}
 use Rattle.meta_table_text.specs.ConstraintText.{constraint_line}
 use Rattle.meta_table_text.specs.OpcodeText.{camel_at, slot_line}
-use Rattle.meta_table_text.specs.TableText.{line, version_line, sets_list, sets_part, constraints_part}
+use Rattle.meta_table_text.specs.TableText.{version_line, sets_list, sets_part, constraints_part}
 use Rattle.meta_cursor.specs.Spans.{is_line}
 use Rattle.meta_cursor.proofs.Lacking.{line_behind}
 use Rattle.meta_table_reader.specs.Shown.{IsShownConstraint}
 use Rattle.meta_table_reader.proofs.EntryComments.{camel_lacks}
-use Rattle.meta_table_reader.proofs.Controls.{constraint_from, numbers_from}
+use Rattle.meta_opcode_tables.proofs.Sameness.{constraint_from, number_constraint_back}
 
 -- ---- the first line
 
@@ -66,31 +68,38 @@ unfolding slot_line
 slot_is_line t named None = refl
 slot_is_line t named (Some op) = line_behind (camel_at t op) (codes ")," ++ 10 ∷ []) (camel_lacks t op named) refl
 
-pub slots_are_lines : (t : TableContents) → All IsName t.names → (slots : List (Option ℕ)) → All (λ line. IsTrue (is_line line)) (map (slot_line t) slots)
-slots_are_lines t named slots = All-map (λ line. IsTrue (is_line line)) (slot_line t) slots (λ k d within. slot_is_line t named (get_or slots k d))
+pub slots_are_lines : (t : TableContents) → All IsName t.names → (slots : List (Option ℕ))
+    → All (λ line. IsTrue (is_line line)) (map (slot_line t) slots)
+slots_are_lines t named slots =
+    All-map (λ line. IsTrue (is_line line)) (slot_line t) slots (λ k d within. slot_is_line t named (get_or slots k d))
 
 -- ---- the type sets
 
 -- there is no list, and that of the constraints stands there, or there is one
 pub sets_cases : (t : TableContents) (rest text : List ℕ) → text ≡ sets_part t ++ (constraints_part t ++ rest)
-    → ((slice_index text 12 ≡ 111) × (t.type_sets ≡ []) × (text ≡ constraints_part t ++ rest)) ⊎ ((slice_index text 12 ≡ 118) × (text ≡ sets_list t ++ (constraints_part t ++ rest)))
-unfolding sets_part sets_list constraints_part line
+    → ((slice_index text 12 ≡ 111) × (t.type_sets ≡ []) × (text ≡ constraints_part t ++ rest))
+    ⊎ ((slice_index text 12 ≡ 118) × (text ≡ sets_list t ++ (constraints_part t ++ rest)))
+unfolding sets_part sets_list constraints_part list_head
 sets_cases t rest text e = by_test (length t.type_sets == 0) refl e
   where
     by_test : (b : Bool) → (length t.type_sets == 0) ≡ b → text ≡ cond b [] (sets_list t) ++ (constraints_part t ++ rest)
-        → ((slice_index text 12 ≡ 111) × (t.type_sets ≡ []) × (text ≡ constraints_part t ++ rest)) ⊎ ((slice_index text 12 ≡ 118) × (text ≡ sets_list t ++ (constraints_part t ++ rest)))
+        → ((slice_index text 12 ≡ 111) × (t.type_sets ≡ []) × (text ≡ constraints_part t ++ rest))
+        ⊎ ((slice_index text 12 ≡ 118) × (text ≡ sets_list t ++ (constraints_part t ++ rest)))
     by_test true none e = inl (ap (λ w. slice_index w 12) e, nil_from_length t.type_sets (eqb-true (length t.type_sets) 0 none), e)
     by_test false some e = inr (ap (λ w. slice_index w 12) e, e)
 
 -- ---- the constraints
 
-pub same_lines : (ns : List NumberConstraint) → flat_map (λ c. constraint_line (number_constraint_of c)) (map constraint_from ns) ≡ flat_map constraint_line ns
+pub same_lines : (ns : List NumberConstraint) → flat_map (λ c. constraint_line (number_constraint_of c)) (map constraint_from ns)
+    ≡ flat_map constraint_line ns
 same_lines [] = refl
-same_lines (n ∷ ns) = (λ i. constraint_line (numbers_from n i) ++ same_lines ns i)
+same_lines (n ∷ ns) = (λ i. constraint_line (number_constraint_back n i) ++ same_lines ns i)
 
 pub same_numbers : (ns : List NumberConstraint) → map number_constraint_of (map constraint_from ns) ≡ ns
 same_numbers [] = refl
-same_numbers (n ∷ ns) = (λ i. numbers_from n i ∷ same_numbers ns i)
+same_numbers (n ∷ ns) = (λ i. number_constraint_back n i ∷ same_numbers ns i)
 
-pub all_shown : (ns : List NumberConstraint) → All IsShownConstraint ns → All (λ c. IsShownConstraint (number_constraint_of c)) (map constraint_from ns)
-all_shown ns shown = All-map (λ c. IsShownConstraint (number_constraint_of c)) constraint_from ns (λ k d within. subst IsShownConstraint (sym (numbers_from (get_or ns k d))) (shown k d within))
+pub all_shown : (ns : List NumberConstraint) → All IsShownConstraint ns
+    → All (λ c. IsShownConstraint (number_constraint_of c)) (map constraint_from ns)
+all_shown ns shown = All-map (λ c. IsShownConstraint (number_constraint_of c)) constraint_from ns
+    (λ k d within. subst IsShownConstraint (sym (number_constraint_back (get_or ns k d))) (shown k d within))

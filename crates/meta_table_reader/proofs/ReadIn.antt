@@ -12,7 +12,9 @@ some_reads v text None is = tt
 some_reads v text (Some t) is = record { version = v; in_version = is }
 
 -- a text that reads as tables in no other version than the one that was found
-pub none_reads : (v : Version) (text : List ℕ) (o : Option WholeTables) → ((w : Version) (rest : List ℕ) → text ≡ version_line w ++ rest → v ≡ w) → IfNone o ((t : WholeTables) → IsReadIn v text t → ⊥) → IfNone o ((t : WholeTables) → Reads text t → ⊥)
+pub none_reads : (v : Version) (text : List ℕ) (o : Option WholeTables)
+    → ((w : Version) (rest : List ℕ) → text ≡ version_line w ++ rest → v ≡ w) → IfNone o ((t : WholeTables) → IsReadIn v text t → ⊥)
+    → IfNone o ((t : WholeTables) → Reads text t → ⊥)
 none_reads v text None found none = λ t reads.
     let (rest, opened) = version_opened reads.version t in
     none t (subst (λ w. IsReadIn w text t) (sym (found reads.version rest (reads.in_version.is_text ∙ opened))) reads.in_version)

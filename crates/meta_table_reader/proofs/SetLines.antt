@@ -1,11 +1,12 @@
 -- The lines that show type sets.
-use Rattle.std.proofs.Common.{◌≡◌, ℕ, ◌<◌, ◌^◌, ◌==◌, cond, ltb, Bool, true, false, IsTrue, List, [], ◌∷◌, ◌++◌, All, map, Option, None, Some, codes, bit_and, refl}
+use Rattle.std.proofs.Common.{◌≡◌, ℕ, ◌<◌, ◌^◌, ◌==◌, cond, ltb, Bool, true, false, IsTrue, List, [], ◌∷◌, ◌++◌, All, map, Option, None}
+use Rattle.std.proofs.Common.{Some, codes, bit_and, refl}
 use Rattle.std.specs.List.{list_all}
 use Rattle.std.specs.Fmt.{decimal}
 use Rattle.std.proofs.lemmas.Bool.{and_parts, and_from, ltb-true}
 use Rattle.std.proofs.lemmas.List.Elements.{All-nil, All-cons, All-map, All-filter, All-weaker}
 use Rattle.meta_typevar.specs.declared.masks.Masks.{Masks}
-use Rattle.meta_table_text.specs.TypeSetText.{parted_behind, powers, held, members, part_of, set_text, set_or_nothing, set_comment}
+use Rattle.meta_table_text.specs.TypeSetText.{parted_behind, powers, held, members, part_of, masks_text, set_or_nothing, set_comment}
 use Rattle.meta_cursor.specs.Spans.{lacks, is_line}
 use Rattle.meta_cursor.proofs.Ends.{number_lacks}
 use Rattle.meta_cursor.proofs.Lacking.{both_lack, line_behind}
@@ -20,7 +21,8 @@ pub parted_lacks : (before : List ℕ) (texts : List (List ℕ)) → HasNoEnd be
 parted_lacks before [] free all = refl
 parted_lacks before (text ∷ texts) free all =
     both_lack 10 before (text ++ parted_behind (codes ", ") texts) free
-    (both_lack 10 text (parted_behind (codes ", ") texts) (all_first HasNoEnd text texts all) (parted_lacks (codes ", ") texts refl (all_behind HasNoEnd text texts all)))
+    (both_lack 10 text (parted_behind (codes ", ") texts) (all_first HasNoEnd text texts all)
+    (parted_lacks (codes ", ") texts refl (all_behind HasNoEnd text texts all)))
 
 -- numbers that pass their test are small
 all_small : (ns : List ℕ) → list_all (λ n. ltb n (2 ^ 64)) ns ≡ true → All (λ n. n < 2 ^ 64) ns
@@ -33,7 +35,8 @@ members_lack : (mask : ℕ) → HasNoEnd (members mask)
 unfolding members
 members_lack mask =
     parted_lacks [] (map decimal (held mask powers)) refl
-    (All-map HasNoEnd decimal (held mask powers) (All-filter (λ n. bit_and mask n == n) (λ n. HasNoEnd (decimal n)) powers (All-weaker (λ n. n < 2 ^ 64) (λ n. HasNoEnd (decimal n)) (number_lacks 10 refl) powers (all_small powers refl))))
+    (All-map HasNoEnd decimal (held mask powers) (All-filter (λ n. bit_and mask n == n) (λ n. HasNoEnd (decimal n)) powers
+    (All-weaker (λ n. n < 2 ^ 64) (λ n. HasNoEnd (decimal n)) (number_lacks 10 refl) powers (all_small powers refl))))
 
 part_lacks : (before : List ℕ) (mask : ℕ) → HasNoEnd before → HasNoEnd (part_of before mask)
 unfolding part_of
@@ -44,11 +47,13 @@ part_lacks before mask free = by_test (mask == 0)
     by_test false = both_lack 10 before (members mask ++ codes "}") free (both_lack 10 (members mask) (codes "}") (members_lack mask) refl)
 
 -- the text of a set has no LF
-pub set_text_lacks : (m : Masks) → HasNoEnd (set_text m)
-unfolding set_text
+pub set_text_lacks : (m : Masks) → HasNoEnd (masks_text m)
+unfolding masks_text
 set_text_lacks m =
-    both_lack 10 (members m.lanes) (codes "}" ++ (part_of (codes ", ints={") m.ints ++ (part_of (codes ", floats={") m.floats ++ codes ")"))) (members_lack m.lanes)
-    (both_lack 10 (part_of (codes ", ints={") m.ints) (part_of (codes ", floats={") m.floats ++ codes ")") (part_lacks (codes ", ints={") m.ints refl)
+    both_lack 10 (members m.lanes) (codes "}" ++ (part_of (codes ", ints={") m.ints
+    ++ (part_of (codes ", floats={") m.floats ++ codes ")"))) (members_lack m.lanes)
+    (both_lack 10 (part_of (codes ", ints={") m.ints) (part_of (codes ", floats={") m.floats ++ codes ")")
+    (part_lacks (codes ", ints={") m.ints refl)
     (both_lack 10 (part_of (codes ", floats={") m.floats) (codes ")") (part_lacks (codes ", floats={") m.floats refl) refl))
 
 pub set_or_nothing_lacks : (m : Option Masks) → HasNoEnd (set_or_nothing m)
@@ -68,5 +73,7 @@ are_lines (line ∷ lines) e =
     All-cons (λ line. IsTrue (is_line line)) line lines here (are_lines lines behind)
 
 -- the lines at the end of the block of a set
-pub set_lines : (m : Masks) → All (λ line. IsTrue (is_line line)) (set_comment [] (set_text m) ∷ (codes "    }\n" ∷ (codes "    ,\n" ∷ [])))
-set_lines m = are_lines (set_comment [] (set_text m) ∷ (codes "    }\n" ∷ (codes "    ,\n" ∷ []))) (and_from (is_line (set_comment [] (set_text m))) true (set_comment_line [] (set_text m) refl (set_text_lacks m)) refl)
+pub set_lines : (m : Masks) → All (λ line. IsTrue (is_line line))
+    (set_comment [] (masks_text m) ∷ codes "    }\n" ∷ codes "    ,\n" ∷ [])
+set_lines m = are_lines (set_comment [] (masks_text m) ∷ codes "    }\n" ∷ codes "    ,\n" ∷ [])
+    (and_from (is_line (set_comment [] (masks_text m))) true (set_comment_line [] (masks_text m) refl (set_text_lacks m)) refl)

@@ -1,5 +1,6 @@
 -- Bytes in hexadecimal digits, parted by a comma and a space.
-use Rattle.std.proofs.Common.{◌≡◌, ℕ, ◌+◌, ◌*◌, ◌/◌, ◌%◌, ◌<◌, ◌==◌, not, ◌&&◌, true, false, List, [], ◌∷◌, ◌++◌, All, length, drop, codes, refl, arith}
+use Rattle.std.proofs.Common.{◌≡◌, ℕ, ◌+◌, ◌*◌, ◌/◌, ◌%◌, ◌<◌, ◌==◌, not, ◌&&◌, true, false, List, [], ◌∷◌, ◌++◌, All, length, drop, codes}
+use Rattle.std.proofs.Common.{refl, arith}
 use Rattle.std.specs.List.{flat_map}
 use Rattle.std.specs.Fmt.{digit_glyph}
 use Rattle.std.proofs.lemmas.Bool.Decides.{nat_tests}
@@ -10,16 +11,16 @@ use Rattle.meta_cursor.proofs.Reading.{all_first, all_behind}
 use Rattle.meta_table_reader.specs.ShownGroup.{IsByte}
 
 -- the bytes behind the first, each behind a comma
-abbrev pub behind_comma : List ℕ → List ℕ
-behind_comma bytes = flat_map (λ byte. codes ", " ++ hex_text byte) bytes
+abbrev pub comma_behind : List ℕ → List ℕ
+comma_behind bytes = flat_map (λ byte. codes ", " ++ hex_text byte) bytes
 
 -- without what parts them from the first, they are bytes that are parted
-pub without_comma : (bytes : List ℕ) → drop 2 (behind_comma bytes) ≡ bytes_text bytes
+pub without_comma : (bytes : List ℕ) → drop 2 (comma_behind bytes) ≡ bytes_text bytes
 without_comma [] = refl
 without_comma (byte ∷ bytes) = refl
 
 -- each takes six bytes of the text
-length_behind : (bytes : List ℕ) → length (behind_comma bytes) ≡ 6 * length bytes
+length_behind : (bytes : List ℕ) → length (comma_behind bytes) ≡ 6 * length bytes
 length_behind [] = refl
 length_behind (byte ∷ bytes) = let more = length_behind bytes in omega (arith, more)
 
@@ -32,12 +33,15 @@ glyph_other : (d : ℕ) → d < 16 → (digit_glyph false d == 93) ≡ false
 glyph_other d small = grind (arith, nat_tests)
 
 hex_lacks : (byte : ℕ) → byte < 256 → lacks 93 (hex_text byte) ≡ true
-hex_lacks byte small = (λ i. not (glyph_other (byte / 16) (omega (arith, small)) i) && (not (glyph_other (byte % 16) (omega arith) i) && true))
+hex_lacks byte small =
+    (λ i. not (glyph_other (byte / 16) (omega (arith, small)) i) && (not (glyph_other (byte % 16) (omega arith) i) && true))
 
-behind_lack : (bytes : List ℕ) → All IsByte bytes → lacks 93 (behind_comma bytes) ≡ true
+behind_lack : (bytes : List ℕ) → All IsByte bytes → lacks 93 (comma_behind bytes) ≡ true
 behind_lack [] all = refl
-behind_lack (byte ∷ bytes) all = both_lack 93 (hex_text byte) (behind_comma bytes) (hex_lacks byte (all_first IsByte byte bytes all)) (behind_lack bytes (all_behind IsByte byte bytes all))
+behind_lack (byte ∷ bytes) all = both_lack 93 (hex_text byte) (comma_behind bytes) (hex_lacks byte (all_first IsByte byte bytes all))
+    (behind_lack bytes (all_behind IsByte byte bytes all))
 
 pub bytes_lack : (bytes : List ℕ) → All IsByte bytes → lacks 93 (bytes_text bytes) ≡ true
 bytes_lack [] all = refl
-bytes_lack (byte ∷ bytes) all = both_lack 93 (hex_text byte) (behind_comma bytes) (hex_lacks byte (all_first IsByte byte bytes all)) (behind_lack bytes (all_behind IsByte byte bytes all))
+bytes_lack (byte ∷ bytes) all = both_lack 93 (hex_text byte) (comma_behind bytes) (hex_lacks byte (all_first IsByte byte bytes all))
+    (behind_lack bytes (all_behind IsByte byte bytes all))

@@ -1,5 +1,5 @@
 -- Well-formed tables that fit a version can be told from their text in it.
-use Rattle.std.proofs.Common.{◌≡◌, ℕ, suc, ◌+◌, ◌≤◌, cond, Bool, true, false, inl, inr, List, [], ◌∷◌, length, sum, filter, get_or, slice_get, Some, arith}
+use Rattle.std.proofs.Common.{◌≡◌, ℕ, suc, ◌+◌, ◌≤◌, true, false, inl, inr, List, [], ◌∷◌, length, sum, get_or, slice_get, Some, arith}
 use Rattle.std.specs.List.{fold}
 use Rattle.std.proofs.lemmas.List.Elements.{All-weaker}
 use Rattle.std.proofs.lemmas.Option.{slice_get-get_or}
@@ -18,6 +18,7 @@ use Rattle.meta_table_reader.specs.Shown.{AreShownMasks, IsShownConstraint, IsSh
 use Rattle.meta_table_reader.specs.ShownGroup.{AreShownGroup}
 use Rattle.meta_table_reader.specs.Readable.{AreShown}
 use Rattle.meta_table_reader.proofs.ShownGroups.{few_slots, group_shown}
+use Rattle.meta_opcode_tables.proofs.MaskTests.{sum_some}
 
 -- ---- type sets
 
@@ -36,26 +37,23 @@ sum-cons n ns =
     let all : fold ◌+◌ (0 + n) ns ≡ n + fold ◌+◌ 0 ns = omega (arith, from) in
     all
 
--- what some of the numbers have in sum is at most what all have
-some_sum : (p : ℕ → Bool) (ns : List ℕ) → sum (filter p ns) ≤ sum ns
-some_sum p [] = omega arith
-some_sum p (n ∷ ns) = by_test (p n) (some_sum p ns)
-  where
-    by_test : (b : Bool) → sum (filter p ns) ≤ sum ns → sum (cond b (n ∷ filter p ns) (filter p ns)) ≤ sum (n ∷ ns)
-    by_test true more = let one = sum-cons n (filter p ns) in let all = sum-cons n ns in let less : sum (n ∷ filter p ns) ≤ sum (n ∷ ns) = omega (arith, more, one, all) in less
-    by_test false more = let all = sum-cons n ns in let less : sum (filter p ns) ≤ sum (n ∷ ns) = omega (arith, more, all) in less
-
 masks_shown : (m : Masks) → AreMasks m → AreShownMasks m
 masks_shown m are =
-    let lanes = some_sum (holds m.lanes) (lane_counts false) in
-    let dynamic_lanes = some_sum (holds m.dynamic_lanes) (lane_counts true) in
-    let ints = some_sum (holds m.ints) (widths IntKind) in
-    let floats = some_sum (holds m.floats) (widths FloatKind) in
+    let lanes = sum_some (holds m.lanes) (lane_counts false) in
+    let dynamic_lanes = sum_some (holds m.dynamic_lanes) (lane_counts true) in
+    let ints = sum_some (holds m.ints) (widths IntKind) in
+    let floats = sum_some (holds m.floats) (widths FloatKind) in
     let l = are.lanes in
     let d = are.dynamic_lanes in
     let i = are.ints in
     let f = are.floats in
-    record { lanes = omega (arith, lanes, l); dynamic_lanes = omega (arith, dynamic_lanes, d); ints = omega (arith, ints, i); floats = omega (arith, floats, f) }
+    record {
+      lanes = omega (arith, lanes, l);
+      dynamic_lanes = omega (arith, dynamic_lanes, d);
+      ints = omega (arith, ints, i);
+      floats =
+          omega (arith, floats, f);
+    }
 
 -- ---- constraints and entries
 
@@ -65,19 +63,22 @@ constraint_shown sets few (FreeOf j) is = omega (arith, few, is)
 constraint_shown sets few (SameNumber which) is = tt
 constraint_shown sets few (ByNumber which f) is = tt
 
-offset_shown : (v : Version) (t : WholeTables) → Fits v t → length t.opcodes.type_sets ≤ 4095 → (offset : ℕ) → IsSetOffset (length t.opcodes.type_sets) offset → IsShownOffset v offset
+offset_shown : (v : Version) (t : WholeTables) → Fits v t → length t.opcodes.type_sets ≤ 4095 → (offset : ℕ)
+    → IsSetOffset (length t.opcodes.type_sets) offset → IsShownOffset v offset
 offset_shown v t fits few offset (inr none) = inr none
 offset_shown One t fits few offset (inl within) = let small = fits.small.type_sets in inl (omega (arith, within, small))
 offset_shown Two t fits few offset (inl within) = let small = fits.type_sets in inl (omega (arith, within, small))
 offset_shown Three t fits few offset (inl within) = inl (omega (arith, within, few))
 
-second_shown : (v : Version) (t : WholeTables) → Fits v t → length t.opcodes.type_sets ≤ 4095 → (k : ℕ) (e : OpcodeNumbers) → slice_get t.opcodes.entries k ≡ Some e → IsSetOffset (length t.opcodes.type_sets) e.second_offset → IsShownSecond v e.second_offset
+second_shown : (v : Version) (t : WholeTables) → Fits v t → length t.opcodes.type_sets ≤ 4095 → (k : ℕ) (e : OpcodeNumbers)
+    → slice_get t.opcodes.entries k ≡ Some e → IsSetOffset (length t.opcodes.type_sets) e.second_offset → IsShownSecond v e.second_offset
 second_shown One t fits few k e there is = fits.no_set (suc k) e there
 second_shown Two t fits few k e there is = offset_shown Two t fits few e.second_offset is
 second_shown Three t fits few k e there is = offset_shown Three t fits few e.second_offset is
 
 entry_shown : (v : Version) (t : WholeTables) → Fits v t → length t.opcodes.type_sets ≤ 4095 → length t.opcodes.operand_constraints ≤ 65535
-    → (k : ℕ) (e : OpcodeNumbers) → slice_get t.opcodes.entries k ≡ Some e → IsWellFormedEntry (length t.opcodes.type_sets) (length t.opcodes.operand_constraints) e → IsShownEntry v e
+    → (k : ℕ) (e : OpcodeNumbers) → slice_get t.opcodes.entries k ≡ Some e
+    → IsWellFormedEntry (length t.opcodes.type_sets) (length t.opcodes.operand_constraints) e → IsShownEntry v e
 entry_shown v t fits few many k e there is =
     let within = is.within in
     record {
@@ -103,10 +104,16 @@ opcodes_shown v t is fits =
         few_constraints = omega (arith, constraints);
         few_slots = few_slots 1 t.opcodes.names t.opcodes.opcode_slots is.slots (omega (arith, named, opcodes));
         sets = All-weaker AreMasks AreShownMasks masks_shown t.opcodes.type_sets p.masks;
-        constraints = All-weaker (IsWellFormedConstraint (length t.opcodes.type_sets)) IsShownConstraint (constraint_shown (length t.opcodes.type_sets) sets) t.opcodes.operand_constraints p.constraints;
+        constraints = All-weaker (IsWellFormedConstraint (length t.opcodes.type_sets)) IsShownConstraint
+            (constraint_shown (length t.opcodes.type_sets) sets) t.opcodes.operand_constraints p.constraints;
       };
-      entries = λ k d within. entry_shown v t fits sets constraints k (get_or t.opcodes.entries k d) (slice_get-get_or t.opcodes.entries k d within) (p.entries k d within);
+      entries = λ k d within. entry_shown v t fits sets constraints k (get_or t.opcodes.entries k d)
+          (slice_get-get_or t.opcodes.entries k d within) (p.entries k d within);
     }
 
 pub tables_shown : (v : Version) (t : WholeTables) → IsWellFormed t → Fits v t → AreShown v t
-tables_shown v t is fits = record { opcodes = opcodes_shown v t is.opcodes fits; groups = All-weaker IsWellFormedGroup AreShownGroup group_shown t.groups is.groups }
+tables_shown v t is fits = record {
+  opcodes = opcodes_shown v t is.opcodes fits;
+  groups =
+      All-weaker IsWellFormedGroup AreShownGroup group_shown t.groups is.groups;
+}

@@ -20,10 +20,14 @@ name_line name = codes "    name: \"" ++ (name ++ codes "\",\n")
 
 -- those before the default bytes
 abbrev pub template_lines : List ℕ → List (List ℕ)
-template_lines name = codes "static TEMPLATE: detail::Template = detail::Template {\n" ∷ (name_line name ∷ (codes "    descriptors: &DESCRIPTORS,\n" ∷ (codes "    enumerators: &ENUMERATORS,\n" ∷ (codes "    hash_table: &HASH_TABLE,\n" ∷ []))))
+template_lines name = codes "static TEMPLATE: detail::Template = detail::Template {\n"
+    ∷ (name_line name ∷ (codes "    descriptors: &DESCRIPTORS,\n"
+    ∷ codes "    enumerators: &ENUMERATORS,\n" ∷ codes "    hash_table: &HASH_TABLE,\n" ∷ []))
 
 pub template_lines_are : (name : List ℕ) → IsName name → All (λ line. IsTrue (is_line line)) (template_lines name)
-template_lines_are name is = are_lines (template_lines name) (and_from (is_line (name_line name)) true (line_behind name (codes "\",\n") (name_lacks_end name is) refl) refl)
+template_lines_are name is =
+    are_lines (template_lines name)
+    (and_from (is_line (name_line name)) true (line_behind name (codes "\",\n") (name_lacks_end name is) refl) refl)
 
 -- what stands before the default bytes, and behind them
 abbrev pub before_defaults : List ℕ
@@ -33,10 +37,14 @@ abbrev pub behind_defaults : List ℕ
 behind_defaults = codes "],\n    presets: &PRESETS,\n}\n;\n"
 
 -- the template, and then the rest
-pub template_opened : (name shown rest : List ℕ) → template_text name shown ++ rest ≡ flat_map (λ line. line) (template_lines name) ++ (before_defaults ++ (shown ++ (behind_defaults ++ rest)))
+pub template_opened : (name shown rest : List ℕ)
+    → template_text name shown ++ rest ≡ flat_map (λ line. line) (template_lines name)
+    ++ (before_defaults ++ (shown ++ (behind_defaults ++ rest)))
 unfolding template_text
 template_opened name shown rest =
     let head : List ℕ → List ℕ = λ w. codes "static TEMPLATE: detail::Template = detail::Template {\n    name: \"" ++ w in
     let middle : List ℕ = codes "    descriptors: &DESCRIPTORS,\n    enumerators: &ENUMERATORS,\n    hash_table: &HASH_TABLE,\n" in
-    ap head (regroup name (codes "\",\n    descriptors: &DESCRIPTORS,\n    enumerators: &ENUMERATORS,\n    hash_table: &HASH_TABLE,\n    defaults: &[") shown behind_defaults rest)
+    ap head (regroup name (codes
+    "\",\n    descriptors: &DESCRIPTORS,\n    enumerators: &ENUMERATORS,\n    hash_table: &HASH_TABLE,\n    defaults: &[") shown
+    behind_defaults rest)
     ∙ ap head (sym (regroup_lines name (codes "\",\n") middle (before_defaults ++ (shown ++ (behind_defaults ++ rest)))))

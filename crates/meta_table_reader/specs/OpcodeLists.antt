@@ -7,7 +7,8 @@ use Rattle.meta_opcode_tables.specs.declared.constraint.OpcodeConstraints.{Opcod
 use Rattle.meta_opcode_tables.specs.Constraint.{number_constraint_of, entry_of}
 
 -- the tables have these lists
-pub record HaveOpcodeLists (t : TableContents) (opcode_names format_names : List (List ℕ)) (sets : List Masks) (constraints : List Constraint) (opcodes : List OpcodeConstraints) : Type 0 where
+pub record HaveOpcodeLists (t : TableContents) (opcode_names format_names : List (List ℕ)) (sets : List Masks)
+    (constraints : List Constraint) (opcodes : List OpcodeConstraints) : Type 0 where
   pub names : opcode_names ≡ t.names
   pub formats : format_names ≡ t.formats
   pub type_sets : sets ≡ t.type_sets

@@ -4,7 +4,7 @@ use Rattle.std.proofs.Common.{arith}
 use Rattle.meta_typevar.specs.declared.masks.Masks.{Masks}
 use Rattle.meta_meaning.specs.Tables.{NumberConstraint}
 use Rattle.meta_setting_tables.specs.declared.descriptor.Descriptor.{Descriptor}
-use Rattle.meta_table_text.specs.GroupItems.{enumerator_text, block_text, descriptor_text}
+use Rattle.meta_table_text.specs.GroupItems.{enumerator_text, descriptor_block, descriptor_text}
 use Rattle.meta_table_text.specs.TypeSetText.{mask_lines, set_block}
 use Rattle.meta_table_text.specs.ConstraintText.{constraint_line}
 
@@ -21,5 +21,5 @@ unfolding enumerator_text
 enumerator_some name = omega arith
 
 pub descriptor_some : (d : Descriptor) → 1 ≤ length (descriptor_text d)
-unfolding block_text
+unfolding descriptor_block
 descriptor_some d = omega arith

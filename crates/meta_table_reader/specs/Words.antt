@@ -1,11 +1,10 @@
 -- Names in a text of tables, read.
 --     small_letter c         the byte in the name of a type
---     control_word c         the word of a constraint of a control
 --     IsOfControl n          the constraint is of a control
-use Rattle.std.specs.Prelude.{ℕ, ◌==◌, ⊤, List, [], if◌then◌else◌}
+--     ends_marked word       its word ends in the mark of a second control
+use Rattle.std.specs.Prelude.{ℕ, ◌==◌, ⊤, Bool, false, List, [], ◌∷◌, if◌then◌else◌}
 use Rattle.std.specs.Char.{to_ascii_lowercase}
 use Rattle.meta_meaning.specs.Tables.{NumberConstraint, ConcreteNumber, FreeOf, SameNumber, ByNumber}
-use Rattle.meta_table_text.specs.ConstraintText.{constraint_text}
 
 -- the byte in the name of a type, by that in its name in Rust source: a capital becomes small, but for the `N` of a dynamic vector
 abbrev pub small_letter : ℕ → ℕ
@@ -18,9 +17,8 @@ IsOfControl (FreeOf j) = ⊥
 IsOfControl (SameNumber which) = ⊤
 IsOfControl (ByNumber which f) = ⊤
 
--- its word, and an empty one of a constraint that isn't
-abbrev pub control_word : NumberConstraint → List ℕ
-control_word (ConcreteNumber n) = []
-control_word (FreeOf j) = []
-control_word (SameNumber which) = constraint_text (SameNumber which)
-control_word (ByNumber which f) = constraint_text (ByNumber which f)
+-- whether the last byte of a word is the mark of a second control
+abbrev pub ends_marked : List ℕ → Bool
+ends_marked [] = false
+ends_marked (c ∷ []) = c == 50
+ends_marked (c ∷ d ∷ cs) = ends_marked (d ∷ cs)

@@ -6,13 +6,13 @@ ghost use Rattle.meta_table_text.specs.Version.{offset_shown};
 ghost use Rattle.meta_table_text.specs.OpcodeText.{each_opcode, second_line, entry_block, opcode_block};
 ghost use Rattle.meta_table_text.specs.TableText.{entries_part};
 ghost use Rattle.meta_table_reader.specs.EntryLines.{control_lines, second_lines};
-ghost use Rattle.meta_table_reader.specs.Shown.{IsShownOffset, IsShownSecond, IsShownEntry, IsShownConstraint, AreNamed, AreShownOpcodes};
+ghost use Rattle.meta_table_reader.specs.Shown.{IsShownOffset, IsShownSecond, IsShownEntry, IsShownConstraint, AreShownOpcodes};
 ghost use Rattle.meta_types.specs.Name.{IsName};
 
-use super::lists::list_count;
+use super::lists::{list_count, skip_list_end};
 use meta_cursor::Cursor;
 use meta_gen::{NO_TYPE_SET, OpcodeConstraints};
-use meta_table_text::Version;
+use meta_table_text::{TableList, Version};
 use std::alloc::{AllocError, Global};
 
 /// The place of a type set, or that there is none, by what the version shows for it.
@@ -27,7 +27,8 @@ fn offset_of(version: Version, shown: u16) -> u16
 
 /// Reads the number of a line up to its end, behind as many bytes as the text has.
 fn place(cursor: &mut Cursor, before: &str) -> u16
-    ensures { (n : ℕ) (rest : List ℕ) → n < 2 ^ 16 → cursor.old ≡ before.now ++ (decimal n ++ (codes ",\n" ++ rest)) → (result ≡ n) × (cursor.new ≡ rest) }
+    ensures { (n : ℕ) (rest : List ℕ) → n < 2 ^ 16 → cursor.old ≡ before.now ++ (decimal n ++ (codes ",\n" ++ rest))
+        → (result ≡ n) × (cursor.new ≡ rest) }
 {
     let place = cursor.number_u16(before, b',');
     cursor.pass(",\n");
@@ -36,7 +37,9 @@ fn place(cursor: &mut Cursor, before: &str) -> u16
 
 /// As `place`, where the line shows the place of a type set, or none.
 fn type_set_place(cursor: &mut Cursor, version: Version, before: &str) -> u16
-    ensures { (offset : ℕ) (rest : List ℕ) → IsShownOffset version offset → cursor.old ≡ before.now ++ (decimal (offset_shown version offset) ++ (codes ",\n" ++ rest)) → (result ≡ offset) × (cursor.new ≡ rest) }
+    ensures { (offset : ℕ) (rest : List ℕ) → IsShownOffset version offset
+        → cursor.old ≡ before.now ++ (decimal (offset_shown version offset) ++ (codes ",\n" ++ rest))
+        → (result ≡ offset) × (cursor.new ≡ rest) }
 {
     let shown = place(cursor, before);
     offset_of(version, shown)
@@ -44,7 +47,8 @@ fn type_set_place(cursor: &mut Cursor, version: Version, before: &str) -> u16
 
 /// Reads the line of the place of the second control's type set, which version 1 doesn't have.
 fn second_place(cursor: &mut Cursor, version: Version) -> u16
-    ensures { (e : OpcodeNumbers) (rest : List ℕ) → IsShownSecond version e.second_offset → cursor.old ≡ second_line version e ++ rest → (result ≡ e.second_offset) × (cursor.new ≡ rest) }
+    ensures { (e : OpcodeNumbers) (rest : List ℕ) → IsShownSecond version e.second_offset
+        → cursor.old ≡ second_line version e ++ rest → (result ≡ e.second_offset) × (cursor.new ≡ rest) }
 {
     match version {
         Version::One => NO_TYPE_SET,
@@ -74,7 +78,9 @@ fn second_lines(version: Version, offset: u16) -> usize
 
 /// Reads the block of an opcode: its fields, and then it skips the comments, which repeat them, and the two last lines.
 fn entry(cursor: &mut Cursor, version: Version) -> OpcodeConstraints
-    ensures { (t : TableContents) (op : ℕ) (e : OpcodeNumbers) (rest : List ℕ) → All IsName t.names → All IsShownConstraint t.operand_constraints → IsShownEntry version e → cursor.old ≡ entry_block version t op e ++ rest → (entry_of result ≡ e) × (cursor.new ≡ rest) }
+    ensures { (t : TableContents) (op : ℕ) (e : OpcodeNumbers) (rest : List ℕ) → All IsName t.names
+        → All IsShownConstraint t.operand_constraints → IsShownEntry version e
+        → cursor.old ≡ entry_block version t op e ++ rest → (entry_of result ≡ e) × (cursor.new ≡ rest) }
 {
     let flags = cursor.hex("    OpcodeConstraints {\n        flags: 0x");
     let typeset_offset = type_set_place(cursor, version, ",\n        typeset_offset: ");
@@ -98,7 +104,9 @@ fn blocks(
     version: Version,
     count: usize,
 ) -> Result<Vec<OpcodeConstraints>, AllocError>
-    ensures { IfOk result (λ v. (t : TableContents) (rest : List ℕ) → AreShownOpcodes version t → count ≡ length t.entries → cursor.old ≡ each_opcode (opcode_block version t) count ++ rest → (map entry_of v.items ≡ t.entries) × (cursor.new ≡ rest)) }
+    ensures { IfOk result (λ v. (t : TableContents) (rest : List ℕ) → AreShownOpcodes version t
+        → count ≡ length t.entries → cursor.old ≡ each_opcode (opcode_block version t) count ++ rest
+        → (map entry_of v.items ≡ t.entries) × (cursor.new ≡ rest)) }
 {
     let mut entries = Vec::new(alloc);
     for _ in 0..cursor.len().min(count) {
@@ -113,13 +121,11 @@ pub(crate) fn entries(
     cursor: &mut Cursor,
     version: Version,
 ) -> Result<Vec<OpcodeConstraints>, AllocError>
-    ensures { IfOk result (λ v. (t : TableContents) (rest : List ℕ) → AreShownOpcodes version t → cursor.old ≡ entries_part version t ++ rest → (map entry_of v.items ≡ t.entries) × (cursor.new ≡ rest)) }
+    ensures { IfOk result (λ v. (t : TableContents) (rest : List ℕ) → AreShownOpcodes version t
+        → cursor.old ≡ entries_part version t ++ rest → (map entry_of v.items ≡ t.entries) × (cursor.new ≡ rest)) }
 {
-    let count = list_count(
-        cursor,
-        "// Table of opcode constraints.\nconst OPCODE_CONSTRAINTS: [OpcodeConstraints; ",
-    );
+    let count = list_count(cursor, TableList::Entries);
     let entries = blocks(alloc, cursor, version, count)?;
-    cursor.pass("];\n");
+    skip_list_end(cursor);
     Ok(entries)
 }

@@ -17,7 +17,8 @@ const DETAIL_AT: usize = 34;
 
 /// Reads the line of an enumerator.
 fn enumerator(alloc: Global, cursor: &mut Cursor) -> Result<Text, AllocError>
-    ensures { IfOk result (λ t. (name rest : List ℕ) → IsName name → cursor.old ≡ enumerator_text name ++ rest → (t ≡ name) × (cursor.new ≡ rest)) }
+    ensures { IfOk result (λ t. (name rest : List ℕ) → IsName name → cursor.old ≡ enumerator_text name ++ rest
+        → (t ≡ name) × (cursor.new ≡ rest)) }
 {
     let name = cursor.text(alloc, "    \"", b'"')?;
     cursor.pass("\",\n");
@@ -42,7 +43,8 @@ impl Item for Text {
 
 /// Reads that an entry is a boolean, and its bit.
 fn boolean(cursor: &mut Cursor) -> Detail
-    ensures { (bit : ℕ) (rest : List ℕ) → bit < 2 ^ 8 → cursor.old ≡ codes ",\n        detail: " ++ (detail_text (ABool bit) ++ rest) → (result ≡ ABool bit) × (cursor.new ≡ rest) }
+    ensures { (bit : ℕ) (rest : List ℕ) → bit < 2 ^ 8
+        → cursor.old ≡ codes ",\n        detail: " ++ (detail_text (ABool bit) ++ rest) → (result ≡ ABool bit) × (cursor.new ≡ rest) }
 {
     let bit = cursor.number_u8(",\n        detail: detail::Detail::Bool { bit: ", b' ');
     cursor.pass(" }");
@@ -51,7 +53,9 @@ fn boolean(cursor: &mut Cursor) -> Detail
 
 /// Reads that an entry is an enum, and its numbers.
 fn enumeration(cursor: &mut Cursor) -> Detail
-    ensures { (last enumerators : ℕ) (rest : List ℕ) → IsShownEnum last enumerators → cursor.old ≡ codes ",\n        detail: " ++ (detail_text (AnEnum last enumerators) ++ rest) → (result ≡ AnEnum last enumerators) × (cursor.new ≡ rest) }
+    ensures { (last enumerators : ℕ) (rest : List ℕ) → IsShownEnum last enumerators
+        → cursor.old ≡ codes ",\n        detail: " ++ (detail_text (AnEnum last enumerators) ++ rest)
+        → (result ≡ AnEnum last enumerators) × (cursor.new ≡ rest) }
 {
     let last = cursor.number_u8(",\n        detail: detail::Detail::Enum { last: ", b',');
     let enumerators = cursor.number_u16(", enumerators: ", b' ');
@@ -61,7 +65,8 @@ fn enumeration(cursor: &mut Cursor) -> Detail
 
 /// Reads what an entry is.
 fn detail(cursor: &mut Cursor) -> Detail
-    ensures { (d : Detail) (rest : List ℕ) → IsShownDetail d → cursor.old ≡ codes ",\n        detail: " ++ (detail_text d ++ rest) → (result ≡ d) × (cursor.new ≡ rest) }
+    ensures { (d : Detail) (rest : List ℕ) → IsShownDetail d
+        → cursor.old ≡ codes ",\n        detail: " ++ (detail_text d ++ rest) → (result ≡ d) × (cursor.new ≡ rest) }
 {
     let kind = cursor.byte_at(DETAIL_AT);
     if kind == b'B' {
@@ -80,7 +85,8 @@ fn detail(cursor: &mut Cursor) -> Detail
 
 /// Reads the block of an entry.
 fn descriptor(alloc: Global, cursor: &mut Cursor) -> Result<Descriptor, AllocError>
-    ensures { IfOk result (λ x. (d : Descriptor) (rest : List ℕ) → IsShownDescriptor d → cursor.old ≡ descriptor_text d ++ rest → (x ≡ d) × (cursor.new ≡ rest)) }
+    ensures { IfOk result (λ x. (d : Descriptor) (rest : List ℕ) → IsShownDescriptor d
+        → cursor.old ≡ descriptor_text d ++ rest → (x ≡ d) × (cursor.new ≡ rest)) }
 {
     let name = cursor.text(alloc, "    detail::Descriptor {\n        name: \"", b'"')?;
     let description = cursor.text(alloc, "\",\n        description: \"", b'"')?;

@@ -9,39 +9,43 @@ ghost use Rattle.meta_table_text.specs.GroupText.{enumerators_text, descriptors_
 ghost use Rattle.meta_table_reader.specs.ShownGroup.{IsByte, IsShownDescriptor, AreShownMasksOf, AreShownPresets};
 
 use super::item::items;
-use super::lists::list_count;
+use super::lists::{list_count, skip_list_end};
 use meta_cursor::Cursor;
 use meta_gen::{Descriptor, Detail};
+use meta_table_text::TableList;
 use meta_types::Text;
 use std::alloc::{AllocError, Global};
 
 /// Reads the list of the enumerators.
 pub(crate) fn enumerators(alloc: Global, cursor: &mut Cursor) -> Result<Vec<Text>, AllocError>
-    ensures { IfOk result (λ v. (names : List (List ℕ)) (rest : List ℕ) → length names < 2 ^ 16 → All IsName names → cursor.old ≡ enumerators_text names ++ rest → (v.items ≡ names) × (cursor.new ≡ rest)) }
+    ensures { IfOk result (λ v. (names : List (List ℕ)) (rest : List ℕ) → length names < 2 ^ 16 → All IsName names
+        → cursor.old ≡ enumerators_text names ++ rest → (v.items ≡ names) × (cursor.new ≡ rest)) }
 {
-    let count = list_count(cursor, "static ENUMERATORS: [&str; ");
+    let count = list_count(cursor, TableList::Enumerators);
     let names = items::<Text>(alloc, cursor, count)?;
-    cursor.pass("];\n");
+    skip_list_end(cursor);
     Ok(names)
 }
 
 /// Reads the list of the entries.
 pub(crate) fn descriptors(alloc: Global, cursor: &mut Cursor) -> Result<Vec<Descriptor>, AllocError>
-    ensures { IfOk result (λ v. (ds : List Descriptor) (rest : List ℕ) → length ds < 2 ^ 16 → All IsShownDescriptor ds → cursor.old ≡ descriptors_text ds ++ rest → (v.items ≡ ds) × (cursor.new ≡ rest)) }
+    ensures { IfOk result (λ v. (ds : List Descriptor) (rest : List ℕ) → length ds < 2 ^ 16 → All IsShownDescriptor ds
+        → cursor.old ≡ descriptors_text ds ++ rest → (v.items ≡ ds) × (cursor.new ≡ rest)) }
 {
-    let count = list_count(cursor, "static DESCRIPTORS: [detail::Descriptor; ");
+    let count = list_count(cursor, TableList::Descriptors);
     let entries = items::<Descriptor>(alloc, cursor, count)?;
-    cursor.pass("];\n");
+    skip_list_end(cursor);
     Ok(entries)
 }
 
 /// Skips the list of the slots of the names, which follow from the names.
 pub(crate) fn skip_slots(cursor: &mut Cursor)
-    ensures { (slots : List (Option ℕ)) (rest : List ℕ) → length slots < 2 ^ 64 → cursor.old ≡ slots_text slots ++ rest → cursor.new ≡ rest }
+    ensures { (slots : List (Option ℕ)) (rest : List ℕ) → length slots < 2 ^ 64
+        → cursor.old ≡ slots_text slots ++ rest → cursor.new ≡ rest }
 {
-    let count = list_count(cursor, "static HASH_TABLE: [u16; ");
+    let count = list_count(cursor, TableList::SettingSlots);
     cursor.skip_lines(count);
-    cursor.pass("];\n");
+    skip_list_end(cursor);
 }
 
 /// Reads the line of a pair, of which the value is the mask.
@@ -56,7 +60,8 @@ fn pair(cursor: &mut Cursor) -> u8
 
 /// Adds the masks of so many pairs.
 fn push_masks(masks: &mut Vec<u8>, cursor: &mut Cursor, count: usize) -> Result<(), AllocError>
-    ensures { OnOk result ((ms : List ℕ) (rest : List ℕ) → All IsByte ms → count ≡ length ms → cursor.old ≡ flat_map pair_text ms ++ rest → (masks.new.items ≡ masks.old.items ++ ms) × (cursor.new ≡ rest)) }
+    ensures { OnOk result ((ms : List ℕ) (rest : List ℕ) → All IsByte ms → count ≡ length ms
+        → cursor.old ≡ flat_map pair_text ms ++ rest → (masks.new.items ≡ masks.old.items ++ ms) × (cursor.new ≡ rest)) }
 {
     for _ in 0..cursor.len().min(count) {
         masks.push(pair(cursor))?;
@@ -71,7 +76,10 @@ fn preset_lines(
     presets: usize,
     size: usize,
 ) -> Result<Vec<u8>, AllocError>
-    ensures { IfOk result (λ v. (booleans ds : List Descriptor) (masks rest : List ℕ) → All IsShownDescriptor booleans → All IsShownDescriptor ds → All (AreShownMasksOf size masks) ds → presets ≡ length ds → cursor.old ≡ flat_map (preset_text booleans size masks) ds ++ rest → (v.items ≡ flat_map (λ (d : Descriptor). masks_from size masks d.offset) ds) × (cursor.new ≡ rest)) }
+    ensures { IfOk result (λ v. (booleans ds : List Descriptor) (masks rest : List ℕ) → All IsShownDescriptor booleans
+        → All IsShownDescriptor ds → All (AreShownMasksOf size masks) ds → presets ≡ length ds
+        → cursor.old ≡ flat_map (preset_text booleans size masks) ds ++ rest
+        → (v.items ≡ flat_map (λ (d : Descriptor). masks_from size masks d.offset) ds) × (cursor.new ≡ rest)) }
 {
     let mut masks = Vec::new(alloc);
     for _ in 0..presets {
@@ -114,12 +122,14 @@ pub(crate) fn preset_masks(
     cursor: &mut Cursor,
     entries: &[Descriptor],
 ) -> Result<Vec<u8>, AllocError>
-    ensures { IfOk result (λ v. (size : ℕ) (masks rest : List ℕ) → All IsShownDescriptor entries.now → AreShownPresets entries.now size masks → cursor.old ≡ presets_text entries.now size masks ++ rest → (v.items ≡ masks) × (cursor.new ≡ rest)) }
+    ensures { IfOk result (λ v. (size : ℕ) (masks rest : List ℕ) → All IsShownDescriptor entries.now
+        → AreShownPresets entries.now size masks → cursor.old ≡ presets_text entries.now size masks ++ rest
+        → (v.items ≡ masks) × (cursor.new ≡ rest)) }
 {
-    let pairs = list_count(cursor, "static PRESETS: [(u8, u8); ");
+    let pairs = list_count(cursor, TableList::Presets);
     let presets = preset_count(entries);
     let size = size_of(pairs, presets);
     let masks = preset_lines(alloc, cursor, presets, size)?;
-    cursor.pass("];\n");
+    skip_list_end(cursor);
     Ok(masks)
 }

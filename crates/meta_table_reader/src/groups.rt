@@ -1,7 +1,7 @@
 ghost use Rattle.std.specs.Prelude.{◌≡◌, ℕ, List, ◌++◌, IfOk, All};
 ghost use Rattle.std.specs.List.{flat_map, AllZip};
 ghost use Rattle.meta_setting_tables.specs.GroupTables.{GroupContents};
-ghost use Rattle.meta_setting_tables.specs.Parts.{HasParts};
+ghost use Rattle.meta_setting_tables.specs.Parts.{HasGroupParts};
 ghost use Rattle.meta_table_text.specs.GroupText.{group_text};
 ghost use Rattle.meta_table_reader.specs.ShownGroup.{AreShownGroup};
 
@@ -13,7 +13,8 @@ use std::alloc::{AllocError, Global};
 
 /// Reads the text of a group.
 fn group(alloc: Global, cursor: &mut Cursor) -> Result<GroupParts, AllocError>
-    ensures { IfOk result (λ parts. (g : GroupContents) (rest : List ℕ) → AreShownGroup g → cursor.old ≡ group_text g ++ rest → HasParts parts g × (cursor.new ≡ rest)) }
+    ensures { IfOk result (λ parts. (g : GroupContents) (rest : List ℕ) → AreShownGroup g
+        → cursor.old ≡ group_text g ++ rest → HasGroupParts parts g × (cursor.new ≡ rest)) }
 {
     let name = cursor.text(alloc, "// Settings group ", b'.')?;
     cursor.pass(".\n");
@@ -33,7 +34,8 @@ fn group(alloc: Global, cursor: &mut Cursor) -> Result<GroupParts, AllocError>
 
 /// Reads the texts of groups up to the end.
 pub(crate) fn groups(alloc: Global, cursor: &mut Cursor) -> Result<Vec<GroupParts>, AllocError>
-    ensures { IfOk result (λ v. (gs : List GroupContents) → All AreShownGroup gs → cursor.old ≡ flat_map group_text gs → AllZip HasParts v.items gs) }
+    ensures { IfOk result (λ v. (gs : List GroupContents) → All AreShownGroup gs → cursor.old ≡ flat_map group_text gs
+        → AllZip HasGroupParts v.items gs) }
 {
     let mut groups = Vec::new(alloc);
     for _ in 0..cursor.len() {

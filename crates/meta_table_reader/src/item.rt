@@ -14,7 +14,8 @@ pub(crate) trait Item: Drop {
 
     /// Reads the item off the front of what is left.
     fn read(alloc: Global, cursor: &mut Cursor) -> Result<Self, AllocError>
-        ensures { IfOk result (λ x. (item : Self) (rest : List ℕ) → IsShown item → cursor.old ≡ text item ++ rest → (x ≡ item) × (cursor.new ≡ rest)) };
+        ensures { IfOk result (λ x. (item : Self) (rest : List ℕ) → IsShown item → cursor.old ≡ text item ++ rest
+            → (x ≡ item) × (cursor.new ≡ rest)) };
 
     ghost some: { (item : Self) → 1 ≤ length (text item) };
 }
@@ -25,7 +26,8 @@ pub(crate) fn items<T: Item>(
     cursor: &mut Cursor,
     count: usize,
 ) -> Result<Vec<T>, AllocError>
-    ensures { IfOk result (λ v. (items : List T) (rest : List ℕ) → All T.IsShown items → count ≡ length items → cursor.old ≡ flat_map T.text items ++ rest → (v.items ≡ items) × (cursor.new ≡ rest)) }
+    ensures { IfOk result (λ v. (items : List T) (rest : List ℕ) → All T.IsShown items → count ≡ length items
+        → cursor.old ≡ flat_map T.text items ++ rest → (v.items ≡ items) × (cursor.new ≡ rest)) }
 {
     let mut items = Vec::new(alloc);
     for _ in 0..cursor.len().min(count) {

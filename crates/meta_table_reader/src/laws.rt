@@ -8,7 +8,8 @@ ghost use Rattle.meta_table_reader.specs.Readable.{Reads};
 
 /// Well-formed tables that fit a version are told by their text in it: two with the same text are one.
 pub fn a_text_tells_its_tables()
-    ensures { (v : Version) (t u : WholeTables) → IsWellFormed t → IsWellFormed u → Fits v t → Fits v u → table_text v t ≡ table_text v u → t ≡ u }
+    ensures { (v : Version) (t u : WholeTables) → IsWellFormed t → IsWellFormed u → Fits v t → Fits v u
+        → table_text v t ≡ table_text v u → t ≡ u }
 {}
 
 /// A text reads as the tables of one instruction set at most, whatever the versions.

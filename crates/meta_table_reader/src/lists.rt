@@ -1,13 +1,22 @@
-ghost use Rattle.std.specs.Prelude.{◌≡◌, ◌<◌, ◌^◌, ℕ, List, ◌++◌, codes};
-ghost use Rattle.std.specs.Fmt.{decimal};
+ghost use Rattle.std.specs.Prelude.{◌≡◌, ◌<◌, ◌^◌, ℕ, List, ◌++◌};
+ghost use Rattle.meta_table_text.specs.Lists.{list_head, list_end};
 
 use meta_cursor::Cursor;
+use meta_table_text::{BEHIND_COUNT, LIST_END, TableList};
 
-/// Reads the first line of a list, of which this stands before the count of the elements.
-pub(crate) fn list_count(cursor: &mut Cursor, head: &str) -> usize
-    ensures { (n : ℕ) (rest : List ℕ) → n < 2 ^ 64 → cursor.old ≡ head.now ++ (decimal n ++ (codes "] = [\n" ++ rest)) → (result ≡ n) × (cursor.new ≡ rest) }
+/// Reads what stands before the first element of a list, which tells how many there are.
+pub(crate) fn list_count(cursor: &mut Cursor, list: TableList) -> usize
+    ensures { (n : ℕ) (rest : List ℕ) → n < 2 ^ 64 → cursor.old ≡ list_head list n ++ rest → (result ≡ n) × (cursor.new ≡ rest) }
 {
-    let count = cursor.number(head, b']');
-    cursor.pass("] = [\n");
+    cursor.pass(list.title());
+    let count = cursor.number(list.head(), b']');
+    cursor.pass(BEHIND_COUNT);
     count
+}
+
+/// Skips what stands behind the last element of a list.
+pub(crate) fn skip_list_end(cursor: &mut Cursor)
+    ensures { (rest : List ℕ) → cursor.old ≡ list_end ++ rest → cursor.new ≡ rest }
+{
+    cursor.pass(LIST_END);
 }

@@ -5,8 +5,9 @@ ghost use Rattle.meta_table_text.specs.OpcodeText.{each_opcode, format_line};
 ghost use Rattle.meta_table_text.specs.TableText.{formats_part};
 ghost use Rattle.meta_table_reader.specs.Shown.{AreNamed};
 
-use super::lists::list_count;
+use super::lists::{list_count, skip_list_end};
 use meta_cursor::Cursor;
+use meta_table_text::TableList;
 use meta_types::Text;
 use std::alloc::{AllocError, Global};
 
@@ -19,7 +20,9 @@ pub(crate) struct OpcodeNames {
 
 /// Reads the lines of the formats of so many opcodes.
 fn format_lines(alloc: Global, cursor: &mut Cursor, count: usize) -> Result<OpcodeNames, AllocError>
-    ensures { IfOk result (λ r. (t : TableContents) (rest : List ℕ) → All IsName t.names → All IsName t.formats → count ≡ length t.names → count ≡ length t.formats → cursor.old ≡ each_opcode (format_line t) count ++ rest → (r.names.items ≡ t.names) × (r.formats.items ≡ t.formats) × (cursor.new ≡ rest)) }
+    ensures { IfOk result (λ r. (t : TableContents) (rest : List ℕ) → All IsName t.names → All IsName t.formats
+        → count ≡ length t.names → count ≡ length t.formats → cursor.old ≡ each_opcode (format_line t) count ++ rest
+        → (r.names.items ≡ t.names) × (r.formats.items ≡ t.formats) × (cursor.new ≡ rest)) }
 {
     let mut names = Vec::new(alloc);
     let mut formats = Vec::new(alloc);
@@ -33,10 +36,11 @@ fn format_lines(alloc: Global, cursor: &mut Cursor, count: usize) -> Result<Opco
 
 /// Reads the list of the formats.
 pub(crate) fn opcode_names(alloc: Global, cursor: &mut Cursor) -> Result<OpcodeNames, AllocError>
-    ensures { IfOk result (λ r. (t : TableContents) (rest : List ℕ) → AreNamed t → cursor.old ≡ formats_part t ++ rest → (r.names.items ≡ t.names) × (r.formats.items ≡ t.formats) × (cursor.new ≡ rest)) }
+    ensures { IfOk result (λ r. (t : TableContents) (rest : List ℕ) → AreNamed t → cursor.old ≡ formats_part t ++ rest
+        → (r.names.items ≡ t.names) × (r.formats.items ≡ t.formats) × (cursor.new ≡ rest)) }
 {
-    let count = list_count(cursor, "const OPCODE_FORMAT: [InstructionFormat; ");
+    let count = list_count(cursor, TableList::Formats);
     let names = format_lines(alloc, cursor, count)?;
-    cursor.pass("];\n");
+    skip_list_end(cursor);
     Ok(names)
 }

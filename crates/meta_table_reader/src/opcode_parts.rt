@@ -1,7 +1,7 @@
 ghost use Rattle.std.specs.Prelude.{◌≡◌, ◌<◌, ◌^◌, ℕ, List, ◌++◌, IfOk, All, length, map};
 ghost use Rattle.meta_types.specs.Name.{IsName};
 ghost use Rattle.meta_meaning.specs.Tables.{TableContents};
-ghost use Rattle.meta_opcode_tables.specs.Constraint.{number_constraint_of, entry_of};
+ghost use Rattle.meta_opcode_tables.specs.Constraint.{number_constraint_of};
 ghost use Rattle.meta_table_text.specs.declared.version.Version.{Version};
 ghost use Rattle.meta_table_text.specs.TableText.{version_line, slots_part, sets_list, sets_part, constraints_part, opcodes_text};
 ghost use Rattle.meta_table_reader.specs.OpcodeLists.{HaveOpcodeLists};
@@ -9,11 +9,11 @@ ghost use Rattle.meta_table_reader.specs.Shown.{AreShownLists, AreShownOpcodes};
 
 use super::entries::entries;
 use super::item::items;
-use super::lists::list_count;
+use super::lists::{list_count, skip_list_end};
 use super::opcode_names::{OpcodeNames, opcode_names};
 use meta_cursor::Cursor;
 use meta_gen::{Constraint, OpcodeConstraints};
-use meta_table_text::Version;
+use meta_table_text::{TableList, Version};
 use meta_typevar::Masks;
 use std::alloc::{AllocError, Global};
 
@@ -39,29 +39,29 @@ pub(crate) fn version_of(cursor: &Cursor) -> Version
 
 /// Skips the list of the slots of the names, which follow from the names.
 fn skip_slots(cursor: &mut Cursor)
-    ensures { (t : TableContents) (rest : List ℕ) → All IsName t.names → length t.opcode_slots < 2 ^ 64 → cursor.old ≡ slots_part t ++ rest → cursor.new ≡ rest }
+    ensures { (t : TableContents) (rest : List ℕ) → All IsName t.names → length t.opcode_slots < 2 ^ 64
+        → cursor.old ≡ slots_part t ++ rest → cursor.new ≡ rest }
 {
-    let count = list_count(cursor, "const OPCODE_HASH_TABLE: [Option<Opcode>; ");
+    let count = list_count(cursor, TableList::OpcodeSlots);
     cursor.skip_lines(count);
-    cursor.pass("];\n");
+    skip_list_end(cursor);
 }
 
 /// Reads the list of the type sets.
 fn sets_list(alloc: Global, cursor: &mut Cursor) -> Result<Vec<Masks>, AllocError>
-    ensures { IfOk result (λ v. (t : TableContents) (rest : List ℕ) → AreShownLists t → cursor.old ≡ sets_list t ++ rest → (v.items ≡ t.type_sets) × (cursor.new ≡ rest)) }
+    ensures { IfOk result (λ v. (t : TableContents) (rest : List ℕ) → AreShownLists t
+        → cursor.old ≡ sets_list t ++ rest → (v.items ≡ t.type_sets) × (cursor.new ≡ rest)) }
 {
-    let count = list_count(
-        cursor,
-        "// Table of value type sets.\nconst TYPE_SETS: [ir::instructions::ValueTypeSet; ",
-    );
+    let count = list_count(cursor, TableList::TypeSets);
     let sets = items::<Masks>(alloc, cursor, count)?;
-    cursor.pass("];\n");
+    skip_list_end(cursor);
     Ok(sets)
 }
 
 /// Reads the list of the type sets, which is left out where there are none: then that of the constraints stands there.
 fn type_sets(alloc: Global, cursor: &mut Cursor) -> Result<Vec<Masks>, AllocError>
-    ensures { IfOk result (λ v. (t : TableContents) (rest : List ℕ) → AreShownLists t → cursor.old ≡ sets_part t ++ (constraints_part t ++ rest) → (v.items ≡ t.type_sets) × (cursor.new ≡ constraints_part t ++ rest)) }
+    ensures { IfOk result (λ v. (t : TableContents) (rest : List ℕ) → AreShownLists t
+        → cursor.old ≡ sets_part t ++ (constraints_part t ++ rest) → (v.items ≡ t.type_sets) × (cursor.new ≡ constraints_part t ++ rest)) }
 {
     let title = cursor.byte_at(TITLE_AT);
     if title == b'v' {
@@ -72,14 +72,12 @@ fn type_sets(alloc: Global, cursor: &mut Cursor) -> Result<Vec<Masks>, AllocErro
 
 /// Reads the list of the operand constraints.
 fn operand_constraints(alloc: Global, cursor: &mut Cursor) -> Result<Vec<Constraint>, AllocError>
-    ensures { IfOk result (λ v. (t : TableContents) (rest : List ℕ) → AreShownLists t → cursor.old ≡ constraints_part t ++ rest → (map number_constraint_of v.items ≡ t.operand_constraints) × (cursor.new ≡ rest)) }
+    ensures { IfOk result (λ v. (t : TableContents) (rest : List ℕ) → AreShownLists t
+        → cursor.old ≡ constraints_part t ++ rest → (map number_constraint_of v.items ≡ t.operand_constraints) × (cursor.new ≡ rest)) }
 {
-    let count = list_count(
-        cursor,
-        "// Table of operand constraint sequences.\nconst OPERAND_CONSTRAINTS: [OperandConstraint; ",
-    );
+    let count = list_count(cursor, TableList::Constraints);
     let constraints = items::<Constraint>(alloc, cursor, count)?;
-    cursor.pass("];\n");
+    skip_list_end(cursor);
     Ok(constraints)
 }
 
@@ -98,7 +96,10 @@ pub(crate) fn opcode_parts(
     cursor: &mut Cursor,
     version: Version,
 ) -> Result<OpcodeParts, AllocError>
-    ensures { IfOk result (λ r. (t : TableContents) (rest : List ℕ) → AreShownOpcodes version t → cursor.old ≡ opcodes_text version t ++ rest → HaveOpcodeLists t r.names.names.items r.names.formats.items r.type_sets.items r.operand_constraints.items r.constraints.items × (cursor.new ≡ rest)) }
+    ensures { IfOk result (λ r. (t : TableContents) (rest : List ℕ) → AreShownOpcodes version t
+        → cursor.old ≡ opcodes_text version t ++ rest
+        → HaveOpcodeLists t r.names.names.items r.names.formats.items r.type_sets.items r.operand_constraints.items
+        r.constraints.items × (cursor.new ≡ rest)) }
 {
     cursor.skip_line();
     let names = opcode_names(alloc, cursor)?;

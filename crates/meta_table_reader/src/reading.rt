@@ -1,4 +1,4 @@
-ghost use Rattle.std.specs.Prelude.{◌≡◌, ℕ, List, ◌↔◌, IfOk, IfSome, IfNone, IsErrOf, IsTrue};
+ghost use Rattle.std.specs.Prelude.{◌≡◌, ◌↔◌, IfOk, IfSome, IfNone, IsErrOf, IsTrue};
 ghost use Rattle.meta_gen.specs.Parts.{HasParts};
 ghost use Rattle.meta_gen.specs.WholeTables.{WholeTables};
 ghost use Rattle.meta_table_text.specs.Fits.{Fits};

@@ -24,7 +24,8 @@ fn bytes(alloc: Global, shown: &[u8]) -> Result<Vec<u8>, AllocError>
 
 /// Reads the default bytes of a template, whose other lines are skipped.
 pub(crate) fn defaults(alloc: Global, cursor: &mut Cursor) -> Result<Vec<u8>, AllocError>
-    ensures { IfOk result (λ v. (name bs rest : List ℕ) → IsName name → All IsByte bs → cursor.old ≡ template_text name (bytes_text bs) ++ rest → (v.items ≡ bs) × (cursor.new ≡ rest)) }
+    ensures { IfOk result (λ v. (name bs rest : List ℕ) → IsName name → All IsByte bs
+        → cursor.old ≡ template_text name (bytes_text bs) ++ rest → (v.items ≡ bs) × (cursor.new ≡ rest)) }
 {
     cursor.skip_lines(5);
     let shown = cursor.until("    defaults: &[", b']');

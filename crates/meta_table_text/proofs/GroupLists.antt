@@ -1,5 +1,6 @@
 -- Texts that are written part by part, and what is left of them.
-use Rattle.std.proofs.Common.{◌≡◌, ℕ, ◌≤◌, true, false, cond, List, [], ◌∷◌, ◌++◌, append_assoc, append-nil, length, map, drop, flat_map, Bor, refl, sym, ap, ◌∙◌, codes}
+use Rattle.std.proofs.Common.{◌≡◌, ℕ, ◌≤◌, true, false, cond, List, [], ◌∷◌, ◌++◌, append_assoc, append-nil, length, map, drop, flat_map}
+use Rattle.std.proofs.Common.{Bor, refl, sym, ap, ◌∙◌, codes}
 use Rattle.std.specs.List.{join_by}
 use Rattle.std.proofs.lemmas.Bool.{cond-true, cond-false}
 use Rattle.std.proofs.lemmas.List.Folds.{flat_map-map}
@@ -8,7 +9,7 @@ use Rattle.meta_lists.proofs.Places.{drop_past}
 use Rattle.meta_setting_tables.specs.declared.descriptor.Detail.{Detail}
 use Rattle.meta_setting_tables.specs.declared.descriptor.Detail.TheVariants.{Bool as ABool, Enum as AnEnum, Num as ANum, Preset}
 use Rattle.meta_setting_tables.specs.declared.descriptor.Descriptor.{Descriptor}
-use Rattle.meta_table_text.specs.GroupItems.{names_text}
+use Rattle.meta_table_text.specs.GroupItems.{texts_with_commas}
 use Rattle.meta_setting_tables.specs.WellFormed.{is_preset}
 use Rattle.meta_table_text.specs.GroupText.{presets_in}
 
@@ -21,17 +22,20 @@ pub all_is : (start all now left : List ℕ) → now ++ left ≡ start ++ all �
 all_is start all now left so_far none = sym (append-nil now) ∙ ap (λ t. now ++ t) (sym none) ∙ so_far
 
 -- what was begun is written in full, and then more
-pub all_written : (start all now left tail new : List ℕ) → now ++ left ≡ start ++ all → left ≡ [] → new ≡ now ++ tail → new ≡ start ++ (all ++ tail)
+pub all_written : (start all now left tail new : List ℕ) → now ++ left ≡ start ++ all → left ≡ [] → new ≡ now ++ tail
+    → new ≡ start ++ (all ++ tail)
 all_written start all now left tail new so_far none more =
     more ∙ ap (λ t. t ++ tail) (sym (append-nil now) ∙ ap (λ t. now ++ t) (sym none) ∙ so_far) ∙ append_assoc start all tail
 
 -- the same behind a head
-pub list_written : (start head opened all now left tail new : List ℕ) → opened ≡ start ++ head → now ++ left ≡ opened ++ all → left ≡ [] → new ≡ now ++ tail → new ≡ start ++ (head ++ (all ++ tail))
+pub list_written : (start head opened all now left tail new : List ℕ) → opened ≡ start ++ head → now ++ left ≡ opened ++ all → left ≡ []
+    → new ≡ now ++ tail → new ≡ start ++ (head ++ (all ++ tail))
 list_written start head opened all now left tail new begun so_far none more =
     all_written opened all now left tail new so_far none more ∙ ap (λ t. t ++ (all ++ tail)) begun ∙ append_assoc start head (all ++ tail)
 
 -- names that are joined are parted by commas
-pub names_joined : (names : List (Bor (List ℕ))) → join_by (λ (n : Bor (List ℕ)). n.now) (codes ", ") names ≡ names_text (map (λ (n : Bor (List ℕ)). n.now) names)
+pub names_joined : (names : List (Bor (List ℕ))) → join_by (λ (n : Bor (List ℕ)). n.now) (codes ", ") names
+    ≡ texts_with_commas (map (λ (n : Bor (List ℕ)). n.now) names)
 names_joined [] = refl
 names_joined (name ∷ names) = ap (λ t. name.now ++ t) (sym (flat_map-map (λ n. codes ", " ++ n) (λ (n : Bor (List ℕ)). n.now) names))
 
@@ -39,11 +43,13 @@ names_joined (name ∷ names) = ap (λ t. name.now ++ t) (sym (flat_map-map (λ 
 
 module _ (text : Descriptor → List ℕ) (d : Descriptor) where
   -- the lines of an entry stand before those of the entries behind it
-  pub entry_written : (rest : List Descriptor) → flat_map text (presets_in (d ∷ rest)) ≡ flat_map text (presets_in (d ∷ [])) ++ flat_map text (presets_in rest)
-  entry_written rest = elim (is_preset d.detail) as (λ b. flat_map text (cond b (d ∷ presets_in rest) (presets_in rest)) ≡ flat_map text (cond b (d ∷ []) []) ++ flat_map text (presets_in rest)) [
-    | true ↦ ap (λ t. t ++ flat_map text (presets_in rest)) (sym (append-nil (text d)))
-    | false ↦ refl
-  ]
+  pub entry_written : (rest : List Descriptor) → flat_map text (presets_in (d ∷ rest))
+      ≡ flat_map text (presets_in (d ∷ [])) ++ flat_map text (presets_in rest)
+  entry_written rest = elim (is_preset d.detail) as (λ b. flat_map text (cond b (d ∷ presets_in rest) (presets_in rest))
+      ≡ flat_map text (cond b (d ∷ []) []) ++ flat_map text (presets_in rest)) [
+        | true ↦ ap (λ t. t ++ flat_map text (presets_in rest)) (sym (append-nil (text d)))
+        | false ↦ refl
+      ]
 
   -- a preset has its lines
   pub preset_written : d.detail ≡ Preset → flat_map text (presets_in (d ∷ [])) ≡ text d

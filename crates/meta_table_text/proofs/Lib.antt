@@ -3,6 +3,8 @@ mod Chains
 mod Places
 -- types by their numbers
 mod TypeNames
+-- constraints
+mod Parts
 mod GroupDigits
 mod GroupLists
 mod Comments

@@ -8,7 +8,7 @@ use Rattle.std.specs.Fmt.{decimal}
 use Rattle.meta_types.specs.TypeParts.{TypeParts, number_of}
 use Rattle.meta_types.specs.TypeText.{rust_name_of}
 use Rattle.meta_types.specs.AllTypes.{all_types}
-use Rattle.meta_types.specs.Function.{Function, LaneOf, AsTruthy, HalfWidth, DoubleWidth, SplitLanes, MergeLanes, DynamicToVector, Narrower, Wider}
+use Rattle.meta_types.specs.DerivedFunc.{camel_function_name}
 use Rattle.meta_inst.specs.Which.{Which, First, Second}
 use Rattle.meta_meaning.specs.Tables.{NumberConstraint, ConcreteNumber, FreeOf, SameNumber, ByNumber}
 use Rattle.meta_text.specs.Lines.{at, text_of}
@@ -27,18 +27,6 @@ rust_name_or_nothing (Some t) = rust_name_of t
 unfoldable pub type_text : ℕ → List ℕ
 type_text n = rust_name_or_nothing (type_numbered n)
 
--- the name of a function, as the variants of constraints have it
-abbrev pub function_name : Function → List ℕ
-function_name LaneOf = codes "LaneOf"
-function_name AsTruthy = codes "AsTruthy"
-function_name HalfWidth = codes "HalfWidth"
-function_name DoubleWidth = codes "DoubleWidth"
-function_name SplitLanes = codes "SplitLanes"
-function_name MergeLanes = codes "MergeLanes"
-function_name DynamicToVector = codes "DynamicToVector"
-function_name Narrower = codes "Narrower"
-function_name Wider = codes "Wider"
-
 -- what stands behind the name of a constraint by the control, and of one by the second control
 abbrev pub control_mark : Which → List ℕ
 control_mark First = []
@@ -49,25 +37,25 @@ abbrev pub constraint_text : NumberConstraint → List ℕ
 constraint_text (ConcreteNumber n) = codes "Concrete(" ++ (type_text n ++ codes ")")
 constraint_text (FreeOf j) = codes "Free(" ++ (decimal j ++ codes ")")
 constraint_text (SameNumber which) = codes "Same" ++ control_mark which
-constraint_text (ByNumber which f) = function_name f ++ control_mark which
+constraint_text (ByNumber which f) = camel_function_name f ++ control_mark which
 
--- the name of its variant
+-- the name of its variant, but for the mark of a second control
 abbrev pub variant_name : NumberConstraint → List ℕ
 variant_name (ConcreteNumber n) = codes "Concrete"
 variant_name (FreeOf j) = codes "Free"
-variant_name (SameNumber which) = codes "Same" ++ control_mark which
-variant_name (ByNumber which f) = function_name f ++ control_mark which
+variant_name (SameNumber which) = codes "Same"
+variant_name (ByNumber which f) = camel_function_name f
 
--- what stands behind that name: a type, or a type set by its place
+-- what stands behind that: a type, a type set by its place, or the mark of a second control
 abbrev pub variant_fields : NumberConstraint → List ℕ
 variant_fields (ConcreteNumber n) = codes "(" ++ (type_text n ++ codes ")")
 variant_fields (FreeOf j) = codes "(" ++ (decimal j ++ codes ")")
-variant_fields (SameNumber which) = []
-variant_fields (ByNumber which f) = []
+variant_fields (SameNumber which) = control_mark which
+variant_fields (ByNumber which f) = control_mark which
 
 -- the line of a constraint
 unfoldable pub constraint_line : NumberConstraint → List ℕ
-constraint_line c = text_of (at 1 (codes "OperandConstraint::" ∷ (constraint_text c ∷ (codes "," ∷ []))) ∷ [])
+constraint_line c = text_of (at 1 (codes "OperandConstraint::" ∷ constraint_text c ∷ codes "," ∷ []) ∷ [])
 
 -- a constraint between single quotes
 unfoldable pub quoted : NumberConstraint → List ℕ
@@ -79,4 +67,4 @@ quoted_all cs = parted (map quoted cs)
 
 -- the comment that lists constraints: `// Constraints=['Same', 'Free(1)']`
 unfoldable pub constraints_comment : List NumberConstraint → List ℕ
-constraints_comment cs = text_of (at 2 (codes "// Constraints=[" ∷ (quoted_all cs ∷ (codes "]" ∷ []))) ∷ [])
+constraints_comment cs = text_of (at 2 (codes "// Constraints=[" ∷ quoted_all cs ∷ codes "]" ∷ []) ∷ [])

@@ -1,4 +1,5 @@
 pub mod Version
+pub mod Lists
 pub mod TypeSetText
 pub mod ConstraintText
 pub mod OpcodeText

@@ -3,7 +3,8 @@
 --     format_line t op       the line of the opcode's format
 --     slot_line t slot       the line of a slot of the names
 --     opcode_block v t op e  the block of the opcode with this entry
-use Rattle.std.specs.Prelude.{ℕ, zero, suc, ◌+◌, ◌/◌, ◌%◌, ◌==◌, Bool, false, List, [], ◌∷◌, ◌++◌, take, drop, slice_get, Option, None, Some, if◌then◌else◌, codes}
+use Rattle.std.specs.Prelude.{ℕ, zero, suc, ◌+◌, ◌/◌, ◌%◌, ◌==◌, Bool, false, List, [], ◌∷◌, ◌++◌, take, drop, slice_get, Option, None}
+use Rattle.std.specs.Prelude.{Some, if◌then◌else◌, codes}
 use Rattle.std.specs.Fmt.{decimal, digit_glyph}
 use Rattle.meta_types.specs.CamelCase.{camel_case_of}
 use Rattle.meta_meaning.specs.Tables.{TableContents, OpcodeNumbers, NumberConstraint, at_opcode, no_type_set, result_count, value_count}
@@ -36,12 +37,12 @@ camel_at t op = camel_case_of (name_at t op)
 
 -- the line of an opcode's format: `InstructionFormat::Load, // load`
 unfoldable pub format_line : TableContents → ℕ → List ℕ
-format_line t op = text_of (at 1 (codes "InstructionFormat::" ∷ (format_at t op ∷ (codes ", // " ∷ (name_at t op ∷ [])))) ∷ [])
+format_line t op = text_of (at 1 (codes "InstructionFormat::" ∷ format_at t op ∷ codes ", // " ∷ name_at t op ∷ []) ∷ [])
 
 -- the line of a slot: that of an opcode, as `Some(Opcode::Load),`, or of a vacant slot
 unfoldable pub slot_line : TableContents → Option ℕ → List ℕ
 slot_line t None = text_of (at 1 (codes "None," ∷ []) ∷ [])
-slot_line t (Some op) = text_of (at 1 (codes "Some(Opcode::" ∷ (camel_at t op ∷ (codes ")," ∷ []))) ∷ [])
+slot_line t (Some op) = text_of (at 1 (codes "Some(Opcode::" ∷ camel_at t op ∷ codes ")," ∷ []) ∷ [])
 
 -- `true` or `false`
 abbrev pub bool_text : Bool → List ℕ
@@ -49,15 +50,16 @@ bool_text b = if b then codes "true" else codes "false"
 
 -- a byte in two small hexadecimal digits
 unfoldable pub hex_byte : ℕ → List ℕ
-hex_byte n = digit_glyph false (n / 16) ∷ (digit_glyph false (n % 16) ∷ [])
+hex_byte n = digit_glyph false (n / 16) ∷ digit_glyph false (n % 16) ∷ []
 
 -- the first lines of a block, and the flags
 unfoldable pub flags_lines : ℕ → List ℕ
-flags_lines flags = text_of (at 1 (codes "OpcodeConstraints {" ∷ []) ∷ (at 2 (codes "flags: 0x" ∷ (hex_byte flags ∷ (codes "," ∷ []))) ∷ []))
+flags_lines flags = text_of (at 1 (codes "OpcodeConstraints {" ∷ [])
+    ∷ at 2 (codes "flags: 0x" ∷ hex_byte flags ∷ codes "," ∷ []) ∷ [])
 
 -- the line of a field that is a place: `typeset_offset: 0,`
 unfoldable pub place_line : List ℕ → ℕ → List ℕ
-place_line field place = text_of (at 2 (field ∷ (codes ": " ∷ (decimal place ∷ (codes "," ∷ [])))) ∷ [])
+place_line field place = text_of (at 2 (field ∷ codes ": " ∷ decimal place ∷ codes "," ∷ []) ∷ [])
 
 -- the line of the place of the second control's type set, which version 1 doesn't have
 unfoldable pub second_line : Version → OpcodeNumbers → List ℕ
@@ -82,7 +84,7 @@ counts_comment name results designated differs values = text_of (
     ∷ (decimal results
     ∷ (codes ", use_typevar_operand="
     ∷ (bool_text designated
-    ∷ (codes ", requires_typevar_operand=" ∷ (bool_text differs ∷ (codes ", fixed_values=" ∷ (decimal values ∷ [])))))))))
+    ∷ codes ", requires_typevar_operand=" ∷ bool_text differs ∷ codes ", fixed_values=" ∷ decimal values ∷ [])))))
     )
     ∷ []
     )
@@ -109,7 +111,8 @@ second_comment Three t e = control_comment t (codes "Second control over ") e.se
 unfoldable pub entry_comments : Version → TableContents → ℕ → OpcodeNumbers → List ℕ
 entry_comments v t op e =
     flags_comment (camel_at t op) e.flags
-    ++ (constraints_comment (constraints_of t e) ++ (control_comment t (codes "Polymorphic over ") e.typeset_offset ++ second_comment v t e))
+    ++ (constraints_comment (constraints_of t e)
+    ++ (control_comment t (codes "Polymorphic over ") e.typeset_offset ++ second_comment v t e))
 
 -- the block of an opcode with this entry: its fields, and then the comments
 unfoldable pub entry_block : Version → TableContents → ℕ → OpcodeNumbers → List ℕ

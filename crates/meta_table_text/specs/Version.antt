@@ -1,5 +1,5 @@
 -- What a version of the table text shows.
---     number_of v            its number
+--     version_number v       its number
 --     none_of v              how it shows that there is no type set
 --     offset_shown v offset  how it shows the place of a type set
 use Rattle.std.specs.Prelude.{ℕ, ◌==◌, if◌then◌else◌}
@@ -8,10 +8,10 @@ use Rattle.meta_table_text.specs.declared.version.Version.{Version}
 use Rattle.meta_table_text.specs.declared.version.Version.TheVariants.{One, Two, Three}
 
 -- the number of a version, which the first line names
-abbrev pub number_of : Version → ℕ
-number_of One = 1
-number_of Two = 2
-number_of Three = 3
+abbrev pub version_number : Version → ℕ
+version_number One = 1
+version_number Two = 2
+version_number Three = 3
 
 -- what stands where there is no type set: 255 in the versions whose places have one byte, and else as in the tables
 abbrev pub none_of : Version → ℕ

@@ -2,11 +2,14 @@ ghost use Rattle.std.specs.Prelude.{◌≡◌, ◌≢◌, ◌++◌, ◌∷◌, [
 ghost use Rattle.meta_types.specs.TypeParts.{TypeParts, IsType, number_of};
 ghost use Rattle.meta_meaning.specs.Tables.{ConcreteNumber, FreeOf};
 ghost use Rattle.meta_opcode_tables.specs.declared.constraint.Constraint.{Constraint};
+ghost use Rattle.meta_inst.specs.Controls.{which_of};
 ghost use Rattle.meta_opcode_tables.specs.Constraint.{number_constraint_of};
+ghost use Rattle.meta_opcode_tables.specs.Demand.{number_constraint_demanded};
 ghost use Rattle.meta_table_text.specs.TypeSetText.{parted_behind};
-ghost use Rattle.meta_table_text.specs.ConstraintText.{type_numbered, type_text, variant_name, variant_fields, constraint_text, constraint_line, quoted, quoted_all, constraints_comment};
+ghost use Rattle.meta_table_text.specs.ConstraintText.{type_numbered, type_text, control_mark, variant_name, variant_fields};
+ghost use Rattle.meta_table_text.specs.ConstraintText.{constraint_text, constraint_line, quoted, quoted_all, constraints_comment};
 
-use meta_gen::Constraint;
+use meta_gen::{Constraint, Demand, Which};
 use meta_types::{ValueType, there_are_153_types};
 use std::alloc::{AllocError, Global};
 
@@ -32,33 +35,25 @@ fn push_type(alloc: Global, out: &mut String, number: u16) -> Result<(), AllocEr
     out.push_str(name.as_str())
 }
 
-/// The name of the variant of a constraint.
-fn variant_name(constraint: Constraint) -> &'static str
-    ensures { result.now ≡ variant_name (number_constraint_of constraint) }
+/// The name of the variant of the constraint with this demand, but for the mark of a second control.
+fn variant_name(demand: Demand) -> &'static str
+    ensures { result.now ≡ variant_name (number_constraint_demanded demand) }
 {
-    match constraint {
-        Constraint::Concrete(_) => "Concrete",
-        Constraint::Free(_) => "Free",
-        Constraint::Same => "Same",
-        Constraint::LaneOf => "LaneOf",
-        Constraint::AsTruthy => "AsTruthy",
-        Constraint::HalfWidth => "HalfWidth",
-        Constraint::DoubleWidth => "DoubleWidth",
-        Constraint::SplitLanes => "SplitLanes",
-        Constraint::MergeLanes => "MergeLanes",
-        Constraint::DynamicToVector => "DynamicToVector",
-        Constraint::Narrower => "Narrower",
-        Constraint::Wider => "Wider",
-        Constraint::Same2 => "Same2",
-        Constraint::LaneOf2 => "LaneOf2",
-        Constraint::AsTruthy2 => "AsTruthy2",
-        Constraint::HalfWidth2 => "HalfWidth2",
-        Constraint::DoubleWidth2 => "DoubleWidth2",
-        Constraint::SplitLanes2 => "SplitLanes2",
-        Constraint::MergeLanes2 => "MergeLanes2",
-        Constraint::DynamicToVector2 => "DynamicToVector2",
-        Constraint::Narrower2 => "Narrower2",
-        Constraint::Wider2 => "Wider2",
+    match demand {
+        Demand::Number(_) => "Concrete",
+        Demand::OfSet(_) => "Free",
+        Demand::Controlling(_) => "Same",
+        Demand::By(_, derived_func) => derived_func.camel_name(),
+    }
+}
+
+/// Adds the mark of a second control, where it is that.
+fn push_mark(out: &mut String, which: Which) -> Result<(), AllocError>
+    ensures { OnOk result (string_bytes out.new ≡ string_bytes out.old ++ control_mark (which_of which)) }
+{
+    match which {
+        Which::First => Ok(()),
+        Which::Second => out.push_str("2"),
     }
 }
 
@@ -78,14 +73,16 @@ fn push_free(out: &mut String, set: u16) -> Result<(), AllocError>
     write!(out, "({set})")
 }
 
-/// Adds the type or the type set that a constraint names, and nothing where it names none.
-fn push_fields(alloc: Global, out: &mut String, constraint: Constraint) -> Result<(), AllocError>
-    ensures { OnOk result (string_bytes out.new ≡ string_bytes out.old ++ variant_fields (number_constraint_of constraint)) }
+/// Adds what stands behind that name: the type or the type set that the constraint with this demand names, or the mark of a second
+/// control.
+fn push_fields(alloc: Global, out: &mut String, demand: Demand) -> Result<(), AllocError>
+    ensures { OnOk result (string_bytes out.new ≡ string_bytes out.old ++ variant_fields (number_constraint_demanded demand)) }
 {
-    match constraint {
-        Constraint::Concrete(number) => push_concrete(alloc, out, number),
-        Constraint::Free(set) => push_free(out, set),
-        _ => Ok(()),
+    match demand {
+        Demand::Number(number) => push_concrete(alloc, out, number),
+        Demand::OfSet(set) => push_free(out, set),
+        Demand::Controlling(which) => push_mark(out, which),
+        Demand::By(which, _) => push_mark(out, which),
     }
 }
 
@@ -97,8 +94,9 @@ fn push_constraint_text(
 ) -> Result<(), AllocError>
     ensures { OnOk result (string_bytes out.new ≡ string_bytes out.old ++ constraint_text (number_constraint_of constraint)) }
 {
-    out.push_str(variant_name(constraint))?;
-    push_fields(alloc, out, constraint)
+    let demand = constraint.demanded();
+    out.push_str(variant_name(demand))?;
+    push_fields(alloc, out, demand)
 }
 
 /// Adds the line of a constraint.
@@ -132,7 +130,9 @@ fn push_next<'a>(
     constraint: Constraint,
     before: &'a str,
 ) -> Result<&'a str, AllocError>
-    ensures { IfOk result (λ next. (rest : List Constraint) → string_bytes out.new ++ parted_behind next.now (map quoted (map number_constraint_of rest)) ≡ string_bytes out.old ++ parted_behind before.now (map quoted (map number_constraint_of (constraint ∷ rest)))) }
+    ensures { IfOk result (λ next. (rest : List Constraint)
+        → string_bytes out.new ++ parted_behind next.now (map quoted (map number_constraint_of rest))
+        ≡ string_bytes out.old ++ parted_behind before.now (map quoted (map number_constraint_of (constraint ∷ rest)))) }
 {
     out.push_str(before)?;
     push_quoted(alloc, out, constraint)?;

@@ -1,10 +1,11 @@
 ghost use Rattle.std.specs.Prelude.{◌≡◌, ◌↔◌, IsTrue, map};
 ghost use Rattle.std.specs.List.{list_all};
+ghost use Rattle.meta_inst.specs.Controls.{which_of};
 ghost use Rattle.meta_opcode_tables.specs.Constraint.{number_constraint_of};
-ghost use Rattle.meta_table_text.specs.Fits.{IsSmall, LacksSecondSet, HasNoSecondSet, asks_of_no_second, Fits};
+ghost use Rattle.meta_table_text.specs.Fits.{IsSmall, LacksSecondSet, HasNoSecondSet, is_first, asks_of_no_second, Fits};
 
 use super::version::Version;
-use meta_gen::{Constraint, NO_TYPE_SET, Tables};
+use meta_gen::{Constraint, Demand, NO_TYPE_SET, Tables, Which};
 
 /// Whether there are at most 255 opcodes and 255 type sets.
 fn is_small(tables: &Tables) -> bool
@@ -35,33 +36,25 @@ fn has_no_second_set(tables: &Tables) -> bool
     true
 }
 
+/// Whether it is the control, and not the second control.
+fn is_first(which: Which) -> bool
+    ensures { result ≡ is_first (which_of which) }
+{
+    match which {
+        Which::First => true,
+        Which::Second => false,
+    }
+}
+
 /// Whether the constraint asks for nothing of the second control.
 fn asks_of_no_second(constraint: Constraint) -> bool
     ensures { result ≡ asks_of_no_second (number_constraint_of constraint) }
 {
-    match constraint {
-        Constraint::Concrete(_)
-        | Constraint::Free(_)
-        | Constraint::Same
-        | Constraint::LaneOf
-        | Constraint::AsTruthy
-        | Constraint::HalfWidth
-        | Constraint::DoubleWidth
-        | Constraint::SplitLanes
-        | Constraint::MergeLanes
-        | Constraint::DynamicToVector
-        | Constraint::Narrower
-        | Constraint::Wider => true,
-        Constraint::Same2
-        | Constraint::LaneOf2
-        | Constraint::AsTruthy2
-        | Constraint::HalfWidth2
-        | Constraint::DoubleWidth2
-        | Constraint::SplitLanes2
-        | Constraint::MergeLanes2
-        | Constraint::DynamicToVector2
-        | Constraint::Narrower2
-        | Constraint::Wider2 => false,
+    match constraint.demanded() {
+        Demand::Number(_) => true,
+        Demand::OfSet(_) => true,
+        Demand::Controlling(which) => is_first(which),
+        Demand::By(which, _) => is_first(which),
     }
 }
 

@@ -1,5 +1,6 @@
 ghost use Rattle.std.specs.Prelude.{◌≡◌, ◌++◌, OnOk, IfOk, string_bytes};
-ghost use Rattle.meta_table_text.specs.GroupItems.{hex_text, head_text, list_head_text, list_end_text, enumerator_text, block_text, descriptor_text, slot_text, pair_text, comment_text, bytes_text, template_text};
+ghost use Rattle.meta_table_text.specs.GroupItems.{hex_text, head_text, enumerator_text, descriptor_block, descriptor_text, slot_text};
+ghost use Rattle.meta_table_text.specs.GroupItems.{pair_text, comment_text, bytes_text, template_text};
 
 use meta_setting_tables::{Descriptor, Detail};
 use std::alloc::{AllocError, Global};
@@ -11,27 +12,6 @@ pub(crate) fn push_head(out: &mut String, name: &str) -> Result<(), AllocError>
     ensures { OnOk result (string_bytes out.new ≡ string_bytes out.old ++ head_text name.now) }
 {
     write!(out, "// Settings group {name}.\n")
-}
-
-/// Adds the first line of a list of this name, with so many elements of this type.
-#[tactic(auto, unfolding(crate::specs::GroupItems::list_head_text))]
-pub(crate) fn push_list_head(
-    out: &mut String,
-    name: &str,
-    element: &str,
-    count: usize,
-) -> Result<(), AllocError>
-    ensures { OnOk result (string_bytes out.new ≡ string_bytes out.old ++ list_head_text name.now element.now count) }
-{
-    write!(out, "static {name}: [{element}; {count}] = [\n")
-}
-
-/// Adds the last line of a list.
-#[tactic(auto, unfolding(crate::specs::GroupItems::list_end_text))]
-pub(crate) fn push_list_end(out: &mut String) -> Result<(), AllocError>
-    ensures { OnOk result (string_bytes out.new ≡ string_bytes out.old ++ list_end_text) }
-{
-    out.push_str("];\n")
 }
 
 /// Adds an enumerator.
@@ -66,7 +46,7 @@ impl fmt::Display for DetailText {
 }
 
 /// Adds the descriptor of an entry of this name, description, offset and detail.
-#[tactic(auto, unfolding(crate::specs::GroupItems::block_text))]
+#[tactic(auto, unfolding(crate::specs::GroupItems::descriptor_block))]
 fn push_block(
     out: &mut String,
     name: &str,
@@ -74,7 +54,7 @@ fn push_block(
     offset: u32,
     detail: Detail,
 ) -> Result<(), AllocError>
-    ensures { OnOk result (string_bytes out.new ≡ string_bytes out.old ++ block_text name.now description.now offset detail) }
+    ensures { OnOk result (string_bytes out.new ≡ string_bytes out.old ++ descriptor_block name.now description.now offset detail) }
 {
     let detail = DetailText(detail);
     write!(

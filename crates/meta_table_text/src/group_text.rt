@@ -4,13 +4,16 @@ ghost use Rattle.meta_setting_tables.specs.declared.descriptor.Descriptor.{Descr
 ghost use Rattle.meta_setting_tables.specs.EntryValues.{masks_from};
 ghost use Rattle.meta_setting_tables.specs.GroupTables.{IsPresetIn};
 ghost use Rattle.meta_gen.specs.WholeTables.{OfGroup, HasNoGroup};
-ghost use Rattle.meta_table_text.specs.GroupItems.{pair_text, names_text, comment_text, bytes_text, template_text};
-ghost use Rattle.meta_table_text.specs.GroupText.{enumerators_text, descriptors_text, slots_text, presets_in, preset_text, presets_text, group_text};
+ghost use Rattle.meta_table_text.specs.GroupItems.{pair_text, texts_with_commas, comment_text, bytes_text, template_text};
+ghost use Rattle.meta_table_text.specs.GroupText.{enumerators_text, descriptors_text, slots_text, presets_in, preset_text, presets_text};
+ghost use Rattle.meta_table_text.specs.GroupText.{group_text};
 
 use super::group_items::{
-    hex_bytes, push_comment, push_descriptor, push_enumerator, push_head, push_list_end,
-    push_list_head, push_pair, push_slot, push_template,
+    hex_bytes, push_comment, push_descriptor, push_enumerator, push_head, push_pair, push_slot,
+    push_template,
 };
+use super::lines::{push_list_end, push_list_head};
+use super::table_list::TableList;
 use meta_gen::Tables;
 use meta_setting_tables::{Descriptor, GroupTables};
 use meta_types::Text;
@@ -20,7 +23,7 @@ use std::alloc::{AllocError, Global};
 fn push_enumerators(out: &mut String, names: &[Text]) -> Result<(), AllocError>
     ensures { OnOk result (string_bytes out.new ≡ string_bytes out.old ++ enumerators_text names.now) }
 {
-    push_list_head(out, "ENUMERATORS", "&str", names.len())?;
+    push_list_head(out, TableList::Enumerators, names.len())?;
     for name in names {
         push_enumerator(out, name.as_str())?;
     }
@@ -31,7 +34,7 @@ fn push_enumerators(out: &mut String, names: &[Text]) -> Result<(), AllocError>
 fn push_descriptors(out: &mut String, descriptors: &[Descriptor]) -> Result<(), AllocError>
     ensures { OnOk result (string_bytes out.new ≡ string_bytes out.old ++ descriptors_text descriptors.now) }
 {
-    push_list_head(out, "DESCRIPTORS", "detail::Descriptor", descriptors.len())?;
+    push_list_head(out, TableList::Descriptors, descriptors.len())?;
     for descriptor in descriptors {
         push_descriptor(out, descriptor)?;
     }
@@ -42,7 +45,7 @@ fn push_descriptors(out: &mut String, descriptors: &[Descriptor]) -> Result<(), 
 fn push_slots(out: &mut String, slots: &[Option<u16>]) -> Result<(), AllocError>
     ensures { OnOk result (string_bytes out.new ≡ string_bytes out.old ++ slots_text slots.now) }
 {
-    push_list_head(out, "HASH_TABLE", "u16", slots.len())?;
+    push_list_head(out, TableList::SettingSlots, slots.len())?;
     for slot in slots {
         push_slot(out, *slot)?;
     }
@@ -66,7 +69,8 @@ fn push_booleans(
     name: &str,
     booleans: &[&str],
 ) -> Result<(), AllocError>
-    ensures { OnOk result (string_bytes out.new ≡ string_bytes out.old ++ comment_text name.now (names_text (map (λ n. n.now) booleans.now))) }
+    ensures { OnOk result (string_bytes out.new ≡ string_bytes out.old ++ comment_text name.now
+        (texts_with_commas (map (λ n. n.now) booleans.now))) }
 {
     let shown = booleans.join(alloc, ", ")?;
     push_comment(out, name, shown.as_str())
@@ -81,8 +85,10 @@ fn push_preset(
     name: &str,
     masks: &[u8],
 ) -> Result<(), AllocError>
-    ensures { (d : Descriptor) → IsPresetIn group.now.descriptors number d → name.now ≡ d.name → masks.now ≡ masks_from (length group.now.defaults) group.now.preset_masks d.offset
-        → OnOk result (string_bytes out.new ≡ string_bytes out.old ++ preset_text group.now.descriptors (length group.now.defaults) group.now.preset_masks d) }
+    ensures { (d : Descriptor) → IsPresetIn group.now.descriptors number d → name.now ≡ d.name
+        → masks.now ≡ masks_from (length group.now.defaults) group.now.preset_masks d.offset
+        → OnOk result (string_bytes out.new ≡ string_bytes out.old ++ preset_text group.now.descriptors
+        (length group.now.defaults) group.now.preset_masks d) }
 {
     push_masks(out, masks)?;
     let booleans = group.names_on(alloc, number)?;
@@ -98,7 +104,8 @@ fn push_entry(
     name: &str,
 ) -> Result<(), AllocError>
     ensures { (d : Descriptor) → slice_get group.now.descriptors number ≡ Some d → name.now ≡ d.name
-        → OnOk result (string_bytes out.new ≡ string_bytes out.old ++ flat_map (preset_text group.now.descriptors (length group.now.defaults) group.now.preset_masks) (presets_in (d ∷ []))) }
+        → OnOk result (string_bytes out.new ≡ string_bytes out.old ++ flat_map
+        (preset_text group.now.descriptors (length group.now.defaults) group.now.preset_masks) (presets_in (d ∷ []))) }
 {
     let Some(masks) = group.masks_of(number) else {
         return Ok(());
@@ -108,7 +115,8 @@ fn push_entry(
 
 /// Adds the lines of the presets.
 fn push_each_preset(alloc: Global, out: &mut String, group: &GroupTables) -> Result<(), AllocError>
-    ensures { OnOk result (string_bytes out.new ≡ string_bytes out.old ++ flat_map (preset_text group.now.descriptors (length group.now.defaults) group.now.preset_masks) (presets_in group.now.descriptors)) }
+    ensures { OnOk result (string_bytes out.new ≡ string_bytes out.old ++ flat_map
+        (preset_text group.now.descriptors (length group.now.defaults) group.now.preset_masks) (presets_in group.now.descriptors)) }
 {
     let entries = group.descriptors();
     for k in 0..entries.len() {
@@ -119,9 +127,10 @@ fn push_each_preset(alloc: Global, out: &mut String, group: &GroupTables) -> Res
 
 /// Adds the list of the presets, of which each has one mask a setting byte.
 fn push_presets(alloc: Global, out: &mut String, group: &GroupTables) -> Result<(), AllocError>
-    ensures { OnOk result (string_bytes out.new ≡ string_bytes out.old ++ presets_text group.now.descriptors (length group.now.defaults) group.now.preset_masks) }
+    ensures { OnOk result (string_bytes out.new ≡ string_bytes out.old ++ presets_text group.now.descriptors
+        (length group.now.defaults) group.now.preset_masks) }
 {
-    push_list_head(out, "PRESETS", "(u8, u8)", group.preset_masks().len())?;
+    push_list_head(out, TableList::Presets, group.preset_masks().len())?;
     push_each_preset(alloc, out, group)?;
     push_list_end(out)
 }

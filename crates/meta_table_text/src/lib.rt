@@ -12,10 +12,12 @@ mod group_text;
 mod lines;
 mod opcode_block;
 mod opcode_lists;
+mod table_list;
 mod type_set_text;
 mod version;
 mod whole_text;
 
 pub use fitting::fits;
+pub use table_list::{BEHIND_COUNT, LIST_END, TableList};
 pub use version::Version;
 pub use whole_text::{table_text, write_tables};

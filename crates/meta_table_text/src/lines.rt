@@ -1,28 +1,29 @@
 ghost use Rattle.std.specs.Prelude.{◌≡◌, ◌++◌, OnOk, string_bytes};
-ghost use Rattle.meta_table_text.specs.TableText.{line, list_head, version_line};
+ghost use Rattle.meta_table_text.specs.Lists.{list_head, list_end};
+ghost use Rattle.meta_table_text.specs.TableText.{version_line};
 
+use super::table_list::{BEHIND_COUNT, LIST_END, TableList};
 use super::version::Version;
 use std::alloc::AllocError;
 
-/// Adds the line of this text.
-#[tactic(auto, unfolding(crate::specs::TableText::line))]
-pub(crate) fn push_line(out: &mut String, text: &str) -> Result<(), AllocError>
-    ensures { OnOk result (string_bytes out.new ≡ string_bytes out.old ++ line text.now) }
-{
-    write!(out, "{text}\n")
-}
-
-/// Adds the first line of a list of so many elements.
-#[tactic(auto, unfolding(crate::specs::TableText::list_head))]
-pub(crate) fn push_head(
+/// Adds what stands before the first element of a list of so many.
+#[tactic(auto, unfolding(crate::specs::Lists::list_head))]
+pub(crate) fn push_list_head(
     out: &mut String,
-    name: &str,
-    element: &str,
+    list: TableList,
     count: usize,
 ) -> Result<(), AllocError>
-    ensures { OnOk result (string_bytes out.new ≡ string_bytes out.old ++ list_head name.now element.now count) }
+    ensures { OnOk result (string_bytes out.new ≡ string_bytes out.old ++ list_head list count) }
 {
-    write!(out, "const {name}: [{element}; {count}] = [\n")
+    let (title, head) = (list.title(), list.head());
+    write!(out, "{title}{head}{count}{}", BEHIND_COUNT)
+}
+
+/// Adds the last line of a list.
+pub(crate) fn push_list_end(out: &mut String) -> Result<(), AllocError>
+    ensures { OnOk result (string_bytes out.new ≡ string_bytes out.old ++ list_end) }
+{
+    out.push_str(LIST_END)
 }
 
 /// Adds the first line of the text.

@@ -1,12 +1,14 @@
-ghost use Rattle.std.specs.Prelude.{◌≡◌, ◌++◌, OnOk, IfOk, map, take, drop, string_bytes};
+ghost use Rattle.std.specs.Prelude.{◌≡◌, ◌++◌, OnOk, IfOk, map, string_bytes};
 ghost use Rattle.meta_opcode_tables.specs.Constraint.{number_constraint_of, entry_of};
 ghost use Rattle.meta_opcode_tables.specs.Contents.{IsOpcode};
-ghost use Rattle.meta_table_text.specs.OpcodeText.{name_at, format_at, camel_at, hex_byte, flags_lines, place_line, second_line, entry_fields, flags_comment, constraints_of, control_comment, second_comment, entry_comments, entry_block, opcode_block};
+ghost use Rattle.meta_table_text.specs.OpcodeText.{name_at, format_at, camel_at, hex_byte, flags_lines, place_line, second_line};
+ghost use Rattle.meta_table_text.specs.OpcodeText.{entry_fields, flags_comment, constraints_of, control_comment, second_comment};
+ghost use Rattle.meta_table_text.specs.OpcodeText.{entry_comments, entry_block, opcode_block};
 
 use super::constraint_text::push_constraints_comment;
 use super::type_set_text::{push_block_end, push_set_comment};
 use super::version::Version;
-use meta_gen::{Constraint, NO_TYPE_SET, OpcodeConstraints, Tables};
+use meta_gen::{Constraint, NO_TYPE_SET, OpcodeConstraints, Tables, constraints_from};
 use meta_types::{Text, camel_case};
 use std::alloc::{AllocError, Global};
 
@@ -116,20 +118,16 @@ fn push_flags_comment(
     )
 }
 
-/// So many of the constraints, or those that there are, from this place on.
-fn part(constraints: &[Constraint], place: u16, count: usize) -> &[Constraint]
-    ensures { result.now ≡ take count (drop place constraints.now) }
-{
-    let behind = &constraints[constraints.len().min(place as usize)..];
-    &behind[..behind.len().min(count)]
-}
-
 /// The constraints of an entry.
 fn constraints_of(tables: &Tables, entry: OpcodeConstraints) -> &[Constraint]
     ensures { map number_constraint_of result.now ≡ constraints_of tables.now.opcodes (entry_of entry) }
 {
     let count = entry.result_count() + entry.value_count();
-    part(tables.operand_constraints(), entry.constraint_offset, count)
+    constraints_from(
+        tables.operand_constraints(),
+        entry.constraint_offset as usize,
+        count,
+    )
 }
 
 /// Adds the comment on a control whose type set has this place, and nothing where it has none.
@@ -176,7 +174,8 @@ fn push_comments(
     opcode: u16,
     entry: OpcodeConstraints,
 ) -> Result<(), AllocError>
-    ensures { OnOk result (string_bytes out.new ≡ string_bytes out.old ++ entry_comments version tables.now.opcodes opcode (entry_of entry)) }
+    ensures { OnOk result (string_bytes out.new ≡ string_bytes out.old
+        ++ entry_comments version tables.now.opcodes opcode (entry_of entry)) }
 {
     let name = camel_of(alloc, tables, opcode)?;
     push_flags_comment(out, name.as_str(), entry)?;
@@ -211,7 +210,8 @@ pub(crate) fn push_opcode(
     tables: &Tables,
     opcode: u16,
 ) -> Result<(), AllocError>
-    ensures { IsOpcode tables.now.opcodes opcode → OnOk result (string_bytes out.new ≡ string_bytes out.old ++ opcode_block version tables.now.opcodes opcode) }
+    ensures { IsOpcode tables.now.opcodes opcode
+        → OnOk result (string_bytes out.new ≡ string_bytes out.old ++ opcode_block version tables.now.opcodes opcode) }
 {
     match tables.constraints(opcode) {
         Some(entry) => push_entry(alloc, out, version, tables, opcode, entry),

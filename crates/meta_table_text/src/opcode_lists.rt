@@ -4,11 +4,13 @@ ghost use Rattle.meta_opcode_tables.specs.Constraint.{number_constraint_of};
 ghost use Rattle.meta_table_text.specs.TypeSetText.{set_block};
 ghost use Rattle.meta_table_text.specs.ConstraintText.{constraint_line};
 ghost use Rattle.meta_table_text.specs.OpcodeText.{each_opcode, format_line, slot_line, opcode_block};
-ghost use Rattle.meta_table_text.specs.TableText.{formats_part, slots_part, sets_list, sets_part, constraints_part, entries_part, opcodes_text};
+ghost use Rattle.meta_table_text.specs.TableText.{formats_part, slots_part, sets_list, sets_part, constraints_part, entries_part};
+ghost use Rattle.meta_table_text.specs.TableText.{opcodes_text};
 
 use super::constraint_text::push_constraint;
-use super::lines::{push_head, push_line, push_version};
+use super::lines::{push_list_end, push_list_head, push_version};
 use super::opcode_block::{camel_of, format_of, name_of, push_opcode};
+use super::table_list::TableList;
 use super::type_set_text::push_set;
 use super::version::Version;
 use meta_gen::{Constraint, Tables};
@@ -26,7 +28,8 @@ fn push_format(out: &mut String, tables: &Tables, opcode: u16) -> Result<(), All
 
 /// Adds the lines of the formats of all opcodes.
 fn push_each_format(out: &mut String, tables: &Tables) -> Result<(), AllocError>
-    ensures { OnOk result (string_bytes out.new ≡ string_bytes out.old ++ each_opcode (format_line tables.now.opcodes) (length tables.now.opcodes.entries)) }
+    ensures { OnOk result (string_bytes out.new ≡ string_bytes out.old ++ each_opcode (format_line tables.now.opcodes)
+        (length tables.now.opcodes.entries)) }
 {
     for before in 0..tables.opcode_count() {
         push_format(out, tables, before + 1)?;
@@ -40,9 +43,9 @@ fn push_formats(out: &mut String, tables: &Tables) -> Result<(), AllocError>
     ensures { OnOk result (string_bytes out.new ≡ string_bytes out.old ++ formats_part tables.now.opcodes) }
 {
     let count = tables.opcode_count() as usize;
-    push_head(out, "OPCODE_FORMAT", "InstructionFormat", count)?;
+    push_list_head(out, TableList::Formats, count)?;
     push_each_format(out, tables)?;
-    push_line(out, "];")
+    push_list_end(out)
 }
 
 /// Adds the line of a slot.
@@ -84,9 +87,9 @@ fn push_slots(alloc: Global, out: &mut String, tables: &Tables) -> Result<(), Al
     ensures { OnOk result (string_bytes out.new ≡ string_bytes out.old ++ slots_part tables.now.opcodes) }
 {
     let slots = tables.opcode_slots();
-    push_head(out, "OPCODE_HASH_TABLE", "Option<Opcode>", slots.len())?;
+    push_list_head(out, TableList::OpcodeSlots, slots.len())?;
     push_each_slot(alloc, out, tables, slots)?;
-    push_line(out, "];")
+    push_list_end(out)
 }
 
 /// Adds the blocks of type sets.
@@ -105,15 +108,9 @@ fn push_sets_list(out: &mut String, tables: &Tables) -> Result<(), AllocError>
     ensures { OnOk result (string_bytes out.new ≡ string_bytes out.old ++ sets_list tables.now.opcodes) }
 {
     let sets = tables.type_sets();
-    push_line(out, "// Table of value type sets.")?;
-    push_head(
-        out,
-        "TYPE_SETS",
-        "ir::instructions::ValueTypeSet",
-        sets.len(),
-    )?;
+    push_list_head(out, TableList::TypeSets, sets.len())?;
     push_each_set(out, sets)?;
-    push_line(out, "];")
+    push_list_end(out)
 }
 
 /// Adds that list, where there is a type set.
@@ -133,7 +130,8 @@ fn push_each_constraint(
     out: &mut String,
     constraints: &[Constraint],
 ) -> Result<(), AllocError>
-    ensures { OnOk result (string_bytes out.new ≡ string_bytes out.old ++ flat_map constraint_line (map number_constraint_of constraints.now)) }
+    ensures { OnOk result (string_bytes out.new ≡ string_bytes out.old ++ flat_map constraint_line
+        (map number_constraint_of constraints.now)) }
 {
     for constraint in constraints {
         push_constraint(alloc, out, *constraint)?;
@@ -147,15 +145,9 @@ fn push_constraints(alloc: Global, out: &mut String, tables: &Tables) -> Result<
     ensures { OnOk result (string_bytes out.new ≡ string_bytes out.old ++ constraints_part tables.now.opcodes) }
 {
     let constraints = tables.operand_constraints();
-    push_line(out, "// Table of operand constraint sequences.")?;
-    push_head(
-        out,
-        "OPERAND_CONSTRAINTS",
-        "OperandConstraint",
-        constraints.len(),
-    )?;
+    push_list_head(out, TableList::Constraints, constraints.len())?;
     push_each_constraint(alloc, out, constraints)?;
-    push_line(out, "];")
+    push_list_end(out)
 }
 
 /// Adds the blocks of all opcodes.
@@ -165,7 +157,8 @@ fn push_each_opcode(
     version: Version,
     tables: &Tables,
 ) -> Result<(), AllocError>
-    ensures { OnOk result (string_bytes out.new ≡ string_bytes out.old ++ each_opcode (opcode_block version tables.now.opcodes) (length tables.now.opcodes.entries)) }
+    ensures { OnOk result (string_bytes out.new ≡ string_bytes out.old ++ each_opcode
+        (opcode_block version tables.now.opcodes) (length tables.now.opcodes.entries)) }
 {
     for before in 0..tables.opcode_count() {
         push_opcode(alloc, out, version, tables, before + 1)?;
@@ -184,10 +177,9 @@ fn push_entries(
     ensures { OnOk result (string_bytes out.new ≡ string_bytes out.old ++ entries_part version tables.now.opcodes) }
 {
     let count = tables.opcode_count() as usize;
-    push_line(out, "// Table of opcode constraints.")?;
-    push_head(out, "OPCODE_CONSTRAINTS", "OpcodeConstraints", count)?;
+    push_list_head(out, TableList::Entries, count)?;
     push_each_opcode(alloc, out, version, tables)?;
-    push_line(out, "];")
+    push_list_end(out)
 }
 
 /// Adds the text of the tables of the instruction set.

@@ -1,7 +1,8 @@
 ghost use Rattle.std.specs.Prelude.{◌≡◌, ◌++◌, ◌∷◌, [], ℕ, List, IfOk, OnOk, map, string_bytes};
 ghost use Rattle.std.specs.Fmt.{decimal};
 ghost use Rattle.std.specs.Option.{option_map};
-ghost use Rattle.meta_table_text.specs.TypeSetText.{parted_behind, held, members, part_of, set_text, set_or_nothing, mask_lines, set_comment, block_end, set_block};
+ghost use Rattle.meta_table_text.specs.TypeSetText.{parted_behind, held, members, part_of, masks_text, set_or_nothing, mask_lines};
+ghost use Rattle.meta_table_text.specs.TypeSetText.{set_comment, block_end, set_block};
 ghost use Rattle.meta_text.specs.Lines.{text_of};
 
 use meta_typevar::Masks;
@@ -19,7 +20,9 @@ fn push_number<'a>(
     number: u16,
     before: &'a str,
 ) -> Result<&'a str, AllocError>
-    ensures { IfOk result (λ next. (rest : List ℕ) → string_bytes out.new ++ parted_behind next.now (map decimal (held mask rest)) ≡ string_bytes out.old ++ parted_behind before.now (map decimal (held mask (number ∷ rest)))) }
+    ensures { IfOk result (λ next. (rest : List ℕ)
+        → string_bytes out.new ++ parted_behind next.now (map decimal (held mask rest))
+        ≡ string_bytes out.old ++ parted_behind before.now (map decimal (held mask (number ∷ rest)))) }
 {
     if mask & number != number {
         return Ok(before);
@@ -61,9 +64,9 @@ fn push_part(out: &mut String, before: &str, mask: u16) -> Result<(), AllocError
 }
 
 /// Adds the text of a type set.
-#[tactic(auto, unfolding(crate::specs::TypeSetText::set_text))]
+#[tactic(auto, unfolding(crate::specs::TypeSetText::masks_text))]
 fn push_set_text(out: &mut String, masks: &Masks) -> Result<(), AllocError>
-    ensures { OnOk result (string_bytes out.new ≡ string_bytes out.old ++ set_text masks.now) }
+    ensures { OnOk result (string_bytes out.new ≡ string_bytes out.old ++ masks_text masks.now) }
 {
     out.push_str("TypeSet(lanes={")?;
     push_members(out, masks.lanes)?;
@@ -108,7 +111,8 @@ pub(crate) fn push_set_comment(
     about: &str,
     masks: Option<&Masks>,
 ) -> Result<(), AllocError>
-    ensures { OnOk result (string_bytes out.new ≡ string_bytes out.old ++ set_comment about.now (set_or_nothing (option_map (λ m. m.now) masks.entry))) }
+    ensures { OnOk result (string_bytes out.new ≡ string_bytes out.old ++ set_comment about.now
+        (set_or_nothing (option_map (λ m. m.now) masks.entry))) }
 {
     out.push_str("        // ")?;
     out.push_str(about)?;

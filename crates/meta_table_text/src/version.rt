@@ -1,5 +1,5 @@
 ghost use Rattle.std.specs.Prelude.{◌≡◌};
-ghost use Rattle.meta_table_text.specs.Version.{number_of, none_of, offset_shown};
+ghost use Rattle.meta_table_text.specs.Version.{version_number, none_of, offset_shown};
 
 use meta_gen::NO_TYPE_SET;
 
@@ -18,7 +18,7 @@ pub enum Version {
 impl Version {
     /// The number that the first line of the text names: 1 to 3.
     pub fn number(self) -> u8
-        ensures { result ≡ number_of self }
+        ensures { result ≡ version_number self }
     {
         match self {
             Version::One => 1,

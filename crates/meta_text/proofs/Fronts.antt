@@ -49,10 +49,10 @@ none_left [] e = refl
 none_left (x ∷ xs) e = search rules
 
 -- the state of a source over memory, from these parts
-abbrev pub state_of : List ℕ → ℕ → List ℕ → ℕ → ℕ → SourceState
-state_of left step fails calls faults = record { left = left; step = step; fails = fails; calls = calls; faults = faults }
+abbrev pub source_state : List ℕ → ℕ → List ℕ → ℕ → ℕ → SourceState
+source_state left step fails calls faults = record { left = left; step = step; fails = fails; calls = calls; faults = faults }
 
 pub same_state : (left other : List ℕ) (step : ℕ) (fails : List ℕ) (calls more faults : ℕ) → left ≡ other → calls ≡ more
-    → state_of left step fails calls faults ≡ state_of other step fails more faults
-same_state left other step fails calls more faults e f = ap (λ l. state_of l step fails calls faults) e
-    ∙ ap (λ n. state_of other step fails n faults) f
+    → source_state left step fails calls faults ≡ source_state other step fails more faults
+same_state left other step fails calls more faults e f = ap (λ l. source_state l step fails calls faults) e
+    ∙ ap (λ n. source_state other step fails n faults) f

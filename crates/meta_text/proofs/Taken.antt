@@ -1,5 +1,6 @@
 -- What a sink took over several writes.
-use Rattle.std.proofs.Common.{◌≡◌, ℕ, ◌+◌, ◌<◌, ◌≤◌, List, [], ◌++◌, length, take, drop, refl, ap, sym, ◌∙◌, append_assoc, length-append, arith}
+use Rattle.std.proofs.Common.{◌≡◌, ℕ, ◌+◌, ◌<◌, ◌≤◌, List, [], ◌++◌, length, take, drop, refl, ap, sym, ◌∙◌, append_assoc, length-append}
+use Rattle.std.proofs.Common.{arith}
 use Rattle.std.proofs.lemmas.List.{take-append-drop, append-nil}
 use Rattle.std.specs.Prelude.{Option, None, Some}
 use Rattle.meta_text.specs.Outside.{with_more, TookPart}
@@ -20,16 +21,19 @@ pub took_start : (bytes : List ℕ) (old : Option (List ℕ)) → Took bytes byt
 took_start bytes old = record { front = []; parts = refl; took = took_none old }
 
 -- some bytes were taken, and then more
-pub took_both : (bytes more : List ℕ) (old mid new : Option (List ℕ)) → mid ≡ with_more old bytes → new ≡ with_more mid more → new ≡ with_more old (bytes ++ more)
+pub took_both : (bytes more : List ℕ) (old mid new : Option (List ℕ)) → mid ≡ with_more old bytes
+    → new ≡ with_more mid more → new ≡ with_more old (bytes ++ more)
 took_both bytes more None mid new e f = rw (f, e) refl
 took_both bytes more (Some taken) mid new e f = rw (f, e) (ap Some (simp append_assoc))
 
 -- after a write of the first n bytes of the rest
-pub took_next : (n : ℕ) (bytes rest : List ℕ) (old mid new : Option (List ℕ)) → Took bytes rest old mid → new ≡ with_more mid (take n rest) → Took bytes (drop n rest) old new
+pub took_next : (n : ℕ) (bytes rest : List ℕ) (old mid new : Option (List ℕ)) → Took bytes rest old mid
+    → new ≡ with_more mid (take n rest) → Took bytes (drop n rest) old new
 took_next n bytes rest old mid new t e =
     record {
       front = t.front ++ take n rest;
-      parts = t.parts ∙ (ap (λ (xs : List ℕ). t.front ++ xs) (sym (take-append-drop n rest)) ∙ sym (append_assoc t.front (take n rest) (drop n rest)));
+      parts = t.parts ∙ (ap (λ (xs : List ℕ). t.front ++ xs) (sym (take-append-drop n rest))
+          ∙ sym (append_assoc t.front (take n rest) (drop n rest)));
       took = took_both t.front (take n rest) old mid new t.took e;
     }
 
@@ -43,7 +47,8 @@ pub took_part : (bytes rest : List ℕ) (old new : Option (List ℕ)) → Took b
 took_part bytes rest old new t h = record { front = t.front; rest = rest; parts = t.parts; short = h; took = t.took }
 
 -- of no bytes, no rest is left
-pub took_of_none : (n : ℕ) (bytes rest : List ℕ) (old new : Option (List ℕ)) → Took bytes rest old new → bytes ≡ [] → 1 ≤ n → n ≤ length rest → ⊥
+pub took_of_none : (n : ℕ) (bytes rest : List ℕ) (old new : Option (List ℕ)) → Took bytes rest old new → bytes ≡ []
+    → 1 ≤ n → n ≤ length rest → ⊥
 took_of_none n bytes rest old new t none some fits =
     let whole : length bytes ≡ length t.front + length rest = ap length t.parts ∙ length-append t.front rest in
     let empty : length bytes ≡ 0 = ap length none in

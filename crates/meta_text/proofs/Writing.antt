@@ -39,7 +39,8 @@ pub record Writing {K : Type 0} (taken : K → Option (List ℕ)) (faults : K �
   pub wrote : Writes taken faults front (Ok tt) old new
 
 module _ {K : Type 0} (taken : K → Option (List ℕ)) (faults : K → ℕ) where
-  both : (a b : List ℕ) (r : Result (Unit {0}) WriteError) (old mid new : K) → Writes taken faults a (Ok tt) old mid → Writes taken faults b r mid new → Writes taken faults (a ++ b) r old new
+  both : (a b : List ℕ) (r : Result (Unit {0}) WriteError) (old mid new : K) → Writes taken faults a (Ok tt) old mid
+      → Writes taken faults b r mid new → Writes taken faults (a ++ b) r old new
   both a b (Ok u) old mid new v w = record {
     ok = took_both a b (taken old) (taken mid) (taken new) v.ok w.ok;
     err = tt;
@@ -55,14 +56,23 @@ module _ {K : Type 0} (taken : K → Option (List ℕ)) (faults : K → ℕ) whe
     counted = let x : faults old ≤ faults mid = v.counted in let y : faults mid ≤ faults new = w.counted in omega arith;
   }
 
-  front_only : (a b : List ℕ) (e : WriteError) (old new : K) → Writes taken faults a (Err e) old new → Writes taken faults (a ++ b) (Err e) old new
-  front_only a b e old new w = record { ok = tt; err = part_first a b (taken old) (taken new) w.err; only = w.only; fault = w.fault; counted = w.counted }
+  front_only : (a b : List ℕ) (e : WriteError) (old new : K) → Writes taken faults a (Err e) old new
+      → Writes taken faults (a ++ b) (Err e) old new
+  front_only a b e old new w = record {
+    ok = tt;
+    err = part_first a b (taken old) (taken new) w.err;
+    only = w.only;
+    fault = w.fault;
+    counted = w.counted;
+  }
 
-  as_text : (a b : List ℕ) (r : Result (Unit {0}) WriteError) (old new : K) → b ≡ a → Writes taken faults a r old new → Writes taken faults b r old new
+  as_text : (a b : List ℕ) (r : Result (Unit {0}) WriteError) (old new : K) → b ≡ a → Writes taken faults a r old new
+      → Writes taken faults b r old new
   as_text a b r old new same w = subst (λ (text : List ℕ). Writes taken faults text r old new) (sym same) w
 
 -- before the first write
-pub starts : {K : Type 0} (taken : K → Option (List ℕ)) (faults : K → ℕ) (text : List ℕ) (sink : K) → Writing taken faults text text sink sink
+pub starts : {K : Type 0} (taken : K → Option (List ℕ)) (faults : K → ℕ) (text : List ℕ) (sink : K)
+    → Writing taken faults text text sink sink
 starts taken faults text sink = record {
   front = [];
   parts = refl;
@@ -70,7 +80,8 @@ starts taken faults text sink = record {
 }
 
 -- the next part was written
-pub goes_on : {K : Type 0} {taken : K → Option (List ℕ)} {faults : K → ℕ} {text part rest : List ℕ} {old mid new : K} → Writing taken faults text (part ++ rest) old mid → Writes taken faults part (Ok tt) mid new → Writing taken faults text rest old new
+pub goes_on : {K : Type 0} {taken : K → Option (List ℕ)} {faults : K → ℕ} {text part rest : List ℕ} {old mid new : K}
+    → Writing taken faults text (part ++ rest) old mid → Writes taken faults part (Ok tt) mid new → Writing taken faults text rest old new
 goes_on {taken = taken} {faults = faults} {part = part} {rest = rest} {old = old} {mid = mid} {new = new} so w = record {
   front = so.front ++ part;
   parts = so.parts ∙ sym (append_assoc so.front part rest);
@@ -78,21 +89,29 @@ goes_on {taken = taken} {faults = faults} {part = part} {rest = rest} {old = old
 }
 
 -- the last part was written, or was not
-pub ends : {K : Type 0} {taken : K → Option (List ℕ)} {faults : K → ℕ} {text part : List ℕ} {r : Result (Unit {0}) WriteError} {old mid new : K} → Writing taken faults text part old mid → Writes taken faults part r mid new → Writes taken faults text r old new
+pub ends : {K : Type 0} {taken : K → Option (List ℕ)} {faults : K
+    → ℕ} {text part : List ℕ} {r : Result (Unit {0}) WriteError} {old mid new : K}
+    → Writing taken faults text part old mid → Writes taken faults part r mid new → Writes taken faults text r old new
 ends {taken = taken} {faults = faults} {text = text} {part = part} {r = r} {old = old} {mid = mid} {new = new} so w =
     as_text taken faults (so.front ++ part) text r old new so.parts (both taken faults so.front part r old mid new so.wrote w)
 
 -- the next part was not written, and the error was handed on
-pub stops : {K : Type 0} {taken : K → Option (List ℕ)} {faults : K → ℕ} {text part : List ℕ} (rest : List ℕ) {r : Result (Unit {0}) WriteError} {e : WriteError} {old mid new : K} → IsErrAnd r (λ x. x ≡ e) → Writing taken faults text (part ++ rest) old mid → Writes taken faults part (Err e) mid new → Writes taken faults text r old new
+pub stops : {K : Type 0} {taken : K → Option (List ℕ)} {faults : K → ℕ} {text part : List ℕ}
+    (rest : List ℕ) {r : Result (Unit {0}) WriteError} {e : WriteError} {old mid new : K} → IsErrAnd r (λ x. x ≡ e)
+    → Writing taken faults text (part ++ rest) old mid → Writes taken faults part (Err e) mid new → Writes taken faults text r old new
 stops {taken = taken} {faults = faults} {part = part} rest {r = r} {e = e} {mid = mid} {new = new} handed so w =
     let p = err_from_is_err_and r handed in
     rw (p.1, p.2) (ends so (front_only taken faults part rest e mid new w))
 
 -- the same for another way to put what is left
-pub left_as : {K : Type 0} {taken : K → Option (List ℕ)} {faults : K → ℕ} {text rest other : List ℕ} {old new : K} → rest ≡ other → Writing taken faults text rest old new → Writing taken faults text other old new
-left_as {taken = taken} {faults = faults} {text = text} {old = old} {new = new} same so = subst (λ (xs : List ℕ). Writing taken faults text xs old new) same so
+pub left_as : {K : Type 0} {taken : K → Option (List ℕ)} {faults : K → ℕ} {text rest other : List ℕ} {old new : K}
+    → rest ≡ other → Writing taken faults text rest old new → Writing taken faults text other old new
+left_as {taken = taken} {faults = faults} {text = text} {old = old} {new = new} same so =
+    subst (λ (xs : List ℕ). Writing taken faults text xs old new) same so
 
 -- nothing is left to write
-pub all_written : {K : Type 0} {taken : K → Option (List ℕ)} {faults : K → ℕ} {text rest : List ℕ} {old new : K} → Writing taken faults text rest old new → rest ≡ [] → Writes taken faults text (Ok tt) old new
+pub all_written : {K : Type 0} {taken : K → Option (List ℕ)} {faults : K → ℕ} {text rest : List ℕ} {old new : K}
+    → Writing taken faults text rest old new → rest ≡ [] → Writes taken faults text (Ok tt) old new
 all_written {taken = taken} {faults = faults} {text = text} {rest = rest} {old = old} {new = new} so none =
-    as_text taken faults so.front text (Ok tt) old new (so.parts ∙ (ap (λ (xs : List ℕ). so.front ++ xs) none ∙ append-nil so.front)) so.wrote
+    as_text taken faults so.front text (Ok tt) old new
+    (so.parts ∙ (ap (λ (xs : List ℕ). so.front ++ xs) none ∙ append-nil so.front)) so.wrote

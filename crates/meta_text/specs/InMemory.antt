@@ -7,7 +7,8 @@ use Rattle.meta_text.specs.declared.outside.ReadOutcome.TheVariants as reads
 use Rattle.meta_text.specs.declared.outside.WriteOutcome.{WriteOutcome}
 use Rattle.meta_text.specs.declared.outside.WriteOutcome.TheVariants as writes
 
--- a source over memory: the bytes left, the most that a call gives, the numbers of the calls that fail, the calls so far, and the faults so far
+-- a source over memory: the bytes left, the most that a call gives, the numbers of the calls that fail, the calls so far, and the faults
+-- so far
 pub record SourceState : Type 0 where
   pub left : List ℕ
   pub step : ℕ
@@ -15,7 +16,8 @@ pub record SourceState : Type 0 where
   pub calls : ℕ
   pub faults : ℕ
 
--- a sink over memory: the bytes taken, the most that it holds, the most that a call takes, the numbers of the calls that fail, the calls so far, and the faults so far
+-- a sink over memory: the bytes taken, the most that it holds, the most that a call takes, the numbers of the calls that fail, the calls
+-- so far, and the faults so far
 pub record SinkState : Type 0 where
   pub taken : List ℕ
   pub room : ℕ

@@ -38,7 +38,7 @@ line_text level text = text_of (at level (text ∷ []) ∷ [])
 
 -- the head of a block: `HEAD {`, without the blanks at the end of the head
 abbrev pub block_text : ℕ → List ℕ → List ℕ
-block_text level head = text_of (at level (without_blanks head ∷ (codes " {" ∷ [])) ∷ [])
+block_text level head = text_of (at level (without_blanks head ∷ codes " {" ∷ []) ∷ [])
 
 -- the end of a block at this level: `}`
 abbrev pub end_text : ℕ → List ℕ
@@ -46,4 +46,4 @@ end_text level = text_of (at level (codes "}" ∷ []) ∷ [])
 
 -- an arm of a match: `NAME { F, G } => BODY,`, or `NAME => BODY,` where there are no fields
 abbrev pub arm_text : ℕ → List ℕ → List (List ℕ) → List ℕ → List ℕ
-arm_text level name fields body = text_of (at level (name ∷ (arm_mark fields ∷ (body ∷ (codes "," ∷ [])))) ∷ [])
+arm_text level name fields body = text_of (at level (name ∷ arm_mark fields ∷ body ∷ codes "," ∷ []) ∷ [])

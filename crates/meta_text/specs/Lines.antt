@@ -18,7 +18,7 @@ empty_line = record { level = 0; parts = [] }
 -- four spaces a level, and then the rest
 abbrev pub indented : ℕ → List ℕ → List ℕ
 indented zero rest = rest
-indented (suc level) rest = 32 ∷ (32 ∷ (32 ∷ (32 ∷ indented level rest)))
+indented (suc level) rest = 32 ∷ 32 ∷ 32 ∷ 32 ∷ indented level rest
 
 -- the parts, LF, and then the rest
 abbrev pub parts_onto : List (List ℕ) → List ℕ → List ℕ

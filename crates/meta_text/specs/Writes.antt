@@ -7,7 +7,8 @@ use Rattle.meta_text.specs.declared.whole.WriteError.TheVariants.{WriteFault}
 -- From the sink before a call to the sink after it, the text was written where the answer is `Ok`. Otherwise a front of the text was
 -- written, and not all of it; the error is `WriteFault`, and the sink counted a fault. The count never falls. The sink tells what it
 -- took and how many faults there were by taken and faults.
-pub record Writes {K : Type 0} (taken : K → Option (List ℕ)) (faults : K → ℕ) (text : List ℕ) (result : Result (Unit {0}) WriteError) (old new : K) : Type 0 where
+pub record Writes {K : Type 0} (taken : K → Option (List ℕ)) (faults : K → ℕ) (text : List ℕ)
+    (result : Result (Unit {0}) WriteError) (old new : K) : Type 0 where
   pub ok : OnOk result (taken new ≡ with_more (taken old) text)
   pub err : OnErr result (TookPart text (taken old) (taken new))
   pub only : IfErr result (λ error. error ≡ WriteFault)

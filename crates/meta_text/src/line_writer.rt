@@ -2,7 +2,8 @@ ghost use Rattle.std.specs.Prelude.{◌≡◌, ℕ, ◌+◌, ◌-◌, ◌^◌, �
 ghost use Rattle.std.specs.List.{flat_map};
 ghost use Rattle.meta_text.specs.Lines.{indented, text_of, empty_line};
 ghost use Rattle.meta_text.specs.Writes.{Writes};
-ghost use Rattle.meta_text.specs.LineWriter.{sink_of, sink_name, level_of, without_blanks, behind_comma, arm_mark, line_text, block_text, end_text, arm_text};
+ghost use Rattle.meta_text.specs.LineWriter.{sink_of, sink_name, level_of, without_blanks, behind_comma, arm_mark, line_text, block_text};
+ghost use Rattle.meta_text.specs.LineWriter.{end_text, arm_text};
 
 use crate::outside::Sink;
 use crate::whole::{WriteError, write_whole};
@@ -108,7 +109,8 @@ impl<'a, K: Sink> LineWriter<'a, K> {
     /// Writes an arm of a match on one line: `NAME { F, G } => BODY,`, or `NAME => BODY,` where
     /// there are no fields.
     pub fn arm(&mut self, name: &[u8], fields: &[Text], body: &[u8]) -> Result<(), WriteError>
-        ensures writes { Writes K.taken K.faults (arm_text (level_of self.old) name.now fields.now body.now) result (sink_of self.old) (sink_of self.new) }
+        ensures writes { Writes K.taken K.faults (arm_text (level_of self.old) name.now fields.now body.now) result
+            (sink_of self.old) (sink_of self.new) }
         ensures level { level_of self.new ≡ level_of self.old }
         ensures same_sink { sink_name self.new ≡ sink_name self.old }
     {

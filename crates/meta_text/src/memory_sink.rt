@@ -1,4 +1,5 @@
-ghost use Rattle.std.specs.Prelude.{◌≡◌, ℕ, ◌+◌, ◌<◌, ◌≤◌, ◌↔◌, ◌++◌, ◌==◌, ◌||◌, List, [], length, take, Option, Some, IfOk, IsTrue, vec_len, vec_capacity};
+ghost use Rattle.std.specs.Prelude.{◌≡◌, ℕ, ◌+◌, ◌<◌, ◌≤◌, ◌↔◌, ◌++◌, ◌==◌, ◌||◌, List, [], length, take, Option, Some, IfOk, IsTrue};
+ghost use Rattle.std.specs.Prelude.{vec_len, vec_capacity};
 ghost use Rattle.meta_text.specs.Outside.{Rose, with_more};
 ghost use Rattle.meta_text.specs.Outcomes.{IfWrote, OnWriteFailed};
 ghost use Rattle.meta_text.specs.InMemory.{SinkState, is_listed, refuses_next, taken_count, after_write};

@@ -35,7 +35,8 @@ impl<W: Write> Sink for StdSink<W> {
         requires { 0 < length bytes.now }
 
         // What the writer took, where the bytes that it holds are known.
-        ensures wrote { IfWrote result (λ n. Appends (W.contents (writer_of self.old)) (W.contents (writer_of self.new)) (take n bytes.now)) }
+        ensures wrote { IfWrote result (λ n. Appends (W.contents (writer_of self.old))
+            (W.contents (writer_of self.new)) (take n bytes.now)) }
         ensures count { write_faults self.new ≡ faults_after_write (write_faults self.old) result }
 
         // What each sink promises.

@@ -51,11 +51,17 @@ same_type (Lane a) (Lane b) e = ap Lane (same_lane a b e)
 same_type (Lane a) (Vector b) e = cc
 same_type (Lane a) (DynamicVector b) e = cc
 same_type (Vector a) (Lane b) e = cc
-same_type (Vector a) (Vector b) e = λ i. Vector (record { base = same_lane a.base b.base (and_parts _ _ e).0 i; lanes = same_count a.lanes b.lanes (and_parts _ _ e).1 i })
+same_type (Vector a) (Vector b) e =
+    λ i. Vector (record { base = same_lane a.base b.base (and_parts _ _ e).0 i; lanes = same_count a.lanes b.lanes (and_parts _ _ e).1 i })
 same_type (Vector a) (DynamicVector b) e = cc
 same_type (DynamicVector a) (Lane b) e = cc
 same_type (DynamicVector a) (Vector b) e = cc
-same_type (DynamicVector a) (DynamicVector b) e = λ i. DynamicVector (record { base = same_lane a.base b.base (and_parts _ _ e).0 i; unscaled_lanes = same_count a.unscaled_lanes b.unscaled_lanes (and_parts _ _ e).1 i })
+same_type (DynamicVector a) (DynamicVector b) e =
+    λ i. DynamicVector (record {
+      base = same_lane a.base b.base (and_parts _ _ e).0 i;
+      unscaled_lanes =
+          same_count a.unscaled_lanes b.unscaled_lanes (and_parts _ _ e).1 i;
+    })
 
 pub equal_type : (a b : ValueType) → a ≡ b → eq-value.it a b ≡ true
 equal_type a b e = search rules

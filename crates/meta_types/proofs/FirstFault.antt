@@ -12,7 +12,8 @@ pub record IsIn (parts : ℕ) (places rules : ℕ → ℕ) (k : Key) : Type 0 wh
 
 -- What is to be shown of an order in which faults are looked for: a position is known by its key; at a position one fault at most
 -- is shown; and there are so many parts, so many places in each where one can be shown, and so many rules for each.
-pub record IsSearchable {P : Type 0} (key : P → Key) (Shows : P → DefinitionError → Type 0) (parts : ℕ) (places rules : ℕ → ℕ) : Type 0 where
+pub record IsSearchable {P : Type 0} (key : P → Key) (Shows : P → DefinitionError → Type 0) (parts : ℕ) (places rules : ℕ
+    → ℕ) : Type 0 where
   pub position_of : Key → P
   pub known : (p : P) → position_of (key p) ≡ p
   pub one : (p : P) (e f : DefinitionError) → Shows p e → Shows p f → e ≡ f
@@ -33,31 +34,35 @@ ordered k m =
     (cases_order k.part m.part)
 
 -- before the first key there is no position
-pub start : {P : Type 0} (key : P → Key) (Shows : P → DefinitionError → Type 0) → ShowsNoneBefore key Shows (key_at 0 0 0)
-start key Shows = λ p e l s. grind (arith, l)
+pub none_before_first : {P : Type 0} (key : P → Key) (Shows : P → DefinitionError → Type 0) → ShowsNoneBefore key Shows (key_at 0 0 0)
+none_before_first key Shows = λ p e l s. grind (arith, l)
 
-module _ {P : Type 0} {key : P → Key} {Shows : P → DefinitionError → Type 0} {parts : ℕ} {places rules : ℕ → ℕ} (so : IsSearchable key Shows parts places rules) where
+module _ {P : Type 0} {key : P → Key} {Shows : P → DefinitionError → Type 0} {parts : ℕ} {places rules : ℕ
+    → ℕ} (so : IsSearchable key Shows parts places rules) where
   same : (p q : P) → key p ≡ key q → p ≡ q
   same p q is = sym (so.known p) ∙ ap so.position_of is ∙ so.known q
 
   -- two first faults are one
-  pub one_first : (e f : DefinitionError) → IsFirstShown key Shows e → IsFirstShown key Shows f → e ≡ f
-  one_first e f a b =
+  pub one_first_shown : (e f : DefinitionError) → IsFirstShown key Shows e → IsFirstShown key Shows f → e ≡ f
+  one_first_shown e f a b =
       ⊎_elim
       (λ is. so.one a.position e f a.shows (subst (λ p. Shows p f) (sym (same a.position b.position is)) b.shows))
       (⊎_elim (λ l. absurd (b.first a.position e l a.shows)) (λ l. absurd (a.first b.position f l b.shows)))
       (ordered (key a.position) (key b.position))
 
   -- none is shown before k, and none from there to m: none is shown before m
-  onward : (k m : Key) → ShowsNoneBefore key Shows k → ((p : P) (e : DefinitionError) → IsEarlier (key p) m → (IsEarlier (key p) k → ⊥) → Shows p e → ⊥) → ShowsNoneBefore key Shows m
+  onward : (k m : Key) → ShowsNoneBefore key Shows k → ((p : P) (e : DefinitionError) → IsEarlier (key p) m → (IsEarlier (key p) k → ⊥)
+      → Shows p e → ⊥) → ShowsNoneBefore key Shows m
   onward k m none between p e l s =
       ⊎_elim
-      (λ is. between p e l (λ b. let part = ap (λ (x : Key). x.part) is in let place = ap (λ (x : Key). x.place) is in let rule = ap (λ (x : Key). x.rule) is in grind (arith, b, part, place, rule)) s)
+      (λ is. between p e l (λ b. let part = ap (λ (x : Key). x.part) is in let place = ap (λ (x : Key). x.place) is in let rule =
+      ap (λ (x : Key). x.rule) is in grind (arith, b, part, place, rule)) s)
       (⊎_elim (λ b. none p e b s) (λ b. between p e l (λ c. grind (arith, b, c)) s))
       (ordered (key p) k)
 
   -- the rule at p shows none: on to the next rule
-  pub passed : (p : P) → ShowsNoneBefore key Shows (key p) → ((e : DefinitionError) → Shows p e → ⊥) → ShowsNoneBefore key Shows (key_at (key p).part (key p).place (suc (key p).rule))
+  pub passed : (p : P) → ShowsNoneBefore key Shows (key p) → ((e : DefinitionError) → Shows p e → ⊥)
+      → ShowsNoneBefore key Shows (key_at (key p).part (key p).place (suc (key p).rule))
   passed p none never = onward (key p) (key_at (key p).part (key p).place (suc (key p).rule)) none (λ q e l n s.
       let part : (key q).part ≡ (key p).part = grind (arith, l, n) in
       let place : (key q).place ≡ (key p).place = grind (arith, l, n) in
@@ -65,15 +70,20 @@ module _ {P : Type 0} {key : P → Key} {Shows : P → DefinitionError → Type 
       never e (subst (λ r. Shows r e) (same q p (λ i. record { part = part i; place = place i; rule = rule i })) s))
 
   -- all rules show none at a place: on to the next place
-  pub next_place : (part place : ℕ) → ShowsNoneBefore key Shows (key_at part place (rules part)) → ShowsNoneBefore key Shows (key_at part (place + 1) 0)
+  pub next_place : (part place : ℕ) → ShowsNoneBefore key Shows (key_at part place (rules part))
+      → ShowsNoneBefore key Shows (key_at part (place + 1) 0)
   next_place part place none = onward (key_at part place (rules part)) (key_at part (place + 1) 0) none (λ p e l n s.
       let here : (key p).part ≡ part = grind (arith, l, n) in
       let few = rw here at (so.within p e s).rule in
       grind (arith, l, n, few))
 
   -- none of the first rules shows one at a place
-  pub some_rules : (part place n : ℕ) → ShowsNoneBefore key Shows (key_at part place 0) → ((p : P) (e : DefinitionError) → (key p).part ≡ part → (key p).place ≡ place → (key p).rule < n → Shows p e → ⊥) → ShowsNoneBefore key Shows (key_at part place n)
-  some_rules part place n none never = onward (key_at part place 0) (key_at part place n) none (λ p e l past s. never p e (grind (arith, l, past)) (grind (arith, l, past)) (grind (arith, l, past)) s)
+  pub some_rules : (part place n : ℕ) → ShowsNoneBefore key Shows (key_at part place 0)
+      → ((p : P) (e : DefinitionError) → (key p).part ≡ part → (key p).place ≡ place → (key p).rule < n → Shows p e → ⊥)
+      → ShowsNoneBefore key Shows (key_at part place n)
+  some_rules part place n none never =
+      onward (key_at part place 0) (key_at part place n) none
+      (λ p e l past s. never p e (grind (arith, l, past)) (grind (arith, l, past)) (grind (arith, l, past)) s)
 
   -- none is shown at all places of a part: on to the next part
   pub next_part : (part : ℕ) → ShowsNoneBefore key Shows (key_at part (places part) 0) → ShowsNoneBefore key Shows (key_at (suc part) 0 0)

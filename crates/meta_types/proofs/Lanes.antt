@@ -2,7 +2,7 @@
 use Rattle.std.proofs.Common.{◌≡◌, ℕ, inl, inr, true, false, ◌==◌, sym, arith, refl, Contains}
 use Rattle.std.specs.List.{slice_get}
 use Rattle.std.specs.Prelude.{Some}
-use Rattle.meta_types.specs.TypeParts.{Kind, IntKind, FloatKind, widths, scalar, lane_counts, lane_name, name_of}
+use Rattle.meta_types.specs.TypeParts.{NumberKind, IntKind, FloatKind, widths, scalar, lane_counts, lane_name, name_of}
 use Rattle.std.proofs.lemmas.List.{append-nil}
 use Rattle.meta_types.specs.Lane.{lane_parts}
 use Rattle.meta_types.specs.LaneTypes.{lane_types}
@@ -17,7 +17,7 @@ use Rattle.meta_types.specs.declared.lane_count.TheConstants.{LANE_COUNTS}
 use Rattle.meta_types.proofs.Among.{Among, among}
 
 -- a lane type of this kind and width
-lane_of : (kind : Kind) (width : ℕ) → Among (widths kind) width → (lane : LaneType) × (lane_parts lane ≡ scalar kind width)
+lane_of : (kind : NumberKind) (width : ℕ) → Among (widths kind) width → (lane : LaneType) × (lane_parts lane ≡ scalar kind width)
 lane_of IntKind width (inl w) = (IntLane I8, λ i. scalar IntKind (sym w i))
 lane_of IntKind width (inr (inl w)) = (IntLane I16, λ i. scalar IntKind (sym w i))
 lane_of IntKind width (inr (inr (inl w))) = (IntLane I32, λ i. scalar IntKind (sym w i))
@@ -30,7 +30,7 @@ lane_of FloatKind width (inr (inr (inl w))) = (FloatLane F64, λ i. scalar Float
 lane_of FloatKind width (inr (inr (inr (inl w)))) = (FloatLane F128, λ i. scalar FloatKind (sym w i))
 lane_of FloatKind width (inr (inr (inr (inr h)))) = absurd h
 
-pub every_lane : (kind : Kind) (width : ℕ) → Contains (widths kind) width → (lane : LaneType) × (lane_parts lane ≡ scalar kind width)
+pub every_lane : (kind : NumberKind) (width : ℕ) → Contains (widths kind) width → (lane : LaneType) × (lane_parts lane ≡ scalar kind width)
 every_lane kind width h = lane_of kind width (among (widths kind) width h)
 
 -- the iterators pass over each lane type

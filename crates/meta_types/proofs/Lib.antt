@@ -1,14 +1,17 @@
 pub mod Among
-pub mod Answering
+mod Answering
 pub mod AllTypes
+pub mod Decided
+pub mod NamesDecided
 pub mod Numbers
 pub mod Names
 pub mod TypeNumbers
 pub mod Typed
-pub mod Values
+mod Values
+pub mod Functions
 pub mod OneAnswer
 mod Relating
-mod Rows
+pub mod Rows
 mod ByNumber
 mod Listed
 mod Left
@@ -16,6 +19,7 @@ mod Lanes
 mod LaneNames
 mod EqualTypes
 mod Docs
+pub mod Characters
 mod Camel
 -- names that are shared
 mod KeptNames
@@ -23,4 +27,4 @@ pub mod NamesSoFar
 pub mod SharedNames
 -- the first fault
 pub mod FirstFault
-mod Writing
+pub mod Writing

@@ -1,5 +1,6 @@
 -- The list of all types has each of them once.
-use Rattle.std.proofs.Common.{◌≡◌, ℕ, zero, suc, ◌+◌, ◌-◌, ◌*◌, ◌/◌, ◌%◌, ◌==◌, ◌<◌, ◌↔◌, ◌∙◌, sym, ap, subst, refl, arith, inl, inr, ◌⊎◌, Bool, true, false, ◌&&◌, ◌||◌, List, [], ◌∷◌, length, Contains, le_of_suc-le-suc, get_or}
+use Rattle.std.proofs.Common.{◌≡◌, ℕ, zero, suc, ◌+◌, ◌-◌, ◌*◌, ◌/◌, ◌%◌, ◌==◌, ◌<◌, ◌↔◌, ◌∙◌, sym, ap, subst, refl, arith, inl, inr, ◌⊎◌}
+use Rattle.std.proofs.Common.{Bool, true, false, ◌&&◌, ◌||◌, List, [], ◌∷◌, length, Contains, le_of_suc-le-suc, get_or}
 use Rattle.std.specs.List.{slice_get}
 use Rattle.std.specs.Prelude.{Some}
 use Rattle.std.proofs.Math.Nat.{zero-add}
@@ -75,10 +76,12 @@ placed p k (x ∷ xs) = p x == k && placed p (suc k) xs
 all_placed : placed (λ t. place (number_of t)) 0 all_types ≡ true
 all_placed = refl
 
-placed_at : (p : TypeParts → ℕ) (k : ℕ) (xs : List TypeParts) (j : ℕ) (t : TypeParts) → placed p k xs ≡ true → j < length xs → p (get_or xs j t) ≡ k + j
+placed_at : (p : TypeParts → ℕ) (k : ℕ) (xs : List TypeParts) (j : ℕ) (t : TypeParts) → placed p k xs ≡ true
+    → j < length xs → p (get_or xs j t) ≡ k + j
 placed_at p k [] j t e l = absurd (omega arith)
 placed_at p k (x ∷ xs) zero t e l = let h = eqb-true (p x) k (and_parts (p x == k) (placed p (suc k) xs) e).0 in omega arith
-placed_at p k (x ∷ xs) (suc j) t e l = let h = placed_at p (suc k) xs j t (and_parts (p x == k) (placed p (suc k) xs) e).1 (le_of_suc-le-suc l) in omega arith
+placed_at p k (x ∷ xs) (suc j) t e l =
+    let h = placed_at p (suc k) xs j t (and_parts (p x == k) (placed p (suc k) xs) e).1 (le_of_suc-le-suc l) in omega arith
 
 -- so a type has one place
 at_place : (j : ℕ) (t : TypeParts) → slice_get all_types j ≡ Some t → place (number_of t) ≡ j

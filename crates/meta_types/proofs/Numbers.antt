@@ -14,7 +14,9 @@ all_numbers_apart = refl
 
 -- two types with one number are one
 pub one_number : (a b : TypeParts) → IsType a → IsType b → number_of a ≡ number_of b → a ≡ b
-one_number a b is_a is_b e = by_case (or_cases _ _ (at_all_types (λ y. numbers_apart a y) (at_all_types (λ x. at_all (λ y. numbers_apart x y)) all_numbers_apart a is_a) b is_b))
+one_number a b is_a is_b e = by_case
+    (or_cases _ _ (at_all_types (λ y. numbers_apart a y) (at_all_types (λ x. at_all (λ y. numbers_apart x y)) all_numbers_apart a is_a) b
+    is_b))
   where
     -- the numbers differ, which they don't, or the types are one
     by_case : (not (number_of a == number_of b) ≡ true) ⊎ (same_parts a b ≡ true) → a ≡ b

@@ -1,8 +1,10 @@
 -- A derived function leads from a type to one type at most.
-use Rattle.std.proofs.Common.{Bool, Contains, subst, ◌&&◌, ◌||◌, ◌==◌, not, nat_lt, ◌≡◌, ◌<◌, ℕ, ◌*◌, ◌/◌, false, true, if◌then◌else◌, refl, sym, ◌∙◌, ap, arith, ⊎_elim}
+use Rattle.std.proofs.Common.{Bool, Contains, subst, ◌&&◌, ◌||◌, ◌==◌, not, nat_lt, ◌≡◌, ◌<◌, ℕ, ◌*◌, ◌/◌, false, true, if◌then◌else◌, refl}
+use Rattle.std.proofs.Common.{sym, ◌∙◌, ap, arith, ⊎_elim}
 use Rattle.std.proofs.lemmas.Bool.{and_parts, and_from, or_cases, eqb-true, ltb-true, ltb-false, not-true, false≢true}
-use Rattle.meta_types.specs.TypeParts.{Kind, IntKind, TypeParts, IsType, lane_counts, scalar}
-use Rattle.meta_types.specs.Function.{Function, LaneOf, AsTruthy, HalfWidth, DoubleWidth, SplitLanes, MergeLanes, DynamicToVector, Narrower, Wider, Answers, is_scalar, same_kind, same_mark}
+use Rattle.meta_types.specs.TypeParts.{NumberKind, IntKind, TypeParts, IsType, lane_counts, scalar}
+use Rattle.meta_types.specs.Function.{Function, LaneOf, AsTruthy, HalfWidth, DoubleWidth, SplitLanes, MergeLanes, DynamicToVector, Narrower}
+use Rattle.meta_types.specs.Function.{Wider, Answers, is_scalar, same_kind, same_mark}
 use Rattle.meta_types.proofs.AllTypes.{at_each_contained, same_kind_true, same_mark_true}
 
 -- the parts of the one type to which f may lead from u
@@ -18,13 +20,15 @@ candidate Narrower u = u
 candidate Wider u = u
 
 -- a type of these parts
-with_parts : (t : TypeParts) (kind : Kind) (width lanes : ℕ) (mark : Bool) → t.kind ≡ kind → t.width ≡ width → t.lanes ≡ lanes → t.is_dynamic ≡ mark → t ≡ record { kind = kind; width = width; lanes = lanes; is_dynamic = mark }
+with_parts : (t : TypeParts) (kind : NumberKind) (width lanes : ℕ) (mark : Bool) → t.kind ≡ kind → t.width ≡ width → t.lanes ≡ lanes
+    → t.is_dynamic ≡ mark → t ≡ record { kind = kind; width = width; lanes = lanes; is_dynamic = mark }
 with_parts t kind width lanes mark k w l m = λ i. record { kind = k i; width = w i; lanes = l i; is_dynamic = m i }
 
 -- what has one lane isn't dynamic
 one_lane_mark : (mark : Bool) (n : ℕ) → Contains (lane_counts mark) n → n ≡ 1 → mark ≡ false
 one_lane_mark false n h e = refl
-one_lane_mark true n h e = absurd (false≢true (ap (λ m. not (m == 1)) (sym e) ∙ at_each_contained (λ m. not (m == 1)) (lane_counts true) n refl h))
+one_lane_mark true n h e =
+    absurd (false≢true (ap (λ m. not (m == 1)) (sym e) ∙ at_each_contained (λ m. not (m == 1)) (lane_counts true) n refl h))
 
 half_of : (a b : ℕ) → 2 * a ≡ b → a ≡ b / 2
 half_of a b e = omega arith
@@ -38,7 +42,8 @@ all_four a b c d e =
     (first, second, third, fourth)
 
 -- the truth value of a scalar, and of a vector
-truthy_scalar : (u t : TypeParts) → IsType u → IsType t → t.kind ≡ IntKind → (is_scalar u && (is_scalar t && t.width == 8)) ≡ true → t ≡ candidate AsTruthy u
+truthy_scalar : (u t : TypeParts) → IsType u → IsType t → t.kind ≡ IntKind → (is_scalar u && (is_scalar t && t.width == 8)) ≡ true
+    → t ≡ candidate AsTruthy u
 truthy_scalar u t from to kind e =
     let (of_u, rest) = and_parts (is_scalar u) (is_scalar t && t.width == 8) e in
     let (of_t, width) = and_parts (is_scalar t) (t.width == 8) rest in
@@ -49,9 +54,12 @@ truthy_scalar u t from to kind e =
     (one_t ∙ sym one_u)
     (one_lane_mark t.is_dynamic t.lanes to.lanes one_t ∙ sym (one_lane_mark u.is_dynamic u.lanes from.lanes one_u))
 
-truthy_vector : (u t : TypeParts) → t.kind ≡ IntKind → (not (is_scalar u) && (t.width == u.width && (t.lanes == u.lanes && same_mark t.is_dynamic u.is_dynamic))) ≡ true → t ≡ candidate AsTruthy u
+truthy_vector : (u t : TypeParts) → t.kind ≡ IntKind
+    → (not (is_scalar u) && (t.width == u.width && (t.lanes == u.lanes && same_mark t.is_dynamic u.is_dynamic))) ≡ true
+    → t ≡ candidate AsTruthy u
 truthy_vector u t kind e =
-    let (several, width, lanes, mark) = all_four (not (is_scalar u)) (t.width == u.width) (t.lanes == u.lanes) (same_mark t.is_dynamic u.is_dynamic) e in
+    let (several, width, lanes, mark) =
+    all_four (not (is_scalar u)) (t.width == u.width) (t.lanes == u.lanes) (same_mark t.is_dynamic u.is_dynamic) e in
     with_parts t IntKind _ _ _ kind
     (eqb-true t.width u.width width ∙ ap (λ b. if b then 8 else u.width) (sym (not-true (is_scalar u) several)))
     (eqb-true t.lanes u.lanes lanes)
@@ -63,29 +71,42 @@ only LaneOf u t h =
     let (kind, rest) = and_parts (same_kind t.kind u.kind) (t.width == u.width && is_scalar t) h.steps.relates in
     let (width, alone) = and_parts (t.width == u.width) (is_scalar t) rest in
     let lanes = eqb-true t.lanes 1 alone in
-    with_parts t _ _ _ _ (same_kind_true t.kind u.kind kind) (eqb-true t.width u.width width) lanes (one_lane_mark t.is_dynamic t.lanes h.steps.to.lanes lanes)
+    with_parts t _ _ _ _ (same_kind_true t.kind u.kind kind) (eqb-true t.width u.width width) lanes
+    (one_lane_mark t.is_dynamic t.lanes h.steps.to.lanes lanes)
 only AsTruthy u t h =
-    let (kind, rest) = and_parts (same_kind t.kind IntKind) ((is_scalar u && (is_scalar t && t.width == 8)) || (not (is_scalar u) && (t.width == u.width && (t.lanes == u.lanes && same_mark t.is_dynamic u.is_dynamic)))) h.steps.relates in
+    let (kind, rest) = and_parts (same_kind t.kind IntKind) ((is_scalar u && (is_scalar t && t.width == 8)) ||
+    (not (is_scalar u) && (t.width == u.width && (t.lanes == u.lanes && same_mark t.is_dynamic u.is_dynamic)))) h.steps.relates in
     ⊎_elim
     (truthy_scalar u t h.steps.from h.steps.to (same_kind_true t.kind IntKind kind))
     (truthy_vector u t (same_kind_true t.kind IntKind kind))
-    (or_cases (is_scalar u && (is_scalar t && t.width == 8)) (not (is_scalar u) && (t.width == u.width && (t.lanes == u.lanes && same_mark t.is_dynamic u.is_dynamic))) rest)
+    (or_cases (is_scalar u && (is_scalar t && t.width == 8))
+    (not (is_scalar u) && (t.width == u.width && (t.lanes == u.lanes && same_mark t.is_dynamic u.is_dynamic))) rest)
 only HalfWidth u t h =
-    let (kind, width, lanes, mark) = all_four (same_kind t.kind u.kind) (2 * t.width == u.width) (t.lanes == u.lanes) (same_mark t.is_dynamic u.is_dynamic) h.steps.relates in
-    with_parts t _ _ _ _ (same_kind_true t.kind u.kind kind) (half_of t.width u.width (eqb-true (2 * t.width) u.width width)) (eqb-true t.lanes u.lanes lanes) (same_mark_true t.is_dynamic u.is_dynamic mark)
+    let (kind, width, lanes, mark) = all_four (same_kind t.kind u.kind) (2 * t.width == u.width) (t.lanes == u.lanes)
+    (same_mark t.is_dynamic u.is_dynamic) h.steps.relates in
+    with_parts t _ _ _ _ (same_kind_true t.kind u.kind kind) (half_of t.width u.width (eqb-true (2 * t.width) u.width width))
+    (eqb-true t.lanes u.lanes lanes) (same_mark_true t.is_dynamic u.is_dynamic mark)
 only DoubleWidth u t h =
-    let (kind, width, lanes, mark) = all_four (same_kind t.kind u.kind) (t.width == 2 * u.width) (t.lanes == u.lanes) (same_mark t.is_dynamic u.is_dynamic) h.steps.relates in
-    with_parts t _ _ _ _ (same_kind_true t.kind u.kind kind) (eqb-true t.width (2 * u.width) width) (eqb-true t.lanes u.lanes lanes) (same_mark_true t.is_dynamic u.is_dynamic mark)
+    let (kind, width, lanes, mark) = all_four (same_kind t.kind u.kind) (t.width == 2 * u.width) (t.lanes == u.lanes)
+    (same_mark t.is_dynamic u.is_dynamic) h.steps.relates in
+    with_parts t _ _ _ _ (same_kind_true t.kind u.kind kind) (eqb-true t.width (2 * u.width) width) (eqb-true t.lanes u.lanes lanes)
+    (same_mark_true t.is_dynamic u.is_dynamic mark)
 only SplitLanes u t h =
-    let (kind, width, lanes, mark) = all_four (same_kind t.kind u.kind) (2 * t.width == u.width) (t.lanes == 2 * u.lanes) (same_mark t.is_dynamic u.is_dynamic) h.steps.relates in
-    with_parts t _ _ _ _ (same_kind_true t.kind u.kind kind) (half_of t.width u.width (eqb-true (2 * t.width) u.width width)) (eqb-true t.lanes (2 * u.lanes) lanes) (same_mark_true t.is_dynamic u.is_dynamic mark)
+    let (kind, width, lanes, mark) = all_four (same_kind t.kind u.kind) (2 * t.width == u.width) (t.lanes == 2 * u.lanes)
+    (same_mark t.is_dynamic u.is_dynamic) h.steps.relates in
+    with_parts t _ _ _ _ (same_kind_true t.kind u.kind kind) (half_of t.width u.width (eqb-true (2 * t.width) u.width width))
+    (eqb-true t.lanes (2 * u.lanes) lanes) (same_mark_true t.is_dynamic u.is_dynamic mark)
 only MergeLanes u t h =
-    let (kind, width, lanes, mark) = all_four (same_kind t.kind u.kind) (t.width == 2 * u.width) (2 * t.lanes == u.lanes) (same_mark t.is_dynamic u.is_dynamic) h.steps.relates in
-    with_parts t _ _ _ _ (same_kind_true t.kind u.kind kind) (eqb-true t.width (2 * u.width) width) (half_of t.lanes u.lanes (eqb-true (2 * t.lanes) u.lanes lanes)) (same_mark_true t.is_dynamic u.is_dynamic mark)
+    let (kind, width, lanes, mark) = all_four (same_kind t.kind u.kind) (t.width == 2 * u.width) (2 * t.lanes == u.lanes)
+    (same_mark t.is_dynamic u.is_dynamic) h.steps.relates in
+    with_parts t _ _ _ _ (same_kind_true t.kind u.kind kind) (eqb-true t.width (2 * u.width) width)
+    (half_of t.lanes u.lanes (eqb-true (2 * t.lanes) u.lanes lanes)) (same_mark_true t.is_dynamic u.is_dynamic mark)
 only DynamicToVector u t h =
-    let (kind, width, lanes, marks) = all_four (same_kind t.kind u.kind) (t.width == u.width) (t.lanes == u.lanes) (u.is_dynamic && (not t.is_dynamic && nat_lt u.lanes 256)) h.steps.relates in
+    let (kind, width, lanes, marks) = all_four (same_kind t.kind u.kind) (t.width == u.width) (t.lanes == u.lanes)
+    (u.is_dynamic && (not t.is_dynamic && nat_lt u.lanes 256)) h.steps.relates in
     let (of_u, of_t) = and_parts u.is_dynamic (not t.is_dynamic && nat_lt u.lanes 256) marks in
-    with_parts t _ _ _ _ (same_kind_true t.kind u.kind kind) (eqb-true t.width u.width width) (eqb-true t.lanes u.lanes lanes) (not-true t.is_dynamic (and_parts (not t.is_dynamic) (nat_lt u.lanes 256) of_t).0)
+    with_parts t _ _ _ _ (same_kind_true t.kind u.kind kind) (eqb-true t.width u.width width) (eqb-true t.lanes u.lanes lanes)
+    (not-true t.is_dynamic (and_parts (not t.is_dynamic) (nat_lt u.lanes 256) of_t).0)
 only Narrower u t h = absurd (h.is_function.0 refl)
 only Wider u t h = absurd (h.is_function.1 refl)
 
@@ -118,6 +139,7 @@ not_fixed f u t is e h = fixed e (subst (λ g. Answers g u t) is h)
   where
     fixed : false ≡ (u.is_dynamic && nat_lt u.lanes 256) → Answers DynamicToVector u t → ⊥
     fixed e h =
-        let (kind, width, lanes, marks) = all_four (same_kind t.kind u.kind) (t.width == u.width) (t.lanes == u.lanes) (u.is_dynamic && (not t.is_dynamic && nat_lt u.lanes 256)) h.steps.relates in
+        let (kind, width, lanes, marks) = all_four (same_kind t.kind u.kind) (t.width == u.width) (t.lanes == u.lanes)
+        (u.is_dynamic && (not t.is_dynamic && nat_lt u.lanes 256)) h.steps.relates in
         let (of_u, few) = and_parts u.is_dynamic (not t.is_dynamic && nat_lt u.lanes 256) marks in
         false≢true (e ∙ and_from u.is_dynamic (nat_lt u.lanes 256) of_u (and_parts (not t.is_dynamic) (nat_lt u.lanes 256) few).1)

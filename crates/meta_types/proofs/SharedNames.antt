@@ -16,7 +16,8 @@ one_earlier names k j i a b =
     (cases_order j i)
 
 -- where no earlier name is the first that is shared, none is shared
-module _ (names : List (List ℕ)) (k : ℕ) (name : List ℕ) (is : slice_get names k ≡ Some name) (never : (j : ℕ) → IsDuplicate names k j → ⊥) where
+module _ (names : List (List ℕ)) (k : ℕ) (name : List ℕ) (is : slice_get names k ≡ Some name) (never : (j : ℕ) → IsDuplicate names k j
+    → ⊥) where
   none_before : (n j : ℕ) (earlier : List ℕ) → j < n → j < k → slice_get names j ≡ Some earlier → SharesName earlier name → ⊥
   none_before zero j earlier l before at shares = omega arith
   none_before (suc n) j earlier l before at shares = never j (record {

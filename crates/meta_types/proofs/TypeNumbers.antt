@@ -1,13 +1,16 @@
 -- The numbers of types and their names.
-use Rattle.std.proofs.Common.{◌≡◌, ◌≢◌, ℕ, ◌+◌, ◌*◌, Bool, true, false, cond, List, [], ◌∷◌, ◌++◌, take, drop, Contains, Option, Some, None, IfSome, IfNone, lit<, refl, sym, ap, ap₂, ◌∙◌, subst, arith, if◌then◌else◌}
+use Rattle.std.proofs.Common.{◌≡◌, ◌≢◌, ℕ, ◌+◌, ◌*◌, Bool, true, false, cond, List, [], ◌∷◌, ◌++◌, take, drop, Contains, Option, Some, None}
+use Rattle.std.proofs.Common.{IfSome, IfNone, lit<, refl, sym, ap, ap₂, ◌∙◌, subst, arith, if◌then◌else◌}
 use Rattle.std.specs.Prelude.{nat_eq}
 use Rattle.std.specs.Fmt.{digits}
 use Rattle.std.specs.Option.{option_map, option_or, option_and_then}
 use Rattle.std.specs.Cmp.Lexicographic.{bytes_decides, pointwise}
 use Rattle.std.proofs.lemmas.Bool.{eqb-true}
 use Rattle.std.proofs.lemmas.List.{take-append-drop}
-use Rattle.meta_types.specs.TypeParts.{Kind, IntKind, FloatKind, TypeParts, IsType, widths, lane_counts, log2, lane_code, lane_name, lanes_name, number_of, name_of}
-use Rattle.meta_types.specs.TypeNumber.{type_with, IsTypeNumber, IsNameOf, found_in, lane_codes, fixed_rows, dynamic_rows, row_of, lane_length, number_of_parts, number_named}
+use Rattle.meta_types.specs.TypeParts.{NumberKind, IntKind, FloatKind, TypeParts, IsType, widths, lane_counts, log2, lane_code, lane_name}
+use Rattle.meta_types.specs.TypeParts.{lanes_name, number_of, name_of}
+use Rattle.meta_types.specs.TypeNumber.{type_with, IsTypeNumber, IsNameOf, found_in, lane_codes, fixed_rows, dynamic_rows, row_of}
+use Rattle.meta_types.specs.TypeNumber.{lane_length, number_of_parts, number_named}
 use Rattle.meta_types.specs.ValueTypes.{type_parts_of}
 use Rattle.meta_types.specs.declared.value_type.ValueType.{ValueType}
 use Rattle.meta_types.proofs.AllTypes.{at_all, at_all_types, same_parts, same_parts_true}
@@ -21,7 +24,8 @@ all_types_back = refl
 
 -- the type with the number of a type is that type
 pub type_back : (t : TypeParts) → IsType t → type_with (number_of t) ≡ t
-type_back t is = same_parts_true (type_with (number_of t)) t (at_all_types (λ t. same_parts (type_with (number_of t)) t) all_types_back t is)
+type_back t is =
+    same_parts_true (type_with (number_of t)) t (at_all_types (λ t. same_parts (type_with (number_of t)) t) all_types_back t is)
 
 -- so the number of a type is one
 pub number_is_one : (t : TypeParts) → IsType t → IsTypeNumber (number_of t)
@@ -42,7 +46,8 @@ some_is (Some m) n e = ap (λ k. Some k) (eqb-true m n e)
 
 -- the name of a type gives its number
 pub name_numbered : (t : TypeParts) → IsType t → number_named (name_of t) ≡ Some (number_of t)
-name_numbered t is = some_is (number_named (name_of t)) (number_of t) (at_all_types (λ t. is_some (number_named (name_of t)) (number_of t)) all_named t is)
+name_numbered t is =
+    some_is (number_named (name_of t)) (number_of t) (at_all_types (λ t. is_some (number_named (name_of t)) (number_of t)) all_named t is)
 
 -- ---- and a text that gives a number is the name of its type
 
@@ -52,12 +57,14 @@ AllRows P [] = Unit {0}
 AllRows P ((name, n) ∷ rows) = P name n × AllRows P rows
 
 -- holds of what is found there
-found_row : (P : List ℕ → ℕ → Type 0) (rows : List (List ℕ × ℕ)) → AllRows P rows → (text : List ℕ) (n : ℕ) → found_in rows text ≡ Some n → P text n
+found_row : (P : List ℕ → ℕ → Type 0) (rows : List (List ℕ × ℕ)) → AllRows P rows → (text : List ℕ) (n : ℕ) → found_in rows text ≡ Some n
+    → P text n
 unfolding AllRows
 found_row P [] all text n e = absurd (cc)
 found_row P ((name, m) ∷ rows) (first, rest) text n e = by_test (pointwise nat_eq text name) refl e (λ e. found_row P rows rest text n e)
   where
-    by_test : (b : Bool) → pointwise nat_eq text name ≡ b → cond b (Some m) (found_in rows text) ≡ Some n → (found_in rows text ≡ Some n → P text n) → P text n
+    by_test : (b : Bool) → pointwise nat_eq text name ≡ b → cond b (Some m) (found_in rows text) ≡ Some n
+        → (found_in rows text ≡ Some n → P text n) → P text n
     by_test true same e below =
         let number : m ≡ n = cc in
         subst (λ k. P text k) number (subst (λ t. P t m) (sym ((bytes_decides text name).0 same)) first)
@@ -65,13 +72,14 @@ found_row P ((name, m) ∷ rows) (first, rest) text n e = by_test (pointwise nat
 
 -- the text is the name of a lane with this code
 record IsLane (text : List ℕ) (code : ℕ) : Type 0 where
-  kind : Kind
+  kind : NumberKind
   width : ℕ
   is_width : Contains (widths kind) width
   named : text ≡ lane_name kind width
   coded : code ≡ lane_code kind width
 
-lane : (kind : Kind) (width : ℕ) → Contains (widths kind) width → (text : List ℕ) → text ≡ lane_name kind width → IsLane text (lane_code kind width)
+lane : (kind : NumberKind) (width : ℕ) → Contains (widths kind) width → (text : List ℕ) → text ≡ lane_name kind width
+    → IsLane text (lane_code kind width)
 lane kind width is text e = record { kind = kind; width = width; is_width = is; named = e; coded = refl }
 
 is_lane : (text : List ℕ) (code : ℕ) → found_in lane_codes text ≡ Some code → IsLane text code
@@ -110,7 +118,8 @@ record IsBehindLane (text : List ℕ) (row : ℕ) : Type 0 where
   written : text ≡ lanes_name lanes is_dynamic
   doubled : 16 * row ≡ 16 * log2 lanes + (if is_dynamic then 0x80 else 0)
 
-lanes_of : (lanes : ℕ) (is_dynamic : Bool) → Contains (lane_counts is_dynamic) lanes → (text : List ℕ) (row : ℕ) → text ≡ lanes_name lanes is_dynamic → 16 * row ≡ 16 * log2 lanes + (if is_dynamic then 0x80 else 0) → IsBehindLane text row
+lanes_of : (lanes : ℕ) (is_dynamic : Bool) → Contains (lane_counts is_dynamic) lanes → (text : List ℕ) (row : ℕ)
+    → text ≡ lanes_name lanes is_dynamic → 16 * row ≡ 16 * log2 lanes + (if is_dynamic then 0x80 else 0) → IsBehindLane text row
 lanes_of lanes is_dynamic may text row e d = record { lanes = lanes; is_dynamic = is_dynamic; may = may; written = e; doubled = d }
 
 is_fixed : (text : List ℕ) (row : ℕ) → found_in fixed_rows text ≡ Some row → IsBehindLane text row
@@ -181,15 +190,18 @@ of_type t is text n named numbered =
       named = ap name_of back ∙ named;
     }
 
-of_parts : (lane lanes : List ℕ) (code row : ℕ) → IsLane lane code → IsBehindLane lanes row → IsNameOf (lane ++ lanes) (0x70 + code + 16 * row)
+of_parts : (lane lanes : List ℕ) (code row : ℕ) → IsLane lane code → IsBehindLane lanes row
+    → IsNameOf (lane ++ lanes) (0x70 + code + 16 * row)
 of_parts lane lanes code row l b =
-    of_type (record { kind = l.kind; width = l.width; lanes = b.lanes; is_dynamic = b.is_dynamic }) (record { width = l.is_width; lanes = b.may }) (lane ++ lanes) (0x70 + code + 16 * row)
+    of_type (record { kind = l.kind; width = l.width; lanes = b.lanes; is_dynamic = b.is_dynamic })
+    (record { width = l.is_width; lanes = b.may }) (lane ++ lanes) (0x70 + code + 16 * row)
     (ap₂ (λ front behind. front ++ behind) (sym l.named) (sym b.written))
     (let e = l.coded in let d = b.doubled in omega (arith, e, d))
 
 -- ---- of a name that is cut behind that of its lane
 
-module _ (text lane lanes : List ℕ) (end : ℕ) (is : end ≡ lane_length text) (front : lane ≡ take end text) (back : lanes ≡ drop end text) where
+module _ (text lane lanes : List ℕ) (end : ℕ) (is : end ≡ lane_length text) (front : lane ≡ take end text) (back : lanes
+    ≡ drop end text) where
   -- it is the name of the type whose code and row are found
   pub named_by : (code row : ℕ) → found_in lane_codes lane ≡ Some code → row_of lanes ≡ Some row → IsNameOf text (0x70 + code + 16 * row)
   named_by code row c r =
@@ -197,7 +209,8 @@ module _ (text lane lanes : List ℕ) (end : ℕ) (is : end ≡ lane_length text
       subst (λ t. IsNameOf t (0x70 + code + 16 * row)) whole (of_parts lane lanes code row (is_lane lane code c) (is_behind lanes row r))
 
   parts : number_named text ≡ number_of_parts lane lanes
-  parts = ap (λ n. number_of_parts (take n text) (drop n text)) (sym is) ∙ ap₂ (λ (x y : List ℕ). number_of_parts x y) (sym front) (sym back)
+  parts = ap (λ n. number_of_parts (take n text) (drop n text)) (sym is)
+      ∙ ap₂ (λ (x y : List ℕ). number_of_parts x y) (sym front) (sym back)
 
   no_name : number_of_parts lane lanes ≡ None → (t : TypeParts) → IsType t → name_of t ≢ text
   no_name none t typed e =
@@ -219,11 +232,14 @@ module _ (text lane lanes : List ℕ) (end : ℕ) (is : end ≡ lane_length text
 -- ---- from the number to the value
 
 -- the value of the number has the name
-pub value_named : (o : Option ValueType) (n : ℕ) (text : List ℕ) → IsNameOf text n → IfSome o (λ t. number_of (type_parts_of t) ≡ n) → IfSome o (λ t. name_of (type_parts_of t) ≡ text)
+pub value_named : (o : Option ValueType) (n : ℕ) (text : List ℕ) → IsNameOf text n → IfSome o (λ t. number_of (type_parts_of t) ≡ n)
+    → IfSome o (λ t. name_of (type_parts_of t) ≡ text)
 value_named None n text is e = tt
-value_named (Some t) n text is e = ap name_of (one_number (type_parts_of t) (type_with n) (typed t) is.number.is_type (e ∙ sym is.number.numbered)) ∙ is.named
+value_named (Some t) n text is e =
+    ap name_of (one_number (type_parts_of t) (type_with n) (typed t) is.number.is_type (e ∙ sym is.number.numbered)) ∙ is.named
 
 -- and there is one
-pub value_there : (o : Option ValueType) (n : ℕ) (text : List ℕ) → IsNameOf text n → IfNone o ((t : TypeParts) → IsType t → number_of t ≢ n) → IfNone o ((t : TypeParts) → IsType t → name_of t ≢ text)
+pub value_there : (o : Option ValueType) (n : ℕ) (text : List ℕ) → IsNameOf text n
+    → IfNone o ((t : TypeParts) → IsType t → number_of t ≢ n) → IfNone o ((t : TypeParts) → IsType t → name_of t ≢ text)
 value_there None n text is none = absurd (none (type_with n) is.number.is_type is.number.numbered)
 value_there (Some t) n text is none = tt

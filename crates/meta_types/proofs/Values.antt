@@ -1,7 +1,7 @@
 -- Each type is one value of the program's.
 use Rattle.std.proofs.Common.{◌≡◌, ℕ, zero, suc, ◌==◌, ◌∙◌, sym, ap, refl, cond, Bool, true, false, Contains, le_of_suc-le-suc}
 use Rattle.std.specs.Prelude.{if◌then◌else◌}
-use Rattle.meta_types.specs.TypeParts.{Kind, IntKind, FloatKind, TypeParts, IsType, widths, lane_counts, scalar}
+use Rattle.meta_types.specs.TypeParts.{NumberKind, IntKind, FloatKind, TypeParts, IsType, widths, lane_counts, scalar}
 use Rattle.meta_types.specs.Lane.{lane_parts}
 use Rattle.meta_types.specs.Vector.{lane_count, lanes_of, least_lanes_of}
 use Rattle.meta_types.specs.ValueTypes.{type_parts_of}
@@ -20,7 +20,9 @@ use Rattle.meta_types.specs.declared.value_type.ValueType.TheVariants.{Lane, Vec
 use Rattle.meta_types.proofs.Lanes.{every_lane, every_count, not_one}
 
 -- a value of the type of this kind, width, count and mark
-value_of : (kind : Kind) (width lanes : ℕ) (mark : Bool) → Contains (widths kind) width → Contains (lane_counts mark) lanes → (t : ValueType) × (type_parts_of t ≡ record { kind = kind; width = width; lanes = lanes; is_dynamic = mark })
+value_of : (kind : NumberKind) (width lanes : ℕ) (mark : Bool) → Contains (widths kind) width
+    → Contains (lane_counts mark) lanes
+    → (t : ValueType) × (type_parts_of t ≡ record { kind = kind; width = width; lanes = lanes; is_dynamic = mark })
 value_of kind width lanes false w (zero, l, e) =
     let a = every_lane kind width w in
     (Lane a.0, a.1 ∙ (λ i. lanes_of (scalar kind width) (e i)))
@@ -45,12 +47,14 @@ int_of w = if w == 8 then I8 else (if w == 16 then I16 else (if w == 32 then I32
 abbrev float_of : ℕ → Float
 float_of w = if w == 16 then F16 else (if w == 32 then F32 else (if w == 64 then F64 else F128))
 
-abbrev lane_back : Kind → ℕ → LaneType
+abbrev lane_back : NumberKind → ℕ → LaneType
 lane_back IntKind w = IntLane (int_of w)
 lane_back FloatKind w = FloatLane (float_of w)
 
 abbrev count_back : ℕ → LaneCount
-count_back n = if n == 2 then X2 else (if n == 4 then X4 else (if n == 8 then X8 else (if n == 16 then X16 else (if n == 32 then X32 else (if n == 64 then X64 else (if n == 128 then X128 else X256))))))
+count_back n = if n == 2 then X2 else
+    (if n == 4 then X4 else (if n == 8 then X8 else
+    (if n == 16 then X16 else (if n == 32 then X32 else (if n == 64 then X64 else (if n == 128 then X128 else X256))))))
 
 abbrev value_back : TypeParts → ValueType
 value_back s =
@@ -86,10 +90,18 @@ alone (FloatLane f) = ap Lane (lane_again (FloatLane f))
 value_again : (t : ValueType) → value_back (type_parts_of t) ≡ t
 value_again (Lane lane) = alone lane
 value_again (Vector v) =
-    ap (λ b. cond b (Lane (lane_back (lane_parts v.base).kind (lane_parts v.base).width)) (Vector (record { base = lane_back (lane_parts v.base).kind (lane_parts v.base).width; lanes = count_back (lane_count v.lanes) }))) (not_one v.lanes)
+    ap (λ b. cond b (Lane (lane_back (lane_parts v.base).kind (lane_parts v.base).width))
+    (Vector (record {
+      base = lane_back (lane_parts v.base).kind (lane_parts v.base).width;
+      lanes = count_back (lane_count v.lanes);
+    }))) (not_one v.lanes)
     ∙ (λ i. Vector (record { base = lane_again v.base i; lanes = count_again v.lanes i }))
 value_again (DynamicVector v) =
-    ap (λ b. cond b (Lane (lane_back (lane_parts v.base).kind (lane_parts v.base).width)) (DynamicVector (record { base = lane_back (lane_parts v.base).kind (lane_parts v.base).width; unscaled_lanes = count_back (lane_count v.unscaled_lanes) }))) (not_one v.unscaled_lanes)
+    ap (λ b. cond b (Lane (lane_back (lane_parts v.base).kind (lane_parts v.base).width))
+    (DynamicVector (record {
+      base = lane_back (lane_parts v.base).kind (lane_parts v.base).width;
+      unscaled_lanes = count_back (lane_count v.unscaled_lanes);
+    }))) (not_one v.unscaled_lanes)
     ∙ (λ i. DynamicVector (record { base = lane_again v.base i; unscaled_lanes = count_again v.unscaled_lanes i }))
 
 -- two values of one type are one

@@ -10,4 +10,5 @@ scalars = map (scalar IntKind) (widths IntKind) ++ map (scalar FloatKind) (width
 
 -- the scalars and the fixed vectors by rising lane count, then the dynamic vectors by rising least lane count
 abbrev pub all_types : List TypeParts
-all_types = flat_map (λ n. map (λ lane. lanes_of lane n) scalars) (lane_counts false) ++ flat_map (λ n. map (λ lane. least_lanes_of lane n) scalars) (lane_counts true)
+all_types = flat_map (λ n. map (λ lane. lanes_of lane n) scalars) (lane_counts false)
+    ++ flat_map (λ n. map (λ lane. least_lanes_of lane n) scalars) (lane_counts true)

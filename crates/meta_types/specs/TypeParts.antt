@@ -7,19 +7,19 @@ use Rattle.std.specs.Prelude.{ℕ, ◌+◌, ◌*◌, ◌/◌, ◌==◌, Bool, tr
 use Rattle.std.specs.Fmt.{decimal}
 
 -- what a lane holds: an integer or a float
-pub data Kind : Type 0 where
-  IntKind : Kind
-  FloatKind : Kind
+pub data NumberKind : Type 0 where
+  IntKind : NumberKind
+  FloatKind : NumberKind
 
 -- a type: what a lane holds, how wide a lane is in bits, how many lanes there are, and whether that is only the least count
 pub record TypeParts : Type 0 where
-  pub kind : Kind
+  pub kind : NumberKind
   pub width : ℕ
   pub lanes : ℕ
   pub is_dynamic : Bool
 
 -- the widths that a lane of a kind may have, in bits
-abbrev pub widths : Kind → List ℕ
+abbrev pub widths : NumberKind → List ℕ
 widths IntKind = 8 ∷ 16 ∷ 32 ∷ 64 ∷ 128 ∷ []
 widths FloatKind = 16 ∷ 32 ∷ 64 ∷ 128 ∷ []
 
@@ -34,7 +34,7 @@ pub record IsType (t : TypeParts) : Type 0 where
   pub lanes : Contains (lane_counts t.is_dynamic) t.lanes
 
 -- the type of one lane of this kind and width
-abbrev pub scalar : Kind → ℕ → TypeParts
+abbrev pub scalar : NumberKind → ℕ → TypeParts
 scalar kind width = record { kind = kind; width = width; lanes = 1; is_dynamic = false }
 
 -- the exponent of a power of two, up to 256
@@ -50,7 +50,7 @@ log2 n =
     else (if n == 2 then 1 else 0)))))))
 
 -- the code of a lane: i8 is 4, i16 5, i32 6, i64 7, i128 8, f16 9, f32 10, f64 11, f128 12
-abbrev pub lane_code : Kind → ℕ → ℕ
+abbrev pub lane_code : NumberKind → ℕ → ℕ
 lane_code IntKind width = log2 width + 1
 lane_code FloatKind width = log2 width + 5
 
@@ -59,12 +59,12 @@ abbrev pub number_of : TypeParts → ℕ
 number_of t = 0x70 + (lane_code t.kind t.width + (16 * log2 t.lanes + (if t.is_dynamic then 0x80 else 0)))
 
 -- `i` or `f`
-abbrev pub letter : Kind → ℕ
+abbrev pub letter : NumberKind → ℕ
 letter IntKind = 105
 letter FloatKind = 102
 
 -- the name of a lane: `i32`
-abbrev pub lane_name : Kind → ℕ → List ℕ
+abbrev pub lane_name : NumberKind → ℕ → List ℕ
 lane_name kind width = letter kind ∷ decimal width
 
 -- what a name has behind its lane: nothing, `x4` or `x4xN`

@@ -1,9 +1,12 @@
-ghost use Rattle.std.specs.Prelude.{◌≡◌, ◌↔◌, ℕ, IfSome, IfNone, IsTrue, Contains, ◌&&◌, nat_lt};
+ghost use Rattle.std.specs.Prelude.{◌≡◌, ◌≢◌, ◌↔◌, ◌==◌, ℕ, IfSome, IfNone, IsTrue, Contains, ◌&&◌, nat_lt};
+ghost use Rattle.std.specs.List.{position};
+ghost use Rattle.std.specs.Cmp.Lexicographic.{pointwise};
 ghost use Rattle.meta_types.specs.TypeParts.{TypeParts, IsType, widths, scalar};
 ghost use Rattle.meta_types.specs.Lane.{lane_parts};
-ghost use Rattle.meta_types.specs.Function.{Function, Narrower, is_scalar, relates, Steps, Answers, StepsNumbers, AnswersNumber};
+ghost use Rattle.meta_types.specs.Function.{Function, Narrower, IsRelation, is_scalar, relates, StepsTypes, Answers, StepsNumbers};
+ghost use Rattle.meta_types.specs.Function.{AnswersNumber};
 ghost use Rattle.meta_types.specs.ValueTypes.{type_parts_of};
-ghost use Rattle.meta_types.specs.DerivedFunc.{function_of, function_name};
+ghost use Rattle.meta_types.specs.DerivedFunc.{function_of, function_name, camel_function_name};
 ghost use Rattle.meta_types.specs.Parts.{parts_meaning};
 
 use super::lane::{LaneType, is_float_width, is_int_width};
@@ -33,6 +36,33 @@ pub enum DerivedFunc {
     Narrower,
     /// The scalars of the same kind with more bits.
     Wider,
+}
+
+/// All derived functions.
+pub const DERIVED_FUNCS: [DerivedFunc; 9] = [
+    DerivedFunc::LaneOf,
+    DerivedFunc::AsTruthy,
+    DerivedFunc::HalfWidth,
+    DerivedFunc::DoubleWidth,
+    DerivedFunc::SplitLanes,
+    DerivedFunc::MergeLanes,
+    DerivedFunc::DynamicToVector,
+    DerivedFunc::Narrower,
+    DerivedFunc::Wider,
+];
+
+/// Whether the function has this name in camel case.
+fn has_camel_name(derived_func: DerivedFunc, name: &[u8]) -> bool
+    ensures { result ≡ pointwise ◌==◌ (camel_function_name (function_of derived_func)) name.now }
+{
+    derived_func.camel_name().as_bytes() == name
+}
+
+/// The place, among all derived functions, of the one that has this name in camel case.
+fn camel_place(name: &[u8]) -> Option<usize>
+    ensures { result ≡ position (λ f. pointwise ◌==◌ (camel_function_name (function_of f)) name.now) DERIVED_FUNCS }
+{
+    DERIVED_FUNCS.iter().position(|f| has_camel_name(*f, name))
 }
 
 /// What the lanes of a type hold.
@@ -68,6 +98,39 @@ impl DerivedFunc {
             DerivedFunc::Narrower => "narrower",
             DerivedFunc::Wider => "wider",
         }
+    }
+
+    /// The name of the function in camel case, as `LaneOf` (this project's own).
+    pub fn camel_name(self) -> &'static str
+        ensures { result.now ≡ camel_function_name (function_of self) }
+    {
+        match self {
+            DerivedFunc::LaneOf => "LaneOf",
+            DerivedFunc::AsTruthy => "AsTruthy",
+            DerivedFunc::HalfWidth => "HalfWidth",
+            DerivedFunc::DoubleWidth => "DoubleWidth",
+            DerivedFunc::SplitLanes => "SplitLanes",
+            DerivedFunc::MergeLanes => "MergeLanes",
+            DerivedFunc::DynamicToVector => "DynamicToVector",
+            DerivedFunc::Narrower => "Narrower",
+            DerivedFunc::Wider => "Wider",
+        }
+    }
+
+    /// The function that has this name in camel case, and `None` exactly where none has it (this project's own).
+    pub fn of_camel_name(name: &[u8]) -> Option<DerivedFunc>
+        ensures found { IfSome result (λ f. camel_function_name (function_of f) ≡ name.now) }
+        ensures none { IfNone result ((f : Function) → camel_function_name f ≢ name.now) }
+    {
+        let place = camel_place(name)?;
+        Some(DERIVED_FUNCS[place])
+    }
+
+    /// Whether it is a relation, which leaves several types (this project's own).
+    pub fn is_relation(self) -> bool
+        ensures { IsTrue result ↔ IsRelation (function_of self) }
+    {
+        matches!(self, DerivedFunc::Narrower | DerivedFunc::Wider)
     }
 
     /// The type to which the function leads from `c`, and `None` exactly where that would be no type, or for a relation
@@ -123,7 +186,7 @@ impl DerivedFunc {
 
     /// Whether the function leads from `c` to `t`, or `t` stands in the relation to `c` (this project's own).
     pub fn relates(self, c: ValueType, t: ValueType) -> bool
-        ensures { IsTrue result ↔ Steps (function_of self) (type_parts_of c) (type_parts_of t) }
+        ensures { IsTrue result ↔ StepsTypes (function_of self) (type_parts_of c) (type_parts_of t) }
     {
         match self {
             DerivedFunc::Narrower => Parts::of(t).is_narrower(Parts::of(c)),
@@ -170,7 +233,12 @@ impl Parts {
 
     /// The parts of so many lanes.
     fn of_lanes(lane: LaneType, lanes: u64, is_dynamic: bool) -> Parts
-        ensures { parts_meaning result ≡ record { kind = (lane_parts lane).kind; width = (lane_parts lane).width; lanes = lanes; is_dynamic = is_dynamic } }
+        ensures { parts_meaning result ≡ record {
+          kind = (lane_parts lane).kind;
+          width = (lane_parts lane).width;
+          lanes = lanes;
+          is_dynamic = is_dynamic;
+        } }
     {
         let kind = match lane {
             LaneType::Int(_) => LaneKind::Int,

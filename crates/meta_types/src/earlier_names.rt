@@ -1,5 +1,5 @@
-ghost use Rattle.std.specs.Prelude.{◌≡◌, ◌++◌, ◌∷◌, [], ℕ, IfOk, IfSome, IfNone, OnErr, length};
-ghost use Rattle.meta_types.specs.SharedNames.{IsDuplicate};
+ghost use Rattle.std.specs.Prelude.{◌≡◌, ◌↔◌, ◌++◌, ◌∷◌, [], ℕ, IfOk, IfSome, IfNone, IsTrue, OnErr, length};
+ghost use Rattle.meta_types.specs.SharedNames.{IsDuplicate, AreDistinct};
 
 use super::name::camel_case;
 use super::text::Text;
@@ -62,4 +62,17 @@ impl<'n> EarlierNames<'n> {
             }
         }
     }
+}
+
+/// Whether no two of the names are the same or have the same camel case, in one pass over them. The only error is want of memory.
+pub fn are_distinct(alloc: Global, names: &[Text]) -> Result<bool, AllocError>
+    ensures { IfOk result (λ b. IsTrue b ↔ AreDistinct names.now) }
+{
+    let mut earlier = EarlierNames::new(alloc);
+    for name in names {
+        if earlier.add(alloc, name)?.is_some() {
+            return Ok(false);
+        }
+    }
+    Ok(true)
 }

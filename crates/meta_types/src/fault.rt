@@ -1,8 +1,8 @@
 ghost use Rattle.std.specs.Prelude.{◌≡◌, ◌++◌, IfOk, Some};
 ghost use Rattle.std.specs.Fmt.{DisplaysOnOk, decimal};
-ghost use Rattle.meta_types.specs.Fault.{line_of, name_of, detail_text};
+ghost use Rattle.meta_types.specs.Fault.{line_of, fault_name, fault_detail_text};
 ghost use Rattle.meta_types.specs.declared.fault.DefinitionError.TheVariants.{OutOfMemory};
-ghost use Rattle.meta_types.specs.declared.fault.Detail.TheVariants.{Two, At};
+ghost use Rattle.meta_types.specs.declared.fault.FaultDetail.TheVariants.{Two, At};
 
 use super::text::Text;
 use std::alloc::{AllocError, AllocFailed, Global};
@@ -80,7 +80,7 @@ impl<T: Drop> From<AllocFailed<T>> for DefinitionError {
 
 /// What the line of a fault shows behind its name.
 #[derive(Clone, Copy)]
-enum Detail {
+enum FaultDetail {
     Nothing,
     One(u64),
     Two(u64, u64),
@@ -99,7 +99,7 @@ fn write_numbered<W: fmt::Write>(f: &mut fmt::Formatter<W>, text: &str, n: u64) 
 
 /// Writes two numbers, each with a space before it.
 fn write_two<W: fmt::Write>(f: &mut fmt::Formatter<W>, a: u64, b: u64) -> fmt::Result
-    ensures { DisplaysOnOk W.write_str_gives f.old result (Some (detail_text (Two a b))) f.new }
+    ensures { DisplaysOnOk W.write_str_gives f.old result (Some (fault_detail_text (Two a b))) f.new }
 {
     write_numbered(f, " ", a)?;
     write_numbered(f, " ", b)
@@ -107,7 +107,7 @@ fn write_two<W: fmt::Write>(f: &mut fmt::Formatter<W>, a: u64, b: u64) -> fmt::R
 
 /// Writes a place with a space before it.
 fn write_place<W: fmt::Write>(f: &mut fmt::Formatter<W>, p: Place) -> fmt::Result
-    ensures { DisplaysOnOk W.write_str_gives f.old result (Some (detail_text (At p))) f.new }
+    ensures { DisplaysOnOk W.write_str_gives f.old result (Some (fault_detail_text (At p))) f.new }
 {
     f.write_str(" ")?;
     write!(f, "{p}")
@@ -133,23 +133,23 @@ impl fmt::Display for Place {
 }
 
 /// Each number and each place with a space before it.
-impl fmt::Display for Detail {
+impl fmt::Display for FaultDetail {
     ghost use Rattle.std.specs.Prelude.{Some};
-    ghost use Rattle.meta_types.specs.Fault.{detail_text};
+    ghost use Rattle.meta_types.specs.Fault.{fault_detail_text};
 
-    ghost output = { λ d. Some (detail_text d) };
+    ghost output = { λ d. Some (fault_detail_text d) };
 
     fn fmt<W: fmt::Write>(&self, f: &mut fmt::Formatter<W>) -> fmt::Result {
         match self {
-            Detail::Nothing => Ok(()),
-            Detail::One(a) => write_numbered(f, " ", *a),
-            Detail::Two(a, b) => write_two(f, *a, *b),
-            Detail::Four(a, b, c, d) => {
+            FaultDetail::Nothing => Ok(()),
+            FaultDetail::One(a) => write_numbered(f, " ", *a),
+            FaultDetail::Two(a, b) => write_two(f, *a, *b),
+            FaultDetail::Four(a, b, c, d) => {
                 write_two(f, *a, *b)?;
                 write_two(f, *c, *d)
             }
-            Detail::At(p) => write_place(f, *p),
-            Detail::AtAndOne(p, a) => {
+            FaultDetail::At(p) => write_place(f, *p),
+            FaultDetail::AtAndOne(p, a) => {
                 write_place(f, *p)?;
                 write_numbered(f, " ", *a)
             }
@@ -160,9 +160,9 @@ impl fmt::Display for Detail {
 /// The fault's name alone.
 impl fmt::Display for DefinitionError {
     ghost use Rattle.std.specs.Prelude.{Some};
-    ghost use Rattle.meta_types.specs.Fault.{name_of};
+    ghost use Rattle.meta_types.specs.Fault.{fault_name};
 
-    ghost output = { λ e. Some (name_of e) };
+    ghost output = { λ e. Some (fault_name e) };
 
     fn fmt<W: fmt::Write>(&self, f: &mut fmt::Formatter<W>) -> fmt::Result {
         f.write_str(self.name())
@@ -194,7 +194,7 @@ impl DefinitionError {
 
     /// The fault's name.
     fn name(&self) -> &'static str
-        ensures { result.now ≡ name_of self.now }
+        ensures { result.now ≡ fault_name self.now }
     {
         match self {
             DefinitionError::BadName(_) => "BadName",
@@ -218,29 +218,29 @@ impl DefinitionError {
     }
 
     /// What the fault's line shows behind its name.
-    fn detail(&self) -> Detail
-        ensures { line_of self.now ≡ name_of self.now ++ detail_text result }
+    fn detail(&self) -> FaultDetail
+        ensures { line_of self.now ≡ fault_name self.now ++ fault_detail_text result }
     {
         match self {
-            DefinitionError::BadName(p) => Detail::At(*p),
-            DefinitionError::DuplicateName(p, earlier) => Detail::AtAndOne(*p, *earlier),
+            DefinitionError::BadName(p) => FaultDetail::At(*p),
+            DefinitionError::DuplicateName(p, earlier) => FaultDetail::AtAndOne(*p, *earlier),
             DefinitionError::TooManyOpcodes(n)
             | DefinitionError::FormatMismatch(n)
             | DefinitionError::NoControl(n)
             | DefinitionError::BadSecond(n)
             | DefinitionError::BadImmMethod(n)
             | DefinitionError::BadFormat(n)
-            | DefinitionError::TooManyTypeSets(n) => Detail::One(*n),
+            | DefinitionError::TooManyTypeSets(n) => FaultDetail::One(*n),
             DefinitionError::BadOutput(n, m)
             | DefinitionError::BadDerivation(n, m)
             | DefinitionError::TooManyOperands(n, m)
             | DefinitionError::FormatClash(n, m)
             | DefinitionError::BadEnum(n, m)
-            | DefinitionError::BadPreset(n, m) => Detail::Two(*n, *m),
-            DefinitionError::TooManySettings(g, bools, bytes, entries) => Detail::Four(
+            | DefinitionError::BadPreset(n, m) => FaultDetail::Two(*n, *m),
+            DefinitionError::TooManySettings(g, bools, bytes, entries) => FaultDetail::Four(
                 *g, *bools, *bytes, *entries,
             ),
-            DefinitionError::OutOfMemory => Detail::Nothing,
+            DefinitionError::OutOfMemory => FaultDetail::Nothing,
         }
     }
 }

@@ -1,9 +1,9 @@
 ghost use Rattle.std.specs.Prelude.{◌≡◌, ◌≢◌, ◌↔◌, ◌⊎◌, ℕ, IsTrue, IfOk, IfSome, IfNone, Contains, true};
-ghost use Rattle.meta_types.specs.TypeParts.{Kind, IntKind, FloatKind, widths, lane_counts, scalar, lane_code, number_of, name_of};
+ghost use Rattle.meta_types.specs.TypeParts.{NumberKind, IntKind, FloatKind, widths, lane_counts, scalar, lane_code, number_of, name_of};
 ghost use Rattle.meta_types.specs.Lane.{lane_parts};
 ghost use Rattle.meta_types.specs.Vector.{lanes_of, least_lanes_of};
 ghost use Rattle.meta_types.specs.ValueTypes.{type_parts_of};
-ghost use Rattle.meta_types.specs.TypeText.{doc_of};
+ghost use Rattle.meta_types.specs.TypeText.{type_doc};
 
 use super::lane_iter::LaneTypeIterator;
 use super::text::Text;
@@ -109,7 +109,7 @@ impl LaneType {
     /// The lane of this code, and `None` exactly where no lane has it.
     pub(crate) fn from_code(code: u16) -> Option<LaneType>
         ensures found { IfSome result (λ l. lane_code (lane_parts l).kind (lane_parts l).width ≡ code) }
-        ensures none { IfNone result ((kind : Kind) (width : ℕ) → Contains (widths kind) width → lane_code kind width ≢ code) }
+        ensures none { IfNone result ((kind : NumberKind) (width : ℕ) → Contains (widths kind) width → lane_code kind width ≢ code) }
     {
         for lane in LaneTypeIterator::new() {
             if lane.code() == code {
@@ -169,7 +169,7 @@ impl LaneType {
 
     /// What the type is, in one line: `An integer type with 32 bits.`
     pub fn doc(self, alloc: Global) -> Result<Text, AllocError>
-        ensures { IfOk result (λ t. t ≡ doc_of (lane_parts self)) }
+        ensures { IfOk result (λ t. t ≡ type_doc (lane_parts self)) }
     {
         let bits = self.lane_bits();
         let (before, behind) = match self {

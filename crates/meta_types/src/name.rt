@@ -1,4 +1,4 @@
-ghost use Rattle.std.specs.Prelude.{◌≡◌, ◌↔◌, IfOk, IsTrue};
+ghost use Rattle.std.specs.Prelude.{◌≡◌, ◌↔◌, IfOk, IsTrue, All};
 ghost use Rattle.meta_types.specs.CamelCase.{capital_at, camel_case_of};
 ghost use Rattle.meta_types.specs.Name.{IsName};
 
@@ -14,6 +14,13 @@ pub fn is_name(text: &Text) -> bool
         [first, rest @ ..] => first.is_ascii_alphabetic()
             && rest.iter().all(|c| c.is_ascii_alphanumeric() || *c == b'_'),
     }
+}
+
+/// Whether all of the texts may name declarations, each for itself: two may be the same.
+pub fn are_names(texts: &[Text]) -> bool
+    ensures { IsTrue result ↔ All IsName texts.now }
+{
+    texts.iter().all(|text| is_name(text))
 }
 
 /// The character, or its capital where it is a letter `a` to `z` and `at_start` is set.

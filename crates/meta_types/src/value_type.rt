@@ -2,7 +2,7 @@ ghost use Rattle.std.specs.Prelude.{◌≡◌, ◌≢◌, IfOk, IfSome, IfNone};
 ghost use Rattle.meta_types.specs.TypeParts.{TypeParts, IsType, known_lanes, bits_of, bytes_of, number_of, name_of};
 ghost use Rattle.meta_types.specs.LaneTypes.{lane_types, lane_types_left};
 ghost use Rattle.meta_types.specs.ValueTypes.{type_parts_of};
-ghost use Rattle.meta_types.specs.TypeText.{doc_of, rust_name_of};
+ghost use Rattle.meta_types.specs.TypeText.{type_doc, rust_name_of};
 
 use super::lane::{LANE_BASE, LaneType};
 use super::lane_count::LaneCount;
@@ -80,7 +80,7 @@ impl ValueType {
 
     /// What the type is, in one line.
     pub fn doc(&self, alloc: Global) -> Result<Text, AllocError>
-        ensures { IfOk result (λ t. t ≡ doc_of (type_parts_of self.now)) }
+        ensures { IfOk result (λ t. t ≡ type_doc (type_parts_of self.now)) }
     {
         match self {
             ValueType::Lane(lane) => lane.doc(alloc),

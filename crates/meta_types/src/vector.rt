@@ -3,7 +3,7 @@ ghost use Rattle.std.specs.Fmt.{DisplaysOnOk, decimal};
 ghost use Rattle.meta_types.specs.TypeParts.{lane_counts, number_of, name_of};
 ghost use Rattle.meta_types.specs.Lane.{lane_parts};
 ghost use Rattle.meta_types.specs.Vector.{lane_count, lanes_of, least_lanes_of, vector_parts, dynamic_parts};
-ghost use Rattle.meta_types.specs.TypeText.{doc_of};
+ghost use Rattle.meta_types.specs.TypeText.{type_doc};
 
 use super::lane::LaneType;
 use super::lane_count::LaneCount;
@@ -71,7 +71,7 @@ impl VectorType {
 
     /// What the type is, in one line: ``A SIMD vector with 4 lanes containing a `i32` each.``
     pub fn doc(&self, alloc: Global) -> Result<Text, AllocError>
-        ensures { IfOk result (λ t. t ≡ doc_of (vector_parts self.now)) }
+        ensures { IfOk result (λ t. t ≡ type_doc (vector_parts self.now)) }
     {
         let base = self.base;
         let lanes = self.lane_count();
@@ -132,7 +132,7 @@ impl DynamicVectorType {
     /// What the type is, in one line:
     /// ``A dynamically-scaled SIMD vector with a minimum of 4 lanes containing `i32` bits each.``
     pub fn doc(&self, alloc: Global) -> Result<Text, AllocError>
-        ensures { IfOk result (λ t. t ≡ doc_of (dynamic_parts self.now)) }
+        ensures { IfOk result (λ t. t ≡ type_doc (dynamic_parts self.now)) }
     {
         let base = self.base;
         let lanes = self.minimum_lane_count();
@@ -178,7 +178,8 @@ fn write_debug<W: fmt::Write>(
     base: LaneType,
     lanes: u64,
 ) -> fmt::Result
-    ensures { DisplaysOnOk W.write_str_gives f.old result (Some (name.now ++ (codes "(base=" ++ (name_of (lane_parts base) ++ (codes ", lanes=" ++ (decimal lanes ++ codes ")")))))) f.new }
+    ensures { DisplaysOnOk W.write_str_gives f.old result
+        (Some (name.now ++ (codes "(base=" ++ (name_of (lane_parts base) ++ (codes ", lanes=" ++ (decimal lanes ++ codes ")")))))) f.new }
 {
     write!(f, "{name}(base={base}, lanes={lanes})")
 }

@@ -15,10 +15,11 @@ held_again xs all e h = ap (λ (l : List ℕ). filter (holds (sum l)) all) h.is 
 one_sum : (xs ys all : List ℕ) → keeps all ≡ true → IsPart xs all → IsPart ys all → sum xs ≡ sum ys → xs ≡ ys
 one_sum xs ys all k h i e = sym (held_again xs all k h) ∙ ap (λ (m : ℕ). filter (holds m) all) e ∙ held_again ys all k i
 
-equal_sums : (s t : TypeSetParts) → are_equal s t ≡ true → (sum s.lanes ≡ sum t.lanes) × (sum s.dynamic_lanes ≡ sum t.dynamic_lanes) × (sum s.ints ≡ sum t.ints) × (sum s.floats ≡ sum t.floats)
+equal_sums : (s t : TypeSetParts) → are_equal s t ≡ true → (sum s.lanes ≡ sum t.lanes)
+    × (sum s.dynamic_lanes ≡ sum t.dynamic_lanes) × (sum s.ints ≡ sum t.ints) × (sum s.floats ≡ sum t.floats)
 equal_sums s t e = (search rules, search rules, search rules, search rules)
 
-equal_self : (s : TypeSetParts) → are_equal s s ≡ true
+pub equal_self : (s : TypeSetParts) → are_equal s s ≡ true
 equal_self s = search rules
 
 pub one_set : (s t : TypeSetParts) → IsTypeSet s → IsTypeSet t → (IsTrue (are_equal s t) ↔ s ≡ t)

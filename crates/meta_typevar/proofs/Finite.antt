@@ -1,9 +1,9 @@
 -- Tests of each number of a list, each kind and each mark.
-use Rattle.std.proofs.Common.{◌≡◌, ℕ, ◌+◌, ◌==◌, ◌<◌, ◌≤◌, ◌↔◌, inl, inr, ⊎_elim, Bool, true, false, not, ◌&&◌, ◌||◌, cond, List, [], ◌∷◌, eqb, ap, sym, subst, refl, ◌∙◌, zero, suc, arith}
+use Rattle.std.proofs.Common.{◌≡◌, ℕ, ◌+◌, ◌==◌, ◌<◌, ◌≤◌, ◌↔◌, inl, inr, ⊎_elim, Bool, true, false, not, ◌&&◌, ◌||◌, cond, List, [], ◌∷◌}
+use Rattle.std.proofs.Common.{eqb, ap, sym, subst, refl, ◌∙◌, zero, suc, arith}
 use Rattle.std.specs.List.{filter}
 use Rattle.std.proofs.lemmas.Bool.{false≢true, cases_lt, eqb-true, and_parts}
-use Rattle.meta_types.specs.TypeParts.{Kind, IntKind, FloatKind}
-use Rattle.meta_types.specs.Function.{same_kind, same_mark}
+use Rattle.meta_types.specs.TypeParts.{NumberKind, IntKind, FloatKind}
 use Rattle.meta_types.proofs.Among.{Among}
 
 -- where one test implies another
@@ -43,10 +43,10 @@ from_has zero lo x h l = absurd (omega arith)
 from_has (suc n) lo x h l = ⊎_elim (λ m. inr (from_has n (lo + 1) x (omega arith) (omega arith))) (λ m. inl (omega arith)) (cases_lt lo x)
 
 -- the test passes at both kinds, and at both marks
-abbrev pub at_kinds : (Kind → Bool) → Bool
+abbrev pub at_kinds : (NumberKind → Bool) → Bool
 at_kinds p = p IntKind && p FloatKind
 
-pub at_kind : (p : Kind → Bool) → at_kinds p ≡ true → (k : Kind) → p k ≡ true
+pub at_kind : (p : NumberKind → Bool) → at_kinds p ≡ true → (k : NumberKind) → p k ≡ true
 at_kind p e IntKind = (and_parts _ _ e).0
 at_kind p e FloatKind = (and_parts _ _ e).1
 
@@ -57,25 +57,14 @@ pub at_bool : (p : Bool → Bool) → at_bools p ≡ true → (b : Bool) → p b
 at_bool p e false = (and_parts _ _ e).0
 at_bool p e true = (and_parts _ _ e).1
 
-pub same_kind_is : (a b : Kind) → same_kind a b ≡ true → a ≡ b
-same_kind_is IntKind IntKind e = refl
-same_kind_is IntKind FloatKind e = absurd (false≢true e)
-same_kind_is FloatKind IntKind e = absurd (false≢true e)
-same_kind_is FloatKind FloatKind e = refl
-
-pub same_mark_is : (a b : Bool) → same_mark a b ≡ true → a ≡ b
-same_mark_is true true e = refl
-same_mark_is true false e = absurd (false≢true e)
-same_mark_is false true e = absurd (false≢true e)
-same_mark_is false false e = refl
-
 -- what a filter keeps passes, and was there
 pub among_filter : (p : ℕ → Bool) (xs : List ℕ) (x : ℕ) → Among (filter p xs) x → Among xs x × (p x ≡ true)
 among_filter p [] x h = absurd h
-among_filter p (y ∷ ys) x h = elim (p y) as (λ b. p y ≡ b → Among (cond b (y ∷ filter p ys) (filter p ys)) x → Among (y ∷ ys) x × (p x ≡ true)) [
-  | true ↦ λ t h. ⊎_elim (λ e. (inl e, ap p e ∙ t)) (λ h. let r = among_filter p ys x h in (inr r.0, r.1)) h
-  | false ↦ λ _ h. let r = among_filter p ys x h in (inr r.0, r.1)
-] refl h
+among_filter p (y ∷ ys) x h = elim (p y) as (λ b. p y ≡ b → Among (cond b (y ∷ filter p ys) (filter p ys)) x
+    → Among (y ∷ ys) x × (p x ≡ true)) [
+      | true ↦ λ t h. ⊎_elim (λ e. (inl e, ap p e ∙ t)) (λ h. let r = among_filter p ys x h in (inr r.0, r.1)) h
+      | false ↦ λ _ h. let r = among_filter p ys x h in (inr r.0, r.1)
+    ] refl h
 
 -- and what was there and passes is kept
 pub among_kept : (p : ℕ → Bool) (xs : List ℕ) (x : ℕ) → Among xs x → p x ≡ true → Among (filter p xs) x

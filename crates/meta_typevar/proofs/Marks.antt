@@ -1,5 +1,6 @@
 -- Every mask of some allowed numbers, by trying all of them.
-use Rattle.std.proofs.Common.{◌≡◌, ℕ, ◌==◌, ◌&&◌, Bool, true, false, not, cond, List, [], ◌∷◌, length, map, sum, eqb, ap, ◌∙◌, refl, zero, suc}
+use Rattle.std.proofs.Common.{◌≡◌, ℕ, ◌==◌, ◌&&◌, Bool, true, false, not, cond, List, [], ◌∷◌, length, map, sum, eqb, ap, ◌∙◌, refl, zero}
+use Rattle.std.proofs.Common.{suc}
 use Rattle.std.specs.List.{filter}
 use Rattle.std.proofs.lemmas.List.{length-map}
 use Rattle.std.proofs.lemmas.Bool.{eqb-true, and_parts}
@@ -20,10 +21,10 @@ marked [] xs = []
 marked (m ∷ ms) [] = []
 marked (m ∷ ms) (x ∷ xs) = cond m (x ∷ marked ms xs) (marked ms xs)
 
-pub at_each : (p : List Bool → Bool) (ms : List Bool) → at_marks (length ms) p ≡ true → p ms ≡ true
-at_each p [] e = e
-at_each p (true ∷ ms) e = at_each (λ ms. p (true ∷ ms)) ms (and_parts _ _ e).0
-at_each p (false ∷ ms) e = at_each (λ ms. p (false ∷ ms)) ms (and_parts _ _ e).1
+pub passes_at_marks : (p : List Bool → Bool) (ms : List Bool) → at_marks (length ms) p ≡ true → p ms ≡ true
+passes_at_marks p [] e = e
+passes_at_marks p (true ∷ ms) e = passes_at_marks (λ ms. p (true ∷ ms)) ms (and_parts _ _ e).0
+passes_at_marks p (false ∷ ms) e = passes_at_marks (λ ms. p (false ∷ ms)) ms (and_parts _ _ e).1
 
 pub filter_marked : (p : ℕ → Bool) (xs : List ℕ) → filter p xs ≡ marked (map p xs) xs
 filter_marked p [] = refl
@@ -61,8 +62,9 @@ dynamic_lanes_keep = refl
 -- so it is with what passes any test
 kept : (all : List ℕ) → keeps all ≡ true → (p : ℕ → Bool) → is_kept all (filter p all) ≡ true
 kept all e p =
-    let n : at_marks (length (map p all)) (λ ms. is_kept all (marked ms all)) ≡ true = ap (λ n. at_marks n (λ ms. is_kept all (marked ms all))) (length-map all p) ∙ e in
-    ap (is_kept all) (filter_marked p all) ∙ at_each (λ ms. is_kept all (marked ms all)) (map p all) n
+    let n : at_marks (length (map p all)) (λ ms. is_kept all (marked ms all)) ≡ true =
+    ap (λ n. at_marks n (λ ms. is_kept all (marked ms all))) (length-map all p) ∙ e in
+    ap (is_kept all) (filter_marked p all) ∙ passes_at_marks (λ ms. is_kept all (marked ms all)) (map p all) n
 
 pub holds_sum : (all : List ℕ) → keeps all ≡ true → (p : ℕ → Bool) → filter (holds (sum (filter p all))) all ≡ filter p all
 holds_sum all e p = (bytes_decides _ _).0 (and_parts _ _ (kept all e p)).0

@@ -2,7 +2,8 @@
 --     AreKnown vars children      each derived variable is noted at its parent, by its function, and nothing else is
 use Rattle.std.specs.Prelude.{◌≡◌, ℕ, List, length, slice_get, Option, None, Some}
 use Rattle.meta_types.specs.declared.derived_func.DerivedFunc.{DerivedFunc}
-use Rattle.meta_types.specs.declared.derived_func.DerivedFunc.TheVariants.{LaneOf, AsTruthy, HalfWidth, DoubleWidth, SplitLanes, MergeLanes, DynamicToVector, Narrower, Wider}
+use Rattle.meta_types.specs.declared.derived_func.DerivedFunc.TheVariants.{LaneOf, AsTruthy, HalfWidth, DoubleWidth, SplitLanes, MergeLanes}
+use Rattle.meta_types.specs.declared.derived_func.DerivedFunc.TheVariants.{DynamicToVector, Narrower, Wider}
 use Rattle.meta_typevar.specs.Registry.{IsKept}
 use Rattle.meta_typevar.specs.declared.children.Children.{Children}
 use Rattle.meta_typevar.specs.declared.content.TypeVarContent.{TypeVarContent}
@@ -21,7 +22,17 @@ child_of c Wider = c.wider
 
 -- nothing is derived from a variable yet
 abbrev pub no_children : Children
-no_children = record { lane_of = None; as_truthy = None; half_width = None; double_width = None; split_lanes = None; merge_lanes = None; dynamic_to_vector = None; narrower = None; wider = None }
+no_children = record {
+  lane_of = None;
+  as_truthy = None;
+  half_width = None;
+  double_width = None;
+  split_lanes = None;
+  merge_lanes = None;
+  dynamic_to_vector = None;
+  narrower = None;
+  wider = None;
+}
 
 -- the variable with the number m is derived from the one with the number n by f
 pub record IsChild (vars : List TypeVarContent) (n : ℕ) (f : DerivedFunc) (m : ℕ) : Type 0 where

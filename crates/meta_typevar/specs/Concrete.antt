@@ -4,11 +4,11 @@
 use Rattle.std.specs.Prelude.{ℕ, Bool, true, false, List, [], ◌∷◌, ◌++◌, map, codes, if◌then◌else◌}
 use Rattle.std.specs.List.{flat_map, join_by}
 use Rattle.std.specs.Fmt.{decimal}
-use Rattle.meta_types.specs.TypeParts.{Kind, IntKind, FloatKind, TypeParts}
+use Rattle.meta_types.specs.TypeParts.{NumberKind, IntKind, FloatKind, TypeParts}
 use Rattle.meta_typevar.specs.TypeSetParts.{TypeSetParts}
 
 -- the types of a kind with these widths, and so many lanes
-abbrev pub types_of : Kind → Bool → ℕ → List ℕ → List TypeParts
+abbrev pub types_of : NumberKind → Bool → ℕ → List ℕ → List TypeParts
 types_of kind is_dynamic lanes widths = map (λ w. record { kind = kind; width = w; lanes = lanes; is_dynamic = is_dynamic }) widths
 
 -- the members with so many lanes: the ints in rising width, then the floats
@@ -35,4 +35,6 @@ part_text name (x ∷ xs) follows = (if follows then codes ", " else []) ++ (nam
 
 -- the parts that have a number, as `TypeSet(lanes={1}, ints={8, 16})`
 abbrev pub set_text : TypeSetParts → List ℕ
-set_text s = codes "TypeSet(" ++ (join_by (λ p. p) (codes ", ") (((part_texts (codes "lanes") s.lanes ++ part_texts (codes "dynamic_lanes") s.dynamic_lanes) ++ part_texts (codes "ints") s.ints) ++ part_texts (codes "floats") s.floats) ++ codes ")")
+set_text s = codes "TypeSet(" ++ (join_by (λ p. p) (codes ", ")
+    (((part_texts (codes "lanes") s.lanes ++ part_texts (codes "dynamic_lanes") s.dynamic_lanes) ++ part_texts (codes "ints") s.ints)
+    ++ part_texts (codes "floats") s.floats) ++ codes ")")

@@ -1,12 +1,12 @@
 -- Numbers of types by their lane code and their row, for masks.
 use Rattle.std.specs.Prelude.{◌≡◌, ℕ, ◌+◌, Bool, Contains, if◌then◌else◌}
-use Rattle.meta_types.specs.TypeParts.{Kind, widths, lane_counts, lane_code, log2}
+use Rattle.meta_types.specs.TypeParts.{NumberKind, widths, lane_counts, lane_code, log2}
 use Rattle.meta_typevar.specs.Masks.{Holds, width_mask, lane_mask}
 use Rattle.meta_typevar.specs.declared.masks.Masks.{Masks}
 
 -- the code is that of a lane whose width the masks hold
 pub record HoldsLane (m : Masks) (code : ℕ) : Type 0 where
-  pub kind : Kind
+  pub kind : NumberKind
   pub width : ℕ
   pub is_width : Contains (widths kind) width
   pub coded : lane_code kind width ≡ code

@@ -5,7 +5,8 @@
 use Rattle.std.specs.Prelude.{ℕ, ◌*◌, ◌/◌, ◌==◌, ◌&&◌, ◌||◌, not, nat_lt, Bool, true, false, List, [], ◌∷◌, map, if◌then◌else◌}
 use Rattle.std.specs.List.{filter, list_all}
 use Rattle.meta_types.specs.TypeParts.{IntKind, widths}
-use Rattle.meta_types.specs.Function.{Function, LaneOf, AsTruthy, HalfWidth, DoubleWidth, SplitLanes, MergeLanes, DynamicToVector, Narrower, Wider}
+use Rattle.meta_types.specs.Function.{Function, LaneOf, AsTruthy, HalfWidth, DoubleWidth, SplitLanes, MergeLanes, DynamicToVector, Narrower}
+use Rattle.meta_types.specs.Function.{Wider}
 use Rattle.meta_typevar.specs.TypeSetParts.{TypeSetParts}
 
 -- half of each number above the least one, which can't be halved
@@ -22,14 +23,14 @@ is_among [] n = false
 is_among (x ∷ xs) n = (x == n) || is_among xs n
 
 -- one lane, and nothing else
-abbrev pub is_scalar : List ℕ → Bool
-is_scalar [] = false
-is_scalar (x ∷ []) = x == 1
-is_scalar (x ∷ y ∷ ys) = false
+abbrev pub is_one_lane : List ℕ → Bool
+is_one_lane [] = false
+is_one_lane (x ∷ []) = x == 1
+is_one_lane (x ∷ y ∷ ys) = false
 
 -- the int widths of as_truthy: 8 where there are scalars alone, and else the int and the float widths
 abbrev pub truthy_ints : TypeSetParts → List ℕ
-truthy_ints s = if is_scalar s.lanes then 8 ∷ [] else filter (λ w. is_among s.ints w || is_among s.floats w) (widths IntKind)
+truthy_ints s = if is_one_lane s.lanes then 8 ∷ [] else filter (λ w. is_among s.ints w || is_among s.floats w) (widths IntKind)
 
 -- the image of a set under a derived function
 abbrev pub image_of : Function → TypeSetParts → TypeSetParts
@@ -64,7 +65,7 @@ has_some (x ∷ xs) = true
 
 -- there are scalars alone, of some width
 abbrev pub has_scalars_alone : TypeSetParts → Bool
-has_scalars_alone s = is_scalar s.lanes && (not (has_some s.dynamic_lanes) && (has_some s.ints || has_some s.floats))
+has_scalars_alone s = is_one_lane s.lanes && (not (has_some s.dynamic_lanes) && (has_some s.ints || has_some s.floats))
 
 -- whether a variable with the coded set s may be derived from by the function
 abbrev pub can_derive : Function → TypeSetParts → Bool

@@ -62,4 +62,9 @@ lanes_between includes_scalars (Between r) = filter (has (Between r)) (simd_coun
 
 -- what the interval of each part has of the numbers that the part may have
 abbrev pub sets_between : Intervals → TypeSetParts
-sets_between parts = record { lanes = lanes_between parts.includes_scalars parts.simd_lanes; dynamic_lanes = filter (has parts.dynamic_simd_lanes) (lane_counts true); ints = filter (has parts.ints) (widths IntKind); floats = filter (has parts.floats) (widths FloatKind) }
+sets_between parts = record {
+  lanes = lanes_between parts.includes_scalars parts.simd_lanes;
+  dynamic_lanes = filter (has parts.dynamic_simd_lanes) (lane_counts true);
+  ints = filter (has parts.ints) (widths IntKind);
+  floats = filter (has parts.floats) (widths FloatKind);
+}

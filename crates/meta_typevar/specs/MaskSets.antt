@@ -12,7 +12,12 @@ holds mask n = bit_and mask n == n
 
 -- the numbers, of those that are allowed, that each mask holds
 abbrev pub sets_in : Masks → TypeSetParts
-sets_in m = record { lanes = filter (holds m.lanes) (lane_counts false); dynamic_lanes = filter (holds m.dynamic_lanes) (lane_counts true); ints = filter (holds m.ints) (widths IntKind); floats = filter (holds m.floats) (widths FloatKind) }
+sets_in m = record {
+  lanes = filter (holds m.lanes) (lane_counts false);
+  dynamic_lanes = filter (holds m.dynamic_lanes) (lane_counts true);
+  ints = filter (holds m.ints) (widths IntKind);
+  floats = filter (holds m.floats) (widths FloatKind);
+}
 
 -- each mask is the sum of numbers that its set may have
 abbrev pub AreMasks : Masks → Type 0

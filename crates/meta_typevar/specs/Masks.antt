@@ -1,6 +1,6 @@
 -- Masks: a set of powers of two as the sum of its members.
 use Rattle.std.specs.Prelude.{◌≡◌, ℕ, Bool, true, false, bit_and, sum}
-use Rattle.meta_types.specs.TypeParts.{Kind, IntKind, FloatKind, TypeParts, IsType, number_of}
+use Rattle.meta_types.specs.TypeParts.{NumberKind, IntKind, FloatKind, TypeParts, IsType, number_of}
 use Rattle.meta_typevar.specs.TypeSetParts.{TypeSetParts}
 use Rattle.meta_typevar.specs.declared.masks.Masks.{Masks}
 
@@ -9,7 +9,7 @@ abbrev pub Holds : ℕ → ℕ → Type 0
 Holds mask n = bit_and mask n ≡ n
 
 -- the mask of the widths of a kind, and of the lane counts of a mark
-abbrev pub width_mask : Masks → Kind → ℕ
+abbrev pub width_mask : Masks → NumberKind → ℕ
 width_mask m IntKind = m.ints
 width_mask m FloatKind = m.floats
 

@@ -27,9 +27,9 @@ abbrev pub set_of : TypeVarContent → TypeSetParts
 set_of content = content.type_set
 
 -- the root and the chain of what stands at the number n: an unknown number is a root
-abbrev pub variable_of : ℕ → Option TypeVarContent → Variable
-variable_of n None = underived n
-variable_of n (Some content) = record { root = content.root; chain = content.chain }
+abbrev pub variable_from : ℕ → Option TypeVarContent → Variable
+variable_from n None = underived n
+variable_from n (Some content) = record { root = content.root; chain = content.chain }
 
 -- the set of what stands at a place of the list, and without a member past its end
 abbrev pub set_at : Option TypeVarContent → TypeSetParts
@@ -42,7 +42,7 @@ sets_of vars n = set_at (slice_get vars n)
 
 -- the root and the chain of the variable with the number n
 abbrev pub variable_at : List TypeVarContent → ℕ → Variable
-variable_at vars n = variable_of n (slice_get vars n)
+variable_at vars n = variable_from n (slice_get vars n)
 
 -- the coded image of a variable: that of its root's set along its chain
 abbrev pub coded_of : List TypeVarContent → Variable → TypeSetParts
@@ -67,7 +67,15 @@ derived_name f name = function_name f ++ (40 ∷ (name ++ (41 ∷ [])))
 -- what is kept of the variable that is derived by f from the one with the number n, of which c is kept: its name is made of
 -- the function's and the parent's, it has no documentation, and its type set is the coded image of its parent
 abbrev pub derived_content : List TypeVarContent → ℕ → TypeVarContent → DerivedFunc → TypeVarContent
-derived_content vars n c f = record { name = derived_name (function_of f) c.name; doc = []; base = Some (record { type_var = n; derived_func = f }); type_set = coded_at vars n; root = c.root; chain = c.chain ++ (function_of f ∷ []) }
+derived_content vars n c f = record {
+  name = derived_name (function_of f) c.name;
+  doc = [];
+  base =
+      Some (record { type_var = n; derived_func = f });
+  type_set = coded_at vars n;
+  root = c.root;
+  chain = c.chain ++ (function_of f ∷ []);
+}
 
 -- c stands at the place n
 abbrev pub IsKept : List TypeVarContent → ℕ → TypeVarContent → Type 0
@@ -103,13 +111,13 @@ pub record IsDerivedFrom (vars : List TypeVarContent) (n : ℕ) (c : TypeVarCont
   pub set : c.type_set ≡ coded_along parent_content.chain (sets_of vars parent_content.root)
 
 -- what has no parent is its own root, and what has one is derived from it
-abbrev pub IsPlaced : List TypeVarContent → ℕ → TypeVarContent → Option TypeVarParent → Type 0
-IsPlaced vars n c None = (c.root ≡ n) × (c.chain ≡ [])
-IsPlaced vars n c (Some parent) = IsDerivedFrom vars n c parent
+abbrev pub IsRootOrDerived : List TypeVarContent → ℕ → TypeVarContent → Option TypeVarParent → Type 0
+IsRootOrDerived vars n c None = (c.root ≡ n) × (c.chain ≡ [])
+IsRootOrDerived vars n c (Some parent) = IsDerivedFrom vars n c parent
 
 -- c stands rightly at the place n
 pub record IsVariable (vars : List TypeVarContent) (n : ℕ) (c : TypeVarContent) : Type 0 where
-  pub placed : IsPlaced vars n c c.base
+  pub placed : IsRootOrDerived vars n c c.base
   pub root : IsRoot vars c.root
 
 -- what is kept as the set of the variable with the number n is its coded image
@@ -121,8 +129,9 @@ abbrev pub HoldTypeSets : List TypeVarContent → Type 0
 HoldTypeSets vars = (n : ℕ) → IsTypeSet (sets_of vars n)
 
 -- no two variables have the same parent and function
-abbrev pub AreDifferent : List TypeVarContent → Type 0
-AreDifferent vars = (n m : ℕ) (c d : TypeVarContent) (p : TypeVarParent) → IsKept vars n c → IsKept vars m d → c.base ≡ Some p → d.base ≡ Some p → n ≡ m
+abbrev pub AreDerivedOnce : List TypeVarContent → Type 0
+AreDerivedOnce vars = (n m : ℕ) (c d : TypeVarContent) (p : TypeVarParent) → IsKept vars n c → IsKept vars m d → c.base ≡ Some p
+    → d.base ≡ Some p → n ≡ m
 
 -- there are few enough variables to be numbered by 32 bits, their sets are type sets, each stands rightly, and no derived
 -- one stands twice
@@ -130,4 +139,4 @@ pub record IsRegistry (vars : List TypeVarContent) : Type 0 where
   pub few : length vars < 2 ^ 32
   pub sets : HoldTypeSets vars
   pub variables : (n : ℕ) (c : TypeVarContent) → IsKept vars n c → IsVariable vars n c
-  pub different : AreDifferent vars
+  pub different : AreDerivedOnce vars

@@ -5,7 +5,7 @@
 --     IsTypeSet s            the four sets hold widths and lane counts of types alone
 use Rattle.std.specs.Prelude.{◌≡◌, ℕ, Bool, true, false, List, [], Contains}
 use Rattle.std.specs.List.{filter}
-use Rattle.meta_types.specs.TypeParts.{Kind, IntKind, FloatKind, TypeParts, IsType, widths, lane_counts}
+use Rattle.meta_types.specs.TypeParts.{NumberKind, IntKind, FloatKind, TypeParts, IsType, widths, lane_counts}
 
 -- four sets of numbers, each as its rising list
 pub record TypeSetParts : Type 0 where
@@ -15,7 +15,7 @@ pub record TypeSetParts : Type 0 where
   pub floats : List ℕ
 
 -- the set of the widths of a kind, and of the lane counts of a mark
-abbrev pub widths_in : TypeSetParts → Kind → List ℕ
+abbrev pub widths_in : TypeSetParts → NumberKind → List ℕ
 widths_in s IntKind = s.ints
 widths_in s FloatKind = s.floats
 

@@ -34,7 +34,13 @@ impl Model for TypeSetBuilder {
 
     ghost Value = { Intervals };
 
-    ghost view = { λ b. record { ints = b.ints; floats = b.floats; simd_lanes = b.simd_lanes; dynamic_simd_lanes = b.dynamic_simd_lanes; includes_scalars = b.includes_scalars } };
+    ghost view = { λ b. record {
+      ints = b.ints;
+      floats = b.floats;
+      simd_lanes = b.simd_lanes;
+      dynamic_simd_lanes = b.dynamic_simd_lanes;
+      includes_scalars = b.includes_scalars;
+    } };
 }
 
 impl TypeSetBuilder {

@@ -61,7 +61,8 @@ fn first_member(set: &TypeSet) -> Option<ValueType>
 
 /// Whether the functions lead from each member with this number or a greater one to the type.
 fn all_reach(set: &TypeSet, chain: &[DerivedFunc], from: u16, t: ValueType) -> bool
-    ensures { IsTrue result ↔ ((r : TypeParts) → IsMember set.now r → from ≤ number_of r → Reaches (functions_of chain.now) r (type_parts_of t)) }
+    ensures { IsTrue result ↔ ((r : TypeParts) → IsMember set.now r → from ≤ number_of r
+        → Reaches (functions_of chain.now) r (type_parts_of t)) }
 {
     for number in from..END_OF_NUMBERS {
         if !member_reaches(set, chain, number, t) {
@@ -73,7 +74,8 @@ fn all_reach(set: &TypeSet, chain: &[DerivedFunc], from: u16, t: ValueType) -> b
 
 /// Whether the functions lead from the member with the number, if there is one, to the type.
 fn member_reaches(set: &TypeSet, chain: &[DerivedFunc], number: u16, t: ValueType) -> bool
-    ensures { IsTrue result ↔ ((r : TypeParts) → IsMember set.now r → number_of r ≡ number → Reaches (functions_of chain.now) r (type_parts_of t)) }
+    ensures { IsTrue result ↔ ((r : TypeParts) → IsMember set.now r → number_of r ≡ number
+        → Reaches (functions_of chain.now) r (type_parts_of t)) }
 {
     match set.member(number) {
         Some(r) => reaches(chain, r, t),

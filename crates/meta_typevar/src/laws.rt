@@ -11,5 +11,6 @@ pub fn equal_sets()
 
 /// Two variables of one registry are equal exactly where their roots and their chains are.
 pub fn equal_variables()
-    ensures { (vars : List TypeVarContent) (n m : ℕ) → IsRegistry vars → n < length vars → m < length vars → (n ≡ m ↔ variable_at vars n ≡ variable_at vars m) }
+    ensures { (vars : List TypeVarContent) (n m : ℕ) → IsRegistry vars → n < length vars → m < length vars
+        → (n ≡ m ↔ variable_at vars n ≡ variable_at vars m) }
 {}

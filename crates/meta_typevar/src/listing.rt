@@ -33,7 +33,8 @@ impl Masks {
 
     /// The lane types whose widths the masks hold: ints in rising width, then floats.
     fn lane_types(self, alloc: Global) -> Result<Vec<LaneType>, AllocError>
-        ensures { IfOk result (λ v. map lane_parts v.items ≡ map (scalar IntKind) (sets_in self).ints ++ map (scalar FloatKind) (sets_in self).floats) }
+        ensures { IfOk result (λ v. map lane_parts v.items ≡ map (scalar IntKind) (sets_in self).ints
+            ++ map (scalar FloatKind) (sets_in self).floats) }
     {
         let ints = self.int_numbers().to_vec(alloc)?;
         let floats = self.float_numbers().to_vec(alloc)?;
@@ -83,7 +84,8 @@ fn push_fixed(
     lanes: u16,
 ) -> Result<(), AllocError>
     requires { Contains (lane_counts false) lanes }
-    ensures { OnOk result (map type_parts_of types.new.items ≡ map type_parts_of types.old.items ++ map (λ l. lanes_of (lane_parts l) lanes) lane_types.now) }
+    ensures { OnOk result (map type_parts_of types.new.items ≡ map type_parts_of types.old.items
+        ++ map (λ l. lanes_of (lane_parts l) lanes) lane_types.now) }
 {
     for lane_type in lane_types {
         types.push(lane_type.by(lanes))?;
@@ -98,7 +100,8 @@ fn push_dynamic(
     lanes: u16,
 ) -> Result<(), AllocError>
     requires { Contains (lane_counts true) lanes }
-    ensures { OnOk result (map type_parts_of types.new.items ≡ map type_parts_of types.old.items ++ map (λ l. least_lanes_of (lane_parts l) lanes) lane_types.now) }
+    ensures { OnOk result (map type_parts_of types.new.items ≡ map type_parts_of types.old.items
+        ++ map (λ l. least_lanes_of (lane_parts l) lanes) lane_types.now) }
 {
     for lane_type in lane_types {
         types.push(lane_type.to_dynamic(lanes))?;

@@ -1,4 +1,5 @@
-ghost use Rattle.std.specs.Prelude.{◌≡◌, ◌≤◌, sum, ◌+◌, ◌*◌, ◌↔◌, ℕ, length, [], map, slice_get, Some, Contains, IsTrue, IsOkAnd, IfSome, IfNone, IfOk};
+ghost use Rattle.std.specs.Prelude.{◌≡◌, ◌≤◌, sum, ◌+◌, ◌*◌, ◌↔◌, ℕ, length, [], map, slice_get, Some, Contains, IsTrue, IsOkAnd, IfSome};
+ghost use Rattle.std.specs.Prelude.{IfNone, IfOk};
 ghost use Rattle.meta_types.specs.DerivedFunc.{function_of};
 ghost use Rattle.meta_types.specs.Lane.{lane_parts};
 ghost use Rattle.meta_types.specs.TypeParts.{TypeParts, number_of};
@@ -38,9 +39,23 @@ impl Model for TypeSet {
 
     ghost invariant = { λ s. AreMasks s.masks };
 
-    ghost inverse = { λ s. record { masks = record { lanes = sum s.lanes; dynamic_lanes = sum s.dynamic_lanes; ints = sum s.ints; floats = sum s.floats } } };
+    ghost inverse = { λ s. record {
+      masks = record {
+        lanes = sum s.lanes;
+        dynamic_lanes = sum s.dynamic_lanes;
+        ints = sum s.ints;
+        floats = sum s.floats;
+      };
+    } };
 
-    ghost inverse_ok = { λ a h i. record { masks = record { lanes = sym h.lanes i; dynamic_lanes = sym h.dynamic_lanes i; ints = sym h.ints i; floats = sym h.floats i } } };
+    ghost inverse_ok = { λ a h i. record {
+      masks = record {
+        lanes = sym h.lanes i;
+        dynamic_lanes = sym h.dynamic_lanes i;
+        ints = sym h.ints i;
+        floats = sym h.floats i;
+      };
+    } };
 }
 
 impl TypeSet {
@@ -85,7 +100,8 @@ impl TypeSet {
     pub fn concrete_types(&self, alloc: Global) -> Result<Vec<ValueType>, AllocError>
         ensures listed { IfOk result (λ v. map type_parts_of v.items ≡ types_in self.now) }
         ensures members { (t : TypeParts) → (Contains (types_in self.now) t ↔ IsMember self.now t) }
-        ensures once { (j k : ℕ) (t : TypeParts) → slice_get (types_in self.now) j ≡ Some t → slice_get (types_in self.now) k ≡ Some t → j ≡ k }
+        ensures once { (j k : ℕ) (t : TypeParts) → slice_get (types_in self.now) j ≡ Some t
+            → slice_get (types_in self.now) k ≡ Some t → j ≡ k }
     {
         self.masks.concrete_types(alloc)
     }

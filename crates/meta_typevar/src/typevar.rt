@@ -1,7 +1,9 @@
-ghost use Rattle.std.specs.Prelude.{◌≡◌, ◌+◌, ◌-◌, ◌^◌, ◌<◌, ◌↔◌, [], ◌∷◌, ◌++◌, length, IsTrue, IfOk, IsOkAnd, OnOk, OnErr, IfSome, IfNone};
+ghost use Rattle.std.specs.Prelude.{◌≡◌, ◌+◌, ◌-◌, ◌^◌, ◌<◌, ◌↔◌, [], ◌∷◌, ◌++◌, length, IsTrue, IfOk, IsOkAnd, OnOk, OnErr, IfSome};
+ghost use Rattle.std.specs.Prelude.{IfNone};
 ghost use Rattle.meta_types.specs.TypeParts.{name_of};
-ghost use Rattle.meta_types.specs.TypeText.{doc_of};
-ghost use Rattle.meta_types.specs.Function.{LaneOf, AsTruthy, HalfWidth, DoubleWidth, SplitLanes, MergeLanes, DynamicToVector, Narrower, Wider};
+ghost use Rattle.meta_types.specs.TypeText.{type_doc};
+ghost use Rattle.meta_types.specs.Function.{LaneOf, AsTruthy, HalfWidth, DoubleWidth, SplitLanes, MergeLanes, DynamicToVector, Narrower};
+ghost use Rattle.meta_types.specs.Function.{Wider};
 ghost use Rattle.meta_types.specs.DerivedFunc.{function_of};
 ghost use Rattle.meta_types.specs.ValueTypes.{type_parts_of};
 ghost use Rattle.meta_typevar.specs.TypeSetParts.{IsOnlyMember, HasOne};
@@ -69,7 +71,8 @@ impl TypeVar {
     pub fn new_singleton(vars: &mut TypeVars, value_type: ValueType) -> Result<TypeVar, AllocError>
         requires { length vars.old < 2 ^ 32 - 1 }
         ensures number { IfOk result (λ v. v ≡ length vars.old) }
-        ensures added { let t = type_parts_of value_type in OnOk result (vars.new ≡ vars.old ++ root_content (name_of t) (doc_of t) (singleton_sets t) (length vars.old) ∷ []) }
+        ensures added { let t = type_parts_of value_type in
+            OnOk result (vars.new ≡ vars.old ++ root_content (name_of t) (type_doc t) (singleton_sets t) (length vars.old) ∷ []) }
         ensures err { OnErr result (vars.new ≡ vars.old) }
     {
         let alloc = vars.allocator();
@@ -310,7 +313,8 @@ impl TypeVar {
     /// such type, and for a chain with a relation (this project's own).
     pub fn fixed_type(self, vars: &TypeVars) -> Option<ValueType>
         requires { self < length vars.now }
-        ensures found { let v = variable_at vars.now self in IfSome result (λ t. IsFixed (sets_of vars.now v.root) v.chain (type_parts_of t)) }
+        ensures found { let v = variable_at vars.now self in
+            IfSome result (λ t. IsFixed (sets_of vars.now v.root) v.chain (type_parts_of t)) }
         ensures none { let v = variable_at vars.now self in IfNone result (IsOpen (sets_of vars.now) v) }
     {
         let set = &vars.content(self.root(vars)).type_set;

@@ -7,3 +7,4 @@ mod Selecting
 mod Overlaps
 pub mod Numbered
 pub mod Finding
+pub mod OneFilling

@@ -42,12 +42,24 @@ record Hit (m r : ℕ) : Type 0 where
 even_turns : (k d r u m : ℕ) → m ≡ k + 1 + d → sum_to k ≡ r + (2 * u) * m → Hit (2 * m) r × Hit (2 * m) (r + m)
 even_turns k d r u m e s = (
   record { k = k; turns = u; below = omega arith; lands = omega (arith, s) },
-  record { k = k + 1 + 2 * d; turns = u + d; below = omega arith; lands = subst (λ w. sum_to (k + 1 + 2 * d) ≡ r + w + (u + d) * (2 * w)) (sym e) (omega (arith, flip k d, subst (λ w. sum_to k ≡ r + (2 * u) * w) e s)) },
+  record {
+    k = k + 1 + 2 * d;
+    turns = u + d;
+    below = omega arith;
+    lands = subst (λ w. sum_to (k + 1 + 2 * d) ≡ r + w + (u + d) * (2 * w)) (sym e)
+        (omega (arith, flip k d, subst (λ w. sum_to k ≡ r + (2 * u) * w) e s));
+  },
 )
 
 odd_turns : (k d r u m : ℕ) → m ≡ k + 1 + d → sum_to k ≡ r + (2 * u + 1) * m → Hit (2 * m) r × Hit (2 * m) (r + m)
 odd_turns k d r u m e s = (
-  record { k = k + 1 + 2 * d; turns = u + d + 1; below = omega arith; lands = subst (λ w. sum_to (k + 1 + 2 * d) ≡ r + (u + d + 1) * (2 * w)) (sym e) (omega (arith, flip k d, subst (λ w. sum_to k ≡ r + (2 * u + 1) * w) e s)) },
+  record {
+    k = k + 1 + 2 * d;
+    turns = u + d + 1;
+    below = omega arith;
+    lands = subst (λ w. sum_to (k + 1 + 2 * d) ≡ r + (u + d + 1) * (2 * w)) (sym e)
+        (omega (arith, flip k d, subst (λ w. sum_to k ≡ r + (2 * u + 1) * w) e s));
+  },
   record { k = k; turns = u; below = omega arith; lands = omega (arith, s) },
 )
 
@@ -62,7 +74,8 @@ unfolding sum_to
 hits zero r h = record { k = 0; turns = 0; below = omega arith; lands = omega arith }
 hits (suc j) r h = subst (λ (m : ℕ). Hit m r) (sym (pow-succ' 2 j)) (elim (cases_lt r (2 ^ j)) [
   | inl low ↦ (hit_more (2 ^ j) r (hits j r low)).0
-  | inr high ↦ subst (λ (q : ℕ). Hit (2 * 2 ^ j) q) (omega arith) ((hit_more (2 ^ j) (r - 2 ^ j) (hits j (r - 2 ^ j) (omega (arith, pow-succ' 2 j)))).1)
+  | inr high ↦ subst (λ (q : ℕ). Hit (2 * 2 ^ j) q) (omega arith)
+      ((hit_more (2 ^ j) (r - 2 ^ j) (hits j (r - 2 ^ j) (omega (arith, pow-succ' 2 j)))).1)
 ])
 
 -- a place is below m, or it is place k, below m, flipped
@@ -71,14 +84,16 @@ data Fold (m a : ℕ) : Type 0 where
   high : (k d : ℕ) → m ≡ k + 1 + d → a ≡ k + 1 + 2 * d → sum_to a ≡ sum_to k + (2 * d + 1) * m → Fold m a
 
 fold_at : (m a k d : ℕ) → m ≡ k + 1 + d → a ≡ k + 1 + 2 * d → Fold m a
-fold_at m a k d e f = high k d e f (subst (λ w. sum_to w ≡ sum_to k + (2 * d + 1) * m) (sym f) (subst (λ w. sum_to (k + 1 + 2 * d) ≡ sum_to k + (2 * d + 1) * w) (sym e) (flip k d)))
+fold_at m a k d e f = high k d e f (subst (λ w. sum_to w ≡ sum_to k + (2 * d + 1) * m) (sym f)
+    (subst (λ w. sum_to (k + 1 + 2 * d) ≡ sum_to k + (2 * d + 1) * w) (sym e) (flip k d)))
 
 fold : (m a : ℕ) → a < 2 * m → Fold m a
 fold m a h = elim (cases_lt a m) [ inl b ↦ low b | inr b ↦ fold_at m a (2 * m - 1 - a) (a - m) (omega arith) (omega arith) ]
 
 -- an even number of turns is no odd number of turns
 odd_even : (m t u : ℕ) → 0 < m → 2 * t * m ≡ (2 * u + 1) * m → ⊥
-odd_even m t u h e = let f : 2 * t ≡ 2 * u + 1 = sym (mul-div_cancel (2 * t) h) ∙ ap (λ w. w / m) e ∙ mul-div_cancel (2 * u + 1) h in omega arith
+odd_even m t u h e =
+    let f : 2 * t ≡ 2 * u + 1 = sym (mul-div_cancel (2 * t) h) ∙ ap (λ w. w / m) e ∙ mul-div_cancel (2 * u + 1) h in omega arith
 
 -- no two places below m are alike, but for turns
 Apart : ℕ → Type 0
@@ -97,7 +112,8 @@ apart_more m h ih a b t u la lb s = elim (fold m a la) [
   ]
   | high k d e f g ↦ elim (fold m b lb) [
     | low y ↦ absurd (crossed m b a u t k d h (ih b k (2 * u) (2 * d + 1 + 2 * t) y (omega arith) (omega arith)) g (sym s))
-    | high k' d' e' f' g' ↦ let same : k ≡ k' = ih k k' (2 * d + 1 + 2 * t) (2 * d' + 1 + 2 * u) (omega arith) (omega arith) (omega arith) in omega arith
+    | high k' d' e' f' g' ↦ let same : k ≡ k' = ih k k' (2 * d + 1 + 2 * t) (2 * d' + 1 + 2 * u) (omega arith)
+        (omega arith) (omega arith) in omega arith
   ]
 ]
 
@@ -119,10 +135,18 @@ whole n x = div-add-mod x n
 -- some place has the slot
 reach : (n start slot : ℕ) → ((r : ℕ) → r < n → Hit n r) → slot < n → (k : ℕ) × (k < n) × (slot_at n start k ≡ slot)
 reach n start slot each h = elim (cases_lt slot (start % n)) [
-  | inl before ↦ let hit = each (slot + n - start % n) (omega (arith)) in
-      (hit.k, hit.below, slot_of n start hit.k ∙ ap (λ w. w % n) (omega (arith, whole n start, hit.lands)) ∙ mod-mul-add (start / n + hit.turns + 1) n slot h)
-  | inr after ↦ let hit = each (slot - start % n) (omega (arith)) in
-      (hit.k, hit.below, slot_of n start hit.k ∙ ap (λ w. w % n) (omega (arith, whole n start, hit.lands)) ∙ mod-mul-add (start / n + hit.turns) n slot h)
+  | inl before ↦ let hit = each (slot + n - start % n) (omega (arith)) in (
+    hit.k,
+    hit.below,
+    slot_of n start hit.k ∙ ap (λ w. w % n) (omega (arith, whole n start, hit.lands))
+        ∙ mod-mul-add (start / n + hit.turns + 1) n slot h,
+  )
+  | inr after ↦ let hit = each (slot - start % n) (omega (arith)) in (
+    hit.k,
+    hit.below,
+    slot_of n start hit.k ∙ ap (λ w. w % n) (omega (arith, whole n start, hit.lands))
+        ∙ mod-mul-add (start / n + hit.turns) n slot h,
+  )
 ]
 
 -- places of one slot are turns apart
@@ -130,7 +154,8 @@ met_once : (n start j k : ℕ) → Apart n → j < n → k < n → slot_at n sta
 unfolding Apart
 met_once n start j k apart lj lk e =
     let same : (start + sum_to j) % n ≡ (start + sum_to k) % n = sym (slot_of n start j) ∙ e ∙ slot_of n start k in
-    apart j k ((start + sum_to k) / n) ((start + sum_to j) / n) lj lk (omega (arith, whole n (start + sum_to j), whole n (start + sum_to k)))
+    apart j k ((start + sum_to k) / n) ((start + sum_to j) / n) lj lk
+    (omega (arith, whole n (start + sum_to j), whole n (start + sum_to k)))
 
 pub visits : (j : ℕ) → VisitsEach (2 ^ j)
 visits j = record {

@@ -14,7 +14,8 @@ above_half (suc j) k s h l = elim (cases_lt j k) [
   | inr b ↦ let p : 2 ^ k ≤ 2 ^ j = pow-le-pow_right (omega arith) b in absurd (omega (arith, pow-succ' 2 j))
 ]
 
-pub table_size_is : (count size : ℕ) → IsPowerOfTwo size → count + count / 5 + 1 ≤ size → size / 2 < max 1 (count + count / 5 + 1) → IsTableSize count size
+pub table_size_is : (count size : ℕ) → IsPowerOfTwo size → count + count / 5 + 1 ≤ size
+    → size / 2 < max 1 (count + count / 5 + 1) → IsTableSize count size
 table_size_is count size p low high = record {
   power = p;
   above = omega arith;

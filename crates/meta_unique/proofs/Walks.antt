@@ -1,5 +1,6 @@
 -- A walk along a probe, over slots of which one is vacant.
-use Rattle.std.proofs.Common.{◌≡◌, ℕ, ◌+◌, ◌*◌, ◌/◌, ◌%◌, ◌<◌, sym, ap, ◌∙◌, subst, inl, inr, arith, List, length, Some, None, Option, get_or, true, false}
+use Rattle.std.proofs.Common.{◌≡◌, ℕ, ◌+◌, ◌*◌, ◌/◌, ◌%◌, ◌<◌, sym, ap, ◌∙◌, subst, inl, inr, arith, List, length, Some, None, Option}
+use Rattle.std.proofs.Common.{get_or, true, false}
 use Rattle.std.specs.Prelude.{slice_get, Contains, is_some}
 use Rattle.std.specs.Int.{IsPowerOfTwo}
 use Rattle.std.proofs.lemmas.Bool.{cases_order}
@@ -15,7 +16,8 @@ pub record Walked {X : Type 0} (slots : List (Option X)) (start slot passed : �
   pub inside : passed < length slots
   pub earlier : (k : ℕ) → k < passed → P (slot_at (length slots) start k)
 
-next_slot : (n start passed : ℕ) → ((start + passed * (passed + 1) / 2) % n + (passed + 1)) % n ≡ (start + (passed + 1) * (passed + 1 + 1) / 2) % n
+next_slot : (n start passed : ℕ) → ((start + passed * (passed + 1) / 2) % n + (passed + 1)) % n
+    ≡ (start + (passed + 1) * (passed + 1 + 1) / 2) % n
 next_slot n start passed =
     let x : ℕ = start + passed * (passed + 1) / 2 in
     sym (ap (λ w. w % n) (omega (arith, div-add-mod x n)) ∙ mul-add-mod_self_left n (x / n) (x % n + (passed + 1)))
@@ -28,17 +30,20 @@ pub vacant_taken : {X : Type 0} (slots : List (Option X)) (slot : ℕ) → IsVac
 vacant_taken slots slot v t = let e : Some None ≡ Some (Some t.0) = sym v ∙ t.1 in (cc)
 
 -- where P is of taken slots, the vacant one lies behind each slot that has P
-behind : {X : Type 0} (slots : List (Option X)) (start slot passed vacant : ℕ) (P : ℕ → Type 0) → ((s : ℕ) → P s → IsTaken slots s) → Walked slots start slot passed P → P slot → IsVacant slots vacant
+behind : {X : Type 0} (slots : List (Option X)) (start slot passed vacant : ℕ) (P : ℕ → Type 0)
+    → ((s : ℕ) → P s → IsTaken slots s) → Walked slots start slot passed P → P slot → IsVacant slots vacant
     → (k : ℕ) → slot_at (length slots) start k ≡ vacant → passed < k
 behind slots start slot passed vacant P taken w here v k e = elim (cases_order k passed) [
-  | inl same ↦ absurd (vacant_taken slots vacant v (taken vacant (subst P (sym w.here ∙ ap (slot_at (length slots) start) (sym same) ∙ e) here)))
+  | inl same ↦ absurd (vacant_taken slots vacant v
+      (taken vacant (subst P (sym w.here ∙ ap (slot_at (length slots) start) (sym same) ∙ e) here)))
   | inr other ↦ elim other [
     | inl before ↦ absurd (vacant_taken slots vacant v (taken vacant (subst P e (w.earlier k before))))
     | inr after ↦ after
   ]
 ]
 
-pub walk_next : {X : Type 0} (slots : List (Option X)) (start slot passed vacant : ℕ) (P : ℕ → Type 0) → IsPowerOfTwo (length slots) → IsVacant slots vacant → ((s : ℕ) → P s → IsTaken slots s)
+pub walk_next : {X : Type 0} (slots : List (Option X)) (start slot passed vacant : ℕ) (P : ℕ → Type 0)
+    → IsPowerOfTwo (length slots) → IsVacant slots vacant → ((s : ℕ) → P s → IsTaken slots s)
     → Walked slots start slot passed P → P slot → Walked slots start ((slot + (passed + 1)) % length slots) (passed + 1) P
 walk_next slots start slot passed vacant P power v taken w here =
     let met = (visits_power (length slots) power).all start vacant (slice_get_within slots vacant None v) in
@@ -52,25 +57,31 @@ walk_next slots start slot passed vacant P power v taken w here =
       ];
     }
 
-pub slot_inside : {X : Type 0} (slots : List (Option X)) (start slot passed : ℕ) (P : ℕ → Type 0) → Walked slots start slot passed P → slot < length slots
-slot_inside slots start slot passed P w = subst (λ s. s < length slots) w.here (mod-lt (start + passed * (passed + 1) / 2) (omega (arith, w.inside)))
+pub slot_inside : {X : Type 0} (slots : List (Option X)) (start slot passed : ℕ) (P : ℕ → Type 0)
+    → Walked slots start slot passed P → slot < length slots
+slot_inside slots start slot passed P w = subst (λ s. s < length slots) w.here
+    (mod-lt (start + passed * (passed + 1) / 2) (omega (arith, w.inside)))
 
 -- what was read at the walk's slot
-pub walk_read : {X : Type 0} (slots : List (Option X)) (start slot passed : ℕ) (P : ℕ → Type 0) (d held : Option X) → Walked slots start slot passed P → get_or slots slot d ≡ held → slice_get slots slot ≡ Some held
+pub walk_read : {X : Type 0} (slots : List (Option X)) (start slot passed : ℕ) (P : ℕ → Type 0) (d held : Option X)
+    → Walked slots start slot passed P → get_or slots slot d ≡ held → slice_get slots slot ≡ Some held
 walk_read slots start slot passed P d held w e = slice_get-get_or slots slot d (slot_inside slots start slot passed P w) ∙ ap Some e
 
 -- a slot that reads as taken
-pub taken_read : {X : Type 0} (slots : List (Option X)) (slot : ℕ) (held : Option X) → slice_get slots slot ≡ Some held → is_some held ≡ true → IsTaken slots slot
+pub taken_read : {X : Type 0} (slots : List (Option X)) (slot : ℕ) (held : Option X)
+    → slice_get slots slot ≡ Some held → is_some held ≡ true → IsTaken slots slot
 taken_read slots slot None e t = (cc)
 taken_read slots slot (Some x) e t = (x, e)
 
 -- and one that reads as vacant
-pub vacant_read : {X : Type 0} (slots : List (Option X)) (slot : ℕ) (held : Option X) → slice_get slots slot ≡ Some held → is_some held ≡ false → IsVacant slots slot
+pub vacant_read : {X : Type 0} (slots : List (Option X)) (slot : ℕ) (held : Option X)
+    → slice_get slots slot ≡ Some held → is_some held ≡ false → IsVacant slots slot
 vacant_read slots slot None e t = e
 vacant_read slots slot (Some x) e t = (cc)
 
 -- the walk ends at the first slot that isn't taken
-pub walk_end : {X : Type 0} (slots : List (Option X)) (start slot passed : ℕ) → Walked slots start slot passed (IsTaken slots) → IsVacant slots slot → IsFirstFree (length slots) start (IsTaken slots) slot
+pub walk_end : {X : Type 0} (slots : List (Option X)) (start slot passed : ℕ)
+    → Walked slots start slot passed (IsTaken slots) → IsVacant slots slot → IsFirstFree (length slots) start (IsTaken slots) slot
 walk_end slots start slot passed w v = record { step = passed; here = w.here; free = vacant_taken slots slot v; passed = w.earlier }
 
 pub contained_vacant : {X : Type 0} (slots : List (Option X)) → Contains slots None → (slot : ℕ) × IsVacant slots slot

@@ -41,14 +41,17 @@ module _ {X : Type 0} (eq : X → X → Bool) where
   -- longest tail of the table that is a proper prefix of the list
   abbrev pub added : List X → List X → List X
   added table [] = table
-  added table (x ∷ xs) = if nat_lt (first_place table (x ∷ xs)) (length table) then table else table ++ drop (shared table (x ∷ xs)) (x ∷ xs)
+  added table (x ∷ xs) = if nat_lt (first_place table (x ∷ xs)) (length table) then table else table
+      ++ drop (shared table (x ∷ xs)) (x ∷ xs)
 
   -- where the list then stands: at 0 where it is empty, at its first place where it stood in the table, and else where the
   -- shared tail begins
   abbrev pub added_at : List X → List X → ℕ
   added_at table [] = 0
-  added_at table (x ∷ xs) = if nat_lt (first_place table (x ∷ xs)) (length table) then first_place table (x ∷ xs) else length table - shared table (x ∷ xs)
+  added_at table (x ∷ xs) = if nat_lt (first_place table (x ∷ xs)) (length table) then first_place table
+      (x ∷ xs) else length table - shared table (x ∷ xs)
 
   -- no list that begins with the old table and holds the added list in one piece is shorter than the new table
   abbrev pub IsShortest : List X → List X → List X → Type 0
-  IsShortest old list new = (other : List X) (place : ℕ) → starts_with eq other old ≡ true → stands_at other list place ≡ true → length new ≤ length other
+  IsShortest old list new = (other : List X) (place : ℕ) → starts_with eq other old ≡ true
+      → stands_at other list place ≡ true → length new ≤ length other

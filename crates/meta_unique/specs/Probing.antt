@@ -19,19 +19,19 @@ abbrev pub IsVacant : {X : Type 0} → List (Option X) → ℕ → Type 0
 IsVacant slots slot = slice_get slots slot ≡ Some None
 
 -- the slot is there, and it holds x
-abbrev pub Holds : {X : Type 0} → List (Option X) → ℕ → X → Type 0
-Holds slots slot x = slice_get slots slot ≡ Some (Some x)
+abbrev pub SlotHolds : {X : Type 0} → List (Option X) → ℕ → X → Type 0
+SlotHolds slots slot x = slice_get slots slot ≡ Some (Some x)
 
 -- the slot holds a number that the test refuses, so that a lookup goes on behind it
 pub record IsPassed (says : ℕ → Bool → Type 0) (slots : List (Option ℕ)) (slot : ℕ) : Type 0 where
   pub number : ℕ
-  pub taken : Holds slots slot number
+  pub taken : SlotHolds slots slot number
   pub refused : says number false
 
 -- the slot ends a lookup: it is vacant and nothing is found, or it holds what is found, which passes the test
 abbrev pub Ends : (ℕ → Bool → Type 0) → List (Option ℕ) → ℕ → Option ℕ → Type 0
 Ends says slots slot None = IsVacant slots slot
-Ends says slots slot (Some number) = Holds slots slot number × says number true
+Ends says slots slot (Some number) = SlotHolds slots slot number × says number true
 
 -- A lookup from `start` ends at slot `last` of its probe, the first that is vacant or whose number passes the test. It looked
 -- at `last + 1` slots, each another one.
@@ -42,4 +42,4 @@ pub record IsLookup (says : ℕ → Bool → Type 0) (slots : List (Option ℕ))
 
 -- the slot is there, and it holds something
 abbrev pub IsTaken : {X : Type 0} → List (Option X) → ℕ → Type 0
-IsTaken {X} slots slot = (x : X) × Holds slots slot x
+IsTaken {X} slots slot = (x : X) × SlotHolds slots slot x

@@ -7,5 +7,5 @@ abbrev pub hash_step : ℕ → ℕ → ℕ
 hash_step h byte = (bit_xor h byte + rotate_right w32 h 6) % 2 ^ 32
 
 -- the hash of the bytes, one after another from 5381
-abbrev pub hash_of : List ℕ → ℕ
-hash_of bytes = fold hash_step 5381 bytes
+abbrev pub simple_hash_of : List ℕ → ℕ
+simple_hash_of bytes = fold hash_step 5381 bytes

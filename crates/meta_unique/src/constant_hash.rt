@@ -4,13 +4,13 @@ ghost use Rattle.std.specs.Int.{IsPowerOfTwo};
 ghost use Rattle.std.specs.Option.{option_copied};
 ghost use Rattle.meta_unique.specs.Probing.{IsVacant, IsTaken};
 ghost use Rattle.meta_unique.specs.Slots.{IsTableSize, IsFirstFree, IsSlots};
-ghost use Rattle.meta_unique.specs.SimpleHash.{hash_of};
+ghost use Rattle.meta_unique.specs.SimpleHash.{simple_hash_of};
 
 use std::alloc::{AllocError, Global};
 
 /// The hash of a name, below 2^32 (this project's own, in place of a call of another crate).
 pub fn simple_hash(name: &[u8]) -> usize
-    ensures { result ≡ hash_of name.now }
+    ensures { result ≡ simple_hash_of name.now }
 {
     name.iter().fold(5381u32, |h, byte| {
         (h ^ *byte as u32).wrapping_add(h.rotate_right(6))

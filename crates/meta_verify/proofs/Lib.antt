@@ -1,11 +1,10 @@
-pub mod ListLemmas
+mod ListLemmas
 pub mod StatementLemmas
 pub mod EnvironmentLemmas
-pub mod DefineLemmas
-pub mod CheckerLemmas
+mod DefineLemmas
+mod CheckerLemmas
 pub mod OneAnswer
-pub mod OneReply
 pub mod Allowed
 pub mod Meaning
 pub mod VerdictLemmas
-pub mod Runs
+mod Runs

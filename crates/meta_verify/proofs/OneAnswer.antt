@@ -1,5 +1,6 @@
 -- Where a question has one reply at most, a line has one answer at most, and an input one verdict.
-use Rattle.std.proofs.Common.{◌≡◌, ◌⊎◌, inl, inr, ℕ, ◌+◌, ◌<◌, Bool, true, false, List, [], ◌∷◌, map, take, Option, None, Some, refl, sym, ap, ap₂, ◌∙◌, subst}
+use Rattle.std.proofs.Common.{◌≡◌, ◌⊎◌, inl, inr, ℕ, ◌+◌, ◌<◌, Bool, true, false, List, [], ◌∷◌, map, take, Option, None, Some, refl, sym}
+use Rattle.std.proofs.Common.{ap, ap₂, ◌∙◌, subst}
 use Rattle.std.proofs.lemmas.Bool.{cases_order}
 use Rattle.std.proofs.lemmas.Option.{same_Some, slice_get_within}
 use Rattle.meta_types.specs.TypeParts.{TypeParts}
@@ -9,7 +10,8 @@ use Rattle.meta_answers.specs.declared.reply.Reply.{Reply}
 use Rattle.meta_answers.specs.declared.reply.Reply.TheVariants as reply
 use Rattle.meta_verify.specs.Statement.{Statement, OfParameter, OfApplication, defined_by}
 use Rattle.meta_verify.specs.Environment.{Environment, nothing_defined, with_values, HaveTypes}
-use Rattle.meta_verify.specs.Wrong.{Replies, question_of, IsAccepted, IsRefused, IsMistake, IsFaultless, IsRight, IsWrong, Answers, Feeds}
+use Rattle.meta_verify.specs.Wrong.{Replies, question_of, IsAccepted, IsRefused, IsMistake, IsFaultless, IsRight, IsWrong, AnswersLine}
+use Rattle.meta_verify.specs.Wrong.{Feeds}
 use Rattle.meta_verify.specs.Verdict.{LeadTo, IsAnsweredAt, IsFirstWrong, wrong_text, IsVerdict}
 use Rattle.meta_verify.specs.declared.reason.Reason.{Reason}
 use Rattle.meta_verify.specs.declared.reason.Reason.TheVariants.{Bad, Unknown, Undefined, Redefined, Refused}
@@ -25,16 +27,18 @@ same_found (t ∷ ts) (u ∷ us) e =
     let others : map (λ t. Some t) ts ≡ map (λ t. Some t) us = cc in
     ap₂ ◌∷◌ first (same_found ts us others)
 
-same_types : (env : Environment) (values : List ℕ) (ts us : List TypeParts) → HaveTypes env values ts → HaveTypes env values us → ts ≡ us
-same_types env values ts us h g = same_found ts us (sym h ∙ g)
+pub same_found_types : (env : Environment) (values : List ℕ) (ts us : List TypeParts) → HaveTypes env values ts → HaveTypes env values us
+    → ts ≡ us
+same_found_types env values ts us h g = same_found ts us (sym h ∙ g)
 
 module _ (R : Replies) (one : (q : Question) (r s : Reply) → R q r → R q s → r ≡ s) where
   -- what is accepted isn't refused
   not_both : (env : Environment) (s : Statement) → IsAccepted R env s → IsRefused R env s → ⊥
   not_both env (OfParameter r) h g = g
   not_both env (OfApplication a) (types, have, accepts) (others, has, refuses) =
-      let same = same_types env a.values types others have has in
-      let e : reply.Accept ≡ reply.Refuse = one (question_of a others) reply.Accept reply.Refuse (subst (λ ts. R (question_of a ts) reply.Accept) same accepts) refuses in
+      let same = same_found_types env a.values types others have has in
+      let e : reply.Accept ≡ reply.Refuse =
+      one (question_of a others) reply.Accept reply.Refuse (subst (λ ts. R (question_of a ts) reply.Accept) same accepts) refuses in
       absurd (cc)
 
   -- what is right is no mistake
@@ -68,24 +72,29 @@ module _ (R : Replies) (one : (q : Question) (r s : Reply) → R q r → R q s �
 
   -- so is a line wrong for one reason
   one_wrong : (env : Environment) (line : List ℕ) (a b : Reason) → IsWrong R env line a → IsWrong R env line b → a ≡ b
-  one_wrong env line a b (inl (s, states, h)) (inl (t, also, g)) = one_mistake env s a b h (subst (λ x. IsMistake R env x b) (one_statement line t s also states) g)
+  one_wrong env line a b (inl (s, states, h)) (inl (t, also, g)) =
+      one_mistake env s a b h (subst (λ x. IsMistake R env x b) (one_statement line t s also states) g)
   one_wrong env line a b (inl (s, states, h)) (inr (bad, none)) = absurd (none s states)
   one_wrong env line a b (inr (bad, none)) (inl (t, also, g)) = absurd (none t also)
   one_wrong env line a b (inr (bad, none)) (inr (too, nothing)) = bad ∙ sym too
 
-  pub not_wrong : (env : Environment) (line : List ℕ) (s : Statement) (reason : Reason) → IsRight R env line s → IsWrong R env line reason → ⊥
-  not_wrong env line s reason (states, h) (inl (t, also, g)) = right_is_none env s reason h (subst (λ x. IsMistake R env x reason) (one_statement line t s also states) g)
+  pub not_wrong : (env : Environment) (line : List ℕ) (s : Statement) (reason : Reason) → IsRight R env line s → IsWrong R env line reason
+      → ⊥
+  not_wrong env line s reason (states, h) (inl (t, also, g)) =
+      right_is_none env s reason h (subst (λ x. IsMistake R env x reason) (one_statement line t s also states) g)
   not_wrong env line s reason (states, h) (inr (bad, none)) = none s states
 
   -- a line has one answer, and leads to one environment
-  one_answer : (env e f : Environment) (line : List ℕ) (a b : Option Reason) → Answers R env line a e → Answers R env line b f → (a ≡ b) × (e ≡ f)
+  one_answer : (env e f : Environment) (line : List ℕ) (a b : Option Reason) → AnswersLine R env line a e → AnswersLine R env line b f
+      → (a ≡ b) × (e ≡ f)
   one_answer env e f line None None (s, (states, h), is) (t, (also, g), too) =
       (refl, is ∙ ap (λ x. with_values env (defined_by x)) (one_statement line s t states also) ∙ sym too)
   one_answer env e f line None (Some b) (s, right, is) (wrong, too) = absurd (not_wrong env line s b right wrong)
   one_answer env e f line (Some a) None (wrong, is) (t, right, too) = absurd (not_wrong env line t a right wrong)
   one_answer env e f line (Some a) (Some b) (wrong, is) (also, too) = (ap (λ r. Some r) (one_wrong env line a b wrong also), is ∙ sym too)
 
-  pub one_fed : (env e f : Environment) (line : List ℕ) (a b : Option Reason) → Feeds R env line a e → Feeds R env line b f → (a ≡ b) × (e ≡ f)
+  pub one_fed : (env e f : Environment) (line : List ℕ) (a b : Option Reason) → Feeds R env line a e → Feeds R env line b f
+      → (a ≡ b) × (e ≡ f)
   one_fed env e f [] a b (none, is) (nothing, too) = (none ∙ sym nothing, is ∙ sym too)
   one_fed env e f (c ∷ cs) a b h g = one_answer env e f (c ∷ cs) a b h g
 
@@ -100,14 +109,17 @@ module _ (R : Replies) (one : (q : Question) (r s : Reply) → R q r → R q s �
   one_answered lines n a b h g =
       let line : h.line ≡ g.line = same_Some h.line g.line (sym h.at ∙ g.at) in
       let before : h.before ≡ g.before = one_lead nothing_defined (take n lines) h.before g.before h.leads g.leads in
-      let fed : Feeds R g.before g.line a h.behind = subst (λ x. Feeds R x g.line a h.behind) before (subst (λ l. Feeds R h.before l a h.behind) line h.fed) in
+      let fed : Feeds R g.before g.line a h.behind =
+      subst (λ x. Feeds R x g.line a h.behind) before (subst (λ l. Feeds R h.before l a h.behind) line h.fed) in
       (one_fed g.before h.behind g.behind g.line a b fed g.fed).0
 
-  pub right_not_wrong : (lines : List (List ℕ)) (n : ℕ) (reason : Reason) → IsAnsweredAt R lines n None → IsAnsweredAt R lines n (Some reason) → ⊥
+  pub right_not_wrong : (lines : List (List ℕ)) (n : ℕ) (reason : Reason) → IsAnsweredAt R lines n None
+      → IsAnsweredAt R lines n (Some reason) → ⊥
   right_not_wrong lines n reason h g = let e = one_answered lines n None (Some reason) h g in absurd (cc)
 
   -- two lines that are the first wrong ones are the same
-  one_first : (lines : List (List ℕ)) (n m : ℕ) (a b : Reason) → IsFirstWrong R lines n a → IsFirstWrong R lines m b → wrong_text (n + 1) a ≡ wrong_text (m + 1) b
+  one_first : (lines : List (List ℕ)) (n m : ℕ) (a b : Reason) → IsFirstWrong R lines n a → IsFirstWrong R lines m b
+      → wrong_text (n + 1) a ≡ wrong_text (m + 1) b
   one_first lines n m a b h g = by_order (cases_order n m)
     where
       by_order : (n ≡ m) ⊎ ((n < m) ⊎ (m < n)) → wrong_text (n + 1) a ≡ wrong_text (m + 1) b

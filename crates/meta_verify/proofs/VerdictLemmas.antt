@@ -1,5 +1,6 @@
 -- What is said of a list of lines, line by line.
-use Rattle.std.proofs.Common.{◌≡◌, ◌⊎◌, inl, inr, ℕ, zero, suc, ◌+◌, ◌<◌, ◌≤◌, List, [], ◌∷◌, ◌++◌, take, drop, length, slice_get, Option, None, Some, codes, refl, sym, ap, ◌∙◌, subst, append_assoc, arith}
+use Rattle.std.proofs.Common.{◌≡◌, ◌⊎◌, inl, inr, ℕ, zero, suc, ◌+◌, ◌<◌, ◌≤◌, List, [], ◌∷◌, ◌++◌, take, drop, length, slice_get, Option}
+use Rattle.std.proofs.Common.{None, Some, codes, refl, sym, ap, ◌∙◌, subst, append_assoc, arith}
 use Rattle.std.specs.Fmt.{decimal}
 use Rattle.std.proofs.lemmas.Bool.{cases_order}
 use Rattle.meta_lists.proofs.Places.{take_next, drop_next}
@@ -11,21 +12,25 @@ use Rattle.meta_verify.specs.Wrong.{Replies, Feeds}
 use Rattle.meta_verify.specs.Verdict.{LeadTo, IsAnsweredAt, AreRightTo, AreRight, IsFirstWrong, wrong_text}
 use Rattle.meta_verify.specs.declared.reason.Reason.{Reason}
 use Rattle.meta_verify.proofs.OneAnswer.{right_not_wrong}
-use Rattle.meta_verify.proofs.OneReply.{one_allowed}
+use Rattle.meta_answers.proofs.OneReply.{one_allowed}
 
 -- one more line leads further
-leads_on : (R : Replies) (env between env' : Environment) (lines : List (List ℕ)) (line : List ℕ) (answer : Option Reason) → LeadTo R env lines between → Feeds R between line answer env' → LeadTo R env (lines ++ line ∷ []) env'
+leads_on : (R : Replies) (env between env' : Environment) (lines : List (List ℕ)) (line : List ℕ)
+    (answer : Option Reason) → LeadTo R env lines between → Feeds R between line answer env' → LeadTo R env (lines ++ line ∷ []) env'
 leads_on R env between env' [] line answer h fed = (answer, env', subst (λ e. Feeds R e line answer env') h fed, refl)
-leads_on R env between env' (l ∷ lines) line answer (first, e, fed_first, rest) fed = (first, e, fed_first, leads_on R e between env' lines line answer rest fed)
+leads_on R env between env' (l ∷ lines) line answer (first, e, fed_first, rest) fed =
+    (first, e, fed_first, leads_on R e between env' lines line answer rest fed)
 
 -- where the lines from this one on begin with this line
-at_front : (lines : List (List ℕ)) (n : ℕ) (line : List ℕ) (rest : List (List ℕ)) → drop n lines ≡ line ∷ rest → slice_get lines n ≡ Some line
+pub at_front : (lines : List (List ℕ)) (n : ℕ) (line : List ℕ) (rest : List (List ℕ)) → drop n lines ≡ line ∷ rest
+    → slice_get lines n ≡ Some line
 at_front [] zero line rest e = absurd (cc)
 at_front [] (suc n) line rest e = absurd (cc)
 at_front (l ∷ lines) zero line rest e = let same : l ≡ line = cc in ap (λ x. Some x) same
 at_front (l ∷ lines) (suc n) line rest e = at_front lines n line rest e
 
-pub left_next : (lines : List (List ℕ)) (n : ℕ) (line : List ℕ) (rest : List (List ℕ)) → drop n lines ≡ line ∷ rest → drop (n + 1) lines ≡ rest
+pub left_next : (lines : List (List ℕ)) (n : ℕ) (line : List ℕ) (rest : List (List ℕ)) → drop n lines ≡ line ∷ rest
+    → drop (n + 1) lines ≡ rest
 left_next lines n line rest e =
     let both : line ∷ drop (n + 1) lines ≡ line ∷ rest = sym (drop_next lines n line (at_front lines n line rest e)) ∙ e in
     cc
@@ -53,18 +58,31 @@ module _ (tables : TableContents) (lines : List (List ℕ)) where
   none_so_far = record { leads = refl; each = λ k l. absurd (omega (arith, l)) }
 
   -- the answer to the next line
-  answered : (n : ℕ) (env env' : Environment) (line : List ℕ) (rest : List (List ℕ)) (answer : Option Reason) → AreRightSoFar n env → drop n lines ≡ line ∷ rest → Feeds (AllowedReply tables) env line answer env' → IsAnsweredAt (AllowedReply tables) lines n answer
-  answered n env env' line rest answer h e fed = record { line = line; at = at_front lines n line rest e; before = env; leads = h.leads; behind = env'; fed = fed }
+  answered : (n : ℕ) (env env' : Environment) (line : List ℕ) (rest : List (List ℕ)) (answer : Option Reason)
+      → AreRightSoFar n env → drop n lines ≡ line ∷ rest → Feeds (AllowedReply tables) env line answer env'
+      → IsAnsweredAt (AllowedReply tables) lines n answer
+  answered n env env' line rest answer h e fed = record {
+    line = line;
+    at = at_front lines n line rest e;
+    before = env;
+    leads = h.leads;
+    behind = env';
+    fed = fed;
+  }
 
   -- one more line is right
-  pub one_right : (n : ℕ) (env env' : Environment) (line : List ℕ) (rest : List (List ℕ)) → AreRightSoFar n env → drop n lines ≡ line ∷ rest → Feeds (AllowedReply tables) env line None env' → AreRightSoFar (n + 1) env'
+  pub one_right : (n : ℕ) (env env' : Environment) (line : List ℕ) (rest : List (List ℕ)) → AreRightSoFar n env
+      → drop n lines ≡ line ∷ rest → Feeds (AllowedReply tables) env line None env' → AreRightSoFar (n + 1) env'
   one_right n env env' line rest h e fed = record {
-    leads = subst (λ ls. LeadTo (AllowedReply tables) nothing_defined ls env') (sym (take_next lines n line (at_front lines n line rest e))) (leads_on (AllowedReply tables) nothing_defined env env' (take n lines) line None h.leads fed);
+    leads = subst (λ ls. LeadTo (AllowedReply tables) nothing_defined ls env')
+        (sym (take_next lines n line (at_front lines n line rest e)))
+        (leads_on (AllowedReply tables) nothing_defined env env' (take n lines) line None h.leads fed);
     each = λ k l. by_order k l (cases_order k n);
   }
     where
       by_order : (k : ℕ) → k < n + 1 → (k ≡ n) ⊎ ((k < n) ⊎ (n < k)) → IsAnsweredAt (AllowedReply tables) lines k None
-      by_order k l (inl is) = subst (λ x. IsAnsweredAt (AllowedReply tables) lines x None) (sym is) (answered n env env' line rest None h e fed)
+      by_order k l (inl is) = subst (λ x. IsAnsweredAt (AllowedReply tables) lines x None) (sym is)
+          (answered n env env' line rest None h e fed)
       by_order k l (inr (inl before)) = h.each k before
       by_order k l (inr (inr behind)) = absurd (omega (arith, l, behind))
 
@@ -75,8 +93,11 @@ module _ (tables : TableContents) (lines : List (List ℕ)) where
   }
 
   -- the next line is wrong
-  pub first_wrong : (n : ℕ) (env env' : Environment) (line : List ℕ) (rest : List (List ℕ)) (reason : Reason) → AreRightSoFar n env → drop n lines ≡ line ∷ rest → Feeds (AllowedReply tables) env line (Some reason) env' → IsFirstWrong (AllowedReply tables) lines n reason
-  first_wrong n env env' line rest reason h e fed = record { wrong = answered n env env' line rest (Some reason) h e fed; before = right_to n env h }
+  pub first_wrong : (n : ℕ) (env env' : Environment) (line : List ℕ) (rest : List (List ℕ)) (reason : Reason)
+      → AreRightSoFar n env → drop n lines ≡ line ∷ rest → Feeds (AllowedReply tables) env line (Some reason) env'
+      → IsFirstWrong (AllowedReply tables) lines n reason
+  first_wrong n env env' line rest reason h e fed =
+      record { wrong = answered n env env' line rest (Some reason) h e fed; before = right_to n env h }
 
   -- no line is left
   pub all_right : (n : ℕ) (env : Environment) → AreRightSoFar n env → drop n lines ≡ [] → AreRight (AllowedReply tables) lines
@@ -89,7 +110,8 @@ module _ (tables : TableContents) (lines : List (List ℕ)) where
       }
 
 -- the text that was put together
-pub put_together : (n : ℕ) (reason : Reason) (a b c : List ℕ) → a ≡ codes "line " ++ (decimal n ++ codes ": ") → b ≡ a ++ reason_text reason → c ≡ b ++ 10 ∷ [] → c ≡ wrong_text n reason
+pub put_together : (n : ℕ) (reason : Reason) (a b c : List ℕ) → a ≡ codes "line " ++ (decimal n ++ codes ": ")
+    → b ≡ a ++ reason_text reason → c ≡ b ++ 10 ∷ [] → c ≡ wrong_text n reason
 put_together n reason a b c first second third =
     third ∙ ap (λ t. t ++ 10 ∷ []) (second ∙ ap (λ t. t ++ reason_text reason) first)
     ∙ append_assoc (codes "line " ++ (decimal n ++ codes ": ")) (reason_text reason) (10 ∷ [])

@@ -1,5 +1,5 @@
 -- Which values are held to be defined.
---     number_at types v        the number of the type of a value, where it is defined
+--     known_number types v     the number of the type of a value, where it is defined
 --     definitions entries      the values that are defined, with their types
 use Rattle.std.specs.Prelude.{ℕ, nat_eq, ◌==◌, List, map, slice_index, Option, Some, IfSome, if◌then◌else◌}
 use Rattle.std.specs.Ordering.{nat_cmp}
@@ -12,16 +12,16 @@ use Rattle.meta_verify.specs.Environment.{Environment}
 use Rattle.meta_verify.specs.declared.known.KnownTypes.{KnownTypes}
 
 -- the number of the type of a value: that at its place in the list, or where there is none, which 0 says, that of the map
-abbrev pub number_at : KnownTypes → ℕ → Option ℕ
-number_at types v = if slice_index types.near.items v == 0 then get nat_cmp types.others v else Some (slice_index types.near.items v)
+abbrev pub known_number : KnownTypes → ℕ → Option ℕ
+known_number types v = if slice_index types.near.items v == 0 then get nat_cmp types.others v else Some (slice_index types.near.items v)
 
 -- the types with these numbers
 abbrev pub environment_of : KnownTypes → Environment
-environment_of types v = option_map type_with (number_at types v)
+environment_of types v = option_map type_with (known_number types v)
 
 -- each number is one of a type
 abbrev pub AreTypeNumbers : KnownTypes → Type 0
-AreTypeNumbers types = (v : ℕ) → IfSome (number_at types v) IsTypeNumber
+AreTypeNumbers types = (v : ℕ) → IfSome (known_number types v) IsTypeNumber
 
 -- the numbers of the types of the first values, by value, 0 for one that isn't there; and other values with their types, in order
 abbrev pub Entries : Type 0

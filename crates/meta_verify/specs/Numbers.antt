@@ -12,14 +12,20 @@ use Rattle.meta_verify.specs.declared.statement.Statement.{Statement}
 use Rattle.meta_verify.specs.declared.statement.Statement.TheVariants.{Parameter, Applied}
 
 -- the value and the type with the number
-abbrev pub typed : TypedNumber → TypedValue
-typed r = record { value = r.value; type = type_with r.number }
+abbrev pub typed_value_of : TypedNumber → TypedValue
+typed_value_of r = record { value = r.value; type = type_with r.number }
 
 abbrev pub applied : Application → spec.Application
-applied a = record { name = a.name.now; control = option_map type_with a.control; second = option_map type_with a.second; results = map typed a.results.items; values = a.values.items }
+applied a = record {
+  name = a.name.now;
+  control = option_map type_with a.control;
+  second = option_map type_with a.second;
+  results = map typed_value_of a.results.items;
+  values = a.values.items;
+}
 
 abbrev pub stated : Statement → spec.Statement
-stated (Parameter r) = spec.OfParameter (typed r)
+stated (Parameter r) = spec.OfParameter (typed_value_of r)
 stated (Applied a) = spec.OfApplication (applied a)
 
 pub record IsTypedNumber (r : TypedNumber) : Type 0 where

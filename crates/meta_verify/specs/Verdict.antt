@@ -1,7 +1,7 @@
 -- What is said of a list of lines.
 --     LeadTo R env lines env'                  behind lines that define env, these lead to env'
 --     IsAnsweredAt R lines n answer            the answer to line n, behind those before it
---     IsVerdict R input is_rejection text      the text says of the input whether it is right, or which line is the first wrong one, and why
+--     IsVerdict R input is_rejection text      the text says whether the input is right, or which line is the first wrong one, and why
 use Rattle.std.specs.Prelude.{◌≡◌, ℕ, ◌+◌, ◌<◌, Bool, true, false, List, [], ◌∷◌, ◌++◌, take, length, slice_get, Option, None, Some, codes}
 use Rattle.std.specs.Fmt.{decimal}
 use Rattle.meta_words.specs.Lines.{lines_of}
@@ -14,7 +14,8 @@ use Rattle.meta_verify.specs.declared.reason.Reason.{Reason}
 -- nothing.
 abbrev pub LeadTo : Replies → Environment → List (List ℕ) → Environment → Type 0
 LeadTo R env [] env' = env' ≡ env
-LeadTo R env (line ∷ lines) env' = (answer : Option Reason) × (between : Environment) × Feeds R env line answer between × LeadTo R between lines env'
+LeadTo R env (line ∷ lines) env' =
+    (answer : Option Reason) × (between : Environment) × Feeds R env line answer between × LeadTo R between lines env'
 
 -- the line at this place, counted from 0, has this answer behind those before it
 pub record IsAnsweredAt (R : Replies) (lines : List (List ℕ)) (n : ℕ) (answer : Option Reason) : Type 0 where

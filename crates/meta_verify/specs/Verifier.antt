@@ -1,15 +1,13 @@
 -- What a run does that checks a list of lines over declarations.
---     ChecksLines, RefusesDeclarations, Completes      what it does where nothing fails
-use Rattle.std.specs.Prelude.{◌≡◌, ◌≢◌, ℕ, ◌+◌, ◌≤◌, ◌⊎◌, ⊤, true, List, [], ◌++◌, length, Option, Some}
-use Rattle.meta_types.specs.declared.fault.DefinitionError.{DefinitionError}
-use Rattle.meta_text.specs.Outside.{Rose, longest_input, GaveMore}
-use Rattle.meta_declared.specs.AllDeclared.{Declared, ShowsFirst, AreValid}
+--     ChecksLines      what it says where nothing fails
+use Rattle.std.specs.Prelude.{◌≡◌, ◌≢◌, ℕ, ◌+◌, ◌≤◌, ◌⊎◌, List, [], ◌++◌, length, Option, Some}
+use Rattle.meta_text.specs.Outside.{Rose, longest_input}
+use Rattle.meta_declared.specs.AllDeclared.{Declared, AreValid}
 use Rattle.meta_words.specs.Lines.{lines_of}
 use Rattle.meta_answers.specs.Answer.{AcceptedReply}
-use Rattle.meta_run.specs.Run as ran
-use Rattle.meta_run.specs.Run.{Texts, refusal}
+use Rattle.meta_run.specs.Run.{Texts}
 use Rattle.meta_run.specs.declared.ending.Ending.{Ending}
-use Rattle.meta_run.specs.declared.ending.Ending.TheVariants.{Done, Refused, OutOfMemory, TooLong, Rejected}
+use Rattle.meta_run.specs.declared.ending.Ending.TheVariants.{Done, OutOfMemory, Rejected}
 use Rattle.meta_verify.specs.Verdict.{right_text, wrong_text, AreRight, IsFirstWrong, IsVerdict}
 use Rattle.meta_verify.specs.declared.reason.Reason.{Reason}
 
@@ -18,39 +16,24 @@ abbrev pub verdicts : Texts
 verdicts d input is_rejection text = IsVerdict (AcceptedReply d.set) input is_rejection text
 
 -- a source and a sink, by what they tell, before and after a run over declarations
-module _ {S K : Type 0} (left : S → Option (List ℕ)) (reads : S → ℕ) (taken : K → Option (List ℕ)) (writes : K → ℕ) (d : Declared) (s s' : S) (k k' : K) where
-  -- there are no words, and the input is checked; or there is one, and it is a usage error
-  abbrev pub IsRun : List (List ℕ) → Ending → Type 0
-  IsRun words ending = ran.IsRun left reads taken writes d s s' k k' (λ (_ : ⊤). words ≡ []) (λ _. true) (λ _. verdicts) ending
-
+module _ {S K : Type 0} (left : S → Option (List ℕ)) (reads : S → ℕ) (taken : K → Option (List ℕ)) (writes : K → ℕ)
+    (d : Declared) (s s' : S) (k k' : K) where
   -- the run is done, no line of the input is wrong, and the sink took exactly `ok`
   abbrev pub SaysRight : List ℕ → List ℕ → Ending → Type 0
-  SaysRight input before ending = (ending ≡ Done) × AreRight (AcceptedReply d.set) (lines_of input) × (taken k' ≡ Some (before ++ right_text))
+  SaysRight input before ending = (ending ≡ Done) × AreRight (AcceptedReply d.set) (lines_of input)
+      × (taken k' ≡ Some (before ++ right_text))
 
   -- the input is rejected, and the sink took exactly which line is the first wrong one, and why
   abbrev pub SaysWrong : List ℕ → List ℕ → Ending → Type 0
   SaysWrong input before ending =
-      (ending ≡ Rejected) × (n : ℕ) × (reason : Reason) × IsFirstWrong (AcceptedReply d.set) (lines_of input) n reason × (taken k' ≡ Some (before ++ wrong_text (n + 1) reason))
+      (ending ≡ Rejected) × (n : ℕ) × (reason : Reason) × IsFirstWrong (AcceptedReply d.set) (lines_of input) n reason
+      × (taken k' ≡ Some (before ++ wrong_text (n + 1) reason))
 
   -- Where there are no words and the declarations are valid, memory didn't run out, the source told its bytes and gave at most the
   -- limit, and no count rose, one of the two is said of what was left.
   abbrev pub ChecksLines : List (List ℕ) → Ending → Type 0
   ChecksLines words ending =
       words ≡ [] → AreValid d → ending ≢ OutOfMemory → (input before : List ℕ)
-      → left s ≡ Some input → length input ≤ longest_input → (Rose (reads s) (reads s') → ⊥) → taken k ≡ Some before → (Rose (writes k) (writes k') → ⊥)
-      → SaysRight input before ending ⊎ SaysWrong input before ending
-
-  -- Where there are no words and the declarations show a fault, memory didn't run out and the sink's count didn't rise: the
-  -- declarations are refused, and the sink took exactly the line that says so, by the first fault.
-  abbrev pub RefusesDeclarations : List (List ℕ) → Ending → Type 0
-  RefusesDeclarations words ending =
-      words ≡ [] → (e : DefinitionError) → ShowsFirst d e → ending ≢ OutOfMemory → (before : List ℕ) → taken k ≡ Some before
+      → left s ≡ Some input → length input ≤ longest_input → (Rose (reads s) (reads s') → ⊥) → taken k ≡ Some before
       → (Rose (writes k) (writes k') → ⊥)
-      → (ending ≡ Refused) × (taken k' ≡ Some (before ++ refusal e))
-
-  -- Where there are no words and the declarations are valid, and neither count rose, it was said whole whether a line is wrong,
-  -- unless memory ran out, or the source gave more than the limit. That asks for no bytes to be told.
-  abbrev pub Completes : List (List ℕ) → Ending → Type 0
-  Completes words ending =
-      words ≡ [] → AreValid d → (Rose (reads s) (reads s') → ⊥) → (Rose (writes k) (writes k') → ⊥)
-      → (ending ≡ Done) ⊎ ((ending ≡ Rejected) ⊎ ((ending ≡ OutOfMemory) ⊎ ((ending ≡ TooLong) × GaveMore longest_input (left s) (left s'))))
+      → SaysRight input before ending ⊎ SaysWrong input before ending

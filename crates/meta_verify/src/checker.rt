@@ -6,7 +6,7 @@ ghost use Rattle.meta_verify.specs.Environment.{nothing_defined, with_values, fi
 ghost use Rattle.meta_verify.specs.Defined.{definitions};
 ghost use Rattle.meta_verify.specs.Numbers.{stated, HasTypeNumbers};
 ghost use Rattle.meta_verify.specs.Statement as spec;
-ghost use Rattle.meta_verify.specs.Wrong.{IsMistake, IsFaultless, Answers, Feeds};
+ghost use Rattle.meta_verify.specs.Wrong.{IsMistake, IsFaultless, AnswersLine, Feeds};
 
 use super::defined::define_all;
 use super::known::KnownTypes;
@@ -51,28 +51,25 @@ impl Checker {
 
     /// The number of the type of the value, and `None` exactly where the value isn't defined.
     pub fn type_of(&self, value: u32) -> Option<u16>
-        ensures { result ≡ option_map number_of (definitions self.now value) }
+        ensures value { result ≡ option_map number_of (definitions self.now value) }
+        ensures named { HasNamedTypes (definitions self.now) }
     {
         self.types.get(value)
     }
 
-    /// The type of each value that is defined can be named. It does nothing: it tells a proof what is so of any checker (this project's
-    /// own).
-    pub fn types_can_be_named(&self)
-        ensures { HasNamedTypes (definitions self.now) }
-    {
-        let _types = &self.types;
-    }
-
-    /// Why what is stated is wrong, by the tables, and `None` exactly where it is right.
+    /// Why what is stated is wrong, by the tables, and `None` exactly where it is right. It tells besides, as `type_of` does, that the
+    /// types of all defined values can be named.
     pub fn mistake(
         &self,
         tables: &Tables,
         statement: &Statement<'_>,
     ) -> Result<Option<Reason>, AllocError>
         requires { HasTypeNumbers statement.now }
-        ensures mistake { IfOk result (λ o. IfSome o (λ reason. IsMistake (AllowedReply tables.now.opcodes) (definitions self.now) (stated statement.now) reason)) }
-        ensures none { IfOk result (λ o. IfNone o (IsFaultless (AllowedReply tables.now.opcodes) (definitions self.now) (stated statement.now))) }
+        ensures mistake { IfOk result (λ o. IfSome o (λ reason.
+            IsMistake (AllowedReply tables.now.opcodes) (definitions self.now) (stated statement.now) reason)) }
+        ensures none { IfOk result (λ o. IfNone o
+            (IsFaultless (AllowedReply tables.now.opcodes) (definitions self.now) (stated statement.now))) }
+        ensures named { HasNamedTypes (definitions self.now) }
     {
         let mut lists = Lists::new(self.alloc);
         mistake_of(self.alloc, &self.types, tables, statement, &mut lists)
@@ -98,7 +95,8 @@ impl Checker {
         statement: &Statement<'_>,
     ) -> Result<Option<Reason>, AllocError>
         requires { HasTypeNumbers statement.now }
-        ensures added { IfOk result (λ answer. (line : List ℕ) → spec.IsStatement line (stated statement.now) → Answers (AllowedReply tables.now.opcodes) (definitions self.old) line answer (definitions self.new)) }
+        ensures added { IfOk result (λ answer. (line : List ℕ) → spec.IsStatement line (stated statement.now)
+            → AnswersLine (AllowedReply tables.now.opcodes) (definitions self.old) line answer (definitions self.new)) }
         ensures kept { OnErr result (definitions self.new ≡ definitions self.old) }
     {
         let mistake = mistake_of(self.alloc, &self.types, tables, statement, &mut self.lists)?;
@@ -113,7 +111,8 @@ impl Checker {
     /// defines is defined from now on. It costs the length of the line, and a look-up for each value. The only error is want of memory,
     /// and it leaves all as it was.
     pub fn feed(&mut self, tables: &Tables, line: &[u8]) -> Result<Option<Reason>, AllocError>
-        ensures fed { IfOk result (λ answer. Feeds (AllowedReply tables.now.opcodes) (definitions self.old) line.now answer (definitions self.new)) }
+        ensures fed { IfOk result (λ answer.
+            Feeds (AllowedReply tables.now.opcodes) (definitions self.old) line.now answer (definitions self.new)) }
         ensures kept { OnErr result (definitions self.new ≡ definitions self.old) }
     {
         if line.is_empty() {

@@ -1,7 +1,7 @@
 ghost use Rattle.std.specs.Prelude.{◌≡◌, ℕ, map, All, None, Some, is_some, if◌then◌else◌, IfOk, OnOk, OnErr};
 ghost use Rattle.meta_types.specs.TypeNumber.{type_with, IsTypeNumber};
 ghost use Rattle.meta_verify.specs.Environment.{with_values, first_undefined, first_redefined, HaveTypes};
-ghost use Rattle.meta_verify.specs.Numbers.{typed, IsTypedNumber};
+ghost use Rattle.meta_verify.specs.Numbers.{typed_value_of, IsTypedNumber};
 ghost use Rattle.meta_verify.specs.Defined.{environment_of, AreTypeNumbers};
 
 use super::known::KnownTypes;
@@ -43,7 +43,7 @@ pub(crate) fn redefined(
     types: &KnownTypes,
     results: &[TypedNumber],
 ) -> Result<Option<u32>, AllocError>
-    ensures { IfOk result (λ o. o ≡ first_redefined (environment_of types.now) (map typed results.now)) }
+    ensures { IfOk result (λ o. o ≡ first_redefined (environment_of types.now) (map typed_value_of results.now)) }
 {
     if let [result] = results {
         return Ok(defined_before(types, result.value));
@@ -65,9 +65,10 @@ pub(crate) fn redefined(
 /// Defines the results, none of which is defined before, or twice. Where there is no memory for all of them, those that were put in
 /// are taken back. It goes as deep as there are results, of which an instruction that accepts them has seven at most.
 pub(crate) fn define_all(types: &mut KnownTypes, results: &[TypedNumber]) -> Result<(), AllocError>
-    requires fresh { first_redefined (environment_of types.old) (map typed results.now) ≡ None }
+    requires fresh { first_redefined (environment_of types.old) (map typed_value_of results.now) ≡ None }
     requires numbered { All IsTypedNumber results.now }
-    ensures defined { OnOk result ((v : ℕ) → environment_of types.new v ≡ with_values (environment_of types.old) (map typed results.now) v) }
+    ensures defined { OnOk result ((v : ℕ)
+        → environment_of types.new v ≡ with_values (environment_of types.old) (map typed_value_of results.now) v) }
     ensures kept { OnErr result ((v : ℕ) → environment_of types.new v ≡ environment_of types.old v) }
     ensures known { AreTypeNumbers types.old → AreTypeNumbers types.new }
 {

@@ -1,6 +1,6 @@
 ghost use Rattle.std.specs.Prelude.{◌≡◌, ℕ, ◌<◌, ◌≤◌, nat_eq, true, length, slice_index, None, Some, if◌then◌else◌, OnOk, OnErr};
 ghost use Rattle.meta_types.specs.TypeNumber.{IsTypeNumber};
-ghost use Rattle.meta_verify.specs.Defined.{number_at};
+ghost use Rattle.meta_verify.specs.Defined.{known_number};
 
 use std::alloc::{AllocError, Global};
 use std::collections::BTreeMap;
@@ -41,7 +41,7 @@ pub(crate) struct KnownTypes {
 impl KnownTypes {
     /// No value is defined.
     pub(crate) fn new(alloc: Global) -> KnownTypes
-        ensures { (v : ℕ) → number_at result v ≡ None }
+        ensures { (v : ℕ) → known_number result v ≡ None }
     {
         KnownTypes {
             near: Vec::new(alloc),
@@ -51,7 +51,7 @@ impl KnownTypes {
 
     /// The number of the type of the value, if it is defined.
     pub(crate) fn get(&self, value: u32) -> Option<u16>
-        ensures { result ≡ number_at self.now value }
+        ensures { result ≡ known_number self.now value }
     {
         let number = self.near.get(value as usize).copied().unwrap_or(0);
         if number != 0 {
@@ -63,8 +63,9 @@ impl KnownTypes {
     /// Defines the value. Where there is no memory for it, nothing changes.
     pub(crate) fn insert(&mut self, value: u32, number: u16) -> Result<(), AllocError>
         requires { IsTypeNumber number }
-        ensures defined { OnOk result ((v : ℕ) → number_at self.new v ≡ (if nat_eq value v then Some number else number_at self.old v)) }
-        ensures kept { OnErr result ((v : ℕ) → number_at self.new v ≡ number_at self.old v) }
+        ensures defined { OnOk result ((v : ℕ) → known_number self.new v
+            ≡ (if nat_eq value v then Some number else known_number self.old v)) }
+        ensures kept { OnErr result ((v : ℕ) → known_number self.new v ≡ known_number self.old v) }
     {
         if is_far(&self.near, value) {
             self.others.insert(value, number)?;
@@ -77,7 +78,7 @@ impl KnownTypes {
 
     /// Takes the value back.
     pub(crate) fn remove(&mut self, value: u32)
-        ensures { (v : ℕ) → number_at self.new v ≡ (if nat_eq value v then None else number_at self.old v) }
+        ensures { (v : ℕ) → known_number self.new v ≡ (if nat_eq value v then None else known_number self.old v) }
     {
         let place = value as usize;
         if place < self.near.len() {

@@ -17,8 +17,8 @@ mod verifier;
 
 pub use checker::Checker;
 pub use laws::{
-    answers_mean, mistakes_mean, one_answer, one_mistake, one_statement, one_verdict,
-    types_stay_named,
+    mistakes_mean, one_answer, one_mistake, one_statement, one_verdict, types_stay_named,
+    verdicts_mean,
 };
 pub use meta_run::Ending as VerifyStatus;
 pub use reason::Reason;

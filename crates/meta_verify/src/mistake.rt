@@ -43,8 +43,10 @@ fn mistake_of_application(
 ) -> Result<Option<Reason>, AllocError>
     requires known { AreTypeNumbers types.now }
     requires numbers { HasNumbers application.now }
-    ensures mistake { IfOk result (λ o. IfSome o (λ reason. IsMistake (AllowedReply tables.now.opcodes) (environment_of types.now) (spec.OfApplication (applied application.now)) reason)) }
-    ensures none { IfOk result (λ o. IfNone o (IsFaultless (AllowedReply tables.now.opcodes) (environment_of types.now) (spec.OfApplication (applied application.now)))) }
+    ensures mistake { IfOk result (λ o. IfSome o (λ reason.
+        IsMistake (AllowedReply tables.now.opcodes) (environment_of types.now) (spec.OfApplication (applied application.now)) reason)) }
+    ensures none { IfOk result (λ o. IfNone o
+        (IsFaultless (AllowedReply tables.now.opcodes) (environment_of types.now) (spec.OfApplication (applied application.now)))) }
 {
     let Some(opcode) = tables.find_opcode(application.name) else {
         return Ok(Some(Reason::Unknown));
@@ -78,8 +80,10 @@ pub(crate) fn mistake_of(
 ) -> Result<Option<Reason>, AllocError>
     requires known { AreTypeNumbers types.now }
     requires numbers { HasTypeNumbers statement.now }
-    ensures mistake { IfOk result (λ o. IfSome o (λ reason. IsMistake (AllowedReply tables.now.opcodes) (environment_of types.now) (stated statement.now) reason)) }
-    ensures none { IfOk result (λ o. IfNone o (IsFaultless (AllowedReply tables.now.opcodes) (environment_of types.now) (stated statement.now))) }
+    ensures mistake { IfOk result (λ o. IfSome o (λ reason.
+        IsMistake (AllowedReply tables.now.opcodes) (environment_of types.now) (stated statement.now) reason)) }
+    ensures none { IfOk result (λ o. IfNone o
+        (IsFaultless (AllowedReply tables.now.opcodes) (environment_of types.now) (stated statement.now))) }
 {
     match statement {
         Statement::Parameter(parameter) => Ok(mistake_of_parameter(types, parameter)),

@@ -1,9 +1,10 @@
-ghost use Rattle.std.specs.Prelude.{◌≡◌, ◌≢◌, ◌↔◌, ℕ, ◌<◌, true, false, List, [], ◌∷◌, length, map, All, IfOk, IfSome, IfNone, IsTrue, codes};
+ghost use Rattle.std.specs.Prelude.{◌≡◌, ◌≢◌, ◌↔◌, ℕ, ◌<◌, true, false, List, [], ◌∷◌, length, map, All, IfOk, IfSome, IfNone, IsTrue};
+ghost use Rattle.std.specs.Prelude.{codes};
 ghost use Rattle.meta_words.specs.Words.{pieces_of};
 ghost use Rattle.meta_types.specs.TypeNumber.{IsTypeNumber};
 ghost use Rattle.meta_verify.specs.Statement as spec;
 ghost use Rattle.meta_verify.specs.Statement.{TypedValue, IsTyped, IsValue, IsStatement, value_text, typed_text, list_text};
-ghost use Rattle.meta_verify.specs.Numbers.{typed, stated, IsTypedNumber, HasTypeNumbers};
+ghost use Rattle.meta_verify.specs.Numbers.{typed_value_of, stated, IsTypedNumber, HasTypeNumbers};
 
 use super::lists::Lists;
 use meta_types::type_number;
@@ -57,7 +58,7 @@ fn parse_value(word: &[u8]) -> Option<u32>
 
 /// The value and the type that the word names: `v1:i32`.
 fn parse_typed(word: &[u8]) -> Option<TypedNumber>
-    ensures some { IfSome result (λ r. word.now ≡ typed_text (typed r)) }
+    ensures some { IfSome result (λ r. word.now ≡ typed_text (typed_value_of r)) }
     ensures known { IfSome result IsTypedNumber }
     ensures none { IfNone result ((r : TypedValue) → IsTyped r → word.now ≢ typed_text r) }
 {
@@ -97,7 +98,7 @@ fn read_values(values: &mut Vec<u32>, word: &[u8]) -> Result<bool, AllocError>
 /// Reads the values with their types that the word lists, in place of what was there. It is false where it is no such list.
 fn read_results(results: &mut Vec<TypedNumber>, word: &[u8]) -> Result<bool, AllocError>
     ensures known { All IsTypedNumber results.new.items }
-    ensures found { IfOk result (λ read. read ≡ true → list_text (map typed_text (map typed results.new.items)) ≡ word.now) }
+    ensures found { IfOk result (λ read. read ≡ true → list_text (map typed_text (map typed_value_of results.new.items)) ≡ word.now) }
     ensures none { IfOk result (λ read. read ≡ false → (rs : List TypedValue) → All IsTyped rs → list_text (map typed_text rs) ≢ word.now) }
 {
     results.clear();
@@ -150,7 +151,7 @@ fn parameter_words(line: &[u8]) -> Option<ParameterWords<'_>>
 
 /// The parameter that the line states.
 fn parse_parameter(line: &[u8]) -> Option<TypedNumber>
-    ensures found { IfSome result (λ r. IsStatement line.now (spec.OfParameter (typed r))) }
+    ensures found { IfSome result (λ r. IsStatement line.now (spec.OfParameter (typed_value_of r))) }
     ensures known { IfSome result IsTypedNumber }
     ensures none { IfNone result ((r : TypedValue) → ¬ IsStatement line.now (spec.OfParameter r)) }
 {
@@ -178,9 +179,11 @@ struct ApplicationWords<'a> {
 
 /// The words of the line, where it is `line` and four more words. The last three may have no bytes.
 fn application_words(line: &[u8]) -> Option<ApplicationWords<'_>>
-    ensures words { IfSome result (λ w. pieces_of 32 line.now ≡ codes "line" ∷ w.name.now ∷ w.control.now ∷ w.results.now ∷ w.values.now ∷ []) }
+    ensures words { IfSome result (λ w.
+        pieces_of 32 line.now ≡ codes "line" ∷ w.name.now ∷ w.control.now ∷ w.results.now ∷ w.values.now ∷ []) }
     ensures named { IfSome result (λ w. 0 < length w.name.now) }
-    ensures none { IfNone result ((name control results values : List ℕ) → 0 < length name → pieces_of 32 line.now ≢ codes "line" ∷ name ∷ control ∷ results ∷ values ∷ []) }
+    ensures none { IfNone result ((name control results values : List ℕ) → 0 < length name
+        → pieces_of 32 line.now ≢ codes "line" ∷ name ∷ control ∷ results ∷ values ∷ []) }
 {
     let mut words = Pieces::new(line, b' ');
     if !is_line(words.next()?) {

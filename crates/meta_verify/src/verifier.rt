@@ -1,11 +1,12 @@
-ghost use Rattle.std.specs.Prelude.{◌≡◌, ◌≢◌, ◌≤◌, ◌⊎◌, ◌↔◌, [], true, false};
+ghost use Rattle.std.specs.Prelude.{◌≡◌, ◌≢◌, ◌≤◌, ◌↔◌, [], true, false};
 ghost use Rattle.meta_text.specs.Outside.{Rose, longest_input, GaveMore, GaveAtMost};
 ghost use Rattle.meta_declared.specs.AllDeclared.{AreValid};
 ghost use Rattle.meta_run.specs.Ending.{WritesNothing};
-ghost use Rattle.meta_run.specs.Run.{IsAnsweredWhole, IsAnsweredInPart, IsRefusedWhole, IsRefusedInPart, NeverRises};
-ghost use Rattle.meta_verify.specs.Verifier.{verdicts, IsRun, ChecksLines, RefusesDeclarations, Completes};
+ghost use Rattle.meta_run.specs.Run.{IsWordlessRun, IsAnsweredWhole, IsRefusedWhole, IsCutShort, NeverRises, RefusesDeclarations};
+ghost use Rattle.meta_run.specs.Run.{Completes};
+ghost use Rattle.meta_verify.specs.Verifier.{verdicts, ChecksLines};
 
-use super::laws::answers_mean;
+use super::laws::verdicts_mean;
 use super::verdict::verdict;
 use meta_declared::{Built, Declarations, one_first_fault};
 use meta_gen::tables_of;
@@ -31,7 +32,7 @@ impl Answerer for Verifier {
     }
 
     fn answer(&self, alloc: Global, built: &Built<'_>, input: &[u8]) -> Result<Answer, AllocError> {
-        answers_mean();
+        verdicts_mean();
         let _declarations = built.declarations();
         let tables = tables_of(alloc, built)?;
         verdict(alloc, &tables, input)
@@ -46,7 +47,8 @@ fn check<S: Source, K: Sink>(
     source: &mut S,
     sink: &mut K,
 ) -> Ending
-    ensures { IsRun S.left S.faults K.taken K.faults declarations.now source.old source.new sink.old sink.new words.now result }
+    ensures { IsWordlessRun S.left S.faults K.taken K.faults declarations.now source.old source.new sink.old sink.new
+        words.now verdicts result }
 {
     if !words.is_empty() {
         return Ending::Usage;
@@ -68,22 +70,27 @@ pub fn verify<S: Source, K: Sink>(
 ) -> Ending
     // Over valid declarations `ok` is said exactly where no line is wrong, and else which is the first wrong one, and why; others are
     // refused.
-    ensures headline { ChecksLines S.left S.faults K.taken K.faults declarations.now source.old source.new sink.old sink.new words.now result }
-    ensures refuses { RefusesDeclarations S.left S.faults K.taken K.faults declarations.now source.old source.new sink.old sink.new words.now result }
-    ensures complete { Completes S.left S.faults K.taken K.faults declarations.now source.old source.new sink.old sink.new words.now result }
+    ensures headline { ChecksLines S.left S.faults K.taken K.faults declarations.now source.old source.new sink.old
+        sink.new words.now result }
+    ensures refuses { words.now ≡ [] → RefusesDeclarations S.left S.faults K.taken K.faults declarations.now
+        source.old source.new sink.old sink.new result }
+    ensures complete { words.now ≡ [] → Completes S.left S.faults K.taken K.faults declarations.now source.old
+        source.new sink.old sink.new true result }
 
     // The words decide whether it is a usage error, and then nothing was read or written.
     ensures usage { (result ≡ Ending.Usage) ↔ (words.now ≢ []) }
 
-    ensures done { result ≡ Ending.Done → IsAnsweredWhole S.left S.faults K.taken K.faults declarations.now source.old source.new sink.old sink.new true verdicts false }
-    ensures rejected { result ≡ Ending.Rejected → IsAnsweredWhole S.left S.faults K.taken K.faults declarations.now source.old source.new sink.old sink.new true verdicts true }
+    ensures done { result ≡ Ending.Done
+        → IsAnsweredWhole S.left S.faults K.taken K.faults declarations.now source.old source.new sink.old sink.new true verdicts false }
+    ensures rejected { result ≡ Ending.Rejected
+        → IsAnsweredWhole S.left S.faults K.taken K.faults declarations.now source.old source.new sink.old sink.new true verdicts true }
     ensures refused { result ≡ Ending.Refused → IsRefusedWhole declarations.now (K.taken sink.old) (K.taken sink.new) }
     ensures read_fault { result ≡ Ending.ReadFault → AreValid declarations.now × Rose (S.faults source.old) (S.faults source.new) }
     ensures write_fault { result ≡ Ending.WriteFault → Rose (K.faults sink.old) (K.faults sink.new) }
     ensures written_in_part { result ≡ Ending.WriteFault
-        → IsRefusedInPart declarations.now (K.taken sink.old) (K.taken sink.new)
-        ⊎ IsAnsweredInPart S.left S.faults K.taken K.faults declarations.now source.old source.new sink.old sink.new true verdicts }
-    ensures too_long { result ≡ Ending.TooLong → AreValid declarations.now × GaveMore longest_input (S.left source.old) (S.left source.new) }
+        → IsCutShort S.left S.faults K.taken K.faults declarations.now source.old source.new sink.old sink.new true verdicts }
+    ensures too_long { result ≡ Ending.TooLong → AreValid declarations.now
+        × GaveMore longest_input (S.left source.old) (S.left source.new) }
     ensures else_within { result ≢ Ending.TooLong → GaveAtMost longest_input (S.left source.old) (S.left source.new) }
 
     ensures untouched { WritesNothing result → sink.new ≡ sink.old }

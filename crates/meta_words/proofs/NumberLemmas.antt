@@ -1,5 +1,6 @@
 -- The number that a word writes.
-use Rattle.std.proofs.Common.{◌≡◌, ℕ, zero, suc, ◌<◌, ◌^◌, ◌==◌, ◌&&◌, ◌||◌, not, cond, Bool, true, false, List, [], ◌∷◌, length, drop, get_or, Result, Ok, Err, refl, sym, ap, ◌∙◌, subst, arith}
+use Rattle.std.proofs.Common.{◌≡◌, ℕ, zero, suc, ◌<◌, ◌^◌, ◌==◌, ◌&&◌, ◌||◌, not, cond, Bool, true, false, List, [], ◌∷◌, length, drop}
+use Rattle.std.proofs.Common.{get_or, Result, Ok, Err, refl, sym, ap, ◌∙◌, subst, arith}
 use Rattle.std.specs.Fmt.{decimal, digits}
 use Rattle.std.specs.Result.{OkIff}
 use Rattle.std.specs.Str.{IsUtf8}
@@ -31,11 +32,13 @@ read_ok P v (Ok x) n is h = let same : x ≡ n = cc in (h.0, sym same ∙ h.1)
 read_ok P v (Err x) n is h = absurd (cc)
 
 -- a plain word of digits writes its value
-pub written : {E : Type 0} (word : List ℕ) (r : Result ℕ E) (n : ℕ) → r ≡ Ok n → ParsesUnsigned 64 10 word r → is_plain word ≡ true → word ≡ decimal n
+pub written : {E : Type 0} (word : List ℕ) (r : Result ℕ E) (n : ℕ) → r ≡ Ok n → ParsesUnsigned 64 10 word r
+    → is_plain word ≡ true → word ≡ decimal n
 written word r n is h plain =
     let first = parts (get_or word 0 0 == 43) (get_or word 0 0 == 48) (length word == 1) plain in
     let bare : without_leading_plus word ≡ word = ap (λ b. drop (cond b 1 0) word) first.0 in
-    let read = read_ok (IsNumeral 10 (without_leading_plus word) × (digits_value 10 (without_leading_plus word) < 2 ^ 64)) (digits_value 10 (without_leading_plus word)) r n is h in
+    let read = read_ok (IsNumeral 10 (without_leading_plus word)
+    × (digits_value 10 (without_leading_plus word) < 2 ^ 64)) (digits_value 10 (without_leading_plus word)) r n is h in
     let own = subst (λ w. (IsNumeral 10 w × (digits_value 10 w < 2 ^ 64)) × (n ≡ digits_value 10 w)) bare read in
     let alone : get_or word 0 0 ≡ 48 → length word ≡ 1 = λ z. eqb-true (length word) 1 (first.1 (eq-eqb (get_or word 0 0) 48 z)) in
     let spelled = decimal-digits_value (numerals_by_value _ tells_digits) word own.0.0.1 own.0.0.0 alone own.0.1 in
@@ -57,7 +60,8 @@ pub decimal_plain : (n : ℕ) → n < 2 ^ 64 → is_plain (decimal n) ≡ true
 decimal_plain zero h = ap is_plain decimal_zero
 decimal_plain (suc n) h =
     let first : 48 < get_or (decimal (suc n)) 0 0 = first_decimal (suc n) (omega arith) h in
-    (λ i. not (other_byte (get_or (decimal (suc n)) 0 0) 43 (omega (arith, first)) i) && (not (other_byte (get_or (decimal (suc n)) 0 0) 48 first i) || (length (decimal (suc n)) == 1)))
+    (λ i. not (other_byte (get_or (decimal (suc n)) 0 0) 43 (omega (arith, first)) i)
+    && (not (other_byte (get_or (decimal (suc n)) 0 0) 48 first i) || (length (decimal (suc n)) == 1)))
 
 -- so a word that isn't writes none
 pub not_plain : (n : ℕ) (word : List ℕ) → n < 2 ^ 64 → word ≡ decimal n → is_plain word ≡ false → ⊥

@@ -14,8 +14,12 @@ pieces_of-words line word words h =
     ∙ pieces_of-join 32 word words (All-weaker IsWord (λ w. All (λ b. b ≢ 32) w) (λ w is. is.has_no_space) (word ∷ words) h.each)
 
 -- pieces between spaces that have bytes are words
-pub words_from : (words : List (List ℕ)) → All (λ w. 0 < length w) words → All (λ w. All (λ b. (b == 32) ≡ false) w) words → All IsWord words
-words_from words some lack = λ k d l. record { has_bytes = some k d l; has_no_space = λ i e m s. false≢true (sym (lack k d l i e m) ∙ eq-eqb _ 32 s) }
+pub words_from : (words : List (List ℕ)) → All (λ w. 0 < length w) words
+    → All (λ w. All (λ b. (b == 32) ≡ false) w) words → All IsWord words
+words_from words some lack = λ k d l. record {
+  has_bytes = some k d l;
+  has_no_space = λ i e m s. false≢true (sym (lack k d l i e m) ∙ eq-eqb _ 32 s);
+}
 
 -- words are pieces, where there is one
 pub words_pieces : (line : List ℕ) (words : List (List ℕ)) → AreWords line words → 0 < length words → pieces_of 32 line ≡ words
@@ -26,18 +30,21 @@ words_pieces line (word ∷ words) h some = pieces_of-words line word words h
 pub are_words : (line : List ℕ) (words : List (List ℕ)) → words ≡ pieces_of 32 line → All (λ w. 0 < length w) words → AreWords line words
 are_words line words pieces some = record {
   parted = sym (join_with_byte-slice_split 32 line) ∙ ap (join_with_byte 32) (sym pieces);
-  each = words_from words some (All-same (λ w. All (λ b. (b == 32) ≡ false) w) words (pieces_of 32 line) pieces (All-slice_split (λ b. b == 32) line));
+  each = words_from words some (All-same (λ w. All (λ b. (b == 32) ≡ false) w) words (pieces_of 32 line) pieces
+      (All-slice_split (λ b. b == 32) line));
 }
 
 -- the first word of a line and the words of what stands behind it are those of the line
-pub more_words : (line word rest : List ℕ) (words : List (List ℕ)) → pieces_of 32 line ≡ word ∷ pieces_of 32 rest → 0 < length word → AreWords rest words → 0 < length words → AreWords line (word ∷ words)
-more_words line word rest words pieces has h some =
+pub words_from_parts : (line word rest : List ℕ) (words : List (List ℕ))
+    → pieces_of 32 line ≡ word ∷ pieces_of 32 rest → 0 < length word → AreWords rest words → 0 < length words → AreWords line (word ∷ words)
+words_from_parts line word rest words pieces has h some =
     are_words line (word ∷ words) (ap (λ ws. word ∷ ws) (sym (words_pieces rest words h some)) ∙ sym pieces)
     (All-cons (λ w. 0 < length w) word words has (All-weaker IsWord (λ w. 0 < length w) (λ w is. is.has_bytes) words h.each))
 
 -- and back
-pub words_behind : (line word rest : List ℕ) (words : List (List ℕ)) → pieces_of 32 line ≡ word ∷ pieces_of 32 rest → AreWords line (word ∷ words) → AreWords rest words
-words_behind line word rest words pieces h =
+pub words_from_behind : (line word rest : List ℕ) (words : List (List ℕ))
+    → pieces_of 32 line ≡ word ∷ pieces_of 32 rest → AreWords line (word ∷ words) → AreWords rest words
+words_from_behind line word rest words pieces h =
     let same : word ∷ pieces_of 32 rest ≡ word ∷ words = sym pieces ∙ pieces_of-words line word words h in
     let others : words ≡ pieces_of 32 rest = cc in
     are_words rest words others (All-weaker IsWord (λ w. 0 < length w) (λ w is. is.has_bytes) words (All-tail IsWord word words h.each))

@@ -23,7 +23,8 @@ pub fn parse_control(word: &[u8]) -> Option<ControlNumbers>
     ensures known { IfSome result (λ c. IfSome c.control IsTypeNumber) }
     ensures second_known { IfSome result (λ c. IfSome c.second IsTypeNumber) }
     ensures behind { IfSome result (λ c. IsBehind (option_map type_with c.control) (option_map type_with c.second)) }
-    ensures none { IfNone result ((c d : Option TypeParts) → IfSome c IsType → IfSome d IsType → IsBehind c d → control_text c d ≢ word.now) }
+    ensures none { IfNone result ((c d : Option TypeParts) → IfSome c IsType → IfSome d IsType → IsBehind c d
+        → control_text c d ≢ word.now) }
 {
     if word == b"-".as_slice() {
         return Some(ControlNumbers {

@@ -1,4 +1,4 @@
-ghost use Rattle.std.specs.Prelude.{◌≡◌, ◌≢◌, ◌==◌, ◌<◌, ℕ, List, [], ◌∷◌, true, false, length, IfSome, IfNone};
+ghost use Rattle.std.specs.Prelude.{◌≡◌, ◌≢◌, ◌==◌, ◌<◌, ℕ, List, [], ◌∷◌, true, false, length, drop, IfSome, IfNone};
 ghost use Rattle.std.specs.List.{position_or_len};
 ghost use Rattle.std.specs.Option.{option_map_or};
 ghost use Rattle.meta_words.specs.Words.{pieces_of};
@@ -54,11 +54,13 @@ impl<'a> Pieces<'a> {
         }
     }
 
-    /// Takes the next piece, where it has bytes. `None` is for no piece, and for one without bytes.
+    /// Takes the next piece, if one is left, and answers it where it has bytes. `None` is for no piece, and for one without bytes, which
+    /// is taken too.
     pub fn word(&mut self) -> Option<&'a [u8]>
         ensures taken { IfSome result (λ word. self.old ≡ word.now ∷ self.new) }
         ensures some { IfSome result (λ word. 0 < length word.now) }
         ensures none { IfNone result ((word : List ℕ) (rest : List (List ℕ)) → 0 < length word → self.old ≢ word ∷ rest) }
+        ensures left { self.new ≡ drop 1 self.old }
     {
         let piece = self.next()?;
         if piece.is_empty() {
@@ -67,10 +69,11 @@ impl<'a> Pieces<'a> {
         Some(piece)
     }
 
-    /// Whether no piece is left. One that is left is taken.
+    /// Whether no piece is left. The next one, if one is left, is taken.
     pub fn is_done(&mut self) -> bool
         ensures done { result ≡ true → self.old ≡ [] }
         ensures more { result ≡ false → (word : List ℕ) × (rest : List (List ℕ)) × (self.old ≡ word ∷ rest) }
+        ensures left { self.new ≡ drop 1 self.old }
     {
         match self.next() {
             Some(_) => false,

@@ -1,12 +1,12 @@
-ghost use Rattle.std.specs.Prelude.{◌≡◌, IfOk, None};
-
 use meta_gen::Declarations;
 use meta_inst::{AllInstructions, InstructionBuilder, InstructionGroupBuilder};
-use meta_operands::{FormatId, FormatTable, InstructionFormatBuilder, Operand, OperandKind};
+use meta_operands::{FormatId, FormatTable, InstructionFormatBuilder, Operand};
 use meta_shared_ops::define;
 use meta_types::{DerivedFunc, Text};
 use meta_typevar::{TypeVar, TypeVars};
-use rows_declaring::{built, derived, fresh_root, instruction, singleton};
+use rows_declaring::{
+    built, declarations_of, derived, fresh_root, instruction, singleton, value, with_second,
+};
 use rows_words::Trouble;
 use std::alloc::{AllocError, Global};
 
@@ -61,17 +61,11 @@ fn formats_in(alloc: Global, formats: &mut FormatTable) -> Result<Formats, Troub
     Ok(Formats { unary, binary })
 }
 
-/// An operand of the values of a variable.
-fn operand(alloc: Global, name: &str, tv: TypeVar) -> Result<Operand, AllocError> {
-    let kind = OperandKind::of(alloc, tv)?;
-    Ok(Operand::new(Text::new(alloc, name)?, kind))
-}
-
-/// Operands of these names and variables.
+/// Values of these names and variables.
 fn operands(alloc: Global, named: &[(&str, TypeVar)]) -> Result<Vec<Operand>, AllocError> {
     let mut all = Vec::new(alloc);
     for (name, tv) in named {
-        all.push(operand(alloc, name, *tv)?)?;
+        all.push(value(alloc, name, *tv)?)?;
     }
     Ok(all)
 }
@@ -98,10 +92,7 @@ fn mix(
     let outputs = operands(alloc, &[("a", variables.any)])?;
     let builder = instruction(alloc, "mix", "", formats.binary)?;
     let builder = builder.operands_in(inputs).operands_out(outputs);
-    if builder.has_second_control() {
-        return Ok(builder);
-    }
-    Ok(builder.second_control(variables.narrow))
+    Ok(with_second(builder, variables.narrow))
 }
 
 /// `pin x, y`: x controls, and its set has one type.
@@ -126,10 +117,7 @@ fn own(alloc: Global) -> Result<Declarations, Trouble> {
     group.push(widen(alloc, &ids, &variables)?)?;
     group.push(mix(alloc, &ids, &variables)?)?;
     group.push(pin(alloc, &ids, &variables)?)?;
-    if !Declarations::fits(&vars, &formats, &all) {
-        return Err(Trouble::NoCase);
-    }
-    Ok(Declarations::new(vars, formats, all, Vec::new(alloc)))
+    declarations_of(vars, formats, all, Vec::new(alloc))
 }
 
 /// The declarations of this name: the shared ones, or `widen`, `mix` and `pin`.

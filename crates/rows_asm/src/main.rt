@@ -6,27 +6,15 @@
 mod declared;
 mod session;
 
-use rows_words::Trouble;
+use rows_words::answer_lines;
 use session::Session;
-use std::alloc::Global;
-use std::io::{self, ErrorKind, Write};
-
-/// The session, over the shared declarations.
-fn begin(alloc: Global) -> io::Result<Session> {
-    match Session::new(alloc) {
-        Ok(session) => Ok(session),
-        Err(Trouble::OutOfMemory) => Err(io::Error::from(ErrorKind::OutOfMemory)),
-        Err(_) => Err(io::Error::from(ErrorKind::InvalidInput)),
-    }
-}
+use std::io::{self, Write};
 
 /// Answers the lines of the standard input on the standard output.
 fn main(rt: HostRuntime) -> io::Result<()> {
     let lines = io::read_to_string(rt.alloc(), rt.reader())?;
     let mut answers = String::new(rt.alloc());
-    let mut session = begin(rt.alloc())?;
-    for line in lines.as_str().lines() {
-        session.answer_line(rt.alloc(), line, &mut answers)?;
-    }
+    let mut session = Session::new(rt.alloc())?;
+    answer_lines(rt.alloc(), &mut session, lines.as_str(), &mut answers)?;
     io::writer(&rt).write_all(answers.as_bytes())
 }

@@ -1,11 +1,9 @@
 use super::declared::declarations;
 use meta_asm::{AsmStatus, asm};
 use meta_gen::Declarations;
-use meta_text::{MemorySink, MemorySource};
-use meta_types::Text;
-use rows_edits::{decoded, write_bytes};
-use rows_words::{Case, Trouble};
-use std::alloc::{AllocError, Global};
+use rows_outside::{Outside, write_ended};
+use rows_words::{Answering, Case, Trouble, decoded, texts_of_words};
+use std::alloc::Global;
 
 /// What is declared, and the bytes that each `@` of a text stands for.
 ///
@@ -15,15 +13,6 @@ use std::alloc::{AllocError, Global};
 pub(crate) struct Session {
     declarations: Declarations,
     many: Vec<u8>,
-}
-
-/// The words of a run, a text each.
-fn run_words(alloc: Global, words: &[&str]) -> Result<Vec<Text>, Trouble> {
-    let mut all = Vec::new(alloc);
-    for word in words {
-        all.push(Text::new(alloc, word)?)?;
-    }
-    Ok(all)
 }
 
 /// So many of the bytes, one behind the other.
@@ -57,23 +46,20 @@ impl Session {
 
     /// Tells how a run of the words over the text ends.
     fn run(&self, alloc: Global, text: &str, case: &mut Case<'_>) -> Result<(), Trouble> {
-        let words = run_words(alloc, case.rest())?;
-        let no_reads = Vec::new(alloc);
-        let no_writes = Vec::new(alloc);
-        let mut source = MemorySource::new(self.input(alloc, text)?, 5_000, no_reads);
-        let mut sink = MemorySink::new(alloc, 5_000, 100, no_writes)?;
+        let words = texts_of_words(alloc, case.rest())?;
+        let outside = Outside::with_room(5_000);
+        let mut source = outside.source(alloc, &self.input(alloc, text)?)?;
+        let mut sink = outside.sink(alloc)?;
         let status = asm(alloc, &words, &self.declarations, &mut source, &mut sink);
         if status == AsmStatus::OutOfMemory {
             return Err(Trouble::OutOfMemory);
         }
-        case.shown(&status.code());
-        case.letter(' ');
-        let start = case.written();
-        write_bytes(case, sink.bytes());
-        case.end_list(start);
+        write_ended(case, status.code(), sink.bytes());
         Ok(())
     }
+}
 
+impl Answering for Session {
     /// Does what the words of a line ask, which may have a text behind them.
     fn answer(&mut self, alloc: Global, text: &str, case: &mut Case<'_>) -> Result<(), Trouble> {
         if case.takes("over") {
@@ -88,24 +74,5 @@ impl Session {
             return Ok(());
         }
         self.run(alloc, text, case)
-    }
-
-    /// Adds the answer to a line.
-    pub(crate) fn answer_line(
-        &mut self,
-        alloc: Global,
-        line: &str,
-        answers: &mut String,
-    ) -> Result<(), AllocError> {
-        if line.is_empty() || line.starts_with('#') {
-            answers.push_str(line)?;
-            return answers.push('\n');
-        }
-        let (words, text) = line.split_once(" < ").unwrap_or((line, ""));
-        let mut case = Case::of(alloc, words)?;
-        if let Err(trouble) = self.answer(alloc, text, &mut case) {
-            case.refuse(trouble);
-        }
-        case.end(answers)
     }
 }

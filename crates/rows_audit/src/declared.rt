@@ -1,11 +1,13 @@
 use meta_gen::Declarations;
 use meta_inst::{AllInstructions, InstructionBuilder, InstructionGroupBuilder};
-use meta_operands::{FormatId, FormatTable, InstructionFormatBuilder, Operand, OperandKind};
+use meta_operands::{FormatId, FormatTable, InstructionFormatBuilder, Operand};
 use meta_settings::SettingGroupBuilder;
 use meta_shared_ops::define;
 use meta_types::{DerivedFunc, Text};
 use meta_typevar::{TypeVar, TypeVars};
-use rows_declaring::{Sort, add_plain, built, derived, fresh_root, instruction};
+use rows_declaring::{
+    Sort, add_plain, built, declarations_of, derived, fresh_root, instruction, value, with_second,
+};
 use rows_words::Trouble;
 use std::alloc::{AllocError, Global};
 
@@ -53,8 +55,7 @@ fn with_value(format: InstructionFormatBuilder) -> Result<InstructionFormatBuild
 fn operands(alloc: Global, variables: &[TypeVar]) -> Result<Vec<Operand>, AllocError> {
     let mut operands = Vec::new(alloc);
     for tv in variables {
-        let kind = OperandKind::of(alloc, *tv)?;
-        operands.push(Operand::new(Text::new(alloc, "x")?, kind))?;
+        operands.push(value(alloc, "x", *tv)?)?;
     }
     Ok(operands)
 }
@@ -71,14 +72,6 @@ fn of_operands(
     let outputs = operands(alloc, &[output])?;
     let builder = instruction(alloc, name, "", format)?;
     Ok(builder.operands_in(inputs).operands_out(outputs))
-}
-
-/// The instruction with this second control.
-fn with_second(builder: InstructionBuilder, tv: TypeVar) -> InstructionBuilder {
-    if builder.has_second_control() {
-        return builder;
-    }
-    builder.second_control(tv)
 }
 
 /// Adds the instructions: `add` of one variable, `less` with an output that is always of one type, `pick` with an input of any float,
@@ -112,19 +105,6 @@ fn group(
     add_plain(alloc, &mut group, boolean, Sort::Bool)?;
     add_plain(alloc, &mut group, count, Sort::Num)?;
     Ok(group)
-}
-
-/// Declarations of these, where they belong together.
-fn declarations_of(
-    vars: TypeVars,
-    formats: FormatTable,
-    all: AllInstructions,
-    groups: Vec<SettingGroupBuilder>,
-) -> Result<Declarations, Trouble> {
-    if !Declarations::fits(&vars, &formats, &all) {
-        return Err(Trouble::NoCase);
-    }
-    Ok(Declarations::new(vars, formats, all, groups))
 }
 
 /// Declarations of those instructions, of which the second has this name, and of these groups.

@@ -11,7 +11,7 @@ const PLACES: [(&str, Place); 4] = [
 ];
 
 /// A fault of each kind.
-const FAULTS: [(&str, DefinitionError); 16] = [
+const FAULTS: [(&str, DefinitionError); 17] = [
     ("BadName", DefinitionError::BadName(Place::Group(0))),
     (
         "DuplicateName",
@@ -21,6 +21,7 @@ const FAULTS: [(&str, DefinitionError); 16] = [
     ("BadOutput", DefinitionError::BadOutput(0, 0)),
     ("FormatMismatch", DefinitionError::FormatMismatch(0)),
     ("NoControl", DefinitionError::NoControl(0)),
+    ("BadSecond", DefinitionError::BadSecond(0)),
     ("BadDerivation", DefinitionError::BadDerivation(0, 0)),
     ("TooManyOperands", DefinitionError::TooManyOperands(0, 0)),
     ("BadImmMethod", DefinitionError::BadImmMethod(0)),
@@ -83,6 +84,7 @@ fn numbered(out: &mut Case<'_>, kind: DefinitionError, words: &str) -> Definitio
         DefinitionError::BadOutput(_, _) => DefinitionError::BadOutput(first, second),
         DefinitionError::FormatMismatch(_) => DefinitionError::FormatMismatch(first),
         DefinitionError::NoControl(_) => DefinitionError::NoControl(first),
+        DefinitionError::BadSecond(_) => DefinitionError::BadSecond(first),
         DefinitionError::BadDerivation(_, _) => DefinitionError::BadDerivation(first, second),
         DefinitionError::TooManyOperands(_, _) => DefinitionError::TooManyOperands(first, second),
         DefinitionError::BadImmMethod(_) => DefinitionError::BadImmMethod(first),
@@ -94,7 +96,9 @@ fn numbered(out: &mut Case<'_>, kind: DefinitionError, words: &str) -> Definitio
         DefinitionError::TooManySettings(_, _, _, _) => {
             DefinitionError::TooManySettings(first, second, third, fourth)
         }
-        other => other,
+        DefinitionError::BadName(_)
+        | DefinitionError::DuplicateName(_, _)
+        | DefinitionError::OutOfMemory => kind,
     }
 }
 

@@ -1,5 +1,5 @@
 use meta_types::{DerivedFunc, LaneType, ValueType};
-use rows_words::{Case, Trouble, function_of, type_of};
+use rows_words::{Case, Trouble, function_named, type_of};
 use std::alloc::Global;
 
 /// More than the greatest number of a type.
@@ -7,7 +7,7 @@ const NUMBERS: u16 = 512;
 
 /// Where the function leads from the types whose names are a lane and this ending, lane by lane.
 pub(crate) fn row(alloc: Global, out: &mut Case<'_>, name: &str, ending: &str) {
-    let Ok(func) = function_of(name) else {
+    let Ok(func) = function_named(name) else {
         return out.no_case();
     };
     for lane in ValueType::all_lane_types() {
@@ -72,7 +72,7 @@ fn relates(out: &mut Case<'_>, func: DerivedFunc, from: ValueType, number: u16) 
 /// The function of the first word, and the words behind it.
 fn called(words: &str) -> Option<(DerivedFunc, &str)> {
     let (name, words) = words.split_once(' ')?;
-    match function_of(name) {
+    match function_named(name) {
         Ok(func) => Some((func, words)),
         Err(_) => None,
     }

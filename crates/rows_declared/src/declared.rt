@@ -3,10 +3,7 @@ use super::groups::Groups;
 use super::instructions::Instructions;
 use super::variables::Variables;
 use meta_gen::Declarations;
-use meta_inst::AllInstructions;
-use meta_operands::FormatTable;
-use meta_settings::SettingGroupBuilder;
-use meta_typevar::TypeVars;
+use rows_declaring::declarations_of;
 use rows_words::{Case, Trouble};
 use std::alloc::Global;
 
@@ -16,19 +13,6 @@ pub(crate) struct Declared<'l> {
     variables: Variables<'l>,
     instructions: Instructions<'l>,
     groups: Groups<'l>,
-}
-
-/// Declarations of these, where they belong together.
-fn declarations_of(
-    vars: TypeVars,
-    formats: FormatTable,
-    all: AllInstructions,
-    groups: Vec<SettingGroupBuilder>,
-) -> Result<Declarations, Trouble> {
-    if !Declarations::fits(&vars, &formats, &all) {
-        return Err(Trouble::NoCase);
-    }
-    Ok(Declarations::new(vars, formats, all, groups))
 }
 
 impl<'l> Declared<'l> {

@@ -1,8 +1,9 @@
-use super::outside::{Fails, Outside, Ran, run_over};
+use super::outside::{Fails, Ran, run_over};
 use super::read_back::reads_back;
 use meta_gen::{Declarations, Tables, generate};
 use meta_query::Status;
 use meta_types::{DefinitionError, Text};
+use rows_outside::Outside;
 use rows_tables::{Of, write_of_tables};
 use rows_words::{Case, Trouble};
 use std::alloc::{AllocError, Global};
@@ -125,7 +126,13 @@ impl Generated {
             if failing > 0 {
                 case.text("; ");
             }
-            self.run(alloc, outside.failing(fails, failing), words, input, case)?;
+            self.run(
+                alloc,
+                fails.with_failing(outside, failing),
+                words,
+                input,
+                case,
+            )?;
         }
         Ok(())
     }

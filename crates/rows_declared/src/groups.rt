@@ -1,7 +1,7 @@
 use meta_settings::{PresetType, SettingGroupBuilder};
 use meta_types::Text;
-use rows_declaring::{Added, Entry, Kind, Sort, add, add_many};
-use rows_words::{Case, Trouble, define, found, number, texts_of};
+use rows_declaring::{Added, EntryTexts, Kind, Sort, add, add_many};
+use rows_words::{Case, Trouble, found, number, set_meaning, texts_of};
 use std::alloc::Global;
 
 /// The groups of settings of a case, and the entries of all of them by name.
@@ -69,7 +69,7 @@ impl<'l> Groups<'l> {
 
     /// Adds an entry to the last group.
     fn add(&mut self, alloc: Global, name: &str, kind: Kind) -> Result<Added, Trouble> {
-        let entry = Entry {
+        let entry = EntryTexts {
             name,
             description: "an entry",
             comment: "",
@@ -88,7 +88,7 @@ impl<'l> Groups<'l> {
             Err(trouble) => Err(trouble),
         };
         match added {
-            Ok(added) => define(&mut self.named, name, added, case),
+            Ok(added) => set_meaning(&mut self.named, name, added, case),
             Err(trouble) => case.refuse(trouble),
         }
     }

@@ -7,8 +7,8 @@ use meta_operands::{
 };
 use meta_types::Text;
 use meta_typevar::TypeVar;
-use rows_declaring::{designating, instruction, kind_of};
-use rows_words::{Case, Trouble, define, found};
+use rows_declaring::{designating, instruction, kind_of, value, with_second};
+use rows_words::{Case, Trouble, found, set_meaning};
 use std::alloc::{AllocError, Global};
 
 /// The formats and the instructions of a case.
@@ -169,7 +169,7 @@ fn of_value(
 /// An operand `x` of the values of a variable.
 fn one_value(alloc: Global, tv: TypeVar) -> Result<Vec<Operand>, AllocError> {
     let mut operands = Vec::new(alloc);
-    operands.push(operand(alloc, OperandKind::of(alloc, tv)?)?)?;
+    operands.push(value(alloc, "x", tv)?)?;
     Ok(operands)
 }
 
@@ -187,11 +187,11 @@ fn next_second(variables: &Variables<'_>, case: &mut Case<'_>) -> Option<TypeVar
     case.kept(variables.find(name))
 }
 
-/// The instruction with this second control, if there is one.
-fn with_second(builder: InstructionBuilder, second: Option<TypeVar>) -> InstructionBuilder {
+/// The instruction with the second control that is named, if one is.
+fn with_named(builder: InstructionBuilder, second: Option<TypeVar>) -> InstructionBuilder {
     match second {
-        Some(tv) if !builder.has_second_control() => builder.second_control(tv),
-        _ => builder,
+        Some(tv) => with_second(builder, tv),
+        None => builder,
     }
 }
 
@@ -237,7 +237,7 @@ impl<'l> Instructions<'l> {
     pub(crate) fn format(&mut self, alloc: Global, case: &mut Case<'l>) {
         let (key, name) = (case.word(), case.word());
         match self.add_format(alloc, name, case.word()) {
-            Ok(id) => define(&mut self.named, key, id, case),
+            Ok(id) => set_meaning(&mut self.named, key, id, case),
             Err(trouble) => case.refuse(trouble),
         }
     }
@@ -262,7 +262,7 @@ impl<'l> Instructions<'l> {
         };
         let builder = of_operands(alloc, variables, name, format, lists);
         self.push(
-            builder.map(|it| with_second(it.inst_builder_imm_method(method), second)),
+            builder.map(|it| with_named(it.inst_builder_imm_method(method), second)),
             case,
         );
     }

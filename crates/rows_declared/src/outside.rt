@@ -2,20 +2,12 @@ use meta_gen::{Declarations, Tables};
 use meta_query::{Lines, Status, answer_line, run};
 use meta_text::{MemorySink, MemorySource, ReadOutcome, Source};
 use meta_types::Text;
-use rows_edits::write_bytes;
-use rows_words::{Case, Trouble};
+use rows_outside::{Outside, write_ended};
+use rows_words::{Case, Trouble, write_bytes};
 use std::alloc::{AllocError, Global};
 
-/// How the source and the sink of a run behave: the bytes that each call may give or take, the call that fails, 0 for none, and
-/// the room of the sink.
-#[derive(Clone, Copy)]
-pub(crate) struct Outside {
-    pub(crate) source_step: usize,
-    pub(crate) failing_read: u64,
-    pub(crate) room: usize,
-    pub(crate) sink_step: usize,
-    pub(crate) failing_write: u64,
-}
+/// The room of a sink, where a line says nothing of it.
+pub(crate) const ROOM: usize = 8_192;
 
 /// Which calls fail in turn, and in how many runs.
 #[derive(Clone, Copy)]
@@ -31,44 +23,15 @@ impl Fails {
             Fails::Read(runs) | Fails::Write(runs) => runs,
         }
     }
-}
 
-impl Outside {
-    /// Nothing fails, and there is room for 8,192 bytes.
-    pub(crate) fn well() -> Outside {
-        Outside {
-            source_step: 5_000,
-            failing_read: 0,
-            room: 8_192,
-            sink_step: 5_000,
-            failing_write: 0,
-        }
-    }
-
-    /// The same, where the call with this number fails.
-    pub(crate) fn failing(self, fails: Fails, number: u64) -> Outside {
-        let mut outside = self;
-        match fails {
+    /// How the source and the sink behave where the call with this number fails, and else as these do.
+    pub(crate) fn with_failing(self, outside: Outside, number: u64) -> Outside {
+        let mut outside = outside;
+        match self {
             Fails::Read(_) => outside.failing_read = number,
             Fails::Write(_) => outside.failing_write = number,
         }
         outside
-    }
-
-    fn source(self, alloc: Global, input: &[u8]) -> Result<MemorySource, Trouble> {
-        if self.source_step == 0 {
-            return Err(Trouble::NoCase);
-        }
-        let fails = vec![in alloc; self.failing_read]?;
-        Ok(MemorySource::new(input.to_vec(alloc)?, self.source_step, fails))
-    }
-
-    fn sink(self, alloc: Global) -> Result<MemorySink, Trouble> {
-        if self.sink_step == 0 {
-            return Err(Trouble::NoCase);
-        }
-        let fails = vec![in alloc; self.failing_write]?;
-        Ok(MemorySink::new(alloc, self.room, self.sink_step, fails)?)
     }
 }
 
@@ -158,11 +121,7 @@ fn push_answer(
 impl Ran {
     /// Writes the status, what was written, `-` for nothing, and the next byte where one was left.
     pub(crate) fn write(&self, case: &mut Case<'_>) {
-        case.shown(&self.status.code());
-        case.letter(' ');
-        let start = case.written();
-        write_bytes(case, self.taken.as_slice());
-        case.end_list(start);
+        write_ended(case, self.status.code(), self.taken.as_slice());
         if let Some(byte) = self.next {
             case.text(" next ");
             write_bytes(case, &[byte]);

@@ -1,6 +1,5 @@
 use meta_query::{Lines, Question, Reply, Status};
-use rows_edits::write_bytes;
-use rows_words::{Case, Trouble};
+use rows_words::{Case, Trouble, write_bytes};
 use std::alloc::{AllocError, Global};
 
 /// Writes the lines of an input, each with an LF behind it.

@@ -1,9 +1,10 @@
-use super::outside::{Outside, run_over};
+use super::outside::run_over;
 use meta_gen::{Declarations, Tables};
 use meta_query::Status;
 use meta_text::READ_LIMIT;
 use meta_types::Text;
 use rows_edits::text_in;
+use rows_outside::Outside;
 use rows_words::Trouble;
 use std::alloc::{AllocError, Global};
 
@@ -37,8 +38,7 @@ fn is_rechecked(
     if input.len() > READ_LIMIT {
         return Ok(true);
     }
-    let mut outside = Outside::well();
-    outside.room = answers.len().saturating_add(SAME.len());
+    let outside = Outside::with_room(answers.len().saturating_add(SAME.len()));
     let ran = run_over(alloc, outside, declarations, &words(alloc)?, input)?;
     let told = ran.taken.as_slice().strip_prefix(SAME);
     Ok(ran.status == Status::Done && told == Some(answers))

@@ -1,13 +1,14 @@
 use super::asked::{ASKED, Asked, Declares};
 use super::declared::Declared;
 use super::generated::Generated;
-use super::outside::{Fails, Outside};
+use super::outside::{Fails, ROOM};
 use super::questions::{write_codes, write_count, write_lines, write_question};
 use meta_gen::Tables;
 use meta_types::Text;
-use rows_edits::{Each, Edited, decoded, write_readings};
+use rows_edits::{Each, Edited, write_readings};
+use rows_outside::Outside;
 use rows_tables::{Of, write_made};
-use rows_words::{Case, Trouble, found};
+use rows_words::{Case, Trouble, decoded, found};
 use std::alloc::{AllocError, Global};
 use std::mem;
 
@@ -60,7 +61,7 @@ impl<'l> Session<'l> {
             generated: None,
             kept: None,
             edited: Edited::new(alloc),
-            outside: Outside::well(),
+            outside: Outside::with_room(ROOM),
         }
     }
 
@@ -68,7 +69,7 @@ impl<'l> Session<'l> {
     fn begin(&mut self) {
         self.declared = Declared::new(self.alloc);
         self.generated = None;
-        self.outside = Outside::well();
+        self.outside = Outside::with_room(ROOM);
     }
 
     /// What is generated of this case, which is declared from here on.
@@ -82,19 +83,6 @@ impl<'l> Session<'l> {
             }
         };
         Ok(self.generated.insert(generated))
-    }
-
-    /// Takes how the source of this case behaves.
-    fn set_source(&mut self, case: &mut Case<'l>) {
-        self.outside.source_step = case.number();
-        self.outside.failing_read = case.number();
-    }
-
-    /// Takes how the sink of this case behaves.
-    fn set_sink(&mut self, case: &mut Case<'l>) {
-        self.outside.room = case.number();
-        self.outside.sink_step = case.number();
-        self.outside.failing_write = case.number();
     }
 
     /// How the tables of the case compare with those that are kept.
@@ -212,8 +200,8 @@ impl<'l> Session<'l> {
             Asked::New => self.begin(),
             Asked::Keep => self.keep()?,
             Asked::Edit => self.begin_text(case)?,
-            Asked::Source => self.set_source(case),
-            Asked::Sink => self.set_sink(case),
+            Asked::Source => self.outside.take_source(case),
+            Asked::Sink => self.outside.take_sink(case),
             Asked::Declares(declares) => self.declared.declare(self.alloc, declares, case),
             _ => return Err(Trouble::NoCase),
         }

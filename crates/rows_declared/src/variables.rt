@@ -1,6 +1,6 @@
 use meta_typevar::{Interval, TypeSetBuilder, TypeVar, TypeVars};
 use rows_declaring::{built, derived, fresh_root, singleton};
-use rows_words::{Case, Trouble, define, found, function_of};
+use rows_words::{Case, Trouble, found, function_named, set_meaning};
 use std::alloc::Global;
 
 /// The variables of a case, with their names.
@@ -42,7 +42,7 @@ impl<'l> Variables<'l> {
     /// Names a variable, if it could be added.
     fn keep(&mut self, name: &'l str, added: Result<TypeVar, Trouble>, case: &mut Case<'l>) {
         match added {
-            Ok(tv) => define(&mut self.named, name, tv, case),
+            Ok(tv) => set_meaning(&mut self.named, name, tv, case),
             Err(trouble) => case.refuse(trouble),
         }
     }
@@ -69,7 +69,7 @@ impl<'l> Variables<'l> {
     /// Adds the variable that is derived from one.
     pub(crate) fn derive(&mut self, alloc: Global, case: &mut Case<'l>) {
         let name = case.word();
-        let (function, parent) = (function_of(case.word()), self.find(case.word()));
+        let (function, parent) = (function_named(case.word()), self.find(case.word()));
         let (Ok(function), Ok(parent)) = (function, parent) else {
             return case.no_case();
         };

@@ -1,8 +1,9 @@
 ghost use Rattle.std.specs.Prelude.{◌≡◌, IfOk, None};
 
 use meta_inst::InstructionBuilder;
-use meta_operands::{FormatId, InstructionFormatBuilder, OperandKind, OperandKindFields};
+use meta_operands::{FormatId, InstructionFormatBuilder, Operand, OperandKind, OperandKindFields};
 use meta_types::Text;
+use meta_typevar::TypeVar;
 use rows_words::Trouble;
 use std::alloc::{AllocError, Global};
 
@@ -47,4 +48,18 @@ pub fn instruction(
         (Ok(name), Ok(doc)) => Ok(InstructionBuilder::new(alloc, name, doc, format)),
         _ => Err(AllocError),
     }
+}
+
+/// An operand of this name that is a value, whose type is that of the variable.
+pub fn value(alloc: Global, name: &str, tv: TypeVar) -> Result<Operand, AllocError> {
+    let kind = OperandKind::of(alloc, tv)?;
+    Ok(Operand::new(Text::new(alloc, name)?, kind))
+}
+
+/// The instruction with this second control, where it has none.
+pub fn with_second(builder: InstructionBuilder, tv: TypeVar) -> InstructionBuilder {
+    if builder.has_second_control() {
+        return builder;
+    }
+    builder.second_control(tv)
 }

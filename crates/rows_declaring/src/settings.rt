@@ -23,7 +23,7 @@ pub enum Kind {
 
 /// The texts of an entry. Of a preset the comment counts for nothing.
 #[derive(Clone, Copy)]
-pub struct Entry<'t> {
+pub struct EntryTexts<'t> {
     pub name: &'t str,
     pub description: &'t str,
     pub comment: &'t str,
@@ -77,7 +77,7 @@ impl Added {
 pub fn add(
     alloc: Global,
     group: &mut SettingGroupBuilder,
-    entry: &Entry<'_>,
+    entry: &EntryTexts<'_>,
     kind: Kind,
 ) -> Result<Added, Trouble> {
     if !group.has_room() {
@@ -118,8 +118,8 @@ pub fn add_plain(
 }
 
 /// An entry of this name without description and comment.
-fn named(name: &str) -> Entry<'_> {
-    Entry {
+fn named(name: &str) -> EntryTexts<'_> {
+    EntryTexts {
         name,
         description: "",
         comment: "",

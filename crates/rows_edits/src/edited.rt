@@ -1,7 +1,6 @@
-use super::escapes::decoded;
 use meta_gen::Tables;
 use meta_table_text::{Version, fits, table_text};
-use rows_words::{Trouble, number, pair_of};
+use rows_words::{Trouble, decoded, number, pair_of};
 use std::alloc::Global;
 use std::mem;
 

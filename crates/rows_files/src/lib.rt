@@ -68,20 +68,50 @@ fn add_comparison(text: &str, file: &str, answers: &mut String) -> Result<(), Al
     answers.push('\n')
 }
 
+/// What answers lines one by one, each behind what the lines before it left.
+pub trait AnswersLines<'l> {
+    /// Adds the answer to a line, and a line feed.
+    fn answer_line(&mut self, line: &'l str, answers: &mut String) -> Result<(), AllocError>;
+}
+
+/// Adds the answers to the lines. That to `against FILE LINE` is whether the answer to the line is the text of the file.
+pub fn answer_lines_with_files<'l, A: AnswersLines<'l>>(
+    rt: &HostRuntime,
+    answering: &mut A,
+    lines: &'l str,
+    answers: &mut String,
+) -> Result<(), AllocError> {
+    for line in lines.lines() {
+        match against(line) {
+            Some((file, line)) => hold(rt, answering, file, line, answers)?,
+            None => answering.answer_line(line, answers)?,
+        }
+    }
+    Ok(())
+}
+
+/// Adds whether the answer to a line, without the line feed that ends it, is the text of a file.
+fn hold<'l, A: AnswersLines<'l>>(
+    rt: &HostRuntime,
+    answering: &mut A,
+    file: &str,
+    line: &'l str,
+    answers: &mut String,
+) -> Result<(), AllocError> {
+    let mut answer = String::new(rt.alloc());
+    answering.answer_line(line, &mut answer)?;
+    let answer = answer.as_str();
+    add_held(
+        rt,
+        file,
+        answer.strip_suffix('\n').unwrap_or(answer),
+        answers,
+    )
+}
+
 /// What `against FILE LINE` names: the file whose text the answer to the line has to be, and the line.
 pub fn against(line: &str) -> Option<(&str, &str)> {
     line.strip_prefix("against ")?.split_once(' ')
-}
-
-/// Adds whether an answer, without the line feed that ends it, is the text of a file.
-pub fn add_held_answer(
-    rt: &HostRuntime,
-    file: &str,
-    answer: &str,
-    answers: &mut String,
-) -> Result<(), AllocError> {
-    let text = answer.strip_suffix('\n').unwrap_or(answer);
-    add_held(rt, file, text, answers)
 }
 
 /// Adds whether a text is that of a file: `same`, the first line that differs, or that the file can't be read.

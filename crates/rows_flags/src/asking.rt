@@ -1,7 +1,7 @@
-use super::outside::Outside;
 use meta_flags::{FlagError, FlagStatus, FlagValue, Flags, flags};
 use meta_gen::{Declarations, Tables};
 use meta_types::Text;
+use rows_outside::Outside;
 use rows_words::Trouble;
 use std::alloc::{AllocError, Global};
 

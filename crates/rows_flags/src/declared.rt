@@ -4,8 +4,8 @@ use meta_operands::FormatTable;
 use meta_settings::{PresetType, SettingGroupBuilder};
 use meta_types::Text;
 use meta_typevar::TypeVars;
-use rows_declaring::{Added, Entry, Kind, Sort, add, add_many};
-use rows_words::{Case, Trouble, define, found, number, texts_of};
+use rows_declaring::{Added, EntryTexts, Kind, Sort, add, add_many, declarations_of};
+use rows_words::{Case, Trouble, found, number, set_meaning, texts_of};
 use std::alloc::Global;
 
 /// The groups of settings that are declared, and the entries of all of them by name.
@@ -31,10 +31,7 @@ impl<'l> Declared<'l> {
         let vars = TypeVars::new(self.alloc);
         let formats = FormatTable::new(self.alloc);
         let all = AllInstructions::new(self.alloc);
-        if !Declarations::fits(&vars, &formats, &all) {
-            return Err(Trouble::NoCase);
-        }
-        Ok(Declarations::new(vars, formats, all, self.groups))
+        declarations_of(vars, formats, all, self.groups)
     }
 
     /// Begins a group.
@@ -79,7 +76,7 @@ impl<'l> Declared<'l> {
 
     /// Adds an entry to the last group.
     fn add(&mut self, name: &str, kind: Kind) -> Result<Added, Trouble> {
-        let entry = Entry {
+        let entry = EntryTexts {
             name,
             description: "an entry",
             comment: "",
@@ -98,7 +95,7 @@ impl<'l> Declared<'l> {
             Err(trouble) => Err(trouble),
         };
         match added {
-            Ok(added) => define(&mut self.named, name, added, case),
+            Ok(added) => set_meaning(&mut self.named, name, added, case),
             Err(trouble) => case.refuse(trouble),
         }
     }

@@ -4,7 +4,6 @@
 
 mod asking;
 mod declared;
-mod outside;
 mod session;
 
 use session::Session;

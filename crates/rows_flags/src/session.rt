@@ -1,11 +1,13 @@
 use super::asking::{push_calls, push_run};
 use super::declared::Declared;
-use super::outside::Outside;
 use meta_gen::{Declarations, generate};
-use meta_types::Text;
 use rows_declaring::Sort;
-use rows_words::{Case, Trouble, found};
+use rows_outside::Outside;
+use rows_words::{Case, Trouble, found, texts_of_words};
 use std::alloc::{AllocError, Global};
+
+/// The room of a sink, where a line says nothing of it.
+const ROOM: usize = 65_536;
 
 /// What a line does beside asking: `many` takes one of these words.
 const SORTS: [(&str, Sort); 4] = [
@@ -32,7 +34,7 @@ impl<'l> Session<'l> {
             declared: Declared::new(alloc),
             declarations: None,
             input: String::new(alloc),
-            outside: Outside::well(),
+            outside: Outside::with_room(ROOM),
         }
     }
 
@@ -103,7 +105,10 @@ impl<'l> Session<'l> {
                 self.declared.entries(sort, case);
             }
             "declare" => self.declare()?,
-            "outside" => self.outside = Outside::of(case),
+            "outside" => {
+                self.outside.take_source(case);
+                self.outside.take_sink(case);
+            }
             "forget" => self.input = String::new(self.alloc),
             "run" => self.run(case, out)?,
             "calls" => self.call(case, out)?,
@@ -120,7 +125,7 @@ impl<'l> Session<'l> {
         self.declared = Declared::new(self.alloc);
         self.declarations = None;
         self.input = String::new(self.alloc);
-        self.outside = Outside::well();
+        self.outside = Outside::with_room(ROOM);
     }
 
     /// Makes declarations of what was declared.
@@ -132,10 +137,7 @@ impl<'l> Session<'l> {
 
     /// Runs the service over the input, with the words of the line.
     fn run(&mut self, case: &mut Case<'l>, out: &mut String) -> Result<(), Trouble> {
-        let mut words = Vec::new(self.alloc);
-        for word in case.rest() {
-            words.push(Text::new(self.alloc, word)?)?;
-        }
+        let words = texts_of_words(self.alloc, case.rest())?;
         let Some(declarations) = &self.declarations else {
             return Err(Trouble::NoCase);
         };

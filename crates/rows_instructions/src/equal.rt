@@ -1,7 +1,7 @@
 use crate::session::Session;
 use crate::sets::set_of;
 use meta_typevar::{TypeSet, TypeVar, TypeVarParent};
-use rows_words::{Case, Trouble, function_of, hash_of};
+use rows_words::{Case, Trouble, function_named, hash_of};
 use std::alloc::Global;
 
 /// Writes whether two sets are equal, and their masks; of equal ones whether they hash equally.
@@ -51,7 +51,7 @@ impl<'l> Session<'l> {
     /// `parent X FUNCTION Y`: whether the parent of a variable is Y by the function, and whether it hashes as that does.
     pub(crate) fn parent(&self, case: &mut Case<'l>) {
         let derived = self.next_variable(case);
-        let function = function_of(case.word());
+        let function = function_named(case.word());
         let parent = self.next_variable(case);
         let (Some(derived), Ok(derived_func), Some(type_var)) = (derived, function, parent) else {
             return case.refuse(Trouble::BadLine);

@@ -5,7 +5,7 @@ use meta_operands::{
 };
 use meta_types::Text;
 use rows_declaring::designating;
-use rows_words::{Case, Trouble, define, found, number, yes_or_no};
+use rows_words::{Case, Trouble, found, number, set_meaning, yes_or_no};
 
 /// Writes, with commas between them, whether the value inputs at these places can be designated.
 fn write_can(builder: &InstructionFormatBuilder, places: &str, case: &mut Case<'_>) {
@@ -138,7 +138,7 @@ impl<'l> Session<'l> {
         let name = case.word();
         match self.add_format(name, case.rest()) {
             Ok(id) => {
-                define(&mut self.ids, name, id, case);
+                set_meaning(&mut self.ids, name, id, case);
                 if self.formats.is_of(id) {
                     write_format(id, self.formats.get(id), case);
                 }

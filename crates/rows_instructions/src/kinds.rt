@@ -3,8 +3,8 @@ use crate::words::{text_of, write_prose};
 use meta_operands::{EnumValues, Operand, OperandKind, OperandKindFields};
 use meta_types::Text;
 use rows_declaring::kind_of;
-use rows_words::{Case, Trouble, define, found, named, pair_of};
-use std::alloc::{AllocError, Global};
+use rows_words::{Case, Trouble, found, named, pair_of, set_meaning};
+use std::alloc::Global;
 
 /// Lets a name stand for a variant, written `NAME=VARIANT`, and answers what it stood for before.
 fn add_value(alloc: Global, values: &mut EnumValues, value: &str) -> Result<Option<Text>, Trouble> {
@@ -136,7 +136,7 @@ impl<'l> Session<'l> {
         match self.next_kind(case) {
             Ok(kind) => {
                 self.write_kind(&kind, case);
-                define(&mut self.kinds, word, kind, case);
+                set_meaning(&mut self.kinds, word, kind, case);
             }
             Err(trouble) => case.refuse(trouble),
         }

@@ -1,7 +1,7 @@
 use meta_inst::{AllInstructions, InstructionContent};
 use meta_operands::{FormatId, FormatStructure, FormatTable, OperandKind};
 use meta_typevar::{TypeVar, TypeVars};
-use rows_files::{add_held_answer, against};
+use rows_files::AnswersLines;
 use rows_words::{Case, Trouble};
 use std::alloc::{AllocError, Global};
 use std::collections::HashSet;
@@ -56,35 +56,20 @@ impl<'l> Session<'l> {
         }
     }
 
-    /// Adds the answers to the lines.
-    pub(crate) fn answer_lines(
-        &mut self,
-        rt: &HostRuntime,
-        input: &'l str,
-        answers: &mut String,
-    ) -> Result<(), AllocError> {
-        for line in input.lines() {
-            match against(line) {
-                Some((file, line)) => self.hold(rt, file, line, answers)?,
-                None => self.answer_line(line, answers)?,
-            }
+    /// Writes the answer to a case.
+    fn answer(&mut self, case: &mut Case<'l>) {
+        let first = case.word();
+        if first == "ints" {
+            self.subject = Subject::Instructions;
         }
-        Ok(())
+        match self.subject {
+            Subject::Variables => self.answer_on_variables(first, case),
+            Subject::Instructions => self.answer_on_instructions(first, case),
+        }
     }
+}
 
-    /// Holds the answer to a line against the text of a file.
-    fn hold(
-        &mut self,
-        rt: &HostRuntime,
-        file: &str,
-        line: &'l str,
-        answers: &mut String,
-    ) -> Result<(), AllocError> {
-        let mut answer = String::new(self.alloc);
-        self.answer_line(line, &mut answer)?;
-        add_held_answer(rt, file, answer.as_str(), answers)
-    }
-
+impl<'l> AnswersLines<'l> for Session<'l> {
     /// Adds the answer to a line, or the line where it is a comment. About variables a line that asks nothing is told from one
     /// that asks what can't be asked; about instructions both are no case.
     fn answer_line(&mut self, line: &'l str, answers: &mut String) -> Result<(), AllocError> {
@@ -97,18 +82,6 @@ impl<'l> Session<'l> {
         match (case.trouble(), self.subject) {
             (Some(Trouble::BadLine), Subject::Variables) => answers.push_str("bad line\n"),
             _ => case.end(answers),
-        }
-    }
-
-    /// Writes the answer to a case.
-    fn answer(&mut self, case: &mut Case<'l>) {
-        let first = case.word();
-        if first == "ints" {
-            self.subject = Subject::Instructions;
-        }
-        match self.subject {
-            Subject::Variables => self.answer_on_variables(first, case),
-            Subject::Instructions => self.answer_on_instructions(first, case),
         }
     }
 }

@@ -1,7 +1,7 @@
 use meta_types::ValueType;
 use meta_typevar::{Masks, TypeSet, TypeSetBuilder};
 use rows_declaring::{PARTS, builder_of, built};
-use rows_words::{Case, Trouble, function_of, type_of};
+use rows_words::{Case, Trouble, function_named, type_of};
 use std::alloc::Global;
 
 /// The least number of a type.
@@ -15,7 +15,7 @@ fn image_of(alloc: Global, words: &[&str]) -> Result<TypeSet, Trouble> {
     let [function, "of", "set", parts @ ..] = words else {
         return Err(Trouble::BadLine);
     };
-    let derived_func = function_of(function)?;
+    let derived_func = function_named(function)?;
     Ok(built(alloc, parts)?.image(alloc, derived_func)?)
 }
 

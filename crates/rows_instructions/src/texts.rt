@@ -4,7 +4,7 @@ use meta_inst::{AllInstructions, InstructionBuilder, InstructionGroupBuilder};
 use meta_operands::{FormatId, FormatTable};
 use meta_rust_text::{builder_text, instructions_text};
 use meta_typevar::TypeVars;
-use rows_declaring::instruction;
+use rows_declaring::{declarations_of, instruction};
 use rows_words::{Case, Trouble, found};
 use std::alloc::{AllocError, Global};
 use std::mem;
@@ -73,10 +73,7 @@ impl<'l> Session<'l> {
         let vars = mem::replace(&mut self.vars, TypeVars::new(self.alloc));
         let formats = mem::replace(&mut self.formats, FormatTable::new(self.alloc));
         let all = mem::replace(&mut self.all, AllInstructions::new(self.alloc));
-        if !Declarations::fits(&vars, &formats, &all) {
-            return Err(Trouble::NoCase);
-        }
-        Ok(Declarations::new(vars, formats, all, Vec::new(self.alloc)))
+        declarations_of(vars, formats, all, Vec::new(self.alloc))
     }
 
     /// `texts WORDS`: the texts, `instructions` or `builder` or both, of the instructions of the list, or the line of the first

@@ -3,7 +3,7 @@ use crate::sets::set_of;
 use meta_types::{DerivedFunc, Text};
 use meta_typevar::{Interval, TypeSet, TypeSetBuilder, TypeVar, TypeVars};
 use rows_declaring::{derived, fresh_root, singleton};
-use rows_words::{Case, Trouble, define, found, function_of};
+use rows_words::{Case, Trouble, found, function_named, set_meaning};
 
 impl<'l> Session<'l> {
     /// Takes the next word, and answers the variable for which it stands.
@@ -50,7 +50,7 @@ impl<'l> Session<'l> {
     /// Lets the word stand for the variable that a call answered, and writes its name.
     fn keep(&mut self, word: &'l str, tv: TypeVar, case: &mut Case<'l>) {
         self.is_added(tv, case);
-        define(&mut self.variables, word, tv, case);
+        set_meaning(&mut self.variables, word, tv, case);
         case.text(self.name(tv));
     }
 
@@ -61,7 +61,7 @@ impl<'l> Session<'l> {
         } else {
             "known"
         };
-        define(&mut self.variables, word, tv, case);
+        set_meaning(&mut self.variables, word, tv, case);
         self.describe(tv, change, case);
     }
 
@@ -146,7 +146,7 @@ impl<'l> Session<'l> {
     ) -> Result<TypeVar, Trouble> {
         let mut tv = tv;
         for function in functions.split(',') {
-            tv = derived(self.alloc, &mut self.vars, tv, function_of(function)?)?;
+            tv = derived(self.alloc, &mut self.vars, tv, function_named(function)?)?;
             self.is_added(tv, case);
         }
         Ok(tv)
@@ -220,7 +220,7 @@ impl<'l> Session<'l> {
     pub(crate) fn derive(&mut self, by_name: bool, case: &mut Case<'l>) {
         let word = case.word();
         case.expect("=");
-        let (function, parent) = (function_of(case.word()), self.next_variable(case));
+        let (function, parent) = (function_named(case.word()), self.next_variable(case));
         let (Ok(function), Some(parent)) = (function, parent) else {
             return case.refuse(Trouble::BadLine);
         };
@@ -248,7 +248,7 @@ impl<'l> Session<'l> {
 
     /// `can_derive FUNCTION X`: whether the variable may be derived from by the function.
     pub(crate) fn can_derive(&self, case: &mut Case<'l>) {
-        let (function, tv) = (function_of(case.word()), self.next_variable(case));
+        let (function, tv) = (function_named(case.word()), self.next_variable(case));
         let (Ok(function), Some(tv)) = (function, tv) else {
             return case.refuse(Trouble::BadLine);
         };

@@ -1,6 +1,5 @@
 //! Reads groups of settings line by line, and writes what they are built to: their faults, their layout and their presets.
-//! A line that begins with `#` is written as it is; each other line has its answer. Of `against FILE LINE` it is whether the answer to
-//! the line is the text of the file.
+//! A line that begins with `#` is written as it is; each other line has its answer. `rows_files` answers `against FILE LINE`.
 #![tactic(auto)]
 
 mod built;
@@ -10,11 +9,12 @@ mod line;
 mod named;
 mod session;
 
+use rows_files::answer_lines_with_files;
 use session::Session;
 use std::alloc::AllocError;
 
 /// Adds the answers to the lines.
 pub fn add_answers(rt: &HostRuntime, input: &str, answers: &mut String) -> Result<(), AllocError> {
     let mut session = Session::new(rt.alloc())?;
-    session.answer_lines(rt, input, answers)
+    answer_lines_with_files(rt, &mut session, input, answers)
 }

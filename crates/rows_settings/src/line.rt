@@ -1,4 +1,4 @@
-use rows_declaring::{Entry, Sort};
+use rows_declaring::{EntryTexts, Sort};
 
 /// What a line asks.
 #[derive(Clone, Copy)]
@@ -104,8 +104,8 @@ impl<'l> Line<'l> {
     }
 
     /// The texts of the entry that a line declares.
-    pub(crate) fn entry(&self) -> Entry<'l> {
-        Entry {
+    pub(crate) fn entry(&self) -> EntryTexts<'l> {
+        EntryTexts {
             name: self.name,
             description: self.description,
             comment: self.comment,

@@ -6,7 +6,7 @@ use crate::named::nothing_named;
 use meta_settings::{SettingGroup, TargetIsa};
 use meta_settings_text::settings_text;
 use meta_types::Text;
-use rows_files::{add_held_answer, against};
+use rows_files::AnswersLines;
 use rows_words::{Case, Trouble, found};
 use std::alloc::{AllocError, Global};
 
@@ -153,38 +153,11 @@ impl Session {
             },
         }
     }
+}
 
-    /// Adds the answers to the lines.
-    pub(crate) fn answer_lines(
-        &mut self,
-        rt: &HostRuntime,
-        input: &str,
-        answers: &mut String,
-    ) -> Result<(), AllocError> {
-        for line in input.lines() {
-            match against(line) {
-                Some((file, line)) => self.hold(rt, file, line, answers)?,
-                None => self.answer_line(line, answers)?,
-            }
-        }
-        Ok(())
-    }
-
-    /// Holds the answer to a line against the text of a file.
-    fn hold(
-        &mut self,
-        rt: &HostRuntime,
-        file: &str,
-        line: &str,
-        answers: &mut String,
-    ) -> Result<(), AllocError> {
-        let mut answer = String::new(self.alloc);
-        self.answer_line(line, &mut answer)?;
-        add_held_answer(rt, file, answer.as_str(), answers)
-    }
-
+impl<'l> AnswersLines<'l> for Session {
     /// Writes the answer to a line and a line feed: `no case` where it asks nothing, or what can't be asked.
-    fn answer_line(&mut self, line: &str, answers: &mut String) -> Result<(), AllocError> {
+    fn answer_line(&mut self, line: &'l str, answers: &mut String) -> Result<(), AllocError> {
         if line.starts_with('#') {
             return writeln!(answers, "{line}");
         }

@@ -1,9 +1,9 @@
 //! Runs, over the shared declarations, the words of each line, and writes what the run writes and the line
 //! `status N`.
 //!
-//! A line that begins with `#` goes through unchanged, and each line that asks stands behind `> ` before its answer. A run reads the text that the lines before it edited, and behind that what
-//! stands behind ` < ` on its line. `edit N` begins with the text of the tables in that version, `drop`, `cut`, `replace` and `all`
-//! edit it, and `asked` has the other words that a line begins with.
+//! A line that begins with `#` goes through unchanged, and each line that asks stands behind `> ` before its answer. A run reads the text
+//! that the lines before it edited, and behind that what stands behind ` < ` on its line. `edit N` begins with the text of the tables in
+//! that version, `drop`, `cut`, `replace` and `all` edit it, and `asked` has the other words that a line begins with.
 #![tactic(auto)]
 
 mod asked;

@@ -11,15 +11,6 @@ use std::io;
 /// How many bytes a run may write that is held against a file.
 const ROOM: usize = 1 << 20;
 
-/// Words, a text each.
-pub(crate) fn texts_of_words(alloc: Global, words: &[&str]) -> Result<Vec<Text>, AllocError> {
-    let mut texts = Vec::new(alloc);
-    for word in words {
-        texts.push(Text::new(alloc, word)?)?;
-    }
-    Ok(texts)
-}
-
 /// Runs these words over a source of an input and a sink that never fail.
 pub(crate) fn run_unfailing(
     alloc: Global,

@@ -1,11 +1,11 @@
 use super::asked::{ASKED, Asked};
 use super::dump::write_all;
-use super::running::{run_kept, run_unfailing, run_words, texts_of_words};
+use super::running::{run_kept, run_unfailing, run_words};
 use meta_gen::{Declarations, Tables};
 use meta_text::NeverFails;
 use rows_edits::{Each, Edited, text_in, write_readings};
 use rows_files::{add_held, against};
-use rows_words::{Case, Trouble, found, number};
+use rows_words::{Case, Trouble, found, number, texts_of_words};
 use std::alloc::Global;
 use std::io::{self, Write};
 use std::str;

@@ -1,6 +1,6 @@
 use meta_gen::Tables;
-use rows_edits::{text_in, write_bytes};
-use rows_words::Case;
+use rows_edits::text_in;
+use rows_words::{Case, write_bytes};
 use std::alloc::Global;
 
 /// Writes the text of the tables in the version with this number, or that it can't show them.

@@ -1,12 +1,10 @@
-ghost use Rattle.std.specs.Prelude.{◌≡◌, IfOk, None};
-
 use meta_gen::Declarations;
 use meta_inst::{AllInstructions, InstructionBuilder, InstructionGroupBuilder};
-use meta_operands::{FormatId, FormatTable, InstructionFormatBuilder, Operand, OperandKind};
+use meta_operands::{FormatId, FormatTable, InstructionFormatBuilder};
 use meta_shared_ops::define;
 use meta_types::Text;
 use meta_typevar::{TypeVar, TypeVars};
-use rows_declaring::{built, fresh_root, instruction};
+use rows_declaring::{built, declarations_of, fresh_root, instruction, value, with_second};
 use rows_words::Trouble;
 use std::alloc::{AllocError, Global};
 
@@ -38,12 +36,6 @@ fn roots(alloc: Global, vars: &mut TypeVars) -> Result<Variables, Trouble> {
     Ok(Variables { second, result })
 }
 
-/// An operand of the values of a variable.
-fn operand(alloc: Global, name: &str, tv: TypeVar) -> Result<Operand, AllocError> {
-    let kind = OperandKind::of(alloc, tv)?;
-    Ok(Operand::new(Text::new(alloc, name)?, kind))
-}
-
 /// `a = NAME x, y`, where x and y have the type of the second control, and a that of the control.
 fn mix(
     alloc: Global,
@@ -52,16 +44,13 @@ fn mix(
     variables: &Variables,
 ) -> Result<InstructionBuilder, AllocError> {
     let mut inputs = Vec::new(alloc);
-    inputs.push(operand(alloc, "x", variables.second)?)?;
-    inputs.push(operand(alloc, "y", variables.second)?)?;
+    inputs.push(value(alloc, "x", variables.second)?)?;
+    inputs.push(value(alloc, "y", variables.second)?)?;
     let mut outputs = Vec::new(alloc);
-    outputs.push(operand(alloc, "a", variables.result)?)?;
+    outputs.push(value(alloc, "a", variables.result)?)?;
     let builder = instruction(alloc, name, "", format)?;
     let builder = builder.operands_in(inputs).operands_out(outputs);
-    if builder.has_second_control() {
-        return Ok(builder);
-    }
-    Ok(builder.second_control(variables.second))
+    Ok(with_second(builder, variables.second))
 }
 
 /// Adds a `mix` of this name.
@@ -87,10 +76,7 @@ fn of_names(alloc: Global, names: &[&str]) -> Result<Declarations, Trouble> {
     for name in names {
         add_mix(alloc, &mut all, name, format, &variables)?;
     }
-    if !Declarations::fits(&vars, &formats, &all) {
-        return Err(Trouble::NoCase);
-    }
-    Ok(Declarations::new(vars, formats, all, Vec::new(alloc)))
+    declarations_of(vars, formats, all, Vec::new(alloc))
 }
 
 /// The declarations of this name: the shared ones; `mix` alone, which has a second control; or `mix` twice, which are refused.

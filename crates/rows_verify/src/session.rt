@@ -1,11 +1,10 @@
 use super::declared::declarations;
-use super::outside::Outside;
 use meta_gen::{Declarations, Tables, generate};
-use meta_types::{DefinitionError, Text};
-use meta_verify::Checker;
-use rows_edits::decoded;
-use rows_words::{Case, Trouble};
-use std::alloc::{AllocError, Global};
+use meta_types::DefinitionError;
+use meta_verify::{Checker, VerifyStatus, verify};
+use rows_outside::{Outside, write_ended};
+use rows_words::{Answering, Case, Trouble, decoded, texts_of_words};
+use std::alloc::Global;
 
 /// The rows that are answered: what is declared, with its tables; a checker; the input of the next run, which lines put together; and
 /// how its source and its sink behave.
@@ -21,15 +20,6 @@ pub(crate) struct Session {
     checker: Checker,
     input: Vec<u8>,
     outside: Outside,
-}
-
-/// The words of a run, a text each.
-fn run_words(alloc: Global, words: &[&str]) -> Result<Vec<Text>, Trouble> {
-    let mut all = Vec::new(alloc);
-    for word in words {
-        all.push(Text::new(alloc, word)?)?;
-    }
-    Ok(all)
 }
 
 /// Adds bytes so many times.
@@ -70,7 +60,7 @@ impl Session {
             tables,
             checker: Checker::new(alloc),
             input: Vec::new(alloc),
-            outside: Outside::well(),
+            outside: Outside::with_room(100),
         })
     }
 
@@ -111,27 +101,19 @@ impl Session {
         Ok(())
     }
 
-    /// Runs the words over the input and the text.
+    /// Runs the words over the input and the text, and writes how the run ends.
     fn run(&mut self, alloc: Global, text: &str, case: &mut Case<'_>) -> Result<(), Trouble> {
         push_times(&mut self.input, 1, &decoded(alloc, text)?)?;
-        let words = run_words(alloc, case.rest())?;
-        self.outside
-            .run(alloc, &self.declarations, &words, &self.input, case)?;
+        let words = texts_of_words(alloc, case.rest())?;
+        let mut source = self.outside.source(alloc, &self.input)?;
+        let mut sink = self.outside.sink(alloc)?;
+        let status = verify(alloc, &words, &self.declarations, &mut source, &mut sink);
+        if status == VerifyStatus::OutOfMemory {
+            return Err(Trouble::OutOfMemory);
+        }
+        write_ended(case, status.code(), sink.bytes());
         self.input.clear();
         Ok(())
-    }
-
-    /// Takes how the source behaves.
-    fn set_source(&mut self, case: &mut Case<'_>) {
-        self.outside.source_step = case.number();
-        self.outside.failing_read = case.number();
-    }
-
-    /// Takes how the sink behaves.
-    fn set_sink(&mut self, case: &mut Case<'_>) {
-        self.outside.room = case.number();
-        self.outside.sink_step = case.number();
-        self.outside.failing_write = case.number();
     }
 
     /// Feeds a line to the checker, and tells its reason, `-` for none.
@@ -148,7 +130,9 @@ impl Session {
         case.text(said.as_str());
         Ok(())
     }
+}
 
+impl Answering for Session {
     /// Does what the words of a line ask, which may have a text behind them.
     fn answer(&mut self, alloc: Global, text: &str, case: &mut Case<'_>) -> Result<(), Trouble> {
         let asked = case.word();
@@ -158,8 +142,8 @@ impl Session {
                 self.over(alloc, name, case)?;
             }
             "new" => self.checker = Checker::new(alloc),
-            "source" => self.set_source(case),
-            "sink" => self.set_sink(case),
+            "source" => self.outside.take_source(case),
+            "sink" => self.outside.take_sink(case),
             "run" => self.run(alloc, text, case)?,
             "feed" => self.feed(alloc, text, case)?,
             "type" => {
@@ -171,24 +155,5 @@ impl Session {
         }
         case.end_words();
         Ok(())
-    }
-
-    /// Adds the answer to a line.
-    pub(crate) fn answer_line(
-        &mut self,
-        alloc: Global,
-        line: &str,
-        answers: &mut String,
-    ) -> Result<(), AllocError> {
-        if line.is_empty() || line.starts_with('#') {
-            answers.push_str(line)?;
-            return answers.push('\n');
-        }
-        let (words, text) = line.split_once(" < ").unwrap_or((line, ""));
-        let mut case = Case::of(alloc, words)?;
-        if let Err(trouble) = self.answer(alloc, text, &mut case) {
-            case.refuse(trouble);
-        }
-        case.end(answers)
     }
 }

@@ -1,4 +1,5 @@
 use std::alloc::{AllocError, AllocFailed};
+use std::io::{self, ErrorKind};
 use std::num::ParseIntError;
 
 /// Why a line has no answer of its own.
@@ -29,5 +30,16 @@ impl<T: Drop> From<AllocFailed<T>> for Trouble {
 impl From<ParseIntError> for Trouble {
     fn from(_error: ParseIntError) -> Trouble {
         Trouble::BadLine
+    }
+}
+
+impl From<Trouble> for io::Error {
+    fn from(trouble: Trouble) -> io::Error {
+        match trouble {
+            Trouble::OutOfMemory => io::Error::from(ErrorKind::OutOfMemory),
+            Trouble::BadLine | Trouble::NoCase | Trouble::Differ => {
+                io::Error::from(ErrorKind::InvalidInput)
+            }
+        }
     }
 }

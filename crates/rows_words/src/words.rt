@@ -5,23 +5,10 @@ ghost use Rattle.meta_types.specs.ValueTypes.{type_parts_of};
 
 use super::case::Case;
 use super::trouble::Trouble;
-use meta_types::{DerivedFunc, Text, ValueType};
-use std::alloc::Global;
+use meta_types::{DERIVED_FUNCS, DerivedFunc, Text, ValueType};
+use std::alloc::{AllocError, Global};
 use std::hash::{DefaultHasher, Hash, Hasher};
 use std::str::FromStr;
-
-/// The nine derived functions.
-const FUNCTIONS: [DerivedFunc; 9] = [
-    DerivedFunc::LaneOf,
-    DerivedFunc::AsTruthy,
-    DerivedFunc::HalfWidth,
-    DerivedFunc::DoubleWidth,
-    DerivedFunc::SplitLanes,
-    DerivedFunc::MergeLanes,
-    DerivedFunc::DynamicToVector,
-    DerivedFunc::Narrower,
-    DerivedFunc::Wider,
-];
 
 /// What the word stands for in the table: what stands in its last row.
 pub fn named<'t, T>(table: &'t [(&str, T)], word: &str) -> Result<&'t T, Trouble> {
@@ -42,7 +29,7 @@ pub fn found<T: Copy>(table: &[(&str, T)], word: &str) -> Result<T, Trouble> {
 }
 
 /// Lets the word stand for something in the table, whatever it stood for before.
-pub fn define<'l, T: Drop>(
+pub fn set_meaning<'l, T: Drop>(
     table: &mut Vec<(&'l str, T)>,
     word: &'l str,
     meaning: T,
@@ -92,11 +79,20 @@ pub fn texts_of(alloc: Global, list: &str, none: &str) -> Result<Vec<Text>, Trou
     Ok(texts)
 }
 
+/// Words, a text each.
+pub fn texts_of_words(alloc: Global, words: &[&str]) -> Result<Vec<Text>, AllocError> {
+    let mut texts = Vec::new(alloc);
+    for word in words {
+        texts.push(Text::new(alloc, word)?)?;
+    }
+    Ok(texts)
+}
+
 /// The derived function of this name.
-pub fn function_of(name: &str) -> Result<DerivedFunc, Trouble>
+pub fn function_named(name: &str) -> Result<DerivedFunc, Trouble>
     ensures { IfOk result (λ f. function_name (meant_by f) ≡ name.now) }
 {
-    for func in FUNCTIONS {
+    for func in DERIVED_FUNCS {
         if func.name() == name {
             return Ok(func);
         }

@@ -1,6 +1,6 @@
 use Rattle.meta_meaning.proofs.Members.{numbers_of_members}
 use Rattle.meta_types.proofs.Numbers.{one_number}
-use Rattle.meta_meaning.proofs.Names.{one_name}
+use Rattle.meta_types.proofs.Names.{one_name}
 use Rattle.meta_meaning.proofs.masks_contain_the_members.Goals as goal
 
 pub returns-clause-members : goal.returns-clause-members

@@ -1,9 +1,9 @@
-use Rattle.meta_meaning.proofs.Only.{same_constraint}
+use Rattle.meta_meaning.proofs.Only.{only_constraint}
 use Rattle.meta_meaning.proofs.Constrained.{has_constraint, constraint_not_bad}
 use Rattle.meta_meaning.proofs.one_constraint.Goals as goal
 
 pub returns-clause-same : goal.returns-clause-same
-returns-clause-same c = same_constraint
+returns-clause-same c = only_constraint
 
 pub returns-clause-no_fault : goal.returns-clause-no_fault
 returns-clause-no_fault c = constraint_not_bad

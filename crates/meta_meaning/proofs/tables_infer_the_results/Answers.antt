@@ -3,7 +3,8 @@ use Rattle.meta_meaning.proofs.Given.{allowed_given, given_is}
 use Rattle.meta_meaning.proofs.tables_infer_the_results.Goals as goal
 
 pub returns-clause-meaning : goal.returns-clause-meaning
-returns-clause-meaning c = λ sets i control tables op entry a b numbers typed h good is at. results_mean sets i control tables entry typed h good is a b op at numbers
+returns-clause-meaning c = λ sets i control tables op entry a b numbers typed h good is at.
+    results_mean sets i control tables entry typed h good is a b op at numbers
 
 pub returns-clause-some : goal.returns-clause-some
 returns-clause-some c = λ tables op a b rs vs allows. allowed_given tables op a b rs vs allows

@@ -5,10 +5,12 @@ use Rattle.meta_answers.proofs.form.command_of.Goals as goal
 
 pub returns-in-accept : goal.returns-in-accept
 returns-in-accept c =
-    let is : c.args.word.now ≡ codes "accept" = text_from_reads c.args.word.now (codes "accept") (omega arith) (omega arith, (omega arith, (omega arith, (omega arith, (omega arith, (omega arith, tt)))))) in
+    let is : c.args.word.now ≡ codes "accept" = text_from_reads c.args.word.now (codes "accept") (omega arith)
+    (omega arith, (omega arith, (omega arith, (omega arith, (omega arith, (omega arith, tt)))))) in
     ap command_named (sym is)
 
 pub returns-in-setting : goal.returns-in-setting
 returns-in-setting c =
-    let is : c.args.word.now ≡ codes "setting" = text_from_reads c.args.word.now (codes "setting") (omega arith) (omega arith, (omega arith, (omega arith, (omega arith, (omega arith, (omega arith, (omega arith, tt))))))) in
+    let is : c.args.word.now ≡ codes "setting" = text_from_reads c.args.word.now (codes "setting") (omega arith)
+    (omega arith, (omega arith, (omega arith, (omega arith, (omega arith, (omega arith, (omega arith, tt))))))) in
     ap command_named (sym is)

@@ -7,10 +7,10 @@ use Rattle.meta_verify.specs.Environment.{Environment}
 use Rattle.meta_verify.specs.Defined.{definitions}
 use Rattle.meta_verify.specs.Wrong.{Feeds}
 use Rattle.meta_verify.specs.declared.reason.Reason.{Reason}
-use Rattle.meta_verify.proofs.VerdictLemmas.{left_next, few_so_far, AreRightSoFar, none_so_far, one_right, first_wrong}
+use Rattle.meta_verify.proofs.VerdictLemmas.{at_front, left_next, few_so_far, AreRightSoFar, none_so_far, one_right, first_wrong}
 use Rattle.meta_short.specs.Manners.{IsMannerIn}
 use Rattle.meta_asm.specs.Listing.{IsShortened}
-use Rattle.meta_asm.proofs.ListingLemmas.{none_written, one_written, at_front, all_written}
+use Rattle.meta_asm.proofs.ListingLemmas.{none_written, one_written, all_written}
 use Rattle.meta_asm.proofs.listing.shortened.Goals as goal
 
 pub loop-line-init : goal.loop-line-init
@@ -18,13 +18,15 @@ loop-line-init c =
     let all : c.into_iter-line-iterator.result ≡ lines_of c.args.input.now = cc in
     record {
       left = sym all;
-      right = subst (λ (e : Environment). AreRightSoFar c.args.tables.now.opcodes (lines_of c.args.input.now) 0 e) (sym c.new-checker.ensures) (none_so_far c.args.tables.now.opcodes (lines_of c.args.input.now));
+      right = subst (λ (e : Environment). AreRightSoFar c.args.tables.now.opcodes (lines_of c.args.input.now) 0 e)
+          (sym c.new-checker.ensures) (none_so_far c.args.tables.now.opcodes (lines_of c.args.input.now));
       written = none_written c.args.tables.now.opcodes (lines_of c.args.input.now) _ _ c.new-checker.ensures c.new-text.ensures.bytes;
     }
 
 pub overflow_add-number : goal.overflow_add-number
 overflow_add-number c =
-    let so_far = few_so_far (lines_of c.args.input.now) c.loop-line.number c.in-Some.line.now c.next.new.self (c.loop-line.invariant.left ∙ c.in-Some.ensures.steps) in
+    let so_far = few_so_far (lines_of c.args.input.now) c.loop-line.number c.in-Some.line.now c.next.new.self (c.loop-line.invariant.left
+    ∙ c.in-Some.ensures.steps) in
     let few = few_lines c.args.input.now in
     let within = c.requires.within in
     omega (arith, so_far, few, within)
@@ -33,10 +35,13 @@ pub returns-in-Some-2 : goal.returns-in-Some-2
 returns-in-Some-2 c =
     let R = AllowedReply c.args.tables.now.opcodes in
     let next = c.loop-line.invariant.left ∙ c.in-Some.ensures.steps in
-    let first = first_wrong c.args.tables.now.opcodes (lines_of c.args.input.now) c.loop-line.number (definitions c.loop-line.checker) (definitions c.push_short_form.new.checker) c.in-Some.line.now c.next.new.self c.in-Some-2.reason c.loop-line.invariant.right next
-    (subst (λ (o : Option Reason). Feeds R (definitions c.loop-line.checker) c.in-Some.line.now o (definitions c.push_short_form.new.checker)) c.in-Some-2.is c.in_ok-reason.ensures.fed) in
+    let first = first_wrong c.args.tables.now.opcodes (lines_of c.args.input.now) c.loop-line.number (definitions c.loop-line.checker)
+    (definitions c.push_short_form.new.checker) c.in-Some.line.now c.next.new.self c.in-Some-2.reason c.loop-line.invariant.right next
+    (subst (λ (o : Option Reason). Feeds R (definitions c.loop-line.checker) c.in-Some.line.now o
+    (definitions c.push_short_form.new.checker)) c.in-Some-2.is c.in_ok-reason.ensures.fed) in
     IfOk-weaker c.rejection.result _ _
-    (λ answer h. subst (λ (b : Bool). IsShortened R (IsMannerIn c.args.tables.now.opcodes) c.args.input.now b (string_bytes answer.text)) (sym h.0) (c.loop-line.number, c.in-Some-2.reason, first, h.1))
+    (λ answer h. subst (λ (b : Bool). IsShortened R (IsMannerIn c.args.tables.now.opcodes) c.args.input.now b (string_bytes answer.text))
+    (sym h.0) (c.loop-line.number, c.in-Some-2.reason, first, h.1))
     c.rejection.ensures
 
 pub loop-line-preserved : goal.loop-line-preserved
@@ -45,12 +50,17 @@ loop-line-preserved c =
     let next = c.loop-line.invariant.left ∙ c.in-Some.ensures.steps in
     record {
       left = left_next (lines_of c.args.input.now) c.loop-line.number c.in-Some.line.now c.next.new.self next;
-      right = one_right c.args.tables.now.opcodes (lines_of c.args.input.now) c.loop-line.number (definitions c.loop-line.checker) (definitions c.push_short_form.new.checker) c.in-Some.line.now c.next.new.self c.loop-line.invariant.right next
-          (subst (λ (o : Option Reason). Feeds R (definitions c.loop-line.checker) c.in-Some.line.now o (definitions c.push_short_form.new.checker)) c.in_default.is c.in_ok-reason.ensures.fed);
-      written = one_written c.args.tables.now.opcodes (lines_of c.args.input.now) c.loop-line.number (definitions c.loop-line.checker) (definitions c.push_short_form.new.checker) c.in-Some.line.now _ _ c.loop-line.invariant.written
-          (at_front (lines_of c.args.input.now) c.loop-line.number c.in-Some.line.now c.next.new.self next) (c.in_ok-reason.ensures.added c.in_default.is);
+      right = one_right c.args.tables.now.opcodes (lines_of c.args.input.now) c.loop-line.number (definitions c.loop-line.checker)
+          (definitions c.push_short_form.new.checker) c.in-Some.line.now c.next.new.self c.loop-line.invariant.right next
+          (subst (λ (o : Option Reason). Feeds R (definitions c.loop-line.checker) c.in-Some.line.now o
+          (definitions c.push_short_form.new.checker)) c.in_default.is c.in_ok-reason.ensures.fed);
+      written = one_written c.args.tables.now.opcodes (lines_of c.args.input.now) c.loop-line.number (definitions c.loop-line.checker)
+          (definitions c.push_short_form.new.checker) c.in-Some.line.now _ _ c.loop-line.invariant.written
+          (at_front (lines_of c.args.input.now) c.loop-line.number c.in-Some.line.now c.next.new.self next)
+          (c.in_ok-reason.ensures.added c.in_default.is);
     }
 
 pub returns : goal.returns
 returns c =
-    all_written c.args.tables.now.opcodes (lines_of c.args.input.now) c.loop-line.number _ _ c.loop-line.invariant.written (c.loop-line.invariant.left ∙ c.in-None.ensures.steps.0)
+    all_written c.args.tables.now.opcodes (lines_of c.args.input.now) c.loop-line.number _ _ c.loop-line.invariant.written
+    (c.loop-line.invariant.left ∙ c.in-None.ensures.steps.0)

@@ -4,10 +4,10 @@ use Rattle.meta_words.specs.Lines.{lines_of}
 use Rattle.meta_words.proofs.LineLemmas.{few_lines}
 use Rattle.meta_answers.specs.Answer.{AllowedReply}
 use Rattle.meta_verify.specs.Defined.{definitions}
-use Rattle.meta_verify.proofs.VerdictLemmas.{left_next, few_so_far}
+use Rattle.meta_verify.proofs.VerdictLemmas.{at_front, left_next, few_so_far}
 use Rattle.meta_short.specs.Manners.{IsMannerIn}
 use Rattle.meta_asm.specs.Listing.{IsSpelled}
-use Rattle.meta_asm.proofs.ListingLemmas.{none_read, one_read, at_front, all_read, first_unread}
+use Rattle.meta_asm.proofs.ListingLemmas.{none_read, one_read, all_read, first_unread}
 use Rattle.meta_asm.proofs.listing.spelled.Goals as goal
 
 pub loop-line-init : goal.loop-line-init
@@ -20,7 +20,8 @@ loop-line-init c =
 
 pub overflow_add-number : goal.overflow_add-number
 overflow_add-number c =
-    let so_far = few_so_far (lines_of c.args.input.now) c.loop-line.number c.in-Some.line.now c.next.new.self (c.loop-line.invariant.left ∙ c.in-Some.ensures.steps) in
+    let so_far = few_so_far (lines_of c.args.input.now) c.loop-line.number c.in-Some.line.now c.next.new.self (c.loop-line.invariant.left
+    ∙ c.in-Some.ensures.steps) in
     let few = few_lines c.args.input.now in
     let within = c.requires.within in
     omega (arith, so_far, few, within)
@@ -29,10 +30,13 @@ pub returns-then-not-branch : goal.returns-then-not-branch
 returns-then-not-branch c =
     let next = c.loop-line.invariant.left ∙ c.in-Some.ensures.steps in
     let off : c.in_ok-push_read_line.field-0 ≡ false = search rules in
-    let first = first_unread c.args.tables.now.opcodes (lines_of c.args.input.now) c.loop-line.number (definitions c.loop-line.checker) c.in-Some.line.now _ c.loop-line.invariant.read
-    (at_front (lines_of c.args.input.now) c.loop-line.number c.in-Some.line.now c.next.new.self next) (c.in_ok-push_read_line.ensures.some off) (c.in_ok-push_read_line.ensures.unread off) in
+    let first = first_unread c.args.tables.now.opcodes (lines_of c.args.input.now) c.loop-line.number
+    (definitions c.loop-line.checker) c.in-Some.line.now _ c.loop-line.invariant.read
+    (at_front (lines_of c.args.input.now) c.loop-line.number c.in-Some.line.now c.next.new.self next)
+    (c.in_ok-push_read_line.ensures.some off) (c.in_ok-push_read_line.ensures.unread off) in
     IfOk-weaker c.rejection.result _ _
-    (λ answer h. subst (λ (b : Bool). IsSpelled (AllowedReply c.args.tables.now.opcodes) (IsMannerIn c.args.tables.now.opcodes) c.args.input.now b (string_bytes answer.text)) (sym h.0) (c.loop-line.number, first, h.1))
+    (λ answer h. subst (λ (b : Bool). IsSpelled (AllowedReply c.args.tables.now.opcodes)
+    (IsMannerIn c.args.tables.now.opcodes) c.args.input.now b (string_bytes answer.text)) (sym h.0) (c.loop-line.number, first, h.1))
     c.rejection.ensures
 
 pub loop-line-preserved : goal.loop-line-preserved
@@ -41,10 +45,13 @@ loop-line-preserved c =
     let on : c.in_ok-push_read_line.field-0 ≡ true = search rules in
     record {
       left = left_next (lines_of c.args.input.now) c.loop-line.number c.in-Some.line.now c.next.new.self next;
-      read = one_read c.args.tables.now.opcodes (lines_of c.args.input.now) c.loop-line.number (definitions c.loop-line.checker) (definitions c.push_read_line.new.checker) c.in-Some.line.now _ _ c.loop-line.invariant.read
-          (at_front (lines_of c.args.input.now) c.loop-line.number c.in-Some.line.now c.next.new.self next) (c.in_ok-push_read_line.ensures.added on);
+      read = one_read c.args.tables.now.opcodes (lines_of c.args.input.now) c.loop-line.number (definitions c.loop-line.checker)
+          (definitions c.push_read_line.new.checker) c.in-Some.line.now _ _ c.loop-line.invariant.read
+          (at_front (lines_of c.args.input.now) c.loop-line.number c.in-Some.line.now c.next.new.self next)
+          (c.in_ok-push_read_line.ensures.added on);
     }
 
 pub returns : goal.returns
 returns c =
-    all_read c.args.tables.now.opcodes (lines_of c.args.input.now) c.loop-line.number _ _ c.loop-line.invariant.read (c.loop-line.invariant.left ∙ c.in-None.ensures.steps.0)
+    all_read c.args.tables.now.opcodes (lines_of c.args.input.now) c.loop-line.number _ _ c.loop-line.invariant.read
+    (c.loop-line.invariant.left ∙ c.in-None.ensures.steps.0)

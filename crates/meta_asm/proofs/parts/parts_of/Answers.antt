@@ -9,15 +9,20 @@ pub returns : goal.returns
 returns c = λ m a plain can e.
     let now = λ (t : Bor (List ℕ)). t.now in
     let lack = short_lacks 61 m.opened a.results equals (omega arith) can.results in
-    let results = c.sides_of-sides.ensures.results (map short_result_text (short_results m.opened a.results)) (applied_part m a) lack (applied_lacks m a plain can) e in
-    let applied = c.sides_of-sides.ensures.applied (map short_result_text (short_results m.opened a.results)) (applied_part m a) lack (applied_lacks m a plain can) e in
+    let results = c.sides_of-sides.ensures.results (map short_result_text (short_results m.opened a.results)) (applied_part m a) lack
+    (applied_lacks m a plain can) e in
+    let applied = c.sides_of-sides.ensures.applied (map short_result_text (short_results m.opened a.results)) (applied_part m a) lack
+    (applied_lacks m a plain can) e in
     let control = control_written m.leaves_out a.control a.second in
     let values = values_written (map value_text a.values) in
     let is : c.sides_of-sides.result.applied.now ≡ (a.name ++ behind 46 control) ++ behind 32 values = applied ∙ head_values m a in
-    let head : c.cut.result.0.now ≡ a.name ++ behind 46 control = first_is now 32 c.sides_of-sides.result.applied.now c.cut.result.0.now c.cut.result.1 c.cut.ensures (a.name ++ behind 46 control) values (head_lacks m a plain can) is in
+    let head : c.cut.result.0.now ≡ a.name ++ behind 46 control =
+    first_is now 32 c.sides_of-sides.result.applied.now c.cut.result.0.now c.cut.result.1 c.cut.ensures
+    (a.name ++ behind 46 control) values (head_lacks m a plain can) is in
     record {
       results = results;
       name = first_is now 46 c.cut.result.0.now c.cut-2.result.0.now c.cut-2.result.1 c.cut-2.ensures a.name control plain.point head;
       control = rest_is now 46 c.cut.result.0.now c.cut-2.result.0.now c.cut-2.result.1 c.cut-2.ensures a.name control plain.point head;
-      values = rest_is now 32 c.sides_of-sides.result.applied.now c.cut.result.0.now c.cut.result.1 c.cut.ensures (a.name ++ behind 46 control) values (head_lacks m a plain can) is;
+      values = rest_is now 32 c.sides_of-sides.result.applied.now c.cut.result.0.now c.cut.result.1 c.cut.ensures
+          (a.name ++ behind 46 control) values (head_lacks m a plain can) is;
     }

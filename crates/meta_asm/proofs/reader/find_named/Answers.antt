@@ -9,5 +9,6 @@ use Rattle.meta_asm.proofs.reader.find_named.Goals as goal
 pub returns-clause-manner : goal.returns-clause-manner
 returns-clause-manner c =
     let (entry, at, is) = c.in_ok-manner.ensures.manner in
-    let same : entry ≡ entry_of c.in_ok-entry.entry = same_Some entry (entry_of c.in_ok-entry.entry) (sym at ∙ c.in_ok-entry.ensures.entry) in
+    let same : entry ≡ entry_of c.in_ok-entry.entry = same_Some entry (entry_of c.in_ok-entry.entry) (sym at ∙ c.in_ok-entry.ensures.entry)
+    in
     ap (λ (m : Manner). m.leaves_out) is ∙ ap (λ (e : OpcodeNumbers). (manner_of c.args.tables.now.opcodes e).leaves_out) same

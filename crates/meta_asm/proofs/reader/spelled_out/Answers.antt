@@ -11,13 +11,17 @@ returns-in-Some c =
     IfOk-weaker c.line_with_types.result _ _
     (λ o spelled. λ line m a right manner is.
     let well = c.opcode_count-opcodes.ensures.well_formed.opcodes in
-    let parts = c.parts_of-parts.ensures m a (right_plain c.args.tables.now.opcodes well (definitions c.args.checker.now) line a right) right.0.can is in
-    let read = is_read c.args.tables.now.opcodes well (definitions c.args.checker.now) line c.parts_of-parts.result.name.now a m c.in-Some.named.opcode (entry_of c.in-Some.named.entry) right manner c.in-Some.ensures.first parts.name c.in-Some.ensures.entry in
+    let parts = c.parts_of-parts.ensures m a (right_plain c.args.tables.now.opcodes well (definitions c.args.checker.now) line a right)
+    right.0.can is in
+    let read = is_read c.args.tables.now.opcodes well (definitions c.args.checker.now) line c.parts_of-parts.result.name.now a m
+    c.in-Some.named.opcode (entry_of c.in-Some.named.entry) right manner c.in-Some.ensures.first parts.name c.in-Some.ensures.entry in
     spelled line m a right.0 read (c.in-Some.ensures.manner ∙ sym (ap (λ (x : Manner). x.leaves_out) read.manner)) parts)
     c.line_with_types.ensures
 
 pub returns-in-None : goal.returns-in-None
 returns-in-None c = λ line m a right manner is.
     let well = c.opcode_count-opcodes.ensures.well_formed.opcodes in
-    let parts = c.parts_of-parts.ensures m a (right_plain c.args.tables.now.opcodes well (definitions c.args.checker.now) line a right) right.0.can is in
-    absurd (has_entry c.args.tables.now.opcodes (definitions c.args.checker.now) line a right (λ op entry at is_entry. c.in-None.ensures.none op entry (at ∙ ap (λ (n : List ℕ). Some n) (sym parts.name)) is_entry))
+    let parts = c.parts_of-parts.ensures m a (right_plain c.args.tables.now.opcodes well (definitions c.args.checker.now) line a right)
+    right.0.can is in
+    absurd (has_entry c.args.tables.now.opcodes (definitions c.args.checker.now) line a right
+    (λ op entry at is_entry. c.in-None.ensures.none op entry (at ∙ ap (λ (n : List ℕ). Some n) (sym parts.name)) is_entry))

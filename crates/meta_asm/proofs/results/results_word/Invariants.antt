@@ -9,5 +9,6 @@ use Rattle.meta_asm.proofs.results.results_word.Given as goal
 -- of results whose short forms are listed, the word has the texts of those before the pieces that are left
 abbrev pub invariant-loop-piece : goal.invariant-loop-piece
 invariant-loop-piece l =
-    (opened : List Bool) (rs : List TypedValue) → All IsTyped rs → TellTypes opened rs l.numbers → option_map (λ (t : Bor (List ℕ)). t.now) l.fn.list ≡ values_written (map short_result_text (short_results opened rs))
+    (opened : List Bool) (rs : List TypedValue) → All IsTyped rs → TellTypes opened rs l.numbers
+    → option_map (λ (t : Bor (List ℕ)). t.now) l.fn.list ≡ values_written (map short_result_text (short_results opened rs))
     → AreLeft rs l.numbers_left l.piece-iterator l.word.items

@@ -10,5 +10,6 @@ returns-clause-own_tables c = λ own.
 
 pub returns-clause-acceptance : goal.returns-clause-acceptance
 returns-clause-acceptance c = λ yes.
-    c.meant_tables_mean_the_declarations.ensures.acceptance c.args.declarations.now c.args.tables.now c.in_ok-own.ensures.valid c.opcode_count-count.ensures.well_formed
+    c.meant_tables_mean_the_declarations.ensures.acceptance c.args.declarations.now c.args.tables.now
+    c.in_ok-own.ensures.valid c.opcode_count-count.ensures.well_formed
     (subst (IsVerdict c.args.declarations.now c.args.tables.now) yes c.verdict_beside.ensures)

@@ -5,9 +5,11 @@ use Rattle.meta_meaning.specs.Tables.{TableContents, ControlNumberFits}
 use Rattle.meta_audit.proofs.controls.some_control.Goals as goal
 
 -- where neither none fits nor a number of a type, nothing does
-nothing_fits : (tables : TableContents) (offset : ℕ) → (ControlNumberFits tables offset None → ⊥) → ((n : ℕ) → 112 ≤ n → n < 384 → ControlNumberFits tables offset (Some n) → ⊥) → (c : Option ℕ) → ControlNumberFits tables offset c → ⊥
+nothing_fits : (tables : TableContents) (offset : ℕ) → (ControlNumberFits tables offset None → ⊥)
+    → ((n : ℕ) → 112 ≤ n → n < 384 → ControlNumberFits tables offset (Some n) → ⊥) → (c : Option ℕ) → ControlNumberFits tables offset c → ⊥
 nothing_fits tables offset none numbers None fits = none fits
-nothing_fits tables offset none numbers (Some n) fits = let r = in_range n (fitting_typed tables offset (Some n) fits) in numbers n r.0 r.1 fits
+nothing_fits tables offset none numbers (Some n) fits = let r = in_range n (fitting_typed tables offset (Some n) fits)
+    in numbers n r.0 r.1 fits
 
 pub returns-clause-none : goal.returns-clause-none
 returns-clause-none c =

@@ -26,5 +26,6 @@ returns c =
         other_at = other_at;
         same = c.same_entry.ensures.0 t;
       },
-      λ s. c.same_entry.ensures.1 (subst₂ (λ (e f : OpcodeNumbers). SameEntry c.args.own.now c.args.other.now e f) (same_Some _ _ (sym s.at ∙ at)) (same_Some _ _ (sym s.other_at ∙ other_at)) s.same),
+      λ s. c.same_entry.ensures.1 (subst₂ (λ (e f : OpcodeNumbers). SameEntry c.args.own.now c.args.other.now e f)
+          (same_Some _ _ (sym s.at ∙ at)) (same_Some _ _ (sym s.other_at ∙ other_at)) s.same),
     )

@@ -13,5 +13,6 @@ unfolding first_line
 returns c =
     lent_or_nothing c.find.result c.unwrap_or.result _ _ c.unwrap_or.ensures refl
     (find_from_yields_List has_text _ _ c.find.result c.find.ensures.ran
-    (YieldsList-from_map_by _ (λ line. line.now) trim (YieldsList-at c.map.ensures.source (YieldsList-from_lines c.args.doc.now c.lines.ensures.rest)) c.map.ensures.closure (λ x r q k. search (rules, tests)))
+    (YieldsList-from_map_by _ (λ line. line.now) trim (YieldsList-at c.map.ensures.source
+    (YieldsList-from_lines c.args.doc.now c.lines.ensures.rest)) c.map.ensures.closure (λ x r q k. search (rules, tests)))
     (λ x b q k. search (rules, tests)))

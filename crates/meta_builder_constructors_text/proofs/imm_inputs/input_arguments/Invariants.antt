@@ -8,5 +8,7 @@ use Rattle.meta_builder_constructors_text.proofs.imm_inputs.input_arguments.Give
 -- what is written, and then what is left to write
 abbrev pub invariant-loop-place : goal.invariant-loop-place
 invariant-loop-place l =
-    string_bytes l.text ++ flat_map (λ (input : ℕ × Operand). argument_text input.1.name (input_type input.1 (input.0 == l.immediate))) (drop l.place (enumerate_from 0 l.inputs))
-    ≡ flat_map (λ (input : ℕ × Operand). argument_text input.1.name (input_type input.1 (input.0 == l.immediate))) (enumerate_from 0 l.inputs)
+    string_bytes l.text ++ flat_map (λ (input : ℕ × Operand). argument_text input.1.name (input_type input.1 (input.0 == l.immediate)))
+    (drop l.place (enumerate_from 0 l.inputs))
+    ≡ flat_map (λ (input : ℕ × Operand). argument_text input.1.name (input_type input.1 (input.0 == l.immediate)))
+    (enumerate_from 0 l.inputs)

@@ -6,5 +6,6 @@ use Rattle.meta_builder_text.proofs.type_parameters.in_angles.Goals as goal
 pub returns : goal.returns
 returns c =
     IfOk-weaker c.format.result _ _ (λ text e.
-    e ∙ ap (λ t. codes "<" ++ (t ++ codes ">")) c.in_ok-joined.ensures.ok ∙ joined_in_angles string_bytes c.args.texts.now (sym c.is_empty.ensures ∙ c.if-is_empty.false))
+    e ∙ ap (λ t. codes "<" ++ (t ++ codes ">")) c.in_ok-joined.ensures.ok
+    ∙ joined_in_angles string_bytes c.args.texts.now (sym c.is_empty.ensures ∙ c.if-is_empty.false))
     c.format.ensures.ok

@@ -5,8 +5,11 @@ use Rattle.meta_builder_text.proofs.type_parameters.push_bounds.Goals as goal
 
 pub loop-place-preserved : goal.loop-place-preserved
 loop-place-preserved c =
-    one_behind bound_of c.args.operands.now c.loop-place.place c.index-operands-place.result (map string_bytes c.loop-place.bounds.items) (map string_bytes c.push_bound.new.bounds.items) _ c.loop-place-test.true c.index-operands-place.is
-    (c.in_ok-push_bound.ensures ∙ ap (λ before. map string_bytes c.loop-place.bounds.items ++ bound_of before c.index-operands-place.result) c.split_at.ensures.front) c.loop-place.invariant
+    one_behind bound_of c.args.operands.now c.loop-place.place c.index-operands-place.result (map string_bytes c.loop-place.bounds.items)
+    (map string_bytes c.push_bound.new.bounds.items) _ c.loop-place-test.true c.index-operands-place.is
+    (c.in_ok-push_bound.ensures ∙ ap (λ before. map string_bytes c.loop-place.bounds.items
+    ++ bound_of before c.index-operands-place.result) c.split_at.ensures.front) c.loop-place.invariant
 
 pub returns : goal.returns
-returns c = all_behind bound_of c.args.operands.now c.loop-place.place (map string_bytes c.loop-place.bounds.items) _ c.loop-place-test.false c.loop-place.invariant
+returns c = all_behind bound_of c.args.operands.now c.loop-place.place
+    (map string_bytes c.loop-place.bounds.items) _ c.loop-place-test.false c.loop-place.invariant

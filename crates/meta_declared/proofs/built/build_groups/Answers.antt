@@ -11,20 +11,24 @@ loop-number-preserved c =
     let k = c.loop-number.number in
     let groups = c.args.groups.now in
     let at = slice_get_read groups (length groups) k c.index-groups-number.result refl c.loop-number-test.true c.index-groups-number.is in
-    groups_next groups k c.index-groups-number.result c.in_ok-build.field-0 c.loop-number.built.items c.push.new.self.items at c.in_ok-build.ensures.valid c.in_ok-build.ensures.built c.in_ok-push.ensures.items c.loop-number.invariant
+    groups_next groups k c.index-groups-number.result c.in_ok-build.field-0 c.loop-number.built.items c.push.new.self.items at
+    c.in_ok-build.ensures.valid c.in_ok-build.ensures.built c.in_ok-push.ensures.items c.loop-number.invariant
 
 pub returns-clause-valid : goal.returns-clause-valid
-returns-clause-valid c = all_valid c.args.groups.now c.loop-number.number c.loop-number.built.items c.loop-number-test.false c.loop-number.invariant
+returns-clause-valid c =
+    all_valid c.args.groups.now c.loop-number.number c.loop-number.built.items c.loop-number-test.false c.loop-number.invariant
 
 pub returns-clause-built : goal.returns-clause-built
-returns-clause-built c = all_built c.args.groups.now c.loop-number.number c.loop-number.built.items c.loop-number-test.false c.loop-number.invariant
+returns-clause-built c =
+    all_built c.args.groups.now c.loop-number.number c.loop-number.built.items c.loop-number-test.false c.loop-number.invariant
 
 pub returns-in_err-build-clause-refused : goal.returns-in_err-build-clause-refused
 returns-in_err-build-clause-refused c =
     let groups = c.args.groups.now in
     let k = c.loop-number.number in
     let at = slice_get_read groups (length groups) k c.index-groups-number.result refl c.loop-number-test.true c.index-groups-number.is in
-    handed_on _ c.from_residual-in_err-build.result (IsFirstOfGroups groups) c.from_residual-in_err-build.ensures.1 (λ other. first_here groups k _ _ _ at (c.in_err-build.ensures.refused other) c.loop-number.invariant)
+    handed_on _ c.from_residual-in_err-build.result (IsFirstOfGroups groups) c.from_residual-in_err-build.ensures.1
+    (λ other. first_here groups k _ _ _ at (c.in_err-build.ensures.refused other) c.loop-number.invariant)
 
 pub returns-in_err-built-clause-valid : goal.returns-in_err-built-clause-valid
 returns-in_err-built-clause-valid c = IfOk-from_err c.from_residual.result _ c.from_residual.ensures.0

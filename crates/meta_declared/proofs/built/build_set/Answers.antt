@@ -3,8 +3,9 @@ use Rattle.std.proofs.lemmas.Result.{IfOk-from_err}
 use Rattle.meta_types.specs.declared.fault.DefinitionError.TheVariants.{TooManyTypeSets}
 use Rattle.meta_inst.specs.Faults.{IsFirstFault}
 use Rattle.meta_typevar.specs.TypeSetParts.{TypeSetParts}
+use Rattle.meta_inst.proofs.OnlyMemory.{only_memory}
 use Rattle.meta_declared.proofs.FirstFault.{first_of_type_sets, valid}
-use Rattle.meta_declared.proofs.Refusals.{no_fault, handed_on}
+use Rattle.meta_declared.proofs.Refusals.{handed_on}
 use Rattle.meta_declared.proofs.built.build_set.Goals as goal
 
 pub built_instructions-requires : goal.built_instructions-requires
@@ -44,7 +45,8 @@ pub returns-in_err-formats-clause-valid : goal.returns-in_err-formats-clause-val
 returns-in_err-formats-clause-valid c = IfOk-from_err c.from_residual-in_err-formats.result _ c.from_residual-in_err-formats.ensures.0
 
 pub returns-in_err-formats-clause-instructions : goal.returns-in_err-formats-clause-instructions
-returns-in_err-formats-clause-instructions c = IfOk-from_err c.from_residual-in_err-formats.result _ c.from_residual-in_err-formats.ensures.0
+returns-in_err-formats-clause-instructions c =
+    IfOk-from_err c.from_residual-in_err-formats.result _ c.from_residual-in_err-formats.ensures.0
 
 pub returns-in_err-formats-clause-formats : goal.returns-in_err-formats-clause-formats
 returns-in_err-formats-clause-formats c = IfOk-from_err c.from_residual-in_err-formats.result _ c.from_residual-in_err-formats.ensures.0
@@ -59,22 +61,28 @@ pub returns-in_err-type_sets-clause-valid : goal.returns-in_err-type_sets-clause
 returns-in_err-type_sets-clause-valid c = IfOk-from_err c.from_residual-in_err-type_sets.result _ c.from_residual-in_err-type_sets.ensures.0
 
 pub returns-in_err-type_sets-clause-instructions : goal.returns-in_err-type_sets-clause-instructions
-returns-in_err-type_sets-clause-instructions c = IfOk-from_err c.from_residual-in_err-type_sets.result _ c.from_residual-in_err-type_sets.ensures.0
+returns-in_err-type_sets-clause-instructions c =
+    IfOk-from_err c.from_residual-in_err-type_sets.result _ c.from_residual-in_err-type_sets.ensures.0
 
 pub returns-in_err-type_sets-clause-formats : goal.returns-in_err-type_sets-clause-formats
-returns-in_err-type_sets-clause-formats c = IfOk-from_err c.from_residual-in_err-type_sets.result _ c.from_residual-in_err-type_sets.ensures.0
+returns-in_err-type_sets-clause-formats c =
+    IfOk-from_err c.from_residual-in_err-type_sets.result _ c.from_residual-in_err-type_sets.ensures.0
 
 pub returns-in_err-type_sets-clause-type_sets : goal.returns-in_err-type_sets-clause-type_sets
-returns-in_err-type_sets-clause-type_sets c = IfOk-from_err c.from_residual-in_err-type_sets.result _ c.from_residual-in_err-type_sets.ensures.0
+returns-in_err-type_sets-clause-type_sets c =
+    IfOk-from_err c.from_residual-in_err-type_sets.result _ c.from_residual-in_err-type_sets.ensures.0
 
 pub returns-in_err-type_sets-clause-few : goal.returns-in_err-type_sets-clause-few
 returns-in_err-type_sets-clause-few c = IfOk-from_err c.from_residual-in_err-type_sets.result _ c.from_residual-in_err-type_sets.ensures.0
 
 pub returns-in_err-instructions-clause-refused : goal.returns-in_err-instructions-clause-refused
-returns-in_err-instructions-clause-refused c = handed_on _ c.from_residual.result (IsFirstFault c.args.set.now) c.from_residual.ensures.1 c.in_err-instructions.ensures.refused
+returns-in_err-instructions-clause-refused c =
+    handed_on _ c.from_residual.result (IsFirstFault c.args.set.now) c.from_residual.ensures.1 c.in_err-instructions.ensures.refused
 
 pub returns-in_err-formats-clause-refused : goal.returns-in_err-formats-clause-refused
-returns-in_err-formats-clause-refused c = handed_on _ c.from_residual-in_err-formats.result (IsFirstFault c.args.set.now) c.from_residual-in_err-formats.ensures.1 c.in_err-formats.ensures.refused
+returns-in_err-formats-clause-refused c =
+    handed_on _ c.from_residual-in_err-formats.result (IsFirstFault c.args.set.now) c.from_residual-in_err-formats.ensures.1
+    c.in_err-formats.ensures.refused
 
 pub returns-in_err-type_sets-clause-refused : goal.returns-in_err-type_sets-clause-refused
-returns-in_err-type_sets-clause-refused c = no_fault c.from_residual-in_err-type_sets.result _ c.from_residual-in_err-type_sets.ensures.1
+returns-in_err-type_sets-clause-refused c = only_memory c.from_residual-in_err-type_sets.result _ c.from_residual-in_err-type_sets.ensures.1

@@ -6,7 +6,8 @@ use Rattle.meta_types.specs.declared.fault.Place.TheVariants.{Format as AtFormat
 use Rattle.meta_types.specs.declared.fault.DefinitionError.TheVariants.{BadName, BadFormat, FormatClash}
 use Rattle.meta_inst.specs.Faults.{FormatNameRule, BlocksRule, ClashRule, OfFormat, IsFirstFault}
 use Rattle.meta_declared.specs.FormatsUsed.{IsNotAmong, ClashesWithNone, IsFirstToClash}
-use Rattle.meta_declared.proofs.FormatSearch.{declared, of_here, has_name, has_few, first_here, good_name, few_blocks, no_clash, first_clash}
+use Rattle.meta_declared.proofs.FormatSearch.{declared, of_here, has_name, has_few, first_here, good_name, few_blocks, no_clash}
+use Rattle.meta_declared.proofs.FormatSearch.{first_clash}
 use Rattle.meta_declared.proofs.formats.next_used.Goals as goal
 
 pub returns-then-not-is_name-clause-refused : goal.returns-then-not-is_name-clause-refused
@@ -17,7 +18,12 @@ returns-then-not-is_name-clause-refused c = λ vars instructions place next othe
     let number = sym (c.from-number.ensures ∙ c.number.ensures ∙ sym next.uses) in
     subst (λ (z : ℕ). IsFirstFault d (BadName (AtFormat z))) number (record {
       position = OfFormat place FormatNameRule;
-      shows = record { format = _; first_use = first_here d _ _ _ (next.before) next.at new; breaks = (refl, (_, format, λ is. false≢true (c.if-not-is_name.ensures.1 is))) };
+      shows = record {
+        format = _;
+        first_use = first_here d _ _ _ (next.before) next.at new;
+        breaks =
+            (refl, (_, format, λ is. false≢true (c.if-not-is_name.ensures.1 is)));
+      };
       first = next.clean;
     })
 
@@ -31,7 +37,12 @@ returns-then-has_too_many_blocks-clause-refused c = λ vars instructions place n
     let number = sym (c.from-number.ensures ∙ c.number.ensures ∙ sym next.uses) in
     subst (λ (z : ℕ). IsFirstFault d (BadFormat z)) number (record {
       position = OfFormat place BlocksRule;
-      shows = record { format = _; first_use = first_here d _ _ _ used next.at new; breaks = (refl, (_, format, c.if-has_too_many_blocks.ensures.0 refl)) };
+      shows = record {
+        format = _;
+        first_use = first_here d _ _ _ used next.at new;
+        breaks =
+            (refl, (_, format, c.if-has_too_many_blocks.ensures.0 refl));
+      };
       first = named;
     })
 
@@ -43,13 +54,19 @@ returns-in-Some-clause-refused c = λ vars instructions place next other.
     let used = next.before in
     let named = good_name d _ _ _ used next.at (next.clean) (has_name d _ _ format (c.if-not-is_name.ensures.0 refl)) in
     let few = few_blocks d _ _ _ used next.at named (has_few d _ _ format (λ many. false≢true (c.if-has_too_many_blocks.ensures.1 many))) in
-    let first = of_here (λ formats f. IsFirstToClash formats c.args.used.now.used.items f c.in-Some.earlier) _ _ _ _ c.requires.table (sym next.uses) c.in-Some.ensures.some in
+    let first = of_here (λ formats f. IsFirstToClash formats c.args.used.now.used.items f c.in-Some.earlier) _ _ _ _ c.requires.table
+    (sym next.uses) c.in-Some.ensures.some in
     let number = sym (c.from-number.ensures ∙ c.number.ensures ∙ sym next.uses) in
     let earlier = sym (c.from.ensures ∙ c.number-in-Some.ensures) in
     subst (λ (z : ℕ). IsFirstFault d (FormatClash z c.from.result)) number
     (subst (λ (z : ℕ). IsFirstFault d (FormatClash next.user.format z)) earlier (record {
       position = OfFormat place ClashRule;
-      shows = record { format = _; first_use = first_here d _ _ _ used next.at new; breaks = (_, refl, first_clash d _ _ _ used next.at _ first) };
+      shows = record {
+        format = _;
+        first_use = first_here d _ _ _ used next.at new;
+        breaks =
+            (_, refl, first_clash d _ _ _ used next.at _ first);
+      };
       first = few;
     }))
 
@@ -58,8 +75,10 @@ returns-clause-clean c = λ vars instructions place next.
     let d = declared vars c.args.formats.now instructions in
     let format = ap (slice_get c.args.formats.now) next.uses ∙ c.get-format.ensures in
     let named = good_name d _ _ _ next.before next.at next.clean (has_name d _ _ format (c.if-not-is_name.ensures.0 refl)) in
-    let few = few_blocks d _ _ _ next.before next.at named (has_few d _ _ format (λ many. false≢true (c.if-has_too_many_blocks.ensures.1 many))) in
-    let none = of_here (λ formats f. ClashesWithNone formats c.args.used.now.used.items f) _ _ _ _ c.requires.table (sym next.uses) c.in_default.ensures.none in
+    let few = few_blocks d _ _ _ next.before next.at named
+    (has_few d _ _ format (λ many. false≢true (c.if-has_too_many_blocks.ensures.1 many))) in
+    let none = of_here (λ formats f. ClashesWithNone formats c.args.used.now.used.items f) _ _ _ _ c.requires.table
+    (sym next.uses) c.in_default.ensures.none in
     no_clash d _ _ _ next.before next.at few none
 
 pub returns-clause-refused : goal.returns-clause-refused
@@ -69,7 +88,8 @@ pub returns-clause-of_table : goal.returns-clause-of_table
 returns-clause-of_table c = record { format = c.get-format.result.now; at = c.get-format.ensures; structure = c.in_ok-structure.ensures }
 
 pub returns-clause-apart : goal.returns-clause-apart
-returns-clause-apart c = of_here (λ formats f. ClashesWithNone formats c.args.used.now.used.items f) _ _ _ _ c.requires.table refl c.in_default.ensures.none
+returns-clause-apart c =
+    of_here (λ formats f. ClashesWithNone formats c.args.used.now.used.items f) _ _ _ _ c.requires.table refl c.in_default.ensures.none
 
 pub returns-then-not-is_name-clause-clean : goal.returns-then-not-is_name-clause-clean
 returns-then-not-is_name-clause-clean c = λ vars instructions place next. tt

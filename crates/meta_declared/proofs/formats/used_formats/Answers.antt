@@ -1,10 +1,11 @@
 use Rattle.std.proofs.Common.{◌≡◌, length, ℕ, ◌+◌, ◌<◌, ◌∙◌, sym, subst, arith}
 use Rattle.std.proofs.lemmas.Result.{IfOk-from_err}
 use Rattle.meta_inst.specs.Faults.{FormatNameRule, OfFormat, IsFirstFault}
+use Rattle.meta_inst.proofs.OnlyMemory.{only_memory}
 use Rattle.meta_declared.specs.FormatsUsed.{AreUsedBefore, AreApart, AreOfTable, IsAmong, IsNotAmong, ClashesWithNone}
 use Rattle.meta_declared.specs.Searched.{IsCleanBefore}
 use Rattle.meta_declared.proofs.FirstFault.{passed_formats}
-use Rattle.meta_declared.proofs.Refusals.{no_fault, handed_on}
+use Rattle.meta_declared.proofs.Refusals.{handed_on}
 use Rattle.meta_declared.proofs.FormatSearch.{declared, of_here, used_again, clean_again, used_new, apart_more}
 use Rattle.meta_declared.proofs.formats.used_formats.Goals as goal
 
@@ -15,24 +16,37 @@ loop-place-preserved-then-contains c =
       table = c.loop-place.invariant.table;
       indexed = c.loop-place.invariant.indexed;
       apart = c.loop-place.invariant.apart;
-      used = λ vars. used_again (declared vars c.args.formats.now c.args.instructions.now) _ _ _ (c.loop-place.invariant.used vars) c.get.ensures among;
-      clean = λ vars start. clean_again (declared vars c.args.formats.now c.args.instructions.now) _ _ _ (c.loop-place.invariant.used vars) c.get.ensures (c.loop-place.invariant.clean vars start) among;
+      used = λ vars. used_again (declared vars c.args.formats.now c.args.instructions.now) _ _ _
+          (c.loop-place.invariant.used vars) c.get.ensures among;
+      clean = λ vars start. clean_again (declared vars c.args.formats.now c.args.instructions.now) _ _ _
+          (c.loop-place.invariant.used vars) c.get.ensures (c.loop-place.invariant.clean vars start) among;
     }
 
 pub loop-place-preserved : goal.loop-place-preserved
 loop-place-preserved c =
     let new = subst (IsNotAmong c.loop-place.used.used.items) c.format-id.ensures c.if-contains.ensures in
-    let none = subst (ClashesWithNone c.args.formats.now c.loop-place.used.used.items) (sym c.in_ok-format.ensures.id) c.in_ok-format.ensures.apart in
+    let none = subst (ClashesWithNone c.args.formats.now c.loop-place.used.used.items)
+    (sym c.in_ok-format.ensures.id) c.in_ok-format.ensures.apart in
     let added = c.in_ok-add.ensures.added in
     record {
       table = c.in_ok-add.ensures.formats ∙ c.loop-place.invariant.table;
       indexed = c.in_ok-add.ensures.indexed;
-      apart = apart_more c.args.formats.now c.loop-place.used.used.items c.add.new.self.used.items _ c.loop-place.invariant.apart none added;
+      apart = apart_more c.args.formats.now c.loop-place.used.used.items c.add.new.self.used.items _ c.loop-place.invariant.apart none
+          added;
       used = λ vars.
           let d = declared vars c.args.formats.now c.args.instructions.now in
-          subst (AreUsedBefore d (c.loop-place.place + 1)) (sym added) (used_new d _ _ _ (c.loop-place.invariant.used vars) c.get.ensures _ (c.in_ok-format.ensures.id ∙ c.format-id.ensures) new);
+          subst (AreUsedBefore d (c.loop-place.place + 1)) (sym added)
+          (used_new d _ _ _ (c.loop-place.invariant.used vars) c.get.ensures _ (c.in_ok-format.ensures.id ∙ c.format-id.ensures) new);
       clean = λ vars start. c.in_ok-format.ensures.clean vars c.args.instructions.now c.loop-place.place
-          (record { user = c.get.result.now; at = c.get.ensures; uses = sym c.format-id.ensures; before = c.loop-place.invariant.used vars; new = c.if-contains.ensures; clean = c.loop-place.invariant.clean vars start });
+          (record {
+            user = c.get.result.now;
+            at = c.get.ensures;
+            uses = sym c.format-id.ensures;
+            before =
+                c.loop-place.invariant.used vars;
+            new = c.if-contains.ensures;
+            clean = c.loop-place.invariant.clean vars start;
+          });
     }
 
 pub returns-clause-clean : goal.returns-clause-clean
@@ -45,10 +59,13 @@ pub returns-clause-used : goal.returns-clause-used
 returns-clause-used c = λ vars.
     let end : c.loop-place.place ≡ length c.args.instructions.now = omega arith in
     let d = declared vars c.args.formats.now c.args.instructions.now in
-    subst (AreUsedBefore d (length c.args.instructions.now)) (sym c.into_used.ensures) (subst (λ k. AreUsedBefore d k c.loop-place.used.used.items) end (c.loop-place.invariant.used vars))
+    subst (AreUsedBefore d (length c.args.instructions.now)) (sym c.into_used.ensures)
+    (subst (λ k. AreUsedBefore d k c.loop-place.used.used.items) end (c.loop-place.invariant.used vars))
 
 pub returns-clause-of_table : goal.returns-clause-of_table
-returns-clause-of_table c = subst (AreOfTable c.args.formats.now) (sym c.into_used.ensures) (subst (λ formats. AreOfTable formats c.loop-place.used.used.items) c.loop-place.invariant.table c.loop-place.invariant.indexed.of_table)
+returns-clause-of_table c = subst (AreOfTable c.args.formats.now) (sym c.into_used.ensures)
+    (subst (λ formats. AreOfTable formats c.loop-place.used.used.items) c.loop-place.invariant.table
+    c.loop-place.invariant.indexed.of_table)
 
 pub returns-clause-apart : goal.returns-clause-apart
 returns-clause-apart c = subst (AreApart c.args.formats.now) (sym c.into_used.ensures) c.loop-place.invariant.apart
@@ -56,7 +73,8 @@ returns-clause-apart c = subst (AreApart c.args.formats.now) (sym c.into_used.en
 pub contains-requires-clause-of_table : goal.contains-requires-clause-of_table
 contains-requires-clause-of_table c =
     let below = c.requires c.loop-place.place c.get.result.now c.get.ensures in
-    subst (λ formats. c.format-id.result < length formats) (sym c.loop-place.invariant.table) (subst (λ f. f < length c.args.formats.now) (sym c.format-id.ensures) below)
+    subst (λ formats. c.format-id.result < length formats) (sym c.loop-place.invariant.table)
+    (subst (λ f. f < length c.args.formats.now) (sym c.format-id.ensures) below)
 
 pub next_used-requires-clause-below : goal.next_used-requires-clause-below
 next_used-requires-clause-below c =
@@ -65,18 +83,28 @@ next_used-requires-clause-below c =
 
 pub returns-in_err-format-clause-refused : goal.returns-in_err-format-clause-refused
 returns-in_err-format-clause-refused c = λ vars start.
-    handed_on _ c.from_residual-in_err-format.result (IsFirstFault (declared vars c.args.formats.now c.args.instructions.now)) c.from_residual-in_err-format.ensures.1
+    handed_on _ c.from_residual-in_err-format.result (IsFirstFault (declared vars c.args.formats.now c.args.instructions.now))
+    c.from_residual-in_err-format.ensures.1
     (c.in_err-format.ensures.refused vars c.args.instructions.now c.loop-place.place
-    (record { user = c.get.result.now; at = c.get.ensures; uses = sym c.format-id.ensures; before = c.loop-place.invariant.used vars; new = c.if-contains.ensures; clean = c.loop-place.invariant.clean vars start }))
+    (record {
+      user = c.get.result.now;
+      at = c.get.ensures;
+      uses = sym c.format-id.ensures;
+      before = c.loop-place.invariant.used vars;
+      new =
+          c.if-contains.ensures;
+      clean = c.loop-place.invariant.clean vars start;
+    }))
 
 pub add-requires-clause-apart : goal.add-requires-clause-apart
-add-requires-clause-apart c = of_here (λ formats f. ClashesWithNone formats c.loop-place.used.used.items f) _ _ _ _ (sym c.loop-place.invariant.table) (sym c.in_ok-format.ensures.id) c.in_ok-format.ensures.apart
+add-requires-clause-apart c = of_here (λ formats f. ClashesWithNone formats c.loop-place.used.used.items f) _ _ _ _
+    (sym c.loop-place.invariant.table) (sym c.in_ok-format.ensures.id) c.in_ok-format.ensures.apart
 
 pub returns-in_err-add-clause-refused : goal.returns-in_err-add-clause-refused
-returns-in_err-add-clause-refused c = λ vars start. no_fault c.from_residual-in_err-add.result _ c.from_residual-in_err-add.ensures.1
+returns-in_err-add-clause-refused c = λ vars start. only_memory c.from_residual-in_err-add.result _ c.from_residual-in_err-add.ensures.1
 
 pub returns-in_err-used-clause-refused : goal.returns-in_err-used-clause-refused
-returns-in_err-used-clause-refused c = λ vars start. no_fault c.from_residual.result _ c.from_residual.ensures.1
+returns-in_err-used-clause-refused c = λ vars start. only_memory c.from_residual.result _ c.from_residual.ensures.1
 
 pub returns-in_err-used-clause-clean : goal.returns-in_err-used-clause-clean
 returns-in_err-used-clause-clean c = λ vars start. IfOk-from_err c.from_residual.result _ c.from_residual.ensures.0
@@ -107,7 +135,8 @@ pub returns-clause-refused : goal.returns-clause-refused
 returns-clause-refused c = λ vars start. tt
 
 pub returns-in_err-format-clause-clean : goal.returns-in_err-format-clause-clean
-returns-in_err-format-clause-clean c = λ vars start. IfOk-from_err c.from_residual-in_err-format.result _ c.from_residual-in_err-format.ensures.0
+returns-in_err-format-clause-clean c =
+    λ vars start. IfOk-from_err c.from_residual-in_err-format.result _ c.from_residual-in_err-format.ensures.0
 
 pub returns-in_err-format-clause-used : goal.returns-in_err-format-clause-used
 returns-in_err-format-clause-used c = λ vars. IfOk-from_err c.from_residual-in_err-format.result _ c.from_residual-in_err-format.ensures.0

@@ -14,5 +14,6 @@ invariant-loop-place l = record {
   indexed : AreIndexed l.used;
   apart : AreApart l.formats l.used.used.items;
   used : (vars : List TypeVarContent) → AreUsedBefore (declared vars l.formats l.instructions) l.place l.used.used.items;
-  clean : (vars : List TypeVarContent) → IsCleanBefore (declared vars l.formats l.instructions) (OfFormat 0 FormatNameRule) → IsCleanBefore (declared vars l.formats l.instructions) (OfFormat l.place FormatNameRule);
+  clean : (vars : List TypeVarContent) → IsCleanBefore (declared vars l.formats l.instructions) (OfFormat 0 FormatNameRule)
+      → IsCleanBefore (declared vars l.formats l.instructions) (OfFormat l.place FormatNameRule);
 }

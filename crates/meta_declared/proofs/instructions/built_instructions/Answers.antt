@@ -1,10 +1,11 @@
 use Rattle.std.proofs.Common.{◌≡◌, length, subst, sym, ap, ◌∙◌, arith, slice_get, Some, ⊎_elim}
 use Rattle.meta_lists.proofs.Pushed.{get_pushed, one_longer}
-use Rattle.meta_inst.specs.Built.{Built}
+use Rattle.meta_inst.specs.Built.{BuiltInstruction}
 use Rattle.meta_inst.specs.Faults.{IsFirstFault}
+use Rattle.meta_inst.proofs.OnlyMemory.{only_memory}
 use Rattle.meta_declared.specs.BuiltInstructions.{IsBuiltAt}
 use Rattle.std.proofs.lemmas.Result.{IfOk-from_err}
-use Rattle.meta_declared.proofs.Refusals.{no_fault, handed_on}
+use Rattle.meta_declared.proofs.Refusals.{handed_on}
 use Rattle.meta_declared.proofs.instructions.built_instructions.Goals as goal
 
 pub loop-place-preserved : goal.loop-place-preserved
@@ -17,7 +18,9 @@ loop-place-preserved c =
       clean = c.in_ok-built_instruction.ensures.clean;
       count = omega arith;
       built = λ k x at. ⊎_elim (λ (h : slice_get c.loop-place.built.items k ≡ Some x). c.loop-place.invariant.built k x h)
-          (λ (h : (k ≡ length c.loop-place.built.items) × (c.in_ok-built_instruction.field-0 ≡ x)). subst (λ n. IsBuiltAt c.args.set.now n x) (sym (h.0 ∙ count)) (subst (λ (y : Built). IsBuiltAt c.args.set.now c.loop-place.place y) h.1 c.in_ok-built_instruction.ensures.built))
+          (λ (h : (k ≡ length c.loop-place.built.items) × (c.in_ok-built_instruction.field-0 ≡ x)). subst
+          (λ n. IsBuiltAt c.args.set.now n x) (sym (h.0 ∙ count))
+          (subst (λ (y : BuiltInstruction). IsBuiltAt c.args.set.now c.loop-place.place y) h.1 c.in_ok-built_instruction.ensures.built))
           (get_pushed c.loop-place.built.items c.in_ok-built_instruction.field-0 k x (ap (λ xs. slice_get xs k) (sym pushed) ∙ at));
     }
 
@@ -39,16 +42,19 @@ pub returns-in_err-built-clause-built : goal.returns-in_err-built-clause-built
 returns-in_err-built-clause-built c = IfOk-from_err c.from_residual.result _ c.from_residual.ensures.0
 
 pub returns-in_err-built-clause-refused : goal.returns-in_err-built-clause-refused
-returns-in_err-built-clause-refused c = no_fault c.from_residual.result _ c.from_residual.ensures.1
+returns-in_err-built-clause-refused c = only_memory c.from_residual.result _ c.from_residual.ensures.1
 
 pub returns-in_err-built_instruction-clause-clean : goal.returns-in_err-built_instruction-clause-clean
-returns-in_err-built_instruction-clause-clean c = IfOk-from_err c.from_residual-in_err-built_instruction.result _ c.from_residual-in_err-built_instruction.ensures.0
+returns-in_err-built_instruction-clause-clean c =
+    IfOk-from_err c.from_residual-in_err-built_instruction.result _ c.from_residual-in_err-built_instruction.ensures.0
 
 pub returns-in_err-built_instruction-clause-built : goal.returns-in_err-built_instruction-clause-built
-returns-in_err-built_instruction-clause-built c = IfOk-from_err c.from_residual-in_err-built_instruction.result _ c.from_residual-in_err-built_instruction.ensures.0
+returns-in_err-built_instruction-clause-built c =
+    IfOk-from_err c.from_residual-in_err-built_instruction.result _ c.from_residual-in_err-built_instruction.ensures.0
 
 pub returns-in_err-built_instruction-clause-refused : goal.returns-in_err-built_instruction-clause-refused
-returns-in_err-built_instruction-clause-refused c = handed_on _ c.from_residual-in_err-built_instruction.result (IsFirstFault c.args.set.now) c.from_residual-in_err-built_instruction.ensures.1 c.in_err-built_instruction.ensures.refused
+returns-in_err-built_instruction-clause-refused c = handed_on _ c.from_residual-in_err-built_instruction.result
+    (IsFirstFault c.args.set.now) c.from_residual-in_err-built_instruction.ensures.1 c.in_err-built_instruction.ensures.refused
 
 pub returns-in_err-push-clause-clean : goal.returns-in_err-push-clause-clean
 returns-in_err-push-clause-clean c = IfOk-from_err c.from_residual-in_err-push.result _ c.from_residual-in_err-push.ensures.0
@@ -57,4 +63,4 @@ pub returns-in_err-push-clause-built : goal.returns-in_err-push-clause-built
 returns-in_err-push-clause-built c = IfOk-from_err c.from_residual-in_err-push.result _ c.from_residual-in_err-push.ensures.0
 
 pub returns-in_err-push-clause-refused : goal.returns-in_err-push-clause-refused
-returns-in_err-push-clause-refused c = no_fault c.from_residual-in_err-push.result _ c.from_residual-in_err-push.ensures.1
+returns-in_err-push-clause-refused c = only_memory c.from_residual-in_err-push.result _ c.from_residual-in_err-push.ensures.1

@@ -1,5 +1,5 @@
 use Rattle.std.proofs.Common.{◌≡◌, ℕ, length, take, slice_get, Some}
-use Rattle.meta_inst.specs.Built.{Built}
+use Rattle.meta_inst.specs.Built.{BuiltInstruction}
 use Rattle.meta_inst.specs.InstructionFaults.{NameRule}
 use Rattle.meta_inst.specs.Faults.{OfInstruction, names_of}
 use Rattle.meta_declared.specs.Searched.{IsCleanBefore}
@@ -12,5 +12,5 @@ invariant-loop-place l = record {
   kept : l.names ≡ take l.place (names_of l.set);
   clean : IsCleanBefore l.set (OfInstruction l.place NameRule);
   count : length l.built.items ≡ l.place;
-  built : (k : ℕ) (c : Built) → slice_get l.built.items k ≡ Some c → IsBuiltAt l.set k c;
+  built : (k : ℕ) (c : BuiltInstruction) → slice_get l.built.items k ≡ Some c → IsBuiltAt l.set k c;
 }

@@ -10,6 +10,8 @@ get_raw_typeset-requires-clause-raw c = root_raw c.args.vars.now c.root-root.res
 
 pub returns : goal.returns
 returns c =
-    let set = set_is c.args.vars.now c.args.tv c.root-root.result c.get_raw_typeset.result.now c.root-root.ensures.root c.root-root.ensures.underived c.get_raw_typeset.ensures in
+    let set = set_is c.args.vars.now c.args.tv c.root-root.result c.get_raw_typeset.result.now c.root-root.ensures.root
+    c.root-root.ensures.underived c.get_raw_typeset.ensures in
     subst (λ (s : TypeSetParts). Adds s c.args.type_sets.now c.add.new.self) set
-    (adds_told c.get_raw_typeset.result.now c.args.type_sets.now c.add.new.self (λ i h. (c.in_ok-add.ensures.known i h).1) (λ n. c.in_ok-add.ensures.added n))
+    (adds_told c.get_raw_typeset.result.now c.args.type_sets.now c.add.new.self (λ i h. (c.in_ok-add.ensures.known i h).1)
+    (λ n. c.in_ok-add.ensures.added n))

@@ -21,6 +21,10 @@ loop-k-preserved c =
     let there = slice_get_read ds (length ds) k d refl (omega (arith, less, count)) c.index-entries-k.is in
     let at : slice_get (map on ds) k ≡ Some (on d) = get_map on ds k d there in
     elim c.if-is_on.branch [
-      | then-is_on w ↦ ap (map value_of) w.values-is ∙ map-set value_of c.loop-k.values k (Bool true) ∙ one_on (map on ds) k (map value_of c.args.values.now) (map value_of c.loop-k.values) (at ∙ ap Some (sym c.is_on.ensures ∙ w.if-is_on.true)) c.loop-k.invariant
-      | else-is_on w ↦ ap (map value_of) w.values-is ∙ one_off (map on ds) k (map value_of c.args.values.now) (map value_of c.loop-k.values) (at ∙ ap Some (sym c.is_on.ensures ∙ w.if-is_on.false)) c.loop-k.invariant
+      | then-is_on w ↦ ap (map value_of) w.values-is ∙ map-set value_of c.loop-k.values k (Bool true)
+          ∙ one_on (map on ds) k (map value_of c.args.values.now) (map value_of c.loop-k.values) (at
+          ∙ ap Some (sym c.is_on.ensures ∙ w.if-is_on.true)) c.loop-k.invariant
+      | else-is_on w ↦ ap (map value_of) w.values-is
+          ∙ one_off (map on ds) k (map value_of c.args.values.now) (map value_of c.loop-k.values) (at
+          ∙ ap Some (sym c.is_on.ensures ∙ w.if-is_on.false)) c.loop-k.invariant
     ]

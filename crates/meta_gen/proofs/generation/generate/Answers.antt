@@ -20,13 +20,17 @@ pub returns-in_err-tables_of-clause-valid : goal.returns-in_err-tables_of-clause
 returns-in_err-tables_of-clause-valid c = IfOk-from_err c.from_residual-in_err-tables_of.result _ c.from_residual-in_err-tables_of.ensures.0
 
 pub returns-in_err-tables_of-clause-tables : goal.returns-in_err-tables_of-clause-tables
-returns-in_err-tables_of-clause-tables c = IfOk-from_err c.from_residual-in_err-tables_of.result _ c.from_residual-in_err-tables_of.ensures.0
+returns-in_err-tables_of-clause-tables c =
+    IfOk-from_err c.from_residual-in_err-tables_of.result _ c.from_residual-in_err-tables_of.ensures.0
 
 pub returns-in_err-tables_of-clause-well_formed : goal.returns-in_err-tables_of-clause-well_formed
-returns-in_err-tables_of-clause-well_formed c = IfOk-from_err c.from_residual-in_err-tables_of.result _ c.from_residual-in_err-tables_of.ensures.0
+returns-in_err-tables_of-clause-well_formed c =
+    IfOk-from_err c.from_residual-in_err-tables_of.result _ c.from_residual-in_err-tables_of.ensures.0
 
 pub returns-in_err-tables_of-clause-acceptance : goal.returns-in_err-tables_of-clause-acceptance
-returns-in_err-tables_of-clause-acceptance c = IfOk-from_err c.from_residual-in_err-tables_of.result _ c.from_residual-in_err-tables_of.ensures.0
+returns-in_err-tables_of-clause-acceptance c =
+    IfOk-from_err c.from_residual-in_err-tables_of.result _ c.from_residual-in_err-tables_of.ensures.0
 
 pub returns-in_err-tables_of-clause-inference : goal.returns-in_err-tables_of-clause-inference
-returns-in_err-tables_of-clause-inference c = IfOk-from_err c.from_residual-in_err-tables_of.result _ c.from_residual-in_err-tables_of.ensures.0
+returns-in_err-tables_of-clause-inference c =
+    IfOk-from_err c.from_residual-in_err-tables_of.result _ c.from_residual-in_err-tables_of.ensures.0

@@ -5,14 +5,17 @@ use Rattle.meta_gen.proofs.GroupsSoFar.{groups_next}
 use Rattle.meta_gen.proofs.generation.group_tables.Goals as goal
 
 pub of-requires : goal.of-requires
-of-requires c = c.requires c.loop-k.k c.index-groups-k.result (slice_get_read c.args.groups.now (length c.args.groups.now) c.loop-k.k c.index-groups-k.result refl c.loop-k-test.true c.index-groups-k.is)
+of-requires c = c.requires c.loop-k.k c.index-groups-k.result
+    (slice_get_read c.args.groups.now (length c.args.groups.now) c.loop-k.k c.index-groups-k.result refl c.loop-k-test.true
+    c.index-groups-k.is)
 
 pub loop-k-preserved : goal.loop-k-preserved
 loop-k-preserved c =
     let k = c.loop-k.k in
     let groups = c.args.groups.now in
     let at = slice_get_read groups (length groups) k c.index-groups-k.result refl c.loop-k-test.true c.index-groups-k.is in
-    groups_next groups k c.index-groups-k.result c.in_ok-of.field-0 c.loop-k.tables.items c.push.new.self.items at c.in_ok-of.ensures.tables c.in_ok-of.ensures.well_formed c.in_ok-push.ensures.items c.loop-k.invariant
+    groups_next groups k c.index-groups-k.result c.in_ok-of.field-0 c.loop-k.tables.items c.push.new.self.items at
+    c.in_ok-of.ensures.tables c.in_ok-of.ensures.well_formed c.in_ok-push.ensures.items c.loop-k.invariant
 
 pub returns-clause-tables : goal.returns-clause-tables
 returns-clause-tables c = c.loop-k.invariant.each

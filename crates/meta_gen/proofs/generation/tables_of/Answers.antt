@@ -5,7 +5,8 @@ use Rattle.meta_gen.proofs.generation.tables_of.Goals as goal
 
 pub group_tables-requires : goal.group_tables-requires
 group_tables-requires c =
-    layouts c.args.built.now.declared.groups c.groups.result.now c.declarations-declarations.ensures.valid.groups (c.groups.ensures.groups ∙ c.groups.ensures.built) c.built_groups_have_tables.ensures.layout
+    layouts c.args.built.now.declared.groups c.groups.result.now c.declarations-declarations.ensures.valid.groups (c.groups.ensures.groups
+    ∙ c.groups.ensures.built) c.built_groups_have_tables.ensures.layout
 
 pub returns-clause-tables : goal.returns-clause-tables
 returns-clause-tables c =

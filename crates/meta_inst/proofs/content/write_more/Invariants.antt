@@ -5,4 +5,5 @@ use Rattle.meta_inst.proofs.content.write_more.Given as goal
 
 -- the names so far are written
 abbrev pub invariant-loop-operand : goal.invariant-loop-operand
-invariant-loop-operand g l = IsPlainFormatter l.initial.f → HasWritten g.W.Write.write_str_gives l.initial.f (more_names_text (take l.operand-index l.operands)) l.f
+invariant-loop-operand g l = IsPlainFormatter l.initial.f
+    → HasWritten g.W.Write.write_str_gives l.initial.f (more_names_text (take l.operand-index l.operands)) l.f

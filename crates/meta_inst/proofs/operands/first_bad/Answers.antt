@@ -11,7 +11,8 @@ pub returns-then-is_badly_derived-clause-found : goal.returns-then-is_badly_deri
 returns-then-is_badly_derived-clause-found c = record {
   bad = record {
     number = c.index-variables-place.result;
-    at = slice_get_read c.args.variables.now _ c.loop-place.place c.index-variables-place.result refl c.loop-place-test.true c.index-variables-place.is;
+    at = slice_get_read c.args.variables.now _ c.loop-place.place c.index-variables-place.result refl
+        c.loop-place-test.true c.index-variables-place.is;
     bad = c.is_badly_derived.ensures.0 c.if-is_badly_derived.true;
   };
   first = c.loop-place.invariant;
@@ -20,8 +21,9 @@ returns-then-is_badly_derived-clause-found c = record {
 pub loop-place-preserved : goal.loop-place-preserved
 loop-place-preserved c =
     below_more _ _ c.loop-place.invariant
-    (not_bad_at c.args.vars.now c.args.control.now c.args.second.now c.args.variables.now c.loop-place.place c.index-variables-place.result
-    (slice_get_read c.args.variables.now _ c.loop-place.place c.index-variables-place.result refl c.loop-place-test.true c.index-variables-place.is)
+    (not_bad_at c.args.vars.now c.args.controls.now c.args.variables.now c.loop-place.place c.index-variables-place.result
+    (slice_get_read c.args.variables.now _ c.loop-place.place c.index-variables-place.result refl
+    c.loop-place-test.true c.index-variables-place.is)
     (λ h. false≢true (sym c.if-is_badly_derived.false ∙ c.is_badly_derived.ensures.1 h)))
 
 pub returns-clause-none : goal.returns-clause-none

@@ -4,4 +4,4 @@ use Rattle.meta_inst.proofs.operands.first_bad.Given as goal
 
 -- none of the variables so far is badly derived
 abbrev pub invariant-loop-place : goal.invariant-loop-place
-invariant-loop-place l = (k : ℕ) → k < l.place → IsBadAt l.vars l.control l.second l.variables k → ⊥
+invariant-loop-place l = (k : ℕ) → k < l.place → IsBadAt l.vars l.controls l.variables k → ⊥

@@ -8,7 +8,8 @@ pub returns-then-not-has_one_type : goal.returns-then-not-has_one_type
 returns-then-not-has_one_type c = record {
   place = c.loop-place.place;
   variable = c.index-variables-place.result;
-  at = slice_get_read c.args.variables.now _ c.loop-place.place c.index-variables-place.result refl c.loop-place-test.true c.index-variables-place.is;
+  at = slice_get_read c.args.variables.now _ c.loop-place.place c.index-variables-place.result refl
+      c.loop-place-test.true c.index-variables-place.is;
   several = λ one. false≢true (sym c.if-not-has_one_type.true ∙ c.has_one_type.ensures.1 one);
 }
 
@@ -16,7 +17,8 @@ pub loop-place-preserved : goal.loop-place-preserved
 loop-place-preserved c =
     below_more _ _ c.loop-place.invariant
     (λ n at.
-    let read = slice_get_read c.args.variables.now _ c.loop-place.place c.index-variables-place.result refl c.loop-place-test.true c.index-variables-place.is in
+    let read = slice_get_read c.args.variables.now _ c.loop-place.place c.index-variables-place.result refl
+    c.loop-place-test.true c.index-variables-place.is in
     subst (HasOneType c.args.vars.now) (cc) (c.has_one_type.ensures.0 c.if-not-has_one_type.false))
 
 pub returns : goal.returns

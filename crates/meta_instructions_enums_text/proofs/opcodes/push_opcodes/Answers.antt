@@ -1,7 +1,7 @@
 use Rattle.std.proofs.Common.{◌≡◌, sym, ap, ◌∙◌, subst, List}
 use Rattle.meta_operands.specs.declared.format.InstructionFormat.{InstructionFormat}
-use Rattle.meta_inst.specs.Built.{Built}
-use Rattle.meta_inst.specs.InstructionSet.{Fits}
+use Rattle.meta_inst.specs.Built.{BuiltInstruction}
+use Rattle.meta_inst.specs.InstructionSet.{AreOfRegistries}
 use Rattle.meta_declared.specs.AllDeclared.{Declared}
 use Rattle.meta_instructions_enums_text.specs.OpcodesText.{HaveFormats}
 use Rattle.meta_instructions_enums_text.proofs.InTable.{have_formats}
@@ -11,8 +11,11 @@ pub push_part-requires : goal.push_part-requires
 push_part-requires c =
     let d = c.args.built.now.declared.set in
     let declared = c.declarations-declarations.ensures.declarations in
-    let fits : Fits d.vars d.formats d.instructions = subst (λ (e : Declared). Fits e.set.vars e.set.formats e.set.instructions) declared c.instructions-instructions.ensures.fits in
+    let fits : AreOfRegistries d.vars d.formats d.instructions =
+    subst (λ (e : Declared). AreOfRegistries e.set.vars e.set.formats e.set.instructions) declared
+    c.instructions-instructions.ensures.fits in
     let table : c.formats.result.now ≡ d.formats = c.formats.ensures.formats ∙ ap (λ (e : Declared). e.set.formats) declared in
-    let have : HaveFormats d.formats c.args.built.now.instructions = have_formats d c.args.built.now.instructions c.instructions.ensures.built fits in
+    let have : HaveFormats d.formats c.args.built.now.instructions =
+    have_formats d c.args.built.now.instructions c.instructions.ensures.built fits in
     subst (λ (fs : List InstructionFormat). HaveFormats fs c.instructions.result.now) (sym table)
-    (subst (λ (cs : List Built). HaveFormats d.formats cs) (sym c.instructions.ensures.instructions) have)
+    (subst (λ (cs : List BuiltInstruction). HaveFormats d.formats cs) (sym c.instructions.ensures.instructions) have)

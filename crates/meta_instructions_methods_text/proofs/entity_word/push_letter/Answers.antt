@@ -6,5 +6,6 @@ use Rattle.meta_instructions_methods_text.proofs.entity_word.push_letter.Goals a
 pub returns : goal.returns
 returns c =
     on_ok_weaker c.write.result
-    (λ e rest. snake_more (string_bytes c.args.out.now) _ _ c.args.later c.args.c _ rest e c.mark_before-mark.ensures c.to_ascii_lowercase-letter.ensures.value)
+    (λ e rest. snake_more (string_bytes c.args.out.now) _ _ c.args.later c.args.c _ rest e c.mark_before-mark.ensures
+    c.to_ascii_lowercase-letter.ensures.value)
     c.write.ensures.bytes

@@ -5,5 +5,6 @@ use Rattle.meta_instructions_methods_text.proofs.map_method.mapped_elements.Goal
 pub loop-place-preserved : goal.loop-place-preserved
 loop-place-preserved c =
     let place = c.loop-place.place in
-    let added : string_bytes c.push_mapped_value.new.out ≡ mapped_below place ++ mapped_value place = c.in_ok-push_mapped_value.ensures ∙ ap (λ text. text ++ mapped_value place) c.loop-place.invariant in
+    let added : string_bytes c.push_mapped_value.new.out ≡ mapped_below place ++ mapped_value place = c.in_ok-push_mapped_value.ensures
+    ∙ ap (λ text. text ++ mapped_value place) c.loop-place.invariant in
     rw add-one added

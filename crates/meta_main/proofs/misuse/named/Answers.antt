@@ -6,13 +6,17 @@ use Rattle.meta_main.proofs.misuse.named.Goals as goal
 
 pub returns-then-is_text-clause-some : goal.returns-then-is_text-clause-some
 returns-then-is_text-clause-some c = record {
-  place = c.loop-command.command-index;
-  at = slice_get-get_or c.args.commands.now c.loop-command.command-index _ c.loop-command-test.true;
-  name_is = sym (c.is_text.ensures.0 c.if-is_text.true);
+  named = record {
+    place = c.loop-command.command-index;
+    at = slice_get-get_or c.args.commands.now c.loop-command.command-index _ c.loop-command-test.true;
+    name_is = sym (c.is_text.ensures.0 c.if-is_text.true);
+  };
+  first = c.loop-command.invariant;
 }
 
 pub loop-command-preserved : goal.loop-command-preserved
-loop-command-preserved c = others_more c.args.commands.now c.loop-command.command-index _ c.args.name.now (slice_get-get_or c.args.commands.now c.loop-command.command-index _ c.loop-command-test.true)
+loop-command-preserved c = others_more c.args.commands.now c.loop-command.command-index _ c.args.name.now
+    (slice_get-get_or c.args.commands.now c.loop-command.command-index _ c.loop-command-test.true)
     (λ e. no_truth (sym c.if-is_text.false ∙ c.is_text.ensures.1 (sym e))) c.loop-command.invariant
 
 pub returns-clause-none : goal.returns-clause-none

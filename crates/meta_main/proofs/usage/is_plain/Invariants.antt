@@ -1,5 +1,6 @@
-use Rattle.std.specs.Prelude.{⊤}
+use Rattle.meta_main.proofs.Plain.{IsPlainTo}
 use Rattle.meta_main.proofs.usage.is_plain.Given as goal
 
+-- the bytes so far are plain
 abbrev pub invariant-loop-byte : goal.invariant-loop-byte
-invariant-loop-byte l = ⊤
+invariant-loop-byte l = IsPlainTo l.byte-index l.word

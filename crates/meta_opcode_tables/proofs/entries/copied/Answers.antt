@@ -5,4 +5,5 @@ use Rattle.std.proofs.lemmas.Iterator.Consumers.{YieldsList-from_copied}
 use Rattle.meta_opcode_tables.proofs.entries.copied.Goals as goal
 
 pub returns : goal.returns
-returns c = items_from_collect _ c.collect.ensures.ran (YieldsList-from_copied (YieldsList-from_slice _ (ap iter_rest c.copied.ensures.source ∙ c.iter.ensures)))
+returns c = items_from_collect _ c.collect.ensures.ran
+    (YieldsList-from_copied (YieldsList-from_slice _ (ap iter_rest c.copied.ensures.source ∙ c.iter.ensures)))

@@ -2,7 +2,7 @@ use Rattle.std.proofs.Common.{ℕ, ◌<◌, ◌≤◌, ◌+◌, ◌*◌, ◌≡�
 use Rattle.std.proofs.lemmas.Option.{slice_get_read, slice_get_within}
 use Rattle.std.proofs.lemmas.Result.{IfOk-from_err}
 use Rattle.meta_lists.proofs.Pushed.{one_longer}
-use Rattle.meta_inst.specs.Built.{Built}
+use Rattle.meta_inst.specs.Built.{BuiltInstruction}
 use Rattle.meta_inst.specs.Instruction.{Instruction}
 use Rattle.meta_inst.specs.InstructionSet.{instruction_in_set}
 use Rattle.meta_declared.specs.BuiltInstructions.{IsBuiltAt}
@@ -23,7 +23,8 @@ next_room few more k grown room = omega arith
 read : (c : After-constraints-in-loop-k-1) → IsBuiltAt c.args.built.now.declared.set c.loop-k.k c.index-instructions-k.result
 read c =
     c.instructions-instructions.ensures.built.each c.loop-k.k c.index-instructions-k.result
-    (ap (λ (xs : List Built). slice_get xs c.loop-k.k) (sym c.instructions-instructions.ensures.instructions) ∙ slice_get_read c.instructions-instructions.result.now _ _ _ refl c.loop-k-test.true c.index-instructions-k.is)
+    (ap (λ (xs : List BuiltInstruction). slice_get xs c.loop-k.k) (sym c.instructions-instructions.ensures.instructions)
+    ∙ slice_get_read c.instructions-instructions.result.now _ _ _ refl c.loop-k-test.true c.index-instructions-k.is)
 
 pub loop-k-init : goal.loop-k-init
 loop-k-init c =
@@ -41,7 +42,7 @@ entry_of-requires-clause-room c =
     let room = c.loop-k.invariant.room in
     let few = few_opcodes c.args.built.now.declared.set c.requires.valid in
     let count = c.instructions-instructions.ensures.built.count in
-    let same = ap (length {A = Built}) c.instructions-instructions.ensures.instructions in
+    let same = ap (length {A = BuiltInstruction}) c.instructions-instructions.ensures.instructions in
     let inside = c.loop-k-test.true in
     omega arith
 
@@ -51,25 +52,42 @@ entry_of-requires-clause-few c = rw c.type_sets-type_sets.ensures.type_sets c.ty
 pub entry_of-requires-clause-fits : goal.entry_of-requires-clause-fits
 entry_of-requires-clause-fits c =
     rw (c.requires.variables, c.type_sets-type_sets.ensures.type_sets)
-    (can_enter c.args.built.now.declared.set c.requires.valid c.requires.fits c.args.built.now.type_sets c.type_sets-type_sets.ensures.needed c.loop-k.k c.index-instructions-k.result (read c))
+    (can_enter c.args.built.now.declared.set c.requires.valid c.requires.fits c.args.built.now.type_sets
+    c.type_sets-type_sets.ensures.needed c.loop-k.k c.index-instructions-k.result (read c))
 
 pub loop-k-preserved : goal.loop-k-preserved
 loop-k-preserved c =
     let d = c.args.built.now.declared.set in
     let sets = c.args.built.now.type_sets in
     let x = c.index-instructions-k.result in
-    let at_built : slice_get c.args.built.now.instructions c.loop-k.k ≡ Some x = ap (λ (xs : List Built). slice_get xs c.loop-k.k) (sym c.instructions-instructions.ensures.instructions) ∙ slice_get_read c.instructions-instructions.result.now _ _ _ refl c.loop-k-test.true c.index-instructions-k.is in
+    let at_built : slice_get c.args.built.now.instructions c.loop-k.k ≡ Some x =
+    ap (λ (xs : List BuiltInstruction). slice_get xs c.loop-k.k) (sym c.instructions-instructions.ensures.instructions)
+    ∙ slice_get_read c.instructions-instructions.result.now _ _ _ refl c.loop-k-test.true c.index-instructions-k.is in
     let h : IsBuiltAt d c.loop-k.k x = c.instructions-instructions.ensures.built.each c.loop-k.k x at_built in
     let pushed = c.in_ok-push.ensures.items in
     let count = c.loop-k.invariant.count in
-    let holds : EntryHolds d.vars (instruction_in_set d h.builder) sets c.entry_of.new.constraints c.in_ok-entry_of.field-0 = subst (λ (i : Instruction). EntryHolds d.vars i sets c.entry_of.new.constraints c.in_ok-entry_of.field-0) (meaning d h.builder x h.is) (rw (c.requires.variables, c.type_sets-type_sets.ensures.type_sets) at c.in_ok-entry_of.ensures.holds) in
-    let added : IsAdded d.vars (instruction_in_set d h.builder) sets c.loop-k.constraints c.entry_of.new.constraints c.in_ok-entry_of.field-0 = subst (λ (i : Instruction). IsAdded d.vars i sets c.loop-k.constraints c.entry_of.new.constraints c.in_ok-entry_of.field-0) (meaning d h.builder x h.is) (rw (c.requires.variables, c.type_sets-type_sets.ensures.type_sets) at c.in_ok-entry_of.ensures.added) in
+    let holds : EntryHolds d.vars (instruction_in_set d h.builder) sets c.entry_of.new.constraints c.in_ok-entry_of.field-0 =
+    subst (λ (i : Instruction). EntryHolds d.vars i sets c.entry_of.new.constraints c.in_ok-entry_of.field-0)
+    (meaning d h.builder x h.is) (rw (c.requires.variables, c.type_sets-type_sets.ensures.type_sets) at c.in_ok-entry_of.ensures.holds)
+    in
+    let added : IsAdded d.vars (instruction_in_set d h.builder) sets c.loop-k.constraints c.entry_of.new.constraints
+    c.in_ok-entry_of.field-0 = subst
+    (λ (i : Instruction). IsAdded d.vars i sets c.loop-k.constraints c.entry_of.new.constraints c.in_ok-entry_of.field-0)
+    (meaning d h.builder x h.is) (rw (c.requires.variables, c.type_sets-type_sets.ensures.type_sets) at c.in_ok-entry_of.ensures.added)
+    in
     let (lists, so_far) = c.loop-k.invariant.added in
     record {
-      room = next_room (length c.loop-k.constraints) (length c.entry_of.new.constraints) c.loop-k.k c.in_ok-entry_of.ensures.count c.loop-k.invariant.room;
+      room = next_room (length c.loop-k.constraints) (length c.entry_of.new.constraints) c.loop-k.k c.in_ok-entry_of.ensures.count
+          c.loop-k.invariant.room;
       count = one_longer _ _ _ pushed ∙ ap (λ n. n + 1) count;
-      holds = one_more_held d.vars d.formats sets d.instructions c.loop-k.constraints c.entry_of.new.constraints c.loop-k.entries.items c.push.new.self.items c.in_ok-entry_of.field-0 h.builder c.loop-k.k pushed count h.at c.in_ok-entry_of.ensures.stays holds c.loop-k.invariant.holds;
-      added = (lists ++ added.list ∷ [], one_more_added d.vars d.formats sets d.instructions c.loop-k.constraints c.entry_of.new.constraints c.loop-k.entries.items c.push.new.self.items c.in_ok-entry_of.field-0 h.builder lists pushed (ap (slice_get d.instructions) count ∙ h.at) added so_far);
+      holds = one_more_held d.vars d.formats sets d.instructions c.loop-k.constraints c.entry_of.new.constraints c.loop-k.entries.items
+          c.push.new.self.items c.in_ok-entry_of.field-0 h.builder c.loop-k.k pushed count h.at c.in_ok-entry_of.ensures.stays holds
+          c.loop-k.invariant.holds;
+      added = (
+        lists ++ added.list ∷ [],
+        one_more_added d.vars d.formats sets d.instructions c.loop-k.constraints c.entry_of.new.constraints c.loop-k.entries.items
+            c.push.new.self.items c.in_ok-entry_of.field-0 h.builder lists pushed (ap (slice_get d.instructions) count ∙ h.at) added so_far,
+      );
     }
 
 pub returns-clause-holds : goal.returns-clause-holds
@@ -77,8 +95,9 @@ returns-clause-holds c =
     let d = c.args.built.now.declared.set in
     let past = c.loop-k-test.false in
     let built = c.instructions-instructions.ensures.built.count in
-    let same = ap (length {A = Built}) c.instructions-instructions.ensures.instructions in
-    rw c.in_ok-constraints-2.ensures (λ k b at. let inside = slice_get_within d.instructions k b at in c.loop-k.invariant.holds k b (omega arith) at)
+    let same = ap (length {A = BuiltInstruction}) c.instructions-instructions.ensures.instructions in
+    rw c.in_ok-constraints-2.ensures (λ k b at. let inside = slice_get_within d.instructions k b at
+    in c.loop-k.invariant.holds k b (omega arith) at)
 
 pub returns-clause-added : goal.returns-clause-added
 returns-clause-added c = rw c.in_ok-constraints-2.ensures c.loop-k.invariant.added
@@ -89,7 +108,7 @@ returns-clause-count c =
     let most = c.loop-k.auto.k-end in
     let count = c.loop-k.invariant.count in
     let built = c.instructions-instructions.ensures.built.count in
-    let same = ap (length {A = Built}) c.instructions-instructions.ensures.instructions in
+    let same = ap (length {A = BuiltInstruction}) c.instructions-instructions.ensures.instructions in
     omega arith
 
 pub returns-in_err-constraints-clause-count : goal.returns-in_err-constraints-clause-count
@@ -129,10 +148,13 @@ pub returns-in_err-push-clause-added : goal.returns-in_err-push-clause-added
 returns-in_err-push-clause-added c = IfOk-from_err c.from_residual-in_err-push.result _ c.from_residual-in_err-push.ensures.0
 
 pub returns-in_err-constraints-2-clause-count : goal.returns-in_err-constraints-2-clause-count
-returns-in_err-constraints-2-clause-count c = IfOk-from_err c.from_residual-in_err-constraints-2.result _ c.from_residual-in_err-constraints-2.ensures.0
+returns-in_err-constraints-2-clause-count c =
+    IfOk-from_err c.from_residual-in_err-constraints-2.result _ c.from_residual-in_err-constraints-2.ensures.0
 
 pub returns-in_err-constraints-2-clause-holds : goal.returns-in_err-constraints-2-clause-holds
-returns-in_err-constraints-2-clause-holds c = IfOk-from_err c.from_residual-in_err-constraints-2.result _ c.from_residual-in_err-constraints-2.ensures.0
+returns-in_err-constraints-2-clause-holds c =
+    IfOk-from_err c.from_residual-in_err-constraints-2.result _ c.from_residual-in_err-constraints-2.ensures.0
 
 pub returns-in_err-constraints-2-clause-added : goal.returns-in_err-constraints-2-clause-added
-returns-in_err-constraints-2-clause-added c = IfOk-from_err c.from_residual-in_err-constraints-2.result _ c.from_residual-in_err-constraints-2.ensures.0
+returns-in_err-constraints-2-clause-added c =
+    IfOk-from_err c.from_residual-in_err-constraints-2.result _ c.from_residual-in_err-constraints-2.ensures.0

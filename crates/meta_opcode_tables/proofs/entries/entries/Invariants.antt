@@ -10,6 +10,9 @@ abbrev pub invariant-loop-k : goal.invariant-loop-k
 invariant-loop-k l = record {
   room : length l.constraints ≤ 3 + 14 * l.k;
   count : length l.entries.items ≡ l.k;
-  holds : (k : ℕ) (b : Builder) → k < l.k → IsAt l.built.declared.set k b → IsHeldAt l.built.declared.set.vars l.built.declared.set.formats l.built.type_sets l.constraints l.entries.items k b;
-  added : (lists : List (List Constraint)) × AreAdded l.built.declared.set.vars l.built.declared.set.formats l.built.declared.set.instructions l.built.type_sets l.constraints l.entries.items lists;
+  holds : (k : ℕ) (b : Builder) → k < l.k → IsAt l.built.declared.set k b
+      → IsHeldAt l.built.declared.set.vars l.built.declared.set.formats l.built.type_sets l.constraints l.entries.items k b;
+  added : (lists : List (List Constraint))
+      × AreAdded l.built.declared.set.vars l.built.declared.set.formats l.built.declared.set.instructions l.built.type_sets l.constraints
+      l.entries.items lists;
 }

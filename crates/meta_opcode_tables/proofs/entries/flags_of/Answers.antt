@@ -8,7 +8,7 @@ rest xs ys m n same count = cc
 
 pub returns-clause-flags : goal.returns-clause-flags
 returns-clause-flags c = λ vars registry are second_of of.
-    are_flags vars c.args.operands.now c.result_count-results.ensures.within registry are second_of c.args.control.now of _ _ _ _ _
+    are_flags vars c.args.operands.now c.result_count-results.ensures.within registry are second_of c.args.controls.now of _ _ _ _ _
     c.result_count-results.ensures.count
     (rest _ _ _ _ c.variables.ensures c.result_count-results.ensures.count)
     c.designated_controls.ensures c.first_result_controls.ensures

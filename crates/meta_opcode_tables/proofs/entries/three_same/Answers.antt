@@ -14,7 +14,8 @@ pub add-requires : goal.add-requires
 add-requires c = λ x y in_list same. (decides x y).1 (sym same)
 
 pub returns : goal.returns
-returns c = made_is c.new-constraints.result three_same c.add.new.self c.in_ok-add.ensures.made ∙ ap (λ old. added same_constraint old three_same) c.new-constraints.ensures ∙ three_alone
+returns c = made_is c.new-constraints.result three_same c.add.new.self c.in_ok-add.ensures.made
+    ∙ ap (λ old. added same_constraint old three_same) c.new-constraints.ensures ∙ three_alone
 
 pub returns-in_err-add : goal.returns-in_err-add
 returns-in_err-add c = IfOk-from_err c.from_residual.result _ c.from_residual.ensures.0

@@ -18,7 +18,8 @@ loop-set-preserved c =
     let (front, stand, whole) = c.loop-set.invariant in (
       front ++ c.in-Some.set.now.now ∷ [],
       one_stands _ _ _ _ _ c.in_ok-push.ensures.items c.masks.ensures.sums stand,
-      whole ∙ ap (λ r. front ++ pointed_to r) c.in-Some.ensures.steps ∙ moved front c.in-Some.set.now.now (pointed_to (iter_rest c.next.new.self)),
+      whole ∙ ap (λ r. front ++ pointed_to r) c.in-Some.ensures.steps
+          ∙ moved front c.in-Some.set.now.now (pointed_to (iter_rest c.next.new.self)),
     )
 
 pub returns : goal.returns

@@ -7,4 +7,5 @@ use Rattle.meta_opcode_tables.proofs.masks.masks_of.Given as goal
 
 -- the masks of the sets in front of those that are left
 abbrev pub invariant-loop-set : goal.invariant-loop-set
-invariant-loop-set l = (front : List TypeSetParts) × (StandForSets l.masks.items front) × (l.type_sets ≡ front ++ pointed_to (iter_rest l.set-iterator))
+invariant-loop-set l = (front : List TypeSetParts) × (StandForSets l.masks.items front)
+    × (l.type_sets ≡ front ++ pointed_to (iter_rest l.set-iterator))

@@ -7,7 +7,8 @@ use Rattle.meta_opcode_tables.proofs.Made.{one_format_more, format_at}
 use Rattle.meta_opcode_tables.proofs.names.copied_formats.Goals as goal
 
 pub get-format-requires : goal.get-format-requires
-get-format-requires c = subst (λ f. f < length {A = InstructionFormat} c.args.formats.now) (sym c.format.ensures) (c.requires c.loop-k.k c.get.result.now c.get.ensures)
+get-format-requires c = subst (λ f. f < length {A = InstructionFormat} c.args.formats.now) (sym c.format.ensures)
+    (c.requires c.loop-k.k c.get.result.now c.get.ensures)
 
 pub loop-k-preserved : goal.loop-k-preserved
 loop-k-preserved c =
@@ -16,7 +17,8 @@ loop-k-preserved c =
     let count = c.loop-k.invariant.count in
     record {
       count = omega arith;
-      each = one_format_more _ _ _ _ _ _ _ _ added count c.get.ensures (format_at _ _ _ _ c.format.ensures c.get-format.ensures) c.in_ok-copy.ensures c.loop-k.invariant.each;
+      each = one_format_more _ _ _ _ _ _ _ _ added count c.get.ensures
+          (format_at _ _ _ _ c.format.ensures c.get-format.ensures) c.in_ok-copy.ensures c.loop-k.invariant.each;
     }
 
 pub returns : goal.returns

@@ -17,7 +17,8 @@ loop-name-preserved c =
     let k = c.loop-name.name-index in
     let item = c.name-item.result in
     let front = take k c.args.names.now in
-    let at : slice_get c.args.names.now k ≡ Some item = slice_get-get_or c.args.names.now k item c.loop-name-test.true ∙ ap Some (sym c.name-item.is) in
+    let at : slice_get c.args.names.now k ≡ Some item = slice_get-get_or c.args.names.now k item c.loop-name-test.true
+    ∙ ap Some (sym c.name-item.is) in
     ap pointed_to c.in_ok-push.ensures.items ∙ map-append (λ r. r.now) c.loop-name.borrowed.items (c.as_bytes.result ∷ [])
     ∙ ap (λ w. w ++ c.as_bytes.result.now ∷ []) c.loop-name.invariant
     ∙ ap (λ n. front ++ n ∷ []) c.as_bytes.ensures
@@ -25,14 +26,16 @@ loop-name-preserved c =
 
 pub name_slots-requires : goal.name_slots-requires
 name_slots-requires c =
-    let count : length c.deref.result.now ≡ length (take c.loop-name.name-index c.args.names.now) = ap length c.deref.ensures.value ∙ sym (length-map c.loop-name.borrowed.items (λ r. r.now)) ∙ ap length c.loop-name.invariant in
+    let count : length c.deref.result.now ≡ length (take c.loop-name.name-index c.args.names.now) =
+    ap length c.deref.ensures.value ∙ sym (length-map c.loop-name.borrowed.items (λ r. r.now)) ∙ ap length c.loop-name.invariant in
     let all = length-take c.loop-name.name-index c.args.names.now in
     let few = c.requires in
     record { few = omega arith; numbered = omega arith }
 
 pub returns-clause-slots : goal.returns-clause-slots
 returns-clause-slots c =
-    subst (λ w. IfOk c.name_slots.result (λ v. AreNameSlots 1 w v.items)) (ap pointed_to c.deref.ensures.value ∙ c.loop-name.invariant ∙ take_all c.loop-name.name-index c.args.names.now c.loop-name-test.false) c.name_slots.ensures.slots
+    subst (λ w. IfOk c.name_slots.result (λ v. AreNameSlots 1 w v.items)) (ap pointed_to c.deref.ensures.value
+    ∙ c.loop-name.invariant ∙ take_all c.loop-name.name-index c.args.names.now c.loop-name-test.false) c.name_slots.ensures.slots
 
 pub returns-clause-vacant : goal.returns-clause-vacant
 returns-clause-vacant c = c.name_slots.ensures.vacant

@@ -6,10 +6,12 @@ use Rattle.meta_opcode_tables.proofs.Describing.{one_more}
 use Rattle.meta_opcode_tables.proofs.operand_constraints.constraints_of.Goals as goal
 
 pub next_constraint-constraint-requires-clause-held : goal.next_constraint-constraint-requires-clause-held
-next_constraint-constraint-requires-clause-held c = c.requires.held _ _ (slice_get_read c.args.variables.now _ _ _ refl c.loop-place-test.true c.index-variables-place.is)
+next_constraint-constraint-requires-clause-held c =
+    c.requires.held _ _ (slice_get_read c.args.variables.now _ _ _ refl c.loop-place-test.true c.index-variables-place.is)
 
 pub next_constraint-constraint-requires-clause-constrained : goal.next_constraint-constraint-requires-clause-constrained
-next_constraint-constraint-requires-clause-constrained c = c.requires.constrained _ _ (slice_get_read c.args.variables.now _ _ _ refl c.loop-place-test.true c.index-variables-place.is)
+next_constraint-constraint-requires-clause-constrained c =
+    c.requires.constrained _ _ (slice_get_read c.args.variables.now _ _ _ refl c.loop-place-test.true c.index-variables-place.is)
 
 pub loop-place-preserved : goal.loop-place-preserved
 loop-place-preserved c =
@@ -18,7 +20,7 @@ loop-place-preserved c =
     let count = c.loop-place.invariant.count in
     record {
       count = omega arith;
-      described = one_more _ _ _ _ _ _ _ added _ _ _ count
+      described = one_more _ _ _ _ _ _ added _ _ _ count
           (slice_get_read c.args.variables.now _ _ _ refl c.loop-place-test.true c.index-variables-place.is)
           c.next_constraint-constraint.ensures c.loop-place.invariant.described;
       before = c.next_constraint-constraint.ensures;
@@ -35,13 +37,18 @@ returns c =
     }
 
 pub loop-place-init : goal.loop-place-init
-loop-place-init c = record { count = ap length c.in_ok-constraints.ensures.items; described = λ k n below at. absurd (omega arith); before = tt }
+loop-place-init c = record {
+  count = ap length c.in_ok-constraints.ensures.items;
+  described = λ k n below at. absurd (omega arith);
+  before = tt;
+}
 
 pub next_constraint-constraint-requires-clause-of_registry : goal.next_constraint-constraint-requires-clause-of_registry
-next_constraint-constraint-requires-clause-of_registry c = c.requires.variables _ _ (slice_get_read c.args.variables.now _ _ _ refl c.loop-place-test.true c.index-variables-place.is)
+next_constraint-constraint-requires-clause-of_registry c =
+    c.requires.variables _ _ (slice_get_read c.args.variables.now _ _ _ refl c.loop-place-test.true c.index-variables-place.is)
 
-pub next_constraint-constraint-requires-clause-control_of : goal.next_constraint-constraint-requires-clause-control_of
-next_constraint-constraint-requires-clause-control_of c = c.requires.control_of
+pub next_constraint-constraint-requires-clause-controls : goal.next_constraint-constraint-requires-clause-controls
+next_constraint-constraint-requires-clause-controls c = c.requires.controls
 
 pub next_constraint-constraint-requires-clause-few : goal.next_constraint-constraint-requires-clause-few
 next_constraint-constraint-requires-clause-few c = c.requires.few

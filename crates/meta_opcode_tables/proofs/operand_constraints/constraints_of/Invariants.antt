@@ -7,6 +7,7 @@ use Rattle.meta_opcode_tables.proofs.operand_constraints.constraints_of.Given as
 abbrev pub invariant-loop-place : goal.invariant-loop-place
 invariant-loop-place l = record {
   count : length l.constraints.items ≡ l.place;
-  described : (k n : ℕ) → k < l.place → slice_get l.variables k ≡ Some n → IsDescribedAt l.vars l.control l.second l.type_sets l.constraints.items k n;
-  before : IfSome l.before (λ (p : ℕ × Constraint). Describes l.vars l.control l.second l.type_sets p.0 p.1);
+  described : (k n : ℕ) → k < l.place → slice_get l.variables k ≡ Some n
+      → IsDescribedAt l.vars l.controls l.type_sets l.constraints.items k n;
+  before : IfSome l.before (λ (p : ℕ × Constraint). Describes l.vars l.controls l.type_sets p.0 p.1);
 }

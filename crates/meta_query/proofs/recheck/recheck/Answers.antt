@@ -12,7 +12,8 @@ returns-in-Ok c =
       text = parts.text.now;
       queries = parts.queries.now;
       cut = c.cut_queries-parts.ensures;
-      answer = told_by c.args.tables.now c.in-Ok.read parts.text.now parts.queries.now (string_bytes out) c.is_same.result c.is_same.ensures.same (rw c.in-Ok.is at c.read_tables.ensures.found)
+      answer = told_by c.args.tables.now c.in-Ok.read parts.text.now parts.queries.now
+          (string_bytes out) c.is_same.result c.is_same.ensures.same (rw c.in-Ok.is at c.read_tables.ensures.found)
           (subst (λ line. IsTold line c.in-Ok.read parts.queries.now (string_bytes out)) c.line_of.ensures told);
     })
     c.told.ensures

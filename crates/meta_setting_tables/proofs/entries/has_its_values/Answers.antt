@@ -4,4 +4,5 @@ use Rattle.meta_setting_tables.specs.WellFormed.{HasItsValues}
 use Rattle.meta_setting_tables.proofs.entries.has_its_values.Goals as goal
 
 pub returns-in-Enum : goal.returns-in-Enum
-returns-in-Enum c = subst (λ (x : Detail). IfOk c.has_values.result (λ b. IsTrue b ↔ HasItsValues c.args.enumerators.now x)) (sym c.in-Enum.is) c.has_values.ensures
+returns-in-Enum c = subst (λ (x : Detail). IfOk c.has_values.result (λ b. IsTrue b ↔ HasItsValues c.args.enumerators.now x))
+    (sym c.in-Enum.is) c.has_values.ensures

@@ -4,7 +4,8 @@ use Rattle.meta_setting_tables.specs.GroupTables.{default_in}
 use Rattle.meta_setting_tables.proofs.group_tables.default_of.Goals as goal
 
 pub returns-in-Bool : goal.returns-in-Bool
-returns-in-Bool c = ap Some (shr_and_one _ c.in-Bool.bit) ∙ ap (default_in (get_or c.args.defaults.now c.args.descriptor.now.offset 0)) (sym c.in-Bool.is)
+returns-in-Bool c = ap Some (shr_and_one _ c.in-Bool.bit)
+    ∙ ap (default_in (get_or c.args.defaults.now c.args.descriptor.now.offset 0)) (sym c.in-Bool.is)
 
 pub returns-in-Num : goal.returns-in-Num
 returns-in-Num c = ap (default_in (get_or c.args.defaults.now c.args.descriptor.now.offset 0)) (sym c.in-Num.is)

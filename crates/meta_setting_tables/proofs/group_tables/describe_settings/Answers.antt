@@ -1,10 +1,10 @@
 use Rattle.std.proofs.Common.{◌≡◌, length, take, refl, sym, subst, ◌∙◌, arith}
 use Rattle.std.proofs.lemmas.Option.{slice_get_read}
+use Rattle.std.proofs.lemmas.Result.{IfOk-from_err}
 use Rattle.meta_settings.specs.declared.setting.SpecificSetting.{SpecificSetting}
 use Rattle.meta_setting_tables.specs.Descriptor.{IsDetailOf}
-use Rattle.meta_setting_tables.specs.EnumeratorList.{with_values, values_of}
+use Rattle.meta_setting_tables.specs.EnumeratorList.{with_values, built_values_of}
 use Rattle.meta_setting_tables.proofs.DescribedSoFar.{settings_next, settings_done}
-use Rattle.meta_setting_tables.proofs.Failed.{none_given, none_done}
 use Rattle.meta_setting_tables.proofs.group_tables.describe_settings.Goals as goal
 
 pub detail_of-requires : goal.detail_of-requires
@@ -26,39 +26,49 @@ loop-setting-preserved c =
     let after = c.detail_of.new.enumerators in
     let before = c.loop-setting.enumerators in
     let detail = c.in_ok-detail.detail in
-    let is = subst (λ (x : SpecificSetting). IsDetailOf after (take k settings) x detail) c.specific.ensures (c.in_ok-detail.ensures.detail (take k settings) c.loop-setting.invariant.enumerators_are) in
-    let made = subst (λ (x : SpecificSetting). after ≡ with_values before (values_of x)) c.specific.ensures c.in_ok-detail.ensures.added in
-    settings_next settings k s detail c.in_ok-describe_setting.field-0 before after c.loop-setting.descriptors.items c.push.new.self.items at is made c.in_ok-detail.ensures.grown c.in_ok-describe_setting.ensures c.in_ok-push.ensures.items c.loop-setting.invariant
+    let is = subst (λ (x : SpecificSetting). IsDetailOf after (take k settings) x detail) c.specific.ensures
+    (c.in_ok-detail.ensures.detail (take k settings) c.loop-setting.invariant.enumerators_are) in
+    let made = subst (λ (x : SpecificSetting). after ≡ with_values before (built_values_of x)) c.specific.ensures
+    c.in_ok-detail.ensures.added in
+    settings_next settings k s detail c.in_ok-describe_setting.field-0 before after c.loop-setting.descriptors.items
+    c.push.new.self.items at is made c.in_ok-detail.ensures.grown c.in_ok-describe_setting.ensures
+    c.in_ok-push.ensures.items c.loop-setting.invariant
 
 pub returns-clause-names : goal.returns-clause-names
-returns-clause-names c = (settings_done c.args.settings.now c.loop-setting.setting-index c.loop-setting.enumerators c.loop-setting.descriptors.items c.loop-setting-test.false c.loop-setting.invariant).0
+returns-clause-names c =
+    (settings_done c.args.settings.now c.loop-setting.setting-index c.loop-setting.enumerators
+    c.loop-setting.descriptors.items c.loop-setting-test.false c.loop-setting.invariant).0
 
 pub returns-clause-enumerators : goal.returns-clause-enumerators
-returns-clause-enumerators c = (settings_done c.args.settings.now c.loop-setting.setting-index c.loop-setting.enumerators c.loop-setting.descriptors.items c.loop-setting-test.false c.loop-setting.invariant).1
+returns-clause-enumerators c =
+    (settings_done c.args.settings.now c.loop-setting.setting-index c.loop-setting.enumerators
+    c.loop-setting.descriptors.items c.loop-setting-test.false c.loop-setting.invariant).1
 
 pub returns-clause-described : goal.returns-clause-described
-returns-clause-described c = (settings_done c.args.settings.now c.loop-setting.setting-index c.loop-setting.enumerators c.loop-setting.descriptors.items c.loop-setting-test.false c.loop-setting.invariant).2
+returns-clause-described c =
+    (settings_done c.args.settings.now c.loop-setting.setting-index c.loop-setting.enumerators
+    c.loop-setting.descriptors.items c.loop-setting-test.false c.loop-setting.invariant).2
 
 pub returns-in_err-descriptors-clause-names : goal.returns-in_err-descriptors-clause-names
-returns-in_err-descriptors-clause-names c = none_given c.from_residual.result _ c.from_residual.ensures.0
+returns-in_err-descriptors-clause-names c = IfOk-from_err c.from_residual.result _ c.from_residual.ensures.0
 
 pub returns-in_err-descriptors-clause-described : goal.returns-in_err-descriptors-clause-described
-returns-in_err-descriptors-clause-described c = none_given c.from_residual.result _ c.from_residual.ensures.0
+returns-in_err-descriptors-clause-described c = IfOk-from_err c.from_residual.result _ c.from_residual.ensures.0
 
 pub returns-in_err-detail-clause-enumerators : goal.returns-in_err-detail-clause-enumerators
-returns-in_err-detail-clause-enumerators c = none_done c.from_residual-in_err-detail.result _ c.from_residual-in_err-detail.ensures.0
+returns-in_err-detail-clause-enumerators c = IfOk-from_err c.from_residual-in_err-detail.result _ c.from_residual-in_err-detail.ensures.0
 
 pub returns-in_err-detail-clause-names : goal.returns-in_err-detail-clause-names
-returns-in_err-detail-clause-names c = none_given c.from_residual-in_err-detail.result _ c.from_residual-in_err-detail.ensures.0
+returns-in_err-detail-clause-names c = IfOk-from_err c.from_residual-in_err-detail.result _ c.from_residual-in_err-detail.ensures.0
 
 pub returns-in_err-detail-clause-described : goal.returns-in_err-detail-clause-described
-returns-in_err-detail-clause-described c = none_given c.from_residual-in_err-detail.result _ c.from_residual-in_err-detail.ensures.0
+returns-in_err-detail-clause-described c = IfOk-from_err c.from_residual-in_err-detail.result _ c.from_residual-in_err-detail.ensures.0
 
 pub returns-in_err-push-clause-enumerators : goal.returns-in_err-push-clause-enumerators
-returns-in_err-push-clause-enumerators c = none_done c.from_residual-in_err-push.result _ c.from_residual-in_err-push.ensures.0
+returns-in_err-push-clause-enumerators c = IfOk-from_err c.from_residual-in_err-push.result _ c.from_residual-in_err-push.ensures.0
 
 pub returns-in_err-push-clause-names : goal.returns-in_err-push-clause-names
-returns-in_err-push-clause-names c = none_given c.from_residual-in_err-push.result _ c.from_residual-in_err-push.ensures.0
+returns-in_err-push-clause-names c = IfOk-from_err c.from_residual-in_err-push.result _ c.from_residual-in_err-push.ensures.0
 
 pub returns-in_err-push-clause-described : goal.returns-in_err-push-clause-described
-returns-in_err-push-clause-described c = none_given c.from_residual-in_err-push.result _ c.from_residual-in_err-push.ensures.0
+returns-in_err-push-clause-described c = IfOk-from_err c.from_residual-in_err-push.result _ c.from_residual-in_err-push.ensures.0

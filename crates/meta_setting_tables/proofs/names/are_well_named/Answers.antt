@@ -10,23 +10,43 @@ use Rattle.meta_setting_tables.specs.WellFormed.{AreWellNamed}
 use Rattle.meta_setting_tables.proofs.names.are_well_named.Goals as goal
 
 -- where there are names, and descriptions need no escape, all is well named where the names of the entries are distinct
-named_where : (name : List ℕ) (entries : List Descriptor) (enumerators : List (List ℕ)) (r : Result Bool AllocError) → IsName name → All (λ (d : Descriptor). IsName d.name) entries → All IsName enumerators → All (λ (d : Descriptor). All IsPlainByte d.description) entries → IfOk r (λ b. IsTrue b ↔ AreDistinct (names_in entries)) → IfOk r (λ b. IsTrue b ↔ AreWellNamed name entries enumerators)
+named_where : (name : List ℕ) (entries : List Descriptor) (enumerators : List (List ℕ)) (r : Result Bool AllocError)
+    → IsName name → All (λ (d : Descriptor). IsName d.name) entries → All IsName enumerators
+    → All (λ (d : Descriptor). All IsPlainByte d.description) entries
+    → IfOk r (λ b. IsTrue b ↔ AreDistinct (names_in entries)) → IfOk r (λ b. IsTrue b ↔ AreWellNamed name entries enumerators)
 named_where name entries enumerators (Err e) group names values plain h = tt
-named_where name entries enumerators (Ok b) group names values plain h = (λ t. record { group_name = group; entry_names = names; enumerator_names = values; descriptions = plain; distinct = h.0 t }, λ all. h.1 all.distinct)
+named_where name entries enumerators (Ok b) group names values plain h = (
+  λ t. record {
+    group_name = group;
+    entry_names = names;
+    enumerator_names = values;
+    descriptions = plain;
+    distinct = h.0 t;
+  },
+  λ all. h.1 all.distinct,
+)
 
 pub returns : goal.returns
 returns c =
-    named_where c.args.name.now c.args.entries.now c.args.enumerators.now c.have_distinct_names.result (c.is_name.ensures.0 c.if-not-is_name.false) (c.have_names.ensures.0 c.if-not-have_names.false) (c.are_names.ensures.0 c.if-not-are_names.false)
+    named_where c.args.name.now c.args.entries.now c.args.enumerators.now c.have_distinct_names.result
+    (c.is_name.ensures.0 c.if-not-is_name.false) (c.have_names.ensures.0 c.if-not-have_names.false)
+    (c.are_names.ensures.0 c.if-not-are_names.false)
     (c.have_plain_descriptions.ensures.0 c.if-not-have_plain_descriptions.false) c.have_distinct_names.ensures
 
 pub returns-then-not-is_name : goal.returns-then-not-is_name
-returns-then-not-is_name c = (λ t. absurd (false≢true t), λ all. absurd (false≢true (sym c.if-not-is_name.true ∙ c.is_name.ensures.1 all.group_name)))
+returns-then-not-is_name c =
+    (λ t. absurd (false≢true t), λ all. absurd (false≢true (sym c.if-not-is_name.true ∙ c.is_name.ensures.1 all.group_name)))
 
 pub returns-then-not-have_names : goal.returns-then-not-have_names
-returns-then-not-have_names c = (λ t. absurd (false≢true t), λ all. absurd (false≢true (sym c.if-not-have_names.true ∙ c.have_names.ensures.1 all.entry_names)))
+returns-then-not-have_names c =
+    (λ t. absurd (false≢true t), λ all. absurd (false≢true (sym c.if-not-have_names.true ∙ c.have_names.ensures.1 all.entry_names)))
 
 pub returns-then-not-are_names : goal.returns-then-not-are_names
-returns-then-not-are_names c = (λ t. absurd (false≢true t), λ all. absurd (false≢true (sym c.if-not-are_names.true ∙ c.are_names.ensures.1 all.enumerator_names)))
+returns-then-not-are_names c =
+    (λ t. absurd (false≢true t), λ all. absurd (false≢true (sym c.if-not-are_names.true ∙ c.are_names.ensures.1 all.enumerator_names)))
 
 pub returns-then-not-have_plain_descriptions : goal.returns-then-not-have_plain_descriptions
-returns-then-not-have_plain_descriptions c = (λ t. absurd (false≢true t), λ all. absurd (false≢true (sym c.if-not-have_plain_descriptions.true ∙ c.have_plain_descriptions.ensures.1 all.descriptions)))
+returns-then-not-have_plain_descriptions c = (
+  λ t. absurd (false≢true t),
+  λ all. absurd (false≢true (sym c.if-not-have_plain_descriptions.true ∙ c.have_plain_descriptions.ensures.1 all.descriptions)),
+)

@@ -1,6 +1,6 @@
 use Rattle.meta_types.specs.Name.{IsName}
 use Rattle.meta_setting_tables.specs.declared.descriptor.Descriptor.{Descriptor}
-use Rattle.meta_setting_tables.proofs.Everywhere.{SoFar}
+use Rattle.meta_lists.proofs.Everywhere.{SoFar}
 use Rattle.meta_setting_tables.proofs.names.have_names.Given as goal
 
 -- the entries so far have names

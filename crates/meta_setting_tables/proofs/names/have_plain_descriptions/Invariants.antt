@@ -1,7 +1,7 @@
 use Rattle.std.proofs.Common.{All}
 use Rattle.meta_settings.specs.GroupFaults.{IsPlainByte}
 use Rattle.meta_setting_tables.specs.declared.descriptor.Descriptor.{Descriptor}
-use Rattle.meta_setting_tables.proofs.Everywhere.{SoFar}
+use Rattle.meta_lists.proofs.Everywhere.{SoFar}
 use Rattle.meta_setting_tables.proofs.names.have_plain_descriptions.Given as goal
 
 -- the descriptions so far need no escape

@@ -6,6 +6,7 @@ use Rattle.meta_setting_tables.proofs.preset_masks.join.Given as goal
 abbrev pub invariant-loop-k : goal.invariant-loop-k
 invariant-loop-k l = record {
   size : length l.bytes ≡ length l.initial.bytes;
-  joined : (j b m : ℕ) → j < l.k → slice_get l.initial.bytes j ≡ Some b → slice_get l.masks j ≡ Some m → slice_get l.bytes j ≡ Some (bit_or b m);
+  joined : (j b m : ℕ) → j < l.k → slice_get l.initial.bytes j ≡ Some b → slice_get l.masks j ≡ Some m
+      → slice_get l.bytes j ≡ Some (bit_or b m);
   rest : (j : ℕ) → l.k ≤ j → slice_get l.bytes j ≡ slice_get l.initial.bytes j;
 }

@@ -13,16 +13,21 @@ loop-k-init c = λ j l. absurd (omega (arith, l))
 
 pub returns-then-not-same : goal.returns-then-not-same
 returns-then-not-same c =
-    let one = slice_get_read c.args.one.now (length c.args.one.now) c.loop-k.k c.index-one-k.result refl c.loop-k-test.true c.index-one-k.is in
-    let other = slice_get_read c.args.other.now (length c.args.one.now) c.loop-k.k c.index-other-k.result c.if-one-other.false c.loop-k-test.true c.index-other-k.is in (
+    let one = slice_get_read c.args.one.now (length c.args.one.now) c.loop-k.k c.index-one-k.result refl
+    c.loop-k-test.true c.index-one-k.is in
+    let other = slice_get_read c.args.other.now (length c.args.one.now) c.loop-k.k c.index-other-k.result
+    c.if-one-other.false c.loop-k-test.true c.index-other-k.is in (
       λ t. absurd (false≢true t),
-      λ e. absurd (false≢true (sym c.if-not-same.true ∙ c.same.ensures.1 (same_Some _ _ (sym one ∙ ap (λ (w : List Descriptor). slice_get w c.loop-k.k) e ∙ other)))),
+      λ e. absurd (false≢true (sym c.if-not-same.true
+          ∙ c.same.ensures.1 (same_Some _ _ (sym one ∙ ap (λ (w : List Descriptor). slice_get w c.loop-k.k) e ∙ other)))),
     )
 
 pub loop-k-preserved : goal.loop-k-preserved
 loop-k-preserved c = λ j l.
-    let one = slice_get_read c.args.one.now (length c.args.one.now) c.loop-k.k c.index-one-k.result refl c.loop-k-test.true c.index-one-k.is in
-    let other = slice_get_read c.args.other.now (length c.args.one.now) c.loop-k.k c.index-other-k.result c.if-one-other.false c.loop-k-test.true c.index-other-k.is in
+    let one = slice_get_read c.args.one.now (length c.args.one.now) c.loop-k.k c.index-one-k.result refl
+    c.loop-k-test.true c.index-one-k.is in
+    let other = slice_get_read c.args.other.now (length c.args.one.now) c.loop-k.k c.index-other-k.result
+    c.if-one-other.false c.loop-k-test.true c.index-other-k.is in
     let same = one ∙ ap Some (c.same.ensures.0 c.if-not-same.false) ∙ sym other in
     ⊎_elim
     (λ here. subst (λ n. slice_get c.args.one.now n ≡ slice_get c.args.other.now n) (sym here) same)

@@ -1,8 +1,8 @@
 use Rattle.std.proofs.Common.{◌∙◌, ◌≤◌, refl, sym, arith}
 use Rattle.std.proofs.lemmas.Bool.{false≢true}
 use Rattle.std.proofs.lemmas.Option.{slice_get-get_or, slice_get_within}
+use Rattle.meta_lists.proofs.Everywhere.{one_place_more}
 use Rattle.meta_setting_tables.specs.WellFormed.{HoldsBooleansAlone}
-use Rattle.meta_setting_tables.proofs.Everywhere.{one_place_more}
 use Rattle.meta_setting_tables.proofs.setting_bytes.are_boolean_bytes.Goals as goal
 
 pub loop-byte-init : goal.loop-byte-init

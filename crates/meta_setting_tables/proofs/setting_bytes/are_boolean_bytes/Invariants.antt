@@ -4,4 +4,5 @@ use Rattle.meta_setting_tables.proofs.setting_bytes.are_boolean_bytes.Given as g
 
 -- in the bytes so far only bits of booleans are on
 abbrev pub invariant-loop-byte : goal.invariant-loop-byte
-invariant-loop-byte l = (k b : ℕ) → l.shape.own_bytes ≤ k → k < l.byte → slice_get l.defaults k ≡ Some b → HoldsBooleansAlone l.shape.own_bytes l.shape.booleans k b
+invariant-loop-byte l = (k b : ℕ) → l.shape.own_bytes ≤ k → k < l.byte → slice_get l.defaults k ≡ Some b
+    → HoldsBooleansAlone l.shape.own_bytes l.shape.booleans k b

@@ -4,4 +4,5 @@ use Rattle.meta_setting_tables.proofs.setting_bytes.are_boolean_masks.Given as g
 
 -- in the masks so far only bits of booleans are on
 abbrev pub invariant-loop-at : goal.invariant-loop-at
-invariant-loop-at l = (k m : ℕ) → k < l.at → slice_get l.masks k ≡ Some m → HoldsBooleansAlone l.shape.own_bytes l.shape.booleans (k % l.shape.bytes) m
+invariant-loop-at l = (k m : ℕ) → k < l.at → slice_get l.masks k ≡ Some m
+    → HoldsBooleansAlone l.shape.own_bytes l.shape.booleans (k % l.shape.bytes) m

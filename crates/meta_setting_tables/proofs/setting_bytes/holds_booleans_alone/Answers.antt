@@ -10,14 +10,16 @@ loop-bit-init c = λ k l. absurd (omega (arith, l))
 pub returns-then-not-is_off_or_boolean : goal.returns-then-not-is_off_or_boolean
 returns-then-not-is_off_or_boolean c = (
   λ t. absurd (false≢true t),
-  λ h. absurd (false≢true (sym c.if-not-is_off_or_boolean.true ∙ c.is_off_or_boolean.ensures.1 (h.bits c.loop-bit.bit c.loop-bit-test.true))),
+  λ h. absurd (false≢true (sym c.if-not-is_off_or_boolean.true
+      ∙ c.is_off_or_boolean.ensures.1 (h.bits c.loop-bit.bit c.loop-bit-test.true))),
 )
 
 pub loop-bit-preserved : goal.loop-bit-preserved
 loop-bit-preserved c = λ k l on.
     let shape = c.args.shape.now in
     ⊎_elim
-    (λ same. subst (λ n. bit_at c.args.value n ≡ 1 → IsBooleanBit shape.own_bytes shape.booleans c.args.byte n) (sym same) (c.is_off_or_boolean.ensures.0 c.if-not-is_off_or_boolean.false) on)
+    (λ same. subst (λ n. bit_at c.args.value n ≡ 1 → IsBooleanBit shape.own_bytes shape.booleans c.args.byte n) (sym same)
+    (c.is_off_or_boolean.ensures.0 c.if-not-is_off_or_boolean.false) on)
     (λ other. c.loop-bit.invariant k (omega (arith, l, other)) on)
     (cases_eq k c.loop-bit.bit)
 

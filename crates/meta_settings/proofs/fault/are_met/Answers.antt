@@ -1,7 +1,7 @@
 use Rattle.std.proofs.Common.{sym, subst, ◌∙◌}
 use Rattle.std.proofs.lemmas.Bool.{false≢true}
 use Rattle.meta_settings.specs.GroupFaults.{IsMet}
-use Rattle.meta_settings.proofs.Everywhere.{so_far_none, so_far_more, so_far_all, not_of_all}
+use Rattle.meta_lists.proofs.Everywhere.{so_far_none, so_far_more, so_far_all, not_of_all}
 use Rattle.meta_settings.proofs.fault.are_met.Goals as goal
 
 pub loop-arg-init : goal.loop-arg-init
@@ -18,4 +18,5 @@ loop-arg-preserved c =
     (subst (IsMet c.args.booleans c.args.earlier) c.arg-item.is (c.is_met.ensures.0 c.if-not-is_met.false)) c.loop-arg.invariant
 
 pub returns : goal.returns
-returns c = so_far_all (IsMet c.args.booleans c.args.earlier) c.args.args.now c.loop-arg.arg-index c.loop-arg-test.false c.loop-arg.invariant
+returns c = so_far_all (IsMet c.args.booleans c.args.earlier) c.args.args.now c.loop-arg.arg-index
+    c.loop-arg-test.false c.loop-arg.invariant

@@ -1,5 +1,5 @@
 use Rattle.meta_settings.specs.GroupFaults.{IsMet}
-use Rattle.meta_settings.proofs.Everywhere.{SoFar}
+use Rattle.meta_lists.proofs.Everywhere.{SoFar}
 use Rattle.meta_settings.proofs.fault.are_met.Given as goal
 
 -- the names so far mean something

@@ -22,8 +22,13 @@ returns-then-booleans-gt-MAX_BOOLEANS c =
     let booleans : c.from-booleans.result ≡ boolean_count d = c.from-booleans.ensures ∙ c.boolean_count.ensures in
     let bytes = c.byte_count-bytes.ensures in
     let entries = c.entry_count-entries.ensures in
-    let many : HasTooMany d = ⊎_elim (λ l. inl (omega (arith, l))) (⊎_elim (λ l. inr (inl (omega (arith, l.1)))) (λ l. inr (inr (omega (arith, l.2))))) c.then-booleans-gt-MAX_BOOLEANS.either in
-    record { position = OfCounts; shows = (rw (booleans, bytes, entries) refl, many); first = (rw c.in_default.is at c.in_ok-fault.ensures) c.args.group }
+    let many : HasTooMany d = ⊎_elim (λ l. inl (omega (arith, l)))
+    (⊎_elim (λ l. inr (inl (omega (arith, l.1)))) (λ l. inr (inr (omega (arith, l.2))))) c.then-booleans-gt-MAX_BOOLEANS.either in
+    record {
+      position = OfCounts;
+      shows = (rw (booleans, bytes, entries) refl, many);
+      first = (rw c.in_default.is at c.in_ok-fault.ensures) c.args.group;
+    }
 
 pub returns : goal.returns
 returns c =
@@ -34,4 +39,5 @@ returns c =
     let few_booleans = c.if-booleans-gt-MAX_BOOLEANS.false in
     let few_bytes = c.if-bytes-gt-MAX_BYTES.false in
     let few_entries = c.if-entries-gt-MAX_ENTRIES.false in
-    passed_counts d (rw c.in_default.is at c.in_ok-fault.ensures) (⊎_elim (λ l. omega (arith, l)) (⊎_elim (λ l. omega (arith, l)) (λ l. omega (arith, l))))
+    passed_counts d (rw c.in_default.is at c.in_ok-fault.ensures)
+    (⊎_elim (λ l. omega (arith, l)) (⊎_elim (λ l. omega (arith, l)) (λ l. omega (arith, l))))

@@ -3,7 +3,8 @@ use Rattle.std.specs.declared.alloc.AllocError.{AllocError}
 use Rattle.meta_settings.specs.GroupFaults.{IsGoodEnum}
 use Rattle.meta_settings.proofs.fault.has_good_values.Goals as goal
 
-good_values : (values : List (List ℕ)) (o : Option (List (List ℕ))) (r : Result Bool AllocError) → Some values ≡ o → IfOk r (λ b. IsTrue b ↔ IsGoodEnum values) → IfOk r (λ b. IsTrue b ↔ IfSome o IsGoodEnum)
+good_values : (values : List (List ℕ)) (o : Option (List (List ℕ))) (r : Result Bool AllocError) → Some values ≡ o
+    → IfOk r (λ b. IsTrue b ↔ IsGoodEnum values) → IfOk r (λ b. IsTrue b ↔ IfSome o IsGoodEnum)
 good_values values o r e h = subst (λ z. IfOk r (λ b. IsTrue b ↔ IfSome z IsGoodEnum)) e h
 
 pub returns-in-Some : goal.returns-in-Some

@@ -10,8 +10,9 @@ returns-then-not-is_name c = (
   λ well. absurd (false≢true (sym c.if-not-is_name.true ∙ c.is_name.ensures.1 (subst IsName (sym c.name.ensures) well.name))),
 )
 
-pub returns-then-not-is_plain : goal.returns-then-not-is_plain
-returns-then-not-is_plain c = (
+pub returns-then-not-is_plain_description : goal.returns-then-not-is_plain_description
+returns-then-not-is_plain_description c = (
   λ t. absurd (false≢true t),
-  λ well. absurd (false≢true (sym c.if-not-is_plain.true ∙ c.is_plain.ensures.1 (subst (All IsPlainByte) (sym c.description.ensures) well.description))),
+  λ well. absurd (false≢true (sym c.if-not-is_plain_description.true
+      ∙ c.is_plain_description.ensures.1 (subst (All IsPlainByte) (sym c.description.ensures) well.description))),
 )

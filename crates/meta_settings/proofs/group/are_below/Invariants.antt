@@ -1,5 +1,5 @@
 use Rattle.std.proofs.Common.{◌<◌}
-use Rattle.meta_settings.proofs.Everywhere.{SoFar}
+use Rattle.meta_lists.proofs.Everywhere.{SoFar}
 use Rattle.meta_settings.proofs.group.are_below.Given as goal
 
 -- the numbers so far are below the bound

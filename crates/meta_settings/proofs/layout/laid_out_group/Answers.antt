@@ -14,7 +14,8 @@ pub overflow_cast-start : goal.overflow_cast-start
 overflow_cast-start c =
     let d = c.args.builder.now in
     let bytes = few_bytes d c.requires in
-    let start : c.len-start.result ≡ start_of d = c.len-start.ensures ∙ c.in_ok-numbers.numbers.ok.0 ∙ ap length (rw c.settings-settings.ensures at c.in_ok-numbers.ensures) ∙ start_length d c.requires in
+    let start : c.len-start.result ≡ start_of d = c.len-start.ensures ∙ c.in_ok-numbers.numbers.ok.0
+    ∙ ap length (rw c.settings-settings.ensures at c.in_ok-numbers.ensures) ∙ start_length d c.requires in
     omega arith
 
 pub in_bits-requires-clause-few : goal.in_bits-requires-clause-few
@@ -24,7 +25,8 @@ pub in_bits-requires-clause-bytes : goal.in_bits-requires-clause-bytes
 in_bits-requires-clause-bytes c =
     let d = c.args.builder.now in
     let bytes = few_bytes d c.requires in
-    let start : c.len-start.result ≡ start_of d = c.len-start.ensures ∙ c.in_ok-numbers.numbers.ok.0 ∙ ap length (rw c.settings-settings.ensures at c.in_ok-numbers.ensures) ∙ start_length d c.requires in
+    let start : c.len-start.result ≡ start_of d = c.len-start.ensures ∙ c.in_ok-numbers.numbers.ok.0
+    ∙ ap length (rw c.settings-settings.ensures at c.in_ok-numbers.ensures) ∙ start_length d c.requires in
     rw c.settings-settings.ensures (let few : c.len-start.result + (length (booleans_among d.settings) + 7) / 8 ≤ 255 = omega arith in few)
 
 pub with_booleans-requires : goal.with_booleans-requires
@@ -36,7 +38,8 @@ overflow_cast-size c = let bytes = few_bytes c.args.builder.now c.requires in le
 pub new-requires : goal.new-requires
 new-requires c =
     let d = c.args.builder.now in
-    let start : c.len-start.result ≡ start_of d = c.len-start.ensures ∙ c.in_ok-numbers.numbers.ok.0 ∙ ap length (rw c.settings-settings.ensures at c.in_ok-numbers.ensures) ∙ start_length d c.requires in
+    let start : c.len-start.result ≡ start_of d = c.len-start.ensures ∙ c.in_ok-numbers.numbers.ok.0
+    ∙ ap length (rw c.settings-settings.ensures at c.in_ok-numbers.ensures) ∙ start_length d c.requires in
     let settings : c.in_ok-placed.placed.items ≡ laid_out d =
     c.in_ok-placed.ensures ∙ ap (λ z. z ++ c.in_ok-booleans.booleans.items) (rw c.settings-settings.ensures at c.in_ok-numbers.ensures)
     ∙ ap (λ z. in_bytes 0 (others_among d.settings) ++ z) (rw (c.settings-settings.ensures, start) at c.in_ok-booleans.ensures) in
@@ -45,8 +48,10 @@ new-requires c =
 pub returns : goal.returns
 returns c =
     let d = c.args.builder.now in
-    let start : c.len-start.result ≡ start_of d = c.len-start.ensures ∙ c.in_ok-numbers.numbers.ok.0 ∙ ap length (rw c.settings-settings.ensures at c.in_ok-numbers.ensures) ∙ start_length d c.requires in
+    let start : c.len-start.result ≡ start_of d = c.len-start.ensures ∙ c.in_ok-numbers.numbers.ok.0
+    ∙ ap length (rw c.settings-settings.ensures at c.in_ok-numbers.ensures) ∙ start_length d c.requires in
     let settings : c.in_ok-placed.placed.items ≡ laid_out d =
     c.in_ok-placed.ensures ∙ ap (λ z. z ++ c.in_ok-booleans.booleans.items) (rw c.settings-settings.ensures at c.in_ok-numbers.ensures)
     ∙ ap (λ z. in_bytes 0 (others_among d.settings) ++ z) (rw (c.settings-settings.ensures, start) at c.in_ok-booleans.ensures) in
-    c.new.ensures ∙ whole_group d _ (c.in_ok-copy.ensures ∙ c.name.ensures) settings start c.byte_count-size.ensures (c.in_ok-presets.ensures ∙ ap built_presets c.presets.ensures)
+    c.new.ensures ∙ whole_group d _ (c.in_ok-copy.ensures ∙ c.name.ensures) settings start c.byte_count-size.ensures
+    (c.in_ok-presets.ensures ∙ ap built_presets c.presets.ensures)

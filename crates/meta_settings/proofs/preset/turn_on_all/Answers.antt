@@ -15,8 +15,10 @@ loop-number-preserved c =
       so_far = λ size on.
           let before = c.loop-number.invariant.so_far size on in
           let within : start + b / 8 < size = let l = c.requires i 0 c.loop-number-test.true in let s = on.size_is in omega arith in
-          rw (c.turn_on.ensures, take_more numbers i 0 c.loop-number-test.true) (turned_on_more start (take i numbers) b size c.loop-number.layout within before);
+          rw (c.turn_on.ensures, take_more numbers i 0 c.loop-number-test.true)
+          (turned_on_more start (take i numbers) b size c.loop-number.layout within before);
     }
 
 pub returns : goal.returns
-returns c = λ size on. subst (λ numbers. IsLayoutOn c.args.start size numbers c.loop-number.layout) (take_all c.loop-number.number-index c.args.numbers.now c.loop-number-test.false) (c.loop-number.invariant.so_far size on)
+returns c = λ size on. subst (λ numbers. IsLayoutOn c.args.start size numbers c.loop-number.layout)
+    (take_all c.loop-number.number-index c.args.numbers.now c.loop-number-test.false) (c.loop-number.invariant.so_far size on)

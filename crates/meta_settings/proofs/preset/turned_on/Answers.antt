@@ -11,4 +11,6 @@ loop-arg-preserved c =
     ∙ ap firsts (sym (meant_more c.args.earlier.now c.args.args.now c.loop-arg.arg-index _ c.loop-arg-test.true c.arg-item.is))
 
 pub returns : goal.returns
-returns c = c.numbers.ensures ∙ c.loop-arg.invariant ∙ ap (λ args. firsts (flat_map (meant_by c.args.earlier.now) args)) (take_all c.loop-arg.arg-index c.args.args.now c.loop-arg-test.false)
+returns c = c.numbers.ensures ∙ c.loop-arg.invariant
+    ∙ ap (λ args. firsts (flat_map (meant_by c.args.earlier.now) args))
+    (take_all c.loop-arg.arg-index c.args.args.now c.loop-arg-test.false)

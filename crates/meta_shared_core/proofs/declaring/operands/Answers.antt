@@ -1,6 +1,6 @@
 use Rattle.std.proofs.Common.{subst, sym}
 use Rattle.std.proofs.lemmas.Result.{IfOk-from_err}
-use Rattle.meta_shared_core.specs.Rows.{AreOperandsOf}
+use Rattle.meta_shared_core.specs.Rows.{AreOperandsOfRows}
 use Rattle.meta_shared_core.proofs.Growing.{meant_grows, grows_more, grows_to, operands_grow}
 use Rattle.meta_shared_core.proofs.Made.{operands_more, derived_more}
 use Rattle.meta_shared_core.proofs.declaring.operands.Goals as goal
@@ -8,8 +8,11 @@ use Rattle.meta_shared_core.proofs.declaring.operands.Goals as goal
 pub loop-row-preserved : goal.loop-row-preserved
 loop-row-preserved c = record {
   meant = meant_grows c.in_ok-operand.ensures.grows c.loop-row.invariant.meant;
-  operands = subst (AreOperandsOf _ _ _) (sym c.in_ok-push.ensures.items) (operands_more _ _ c.args.rows.now c.loop-row.row-index _ _ _ c.loop-row-test.true (operands_grow _ _ _ c.in_ok-operand.ensures.grows c.loop-row.invariant.operands) c.in_ok-operand.ensures.operand);
-  grows = grows_to (derived_more c.args.rows.now c.loop-row.row-index _ c.loop-row-test.true) (grows_more c.loop-row.invariant.grows c.in_ok-operand.ensures.grows);
+  operands = subst (AreOperandsOfRows _ _ _) (sym c.in_ok-push.ensures.items)
+      (operands_more _ _ c.args.rows.now c.loop-row.row-index _ _ _ c.loop-row-test.true
+      (operands_grow _ _ _ c.in_ok-operand.ensures.grows c.loop-row.invariant.operands) c.in_ok-operand.ensures.operand);
+  grows = grows_to (derived_more c.args.rows.now c.loop-row.row-index _ c.loop-row-test.true)
+      (grows_more c.loop-row.invariant.grows c.in_ok-operand.ensures.grows);
 }
 
 pub returns-in_err-operand-clause-operands : goal.returns-in_err-operand-clause-operands

@@ -1,13 +1,15 @@
 use Rattle.std.proofs.lemmas.Result.{IfOk-from_err}
 use Rattle.meta_shared_core.proofs.Growing.{meant_grows, grows_more, grows_to}
-use Rattle.meta_shared_core.proofs.Made.{adds_one, rows_derive_more}
+use Rattle.meta_shared_core.proofs.Made.{adds_one_row, rows_derive_more}
 use Rattle.meta_shared_core.proofs.declaring.push_rows.Goals as goal
 
 pub loop-row-preserved : goal.loop-row-preserved
 loop-row-preserved c = record {
   meant = meant_grows c.in_ok-instruction.ensures.grows c.loop-row.invariant.meant;
-  adds = adds_one _ _ _ _ c.args.rows.now c.loop-row.row-index _ _ _ _ _ c.loop-row-test.true c.in_ok-instruction.ensures.grows c.loop-row.invariant.adds c.in_ok-instruction.ensures.builder c.in_ok-push.ensures;
-  grows = grows_to (rows_derive_more c.args.rows.now c.loop-row.row-index _ c.loop-row-test.true) (grows_more c.loop-row.invariant.grows c.in_ok-instruction.ensures.grows);
+  adds = adds_one_row _ _ _ _ c.args.rows.now c.loop-row.row-index _ _ _ _ _ c.loop-row-test.true
+      c.in_ok-instruction.ensures.grows c.loop-row.invariant.adds c.in_ok-instruction.ensures.builder c.in_ok-push.ensures;
+  grows = grows_to (rows_derive_more c.args.rows.now c.loop-row.row-index _ c.loop-row-test.true)
+      (grows_more c.loop-row.invariant.grows c.in_ok-instruction.ensures.grows);
 }
 
 pub returns-in_err-instruction-clause-rows : goal.returns-in_err-instruction-clause-rows

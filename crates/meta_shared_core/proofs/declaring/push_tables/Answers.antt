@@ -16,13 +16,17 @@ push_rows-requires-clause-room c =
     omega (arith, grown, here, all, room)
 
 pub push_rows-requires-clause-derivable : goal.push_rows-requires-clause-derivable
-push_rows-requires-clause-derivable c = table_derivable c.args.tables.now c.loop-rows.rows-index _ c.loop-rows-test.true c.requires.derivable
+push_rows-requires-clause-derivable c =
+    table_derivable c.args.tables.now c.loop-rows.rows-index _ c.loop-rows-test.true c.requires.derivable
 
 pub loop-rows-preserved : goal.loop-rows-preserved
 loop-rows-preserved c = record {
   meant = meant_grows c.in_ok-push_rows.ensures.grows c.loop-rows.invariant.meant;
-  adds = subst (λ rows. AddsRows c.push_rows.new.vars c.args.names.now rows c.args.all.now c.push_rows.new.all) (rows_in_more c.args.tables.now c.loop-rows.rows-index _ c.loop-rows-test.true) (adds_joined _ _ _ _ _ _ _ _ _ c.in_ok-push_rows.ensures.grows c.loop-rows.invariant.adds c.in_ok-push_rows.ensures.rows);
-  grows = grows_to (table_derives c.args.tables.now c.loop-rows.rows-index _ c.loop-rows-test.true) (grows_more c.loop-rows.invariant.grows c.in_ok-push_rows.ensures.grows);
+  adds = subst (λ rows. AddsRows c.push_rows.new.vars c.args.names.now rows c.args.all.now c.push_rows.new.all)
+      (rows_in_more c.args.tables.now c.loop-rows.rows-index _ c.loop-rows-test.true)
+      (adds_joined _ _ _ _ _ _ _ _ _ c.in_ok-push_rows.ensures.grows c.loop-rows.invariant.adds c.in_ok-push_rows.ensures.rows);
+  grows = grows_to (table_derives c.args.tables.now c.loop-rows.rows-index _ c.loop-rows-test.true)
+      (grows_more c.loop-rows.invariant.grows c.in_ok-push_rows.ensures.grows);
 }
 
 pub returns-in_err-push_rows-clause-rows : goal.returns-in_err-push_rows-clause-rows

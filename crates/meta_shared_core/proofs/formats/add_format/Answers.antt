@@ -7,7 +7,8 @@ use Rattle.meta_shared_core.proofs.formats.add_format.Goals as goal
 
 pub designating-requires : goal.designating-requires
 designating-requires c = subst (λ b. CanPlace b c.args.row.now.designated) (sym c.in_ok-builder.ensures)
-    (can_place c.args.imm.now c.args.entities.now c.new-builder.result c.args.row.now (ap (λ (f : InstructionFormat). f.typevar_operand) c.new-builder.ensures) c.requires.row)
+    (can_place c.args.imm.now c.args.entities.now c.new-builder.result c.args.row.now
+    (ap (λ (f : InstructionFormat). f.typevar_operand) c.new-builder.ensures) c.requires.row)
 
 pub returns-in_err-new-clause-number : goal.returns-in_err-new-clause-number
 returns-in_err-new-clause-number c = IfOk-from_err c.from_residual.result _ c.from_residual.ensures.0

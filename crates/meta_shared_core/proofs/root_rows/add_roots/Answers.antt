@@ -13,7 +13,8 @@ add_root-requires-clause-room c =
     omega (arith, rows, count, within)
 
 pub add_root-requires-clause-buildable : goal.add_root-requires-clause-buildable
-add_root-requires-clause-buildable c = passes_at can_build_row c.rows-rows.result.now c.loop-k.k _ c.rows-rows.ensures.buildable c.loop-k-test.true
+add_root-requires-clause-buildable c =
+    passes_at can_build_row c.rows-rows.result.now c.loop-k.k _ c.rows-rows.ensures.buildable c.loop-k-test.true
 
 pub loop-k-preserved : goal.loop-k-preserved
 loop-k-preserved c = subst (AreAdded _ _) (sym c.in_ok-push.ensures.items)

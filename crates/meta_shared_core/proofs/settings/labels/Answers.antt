@@ -11,13 +11,16 @@ pub returns-in_err-name-clause-comment : goal.returns-in_err-name-clause-comment
 returns-in_err-name-clause-comment c = IfOk-from_err c.from_residual.result _ c.from_residual.ensures.0
 
 pub returns-in_err-description-clause-name : goal.returns-in_err-description-clause-name
-returns-in_err-description-clause-name c = IfOk-from_err c.from_residual-in_err-description.result _ c.from_residual-in_err-description.ensures.0
+returns-in_err-description-clause-name c =
+    IfOk-from_err c.from_residual-in_err-description.result _ c.from_residual-in_err-description.ensures.0
 
 pub returns-in_err-description-clause-description : goal.returns-in_err-description-clause-description
-returns-in_err-description-clause-description c = IfOk-from_err c.from_residual-in_err-description.result _ c.from_residual-in_err-description.ensures.0
+returns-in_err-description-clause-description c =
+    IfOk-from_err c.from_residual-in_err-description.result _ c.from_residual-in_err-description.ensures.0
 
 pub returns-in_err-description-clause-comment : goal.returns-in_err-description-clause-comment
-returns-in_err-description-clause-comment c = IfOk-from_err c.from_residual-in_err-description.result _ c.from_residual-in_err-description.ensures.0
+returns-in_err-description-clause-comment c =
+    IfOk-from_err c.from_residual-in_err-description.result _ c.from_residual-in_err-description.ensures.0
 
 pub returns-in_err-new-clause-name : goal.returns-in_err-new-clause-name
 returns-in_err-new-clause-name c = IfOk-from_err c.from_residual-in_err-new.result _ c.from_residual-in_err-new.ensures.0

@@ -1,5 +1,12 @@
-use Rattle.meta_short.proofs.OneLine.{one_form}
+use Rattle.std.proofs.Common.{refl}
+use Rattle.meta_short.proofs.OneLine.{one_manner, one_form_in}
+use Rattle.meta_short.proofs.DeclaredLine.{one_manner_declared, one_form_declared}
 use Rattle.meta_short.proofs.laws.one_short_form.Goals as goal
 
 pub returns : goal.returns
-returns c = one_form
+returns c = record {
+  tables = one_form_in;
+  declared = one_form_declared;
+  manner_in_tables = λ tables name m n h k. one_manner tables name name m n refl h k;
+  manner_declared = one_manner_declared;
+}

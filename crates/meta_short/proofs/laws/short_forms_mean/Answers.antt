@@ -3,4 +3,8 @@ use Rattle.meta_short.proofs.Meaning.{short_means}
 use Rattle.meta_short.proofs.laws.short_forms_mean.Goals as goal
 
 pub returns : goal.returns
-returns c = record { manner = λ d tables made name m. (manner_means d tables made name m, manner_back d tables made name m); short = short_means }
+returns c = record {
+  manner = λ d tables made name m. (manner_means d tables made name m, manner_back d tables made name m);
+  short = λ d tables made env named. short_means d tables made env
+      (c.mistakes_mean.ensures.right d tables made.valid made.tables_of made.acceptance env named);
+}

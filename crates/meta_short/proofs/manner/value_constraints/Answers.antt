@@ -6,5 +6,8 @@ use Rattle.meta_short.proofs.manner.value_constraints.Goals as goal
 pub returns : goal.returns
 returns c =
     let e = c.args.entry in
-    part_of c.operand_constraints.result.now c.part.result.now c.args.tables.now.opcodes.operand_constraints (e.constraint_offset + c.result_count.result) c.value_count.result (e.constraint_offset + result_count e.flags) (value_count e.flags)
-    c.part.ensures (ap (λ n. e.constraint_offset + n) c.result_count.ensures.count) c.value_count.ensures.count c.operand_constraints.ensures
+    part_of c.operand_constraints.result.now c.constraints_from.result.now c.args.tables.now.opcodes.operand_constraints
+    (e.constraint_offset + c.result_count.result) c.value_count.result (e.constraint_offset + result_count e.flags)
+    (value_count e.flags)
+    c.constraints_from.ensures (ap (λ n. e.constraint_offset + n) c.result_count.ensures.count) c.value_count.ensures.count
+    c.operand_constraints.ensures

@@ -9,4 +9,5 @@ use Rattle.meta_short.proofs.print.push_line.Goals as goal
 pub returns-then-is_some-clause-wrong : goal.returns-then-is_some-clause-wrong
 returns-then-is_some-clause-wrong c = λ e.
     let states = subst (λ o. IfSome o (λ s. IsStatement c.args.line.now (stated s))) c.in-Some.is c.in_ok-statement.ensures.found in
-    wrong_by (AllowedReply c.args.tables.now.opcodes) (definitions c.args.checker.now) c.args.line.now (stated c.in-Some.statement) c.in_ok-mistake.field-0 c.if-is_some.ensures states c.in_ok-mistake.ensures.mistake
+    wrong_by (AllowedReply c.args.tables.now.opcodes) (definitions c.args.checker.now) c.args.line.now
+    (stated c.in-Some.statement) c.in_ok-mistake.field-0 c.if-is_some.ensures states c.in_ok-mistake.ensures.mistake

@@ -9,7 +9,9 @@ loop-k-preserved c =
     let rs = c.args.results.now in
     let opened = (manner_in c.args.manner.now).opened in
     let at = slice_get-get_or rs c.loop-k.k _ c.loop-k-test.true in
-    joined_next (string_bytes c.args.out.now) (result_texts opened rs) c.loop-k.k _ (text_at opened rs c.loop-k.k _ c.is_opened.result at c.is_opened.ensures) c.loop-k.invariant c.in_ok-push_comma.ensures c.in_ok-push_result.ensures
+    joined_next (string_bytes c.args.out.now) (result_texts opened rs) c.loop-k.k _
+    (text_at opened rs c.loop-k.k _ c.is_opened.result at c.is_opened.ensures) c.loop-k.invariant c.in_ok-push_comma.ensures
+    c.in_ok-push_result.ensures
 
 pub returns : goal.returns
 returns c =
@@ -17,4 +19,5 @@ returns c =
     let past = c.loop-k-test.false in
     let most = c.loop-k.auto.k-end in
     let all = texts_length opened c.args.results.now in
-    joined_all (string_bytes c.args.out.now) (result_texts opened c.args.results.now) c.loop-k.k (omega (arith, past, most, all)) c.loop-k.invariant
+    joined_all (string_bytes c.args.out.now) (result_texts opened c.args.results.now) c.loop-k.k
+    (omega (arith, past, most, all)) c.loop-k.invariant

@@ -9,4 +9,5 @@ pub loop-k-preserved : goal.loop-k-preserved
 loop-k-preserved c =
     let vs = c.args.values.now in
     let at = slice_get-get_or vs c.loop-k.k 0 c.loop-k-test.true in
-    joined_next (string_bytes c.args.out.now) (map value_text vs) c.loop-k.k _ (get_map value_text vs c.loop-k.k _ at) c.loop-k.invariant c.in_ok-push_comma.ensures c.in_ok-push_value.ensures
+    joined_next (string_bytes c.args.out.now) (map value_text vs) c.loop-k.k _
+    (get_map value_text vs c.loop-k.k _ at) c.loop-k.invariant c.in_ok-push_comma.ensures c.in_ok-push_value.ensures

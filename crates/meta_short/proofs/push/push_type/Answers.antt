@@ -9,7 +9,9 @@ use Rattle.meta_short.proofs.push.push_type.Goals as goal
 
 pub returns-in-Some : goal.returns-in-Some
 returns-in-Some c =
-    let same : type_parts_of c.in-Some.t ≡ type_with c.args.number = one_number (type_parts_of c.in-Some.t) (type_with c.args.number) (typed c.in-Some.t) c.requires.is_type (c.in-Some.ensures.found ∙ sym c.requires.numbered) in
+    let same : type_parts_of c.in-Some.t ≡ type_with c.args.number =
+    one_number (type_parts_of c.in-Some.t) (type_with c.args.number) (typed c.in-Some.t) c.requires.is_type (c.in-Some.ensures.found
+    ∙ sym c.requires.numbered) in
     on_ok_weaker c.write.result (λ e. e ∙ ap (λ t. string_bytes c.args.out.now ++ name_of t) same) c.write.ensures.bytes
 
 pub returns-in-None : goal.returns-in-None

@@ -1,6 +1,6 @@
-use Rattle.meta_synth.specs.Summary.{CountsTo, IsFound}
+use Rattle.meta_synth.specs.Summary.{CountsTo, IsFoundByName}
 use Rattle.meta_synth.proofs.counting.found_count.Given as goal
 
 -- how many of the opcodes so far
 abbrev pub invariant-loop-place : goal.invariant-loop-place
-invariant-loop-place l = CountsTo (IsFound l.tables.opcodes) l.place l.count
+invariant-loop-place l = CountsTo (IsFoundByName l.tables.opcodes) l.place l.count

@@ -16,13 +16,17 @@ returns-in-Some c =
     let values = c.value_count.ensures.count in
     let control = c.control_of-control.ensures in (
       λ e. takes t op n entry at
-          (subst (λ r. Allows t op (control_for entry.typeset_offset n) None (replicate r n) (replicate (value_count entry.flags) n)) results
+          (subst (λ r. Allows t op (control_for entry.typeset_offset n) None (replicate r n) (replicate (value_count entry.flags) n))
+          results
           (subst (λ v. Allows t op (control_for entry.typeset_offset n) None (replicate c.result_count.result n) (replicate v n)) values
-          (subst (λ k. Allows t op k None (replicate c.result_count.result n) (replicate c.value_count.result n)) control (c.accepts_all.ensures.0 e)))),
+          (subst (λ k. Allows t op k None (replicate c.result_count.result n) (replicate c.value_count.result n)) control
+          (c.accepts_all.ensures.0 e)))),
       λ h. c.accepts_all.ensures.1
           (subst (λ k. Allows t op k None (replicate c.result_count.result n) (replicate c.value_count.result n)) (sym control)
-          (subst (λ v. Allows t op (control_for entry.typeset_offset n) None (replicate c.result_count.result n) (replicate v n)) (sym values)
-          (subst (λ r. Allows t op (control_for entry.typeset_offset n) None (replicate r n) (replicate (value_count entry.flags) n)) (sym results) (taken t op n entry at h)))),
+          (subst (λ v. Allows t op (control_for entry.typeset_offset n) None (replicate c.result_count.result n) (replicate v n))
+          (sym values)
+          (subst (λ r. Allows t op (control_for entry.typeset_offset n) None (replicate r n) (replicate (value_count entry.flags) n))
+          (sym results) (taken t op n entry at h)))),
     )
 
 pub returns-in-None : goal.returns-in-None

@@ -16,7 +16,8 @@ instruction-requires-clause-room c = omega (arith, c.loop-place.invariant.few, c
 
 pub loop-place-preserved : goal.loop-place-preserved
 loop-place-preserved c = record {
-  instructions = one_more c.loop-place.invariant.instructions c.in_ok-builder.ensures.grows c.in_ok-builder.ensures.added (ap (λ k. k + 1) (sym c.loop-place.invariant.count)) c.in_ok-builder.ensures.instruction c.in_ok-push.ensures;
+  instructions = one_more c.loop-place.invariant.instructions c.in_ok-builder.ensures.grows c.in_ok-builder.ensures.added
+      (ap (λ k. k + 1) (sym c.loop-place.invariant.count)) c.in_ok-builder.ensures.instruction c.in_ok-push.ensures;
   count = omega (arith, one_longer _ _ _ c.in_ok-push.ensures, c.loop-place.invariant.count);
   few = omega (arith, extends_count c.in_ok-builder.ensures.grows, c.loop-place.invariant.few);
 }
@@ -25,7 +26,8 @@ pub new-requires-3 : goal.new-requires-3
 new-requires-3 c = all_fit c.in_ok-formats.ensures.added c.loop-place.invariant.instructions
 
 pub returns-clause-valid : goal.returns-clause-valid
-returns-clause-valid c = c.synth_is_valid.ensures c.args.n c.new-3.result (synth_made c.new-3.ensures c.new-2.ensures.items c.in_ok-formats.ensures.added c.loop-place.invariant.instructions
+returns-clause-valid c = c.synth_is_valid.ensures c.args.n c.new-3.result
+    (synth_made c.new-3.ensures c.new-2.ensures.items c.in_ok-formats.ensures.added c.loop-place.invariant.instructions
     (omega (arith, c.loop-place.invariant.count, c.loop-place-test.false, c.loop-place.auto.place-end))
     c.len-count.ensures.registry
     (omega (arith, c.loop-place.invariant.few, c.loop-place.auto.place-end)))
@@ -37,7 +39,8 @@ pub returns-in_err-formats-clause-valid : goal.returns-in_err-formats-clause-val
 returns-in_err-formats-clause-valid c = IfOk-from_err c.from_residual.result _ c.from_residual.ensures.0
 
 pub returns-in_err-builder-clause-declarations : goal.returns-in_err-builder-clause-declarations
-returns-in_err-builder-clause-declarations c = IfOk-from_err c.from_residual-in_err-builder.result _ c.from_residual-in_err-builder.ensures.0
+returns-in_err-builder-clause-declarations c =
+    IfOk-from_err c.from_residual-in_err-builder.result _ c.from_residual-in_err-builder.ensures.0
 
 pub returns-in_err-builder-clause-valid : goal.returns-in_err-builder-clause-valid
 returns-in_err-builder-clause-valid c = IfOk-from_err c.from_residual-in_err-builder.result _ c.from_residual-in_err-builder.ensures.0

@@ -1,7 +1,7 @@
 use Rattle.std.proofs.Common.{List, ◌∙◌, ℕ, ap, string_bytes}
-use Rattle.std.proofs.lemmas.Result.{IfOk-from_err}
+use Rattle.std.proofs.lemmas.Result.{IfOk-from_err, IfOk-weaker}
 use Rattle.meta_synth.specs.Summary.{lengths_text, summary_line}
-use Rattle.meta_synth.proofs.Summed.{ok_like, of_synth}
+use Rattle.meta_synth.proofs.Summed.{of_synth}
 use Rattle.meta_synth.proofs.report.summary.Goals as goal
 
 pub returns-clause-of_synth : goal.returns-clause-of_synth
@@ -9,8 +9,9 @@ returns-clause-of_synth c =
     let counts = c.of-counts.ensures in
     let found = c.of-counts.result.found in
     let accepted = c.of-counts.result.accepted in
-    let lengths = c.as_str.ensures.value ∙ c.in_ok-lengths.ensures ∙ (λ i. lengths_text (counts.opcodes i) (counts.type_sets i) (counts.constraints i) (counts.slots i)) in
-    ok_like c.line.result _ _ (λ line e d hold is made. of_synth c.args.n d c.args.tables.now (string_bytes line) hold is made (record {
+    let lengths = c.as_str.ensures.value ∙ c.in_ok-lengths.ensures
+    ∙ (λ i. lengths_text (counts.opcodes i) (counts.type_sets i) (counts.constraints i) (counts.slots i)) in
+    IfOk-weaker c.line.result _ _ (λ line e d hold is made. of_synth c.args.n d c.args.tables.now (string_bytes line) hold is made (record {
       found = found;
       are_found = counts.found;
       accepted = accepted;

@@ -58,4 +58,5 @@ pub returns-in_err-inputs-clause-added : goal.returns-in_err-inputs-clause-added
 returns-in_err-inputs-clause-added c = λ _ _. IfOk-from_err c.from_residual-in_err-inputs.result _ c.from_residual-in_err-inputs.ensures.0
 
 pub returns-in_err-outputs-clause-added : goal.returns-in_err-outputs-clause-added
-returns-in_err-outputs-clause-added c = λ _ _. IfOk-from_err c.from_residual-in_err-outputs.result _ c.from_residual-in_err-outputs.ensures.0
+returns-in_err-outputs-clause-added c =
+    λ _ _. IfOk-from_err c.from_residual-in_err-outputs.result _ c.from_residual-in_err-outputs.ensures.0

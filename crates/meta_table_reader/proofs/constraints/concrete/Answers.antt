@@ -8,5 +8,6 @@ use Rattle.meta_table_reader.proofs.constraints.concrete.Goals as goal
 pub returns : goal.returns
 returns c = λ n rest shown e.
     let t = type_with n in
-    let (read, left) = c.until-name.ensures (capitals t) (codes "),\n" ++ rest) (capitals_lack_parenthesis t shown.is_type) refl (e ∙ concrete_opened n rest shown) in
-    (ap ConcreteNumber (c.in_ok-number.ensures t shown.is_type read ∙ shown.numbered), c.pass.ensures rest left)
+    let (read, left) = c.until-name.ensures.item (capitals t) (codes "),\n" ++ rest) (capitals_lack_parenthesis t shown.is_type) refl (e
+    ∙ concrete_opened n rest shown) in
+    (ap ConcreteNumber (c.in_ok-number.ensures t shown.is_type read ∙ shown.numbered), c.pass.ensures.item rest left)

@@ -1,21 +1,15 @@
-use Rattle.std.proofs.Common.{◌==◌, Bool, sym, ap, ◌∙◌, arith}
-use Rattle.std.specs.Cmp.Lexicographic.{pointwise}
-use Rattle.meta_opcode_tables.specs.declared.constraint.Constraint.{Constraint}
-use Rattle.meta_opcode_tables.specs.declared.constraint.Constraint.TheVariants.{Concrete, Same}
-use Rattle.meta_opcode_tables.specs.Constraint.{number_constraint_of}
-use Rattle.meta_table_reader.specs.Words.{control_word}
-use Rattle.meta_table_reader.specs.declared.constraints.TheConstants.{OF_CONTROLS}
-use Rattle.meta_table_reader.proofs.Found.{found, passed_over}
+use Rattle.std.proofs.Common.{◌∙◌}
+use Rattle.meta_types.specs.DerivedFunc.{function_of}
+use Rattle.meta_inst.specs.Controls.{which_of}
+use Rattle.meta_table_reader.proofs.Controls.{named_by, named_same}
 use Rattle.meta_table_reader.proofs.constraints.constraint_named.Goals as goal
 
-pub returns-then-eq : goal.returns-then-eq
-returns-then-eq c =
-    let test : Constraint → Bool = λ x. pointwise ◌==◌ (control_word (number_constraint_of x)) c.args.word.now in
-    found test OF_CONTROLS c.loop-constraint.constraint-index (Concrete 0) (omega arith) Same _ c.loop-constraint.invariant
-    (sym (ap (λ t. pointwise ◌==◌ t c.args.word.now) (c.as_bytes.ensures.value ∙ c.control_word.ensures)) ∙ sym c.if-eq.ensures)
+pub returns-in-Some : goal.returns-in-Some
+returns-in-Some c = λ n is e.
+    c.from.ensures ∙ named_by n c.args.word.now c.split_mark-split.result.name.now
+    (which_of c.split_mark-split.result.which) (function_of c.in-Some.derived_func) is e c.split_mark-split.ensures c.in-Some.ensures.found
 
-pub loop-constraint-preserved : goal.loop-constraint-preserved
-loop-constraint-preserved c =
-    let test : Constraint → Bool = λ x. pointwise ◌==◌ (control_word (number_constraint_of x)) c.args.word.now in
-    passed_over test OF_CONTROLS c.loop-constraint.constraint-index (Concrete 0) (omega arith) _ c.loop-constraint.invariant
-    (sym (ap (λ t. pointwise ◌==◌ t c.args.word.now) (c.as_bytes.ensures.value ∙ c.control_word.ensures)) ∙ sym c.if-eq.ensures)
+pub returns-in-None : goal.returns-in-None
+returns-in-None c = λ n is e.
+    c.from-in-None.ensures ∙ named_same n c.args.word.now c.split_mark-split.result.name.now
+    (which_of c.split_mark-split.result.which) is e c.split_mark-split.ensures c.in-None.ensures.none

@@ -5,5 +5,5 @@ use Rattle.meta_table_reader.proofs.constraints.free.Goals as goal
 
 pub returns : goal.returns
 returns c = λ j rest small e.
-    let (set, left) = c.number_u16-set.ensures j (codes "),\n" ++ rest) small refl refl (e ∙ free_opened j rest) in
-    (ap FreeOf set, c.pass.ensures rest left)
+    let (set, left) = c.number_u16-set.ensures.item j (codes "),\n" ++ rest) small refl refl (e ∙ free_opened j rest) in
+    (ap FreeOf set, c.pass.ensures.item rest left)

@@ -9,7 +9,8 @@ use Rattle.meta_table_reader.proofs.constraints.type_number.Goals as goal
 pub returns-in-Some : goal.returns-in-Some
 returns-in-Some c = λ t is e.
     let name = c.as_slice.ensures.value ∙ c.in_ok-small.ensures ∙ ap (map small_letter) e ∙ come_back t is in
-    c.number.ensures ∙ ap number_of (c.names_differ.ensures (type_parts_of c.in-Some.found) t (typed c.in-Some.found) is (c.in-Some.ensures.found ∙ name))
+    c.number.ensures ∙ ap number_of (c.names_differ.ensures (type_parts_of c.in-Some.found) t (typed c.in-Some.found) is
+    (c.in-Some.ensures.found ∙ name))
 
 pub returns : goal.returns
 returns c = λ t is e.

@@ -4,7 +4,7 @@ use Rattle.meta_meaning.specs.Tables.{TableContents, OpcodeNumbers}
 use Rattle.meta_opcode_tables.specs.Constraint.{entry_of}
 use Rattle.meta_table_text.specs.declared.version.Version.{Version}
 use Rattle.meta_table_text.specs.OpcodeText.{flags_lines, entry_fields, entry_block, opcode_block}
-use Rattle.meta_cursor.proofs.Reading.{at_place}
+use Rattle.meta_cursor.proofs.Reading.{one_within}
 use Rattle.meta_table_reader.specs.Shown.{IsShownEntry, AreShownOpcodes}
 use Rattle.meta_table_reader.proofs.EntryBlocks.{block_at}
 use Rattle.meta_table_reader.proofs.ByOpcode.{behind, from_first, next_first, no_more, few_opcodes}
@@ -14,9 +14,10 @@ entry_some : (v : Version) (t : TableContents) (op : ℕ) (e : OpcodeNumbers) �
 unfolding entry_block entry_fields flags_lines
 entry_some v t op e = omega arith
 
-block_some : (v : Version) (t : TableContents) → AreShownOpcodes v t → (i : ℕ) → i < length t.entries → 1 ≤ length (opcode_block v t (suc i))
+block_some : (v : Version) (t : TableContents) → AreShownOpcodes v t → (i : ℕ) → i < length t.entries
+    → 1 ≤ length (opcode_block v t (suc i))
 block_some v t shown i within =
-    let (e, at, is_shown) = at_place (IsShownEntry v) t.entries i shown.entries within in
+    let (e, at, is_shown) = one_within (IsShownEntry v) t.entries i shown.entries within in
     rw (block_at v t i e at.there) (entry_some v t (suc i) e)
 
 pub loop-init : goal.loop-init
@@ -32,17 +33,27 @@ loop-preserved c = λ t rest shown count e.
     let f = opcode_block v t in
     let so_far = c.loop.invariant t rest shown count e in
     let within : i < c.args.count = omega (arith, c.loop-test.true, c.min-end.ensures) in
-    let (entry, at, is_shown) = at_place (IsShownEntry v) t.entries i shown.entries (omega (arith, within, count)) in
+    let (entry, at, is_shown) = one_within (IsShownEntry v) t.entries i shown.entries (omega (arith, within, count)) in
     let left = behind f (i + 1) (c.args.count - (i + 1)) ++ rest in
     let front = next_first f rest i c.args.count c.loop.cursor within so_far.1 ∙ ap (λ w. w ++ left) (block_at v t i entry at.there) in
-    let (read, after) = c.entry.ensures t (suc i) entry left shown.named.names shown.lists.constraints is_shown front in
-    (ap (map entry_of) c.in_ok-push.ensures.items ∙ map-append entry_of c.loop.entries.items (c.entry.result ∷ []) ∙ (λ k. so_far.0 k ++ read k ∷ []) ∙ sym at.taken, after)
+    let (read, after) = c.entry.ensures t (suc i) entry left shown.named.names shown.lists.constraints is_shown front in (
+      ap (map entry_of) c.in_ok-push.ensures.items ∙ map-append entry_of c.loop.entries.items (c.entry.result ∷ [])
+          ∙ (λ k. so_far.0 k ++ read k ∷ []) ∙ sym at.taken,
+      after,
+    )
 
 pub returns : goal.returns
 returns c = λ t rest shown count e.
     let i = c.loop.counter in
     let f = opcode_block c.args.version t in
     let few = few_opcodes f rest 0 c.args.count (λ k within. block_some c.args.version t shown k (omega (arith, within, count))) in
-    let past : c.args.count ≤ i = omega (arith, few, ap length (e ∙ ap (λ w. w ++ rest) (from_first f c.args.count)), c.loop-test.false, c.min-end.ensures, c.len.ensures) in
+    let past : c.args.count ≤ i = omega (
+      arith,
+      few,
+      ap length (e ∙ ap (λ w. w ++ rest) (from_first f c.args.count)),
+      c.loop-test.false,
+      c.min-end.ensures,
+      c.len.ensures,
+    ) in
     let so_far = c.loop.invariant t rest shown count e in
     (so_far.0 ∙ take_all i t.entries (omega (arith, past, count)), no_more f rest i c.args.count c.loop.cursor past so_far.1)

@@ -9,5 +9,7 @@ use Rattle.meta_table_reader.proofs.entries.blocks.Given as goal
 -- what is read, and what is left to read
 abbrev pub invariant-loop : goal.invariant-loop
 invariant-loop l =
-    (t : TableContents) (rest : List ℕ) → AreShownOpcodes l.version t → l.count ≡ length t.entries → l.initial.cursor ≡ each_opcode (opcode_block l.version t) l.count ++ rest
-    → (map entry_of l.entries.items ≡ take l.counter t.entries) × (l.cursor ≡ behind (opcode_block l.version t) l.counter (l.count - l.counter) ++ rest)
+    (t : TableContents) (rest : List ℕ) → AreShownOpcodes l.version t → l.count ≡ length t.entries
+    → l.initial.cursor ≡ each_opcode (opcode_block l.version t) l.count ++ rest
+    → (map entry_of l.entries.items ≡ take l.counter t.entries)
+    × (l.cursor ≡ behind (opcode_block l.version t) l.counter (l.count - l.counter) ++ rest)

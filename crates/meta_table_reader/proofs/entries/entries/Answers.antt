@@ -1,15 +1,18 @@
-use Rattle.std.proofs.Common.{◌++◌, length, codes, sym, ap, ◌∙◌, arith}
-use Rattle.std.specs.Fmt.{decimal}
+use Rattle.std.proofs.Common.{◌++◌, length, sym, ap, ◌∙◌, arith}
+use Rattle.meta_table_text.specs.declared.table_list.TableList.TheVariants.{Entries}
+use Rattle.meta_table_text.specs.Lists.{list_end}
 use Rattle.meta_table_text.specs.OpcodeText.{each_opcode, opcode_block}
-use Rattle.meta_table_text.specs.TableText.{line, list_head, entries_part}
+use Rattle.meta_table_text.specs.TableText.{entries_part}
 use Rattle.meta_table_reader.proofs.Heads.{list_grouped}
 use Rattle.meta_table_reader.proofs.entries.entries.Goals as goal
 
 pub returns : goal.returns
-unfolding entries_part list_head line
+unfolding entries_part
 returns c = λ t rest shown e.
     let n = length t.entries in
     let lines = each_opcode (opcode_block c.args.version t) n in
-    let (count, a) = c.list_count-count.ensures n (lines ++ (codes "];\n" ++ rest)) (let few = shown.named.few in omega (arith, few)) (e ∙ list_grouped (codes "// Table of opcode constraints.\nconst OPCODE_CONSTRAINTS: [OpcodeConstraints; ") (decimal n) lines (codes "];\n") rest) in
-    let (entries, b) = c.in_ok-entries.ensures t (codes "];\n" ++ rest) shown count (a ∙ ap (λ k. each_opcode (opcode_block c.args.version t) k ++ (codes "];\n" ++ rest)) (sym count)) in
-    (entries, c.pass.ensures rest b)
+    let (count, a) = c.list_count-count.ensures n (lines ++ (list_end ++ rest)) (let few = shown.named.few in omega (arith, few)) (e
+    ∙ list_grouped Entries n lines rest) in
+    let (entries, b) = c.in_ok-entries.ensures t (list_end ++ rest) shown count (a
+    ∙ ap (λ k. each_opcode (opcode_block c.args.version t) k ++ (list_end ++ rest)) (sym count)) in
+    (entries, c.skip_list_end.ensures rest b)

@@ -7,11 +7,12 @@ use Rattle.meta_table_reader.proofs.entries.entry.Goals as goal
 pub returns : goal.returns
 returns c = λ t op e rest named constraints shown is.
     let v = c.args.version in
-    let (flags, a) = c.hex-flags.ensures e.flags (at_set v t op e rest) shown.flags (is ∙ entry_opened v t op e rest) in
+    let (flags, a) = c.hex-flags.ensures.item e.flags (at_set v t op e rest) shown.flags (is ∙ entry_opened v t op e rest) in
     let (type_set, b) = c.type_set_place-typeset_offset.ensures e.typeset_offset (at_second v t op e rest) shown.type_set a in
     let (second, d) = c.second_place-second_offset.ensures e (at_place v t op e rest) shown.second_set b in
     let (place, f) = c.place-constraint_offset.ensures e.constraint_offset (at_lines v t op e rest) shown.constraints d in
-    let counted = (λ i. 4 + (c.control_lines-control.ensures.value ∙ ap control_lines type_set) i + (c.second_lines-second.ensures.value ∙ ap (second_lines v) second) i) ∙ lines_count v t op e in (
+    let counted = (λ i. 4 + (c.control_lines-control.ensures.value ∙ ap control_lines type_set) i
+    + (c.second_lines-second.ensures.value ∙ ap (second_lines v) second) i) ∙ lines_count v t op e in (
       λ i. record { flags = flags i; typeset_offset = type_set i; second_offset = second i; constraint_offset = place i },
-      c.skip_lines.ensures (block_lines v t op e) rest (lines_are v t op e named constraints) counted f,
+      c.skip_lines.ensures.item (block_lines v t op e) rest (lines_are v t op e named constraints) counted f,
     )

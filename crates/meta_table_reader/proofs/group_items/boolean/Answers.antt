@@ -5,5 +5,5 @@ use Rattle.meta_table_reader.proofs.group_items.boolean.Goals as goal
 
 pub returns : goal.returns
 returns c = λ bit rest small e.
-    let (read, left) = c.number_u8-bit.ensures bit (codes " }" ++ rest) small refl refl (e ∙ bool_opened bit rest) in
-    (ap ABool read, c.pass.ensures rest left)
+    let (read, left) = c.number_u8-bit.ensures.item bit (codes " }" ++ rest) small refl refl (e ∙ bool_opened bit rest) in
+    (ap ABool read, c.pass.ensures.item rest left)

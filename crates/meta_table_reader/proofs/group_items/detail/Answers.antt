@@ -7,22 +7,26 @@ use Rattle.meta_table_reader.proofs.group_items.detail.Goals as goal
 pub returns-then-kind-eq66 : goal.returns-then-kind-eq66
 returns-then-kind-eq66 c = λ d rest shown e.
     let (bit, same) = is_bool d rest (sym (ap (λ t. slice_index t 34) e) ∙ sym c.byte_at-kind.ensures ∙ c.if-kind-eq66.true) in
-    let (read, left) = c.boolean.ensures bit rest (subst IsShownDetail same shown) (e ∙ ap (λ d. codes ",\n        detail: " ++ (detail_text d ++ rest)) same) in
+    let (read, left) = c.boolean.ensures bit rest (subst IsShownDetail same shown) (e
+    ∙ ap (λ d. codes ",\n        detail: " ++ (detail_text d ++ rest)) same) in
     (read ∙ sym same, left)
 
 pub returns-then-kind-eq69 : goal.returns-then-kind-eq69
 returns-then-kind-eq69 c = λ d rest shown e.
-    let (last, enumerators, same) = is_enum d rest (sym (ap (λ t. slice_index t 34) e) ∙ sym c.byte_at-kind.ensures ∙ c.if-kind-eq69.true) in
-    let (read, left) = c.enumeration.ensures last enumerators rest (subst IsShownDetail same shown) (e ∙ ap (λ d. codes ",\n        detail: " ++ (detail_text d ++ rest)) same) in
+    let (last, enumerators, same) = is_enum d rest (sym (ap (λ t. slice_index t 34) e) ∙ sym c.byte_at-kind.ensures ∙ c.if-kind-eq69.true)
+    in
+    let (read, left) = c.enumeration.ensures last enumerators rest (subst IsShownDetail same shown) (e
+    ∙ ap (λ d. codes ",\n        detail: " ++ (detail_text d ++ rest)) same) in
     (read ∙ sym same, left)
 
 pub returns-then-kind-eq78 : goal.returns-then-kind-eq78
 returns-then-kind-eq78 c = λ d rest shown e.
     let same = is_num d rest (sym (ap (λ t. slice_index t 34) e) ∙ sym c.byte_at-kind.ensures ∙ c.if-kind-eq78.true) in
-    (sym same, c.pass.ensures rest (e ∙ ap (λ d. codes ",\n        detail: " ++ (detail_text d ++ rest)) same))
+    (sym same, c.pass.ensures.item rest (e ∙ ap (λ d. codes ",\n        detail: " ++ (detail_text d ++ rest)) same))
 
 pub returns : goal.returns
 returns c = λ d rest shown e.
     let kind = c.byte_at-kind.ensures ∙ ap (λ t. slice_index t 34) e in
-    let same = is_preset d rest (λ x. c.if-kind-eq66.false (kind ∙ x)) (λ x. c.if-kind-eq69.false (kind ∙ x)) (λ x. c.if-kind-eq78.false (kind ∙ x)) in
-    (sym same, c.pass-2.ensures rest (e ∙ ap (λ d. codes ",\n        detail: " ++ (detail_text d ++ rest)) same))
+    let same = is_preset d rest (λ x. c.if-kind-eq66.false (kind ∙ x)) (λ x. c.if-kind-eq69.false (kind ∙ x))
+    (λ x. c.if-kind-eq78.false (kind ∙ x)) in
+    (sym same, c.pass-2.ensures.item rest (e ∙ ap (λ d. codes ",\n        detail: " ++ (detail_text d ++ rest)) same))

@@ -5,5 +5,6 @@ use Rattle.meta_table_reader.proofs.group_items.enumerator.Goals as goal
 
 pub returns : goal.returns
 returns c = λ name rest is e.
-    let (read, left) = c.in_ok-name.ensures name (codes "\",\n" ++ rest) (name_ascii name is) (name_lacks_quote name is) refl (e ∙ enumerator_opened name rest) in
-    (read, c.pass.ensures rest left)
+    let (read, left) = c.in_ok-name.ensures.item name (codes "\",\n" ++ rest) (name_ascii name is) (name_lacks_quote name is) refl (e
+    ∙ enumerator_opened name rest) in
+    (read, c.pass.ensures.item rest left)

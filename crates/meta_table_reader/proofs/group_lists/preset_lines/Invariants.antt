@@ -9,6 +9,8 @@ use Rattle.meta_table_reader.proofs.group_lists.preset_lines.Given as goal
 -- what is read, and what is left to read
 abbrev pub invariant-loop : goal.invariant-loop
 invariant-loop l =
-    (booleans ds : List Descriptor) (ms rest : List ℕ) → All IsShownDescriptor booleans → All IsShownDescriptor ds → All (AreShownMasksOf l.size ms) ds → l.presets ≡ length ds
+    (booleans ds : List Descriptor) (ms rest : List ℕ) → All IsShownDescriptor booleans → All IsShownDescriptor ds
+    → All (AreShownMasksOf l.size ms) ds → l.presets ≡ length ds
     → l.initial.cursor ≡ flat_map (preset_text booleans l.size ms) ds ++ rest
-    → (l.masks.items ≡ flat_map (λ (d : Descriptor). masks_from l.size ms d.offset) (take l.counter ds)) × (l.cursor ≡ flat_map (preset_text booleans l.size ms) (drop l.counter ds) ++ rest)
+    → (l.masks.items ≡ flat_map (λ (d : Descriptor). masks_from l.size ms d.offset) (take l.counter ds))
+    × (l.cursor ≡ flat_map (preset_text booleans l.size ms) (drop l.counter ds) ++ rest)

@@ -2,7 +2,7 @@ use Rattle.std.proofs.Common.{ℕ, ◌+◌, ◌<◌, ◌≤◌, [], ◌∷◌, �
 use Rattle.std.specs.List.{flat_map}
 use Rattle.std.proofs.lemmas.List.{take_all}
 use Rattle.meta_table_text.specs.GroupItems.{pair_text}
-use Rattle.meta_cursor.proofs.Reading.{at_place, front, none_left, few_items}
+use Rattle.meta_cursor.proofs.Reading.{one_within, front, only_rest_left, few_items}
 use Rattle.meta_table_reader.specs.ShownGroup.{IsByte}
 use Rattle.meta_table_reader.proofs.group_lists.push_masks.Goals as goal
 
@@ -18,10 +18,14 @@ loop-preserved c = λ ms rest all count e.
     let i = c.loop.counter in
     let so_far = c.loop.invariant ms rest all count e in
     let within : i < length ms = omega (arith, c.loop-test.true, c.min-end.ensures, count) in
-    let (mask, at, small) = at_place IsByte ms i all within in
-    let (read, left) = c.pair.ensures mask (flat_map pair_text (drop (i + 1) ms) ++ rest) small (front pair_text ms rest c.loop.cursor i mask at so_far.1) in
-    let before = c.args.masks.now.items in
-    (c.in_ok-push.ensures.items ∙ (λ k. so_far.0 k ++ read k ∷ []) ∙ append_assoc before (take i ms) (mask ∷ []) ∙ ap (λ w. before ++ w) (sym at.taken), left)
+    let (mask, at, small) = one_within IsByte ms i all within in
+    let (read, left) = c.pair.ensures mask (flat_map pair_text (drop (i + 1) ms) ++ rest) small
+    (front pair_text ms rest c.loop.cursor i mask at so_far.1) in
+    let before = c.args.masks.now.items in (
+      c.in_ok-push.ensures.items ∙ (λ k. so_far.0 k ++ read k ∷ []) ∙ append_assoc before (take i ms) (mask ∷ [])
+          ∙ ap (λ w. before ++ w) (sym at.taken),
+      left,
+    )
 
 pub returns : goal.returns
 returns c = λ ms rest all count e.
@@ -29,4 +33,4 @@ returns c = λ ms rest all count e.
     let so_far = c.loop.invariant ms rest all count e in
     let few = few_items pair_text ms (λ k d within. pair_some (get_or ms k d)) rest in
     let past : length ms ≤ i = omega (arith, few, ap length e, c.loop-test.false, c.min-end.ensures, c.len.ensures, count) in
-    (so_far.0 ∙ ap (λ w. c.args.masks.now.items ++ w) (take_all i ms past), none_left pair_text ms rest i c.loop.cursor past so_far.1)
+    (so_far.0 ∙ ap (λ w. c.args.masks.now.items ++ w) (take_all i ms past), only_rest_left pair_text ms rest i c.loop.cursor past so_far.1)

@@ -1,6 +1,6 @@
 use Rattle.std.proofs.Common.{◌<◌, ◌≤◌, ◌+◌, ◌++◌, length, get_or, ap, drop, arith}
 use Rattle.std.specs.List.{flat_map}
-use Rattle.meta_cursor.proofs.Reading.{at_place, front, one_more, all_read, few_items}
+use Rattle.meta_cursor.proofs.Reading.{one_within, front, one_more_read, all_read, few_items}
 use Rattle.meta_table_reader.proofs.item.items.Goals as goal
 
 pub loop-init : goal.loop-init
@@ -12,9 +12,11 @@ loop-preserved g c = λ items rest shown count e.
     let i = c.loop.counter in
     let read = c.loop.invariant items rest shown count e in
     let within : i < length items = omega (arith, c.loop-test.true, c.min-end.ensures) in
-    let (item, at, is_shown) = at_place g.T.Item.IsShown items i shown within in
-    let (same, left) = c.in_ok-read.ensures item (flat_map text (drop (i + 1) items) ++ rest) is_shown (front text items rest c.loop.cursor i item at read.left) in
-    one_more text items rest i item c.in_ok-read.field-0 c.loop.items.items c.push.new.self.items c.loop.cursor c.read.new.cursor at read c.in_ok-push.ensures.items same left
+    let (item, at, is_shown) = one_within g.T.Item.IsShown items i shown within in
+    let (same, left) = c.in_ok-read.ensures item (flat_map text (drop (i + 1) items) ++ rest) is_shown
+    (front text items rest c.loop.cursor i item at read.left) in
+    one_more_read text items rest i item c.in_ok-read.field-0 c.loop.items.items c.push.new.self.items c.loop.cursor
+    c.read.new.cursor at read c.in_ok-push.ensures.items same left
 
 pub returns : goal.returns
 returns g c = λ items rest shown count e.

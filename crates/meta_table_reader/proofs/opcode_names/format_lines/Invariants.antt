@@ -10,4 +10,5 @@ abbrev pub invariant-loop : goal.invariant-loop
 invariant-loop l =
     (t : TableContents) (rest : List ℕ) → All IsName t.names → All IsName t.formats → l.count ≡ length t.names → l.count ≡ length t.formats
     → l.initial.cursor ≡ each_opcode (format_line t) l.count ++ rest
-    → (l.names.items ≡ take l.counter t.names) × (l.formats.items ≡ take l.counter t.formats) × (l.cursor ≡ behind (format_line t) l.counter (l.count - l.counter) ++ rest)
+    → (l.names.items ≡ take l.counter t.names) × (l.formats.items ≡ take l.counter t.formats)
+    × (l.cursor ≡ behind (format_line t) l.counter (l.count - l.counter) ++ rest)

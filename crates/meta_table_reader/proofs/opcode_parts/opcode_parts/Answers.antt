@@ -14,7 +14,8 @@ returns c = λ t rest shown e.
     let at_constraints = constraints_part t ++ at_entries in
     let at_sets = sets_part t ++ at_constraints in
     let at_slots = slots_part t ++ at_sets in
-    let first = c.skip_line.ensures (version_line v) (formats_part t ++ at_slots) (version_is_line v) (e ∙ regroup (version_line v) (formats_part t) (slots_part t) (sets_part t) (constraints_part t) (entries_part v t) rest) in
+    let first = c.skip_line.ensures.item (version_line v) (formats_part t ++ at_slots) (version_is_line v) (e
+    ∙ regroup (version_line v) (formats_part t) (slots_part t) (sets_part t) (constraints_part t) (entries_part v t) rest) in
     let (names, formats, a) = c.in_ok-names.ensures t at_slots shown.named first in
     let b = c.skip_slots.ensures t at_sets shown.named.names shown.lists.few_slots a in
     let (type_sets, d) = c.in_ok-type_sets.ensures t at_entries shown.lists b in

@@ -8,9 +8,11 @@ pub returns-then-title-eq118 : goal.returns-then-title-eq118
 returns-then-title-eq118 c =
     IfOk-weaker c.sets_list.result _ _
     (λ v is t rest shown e.
-    ⊎_elim (λ (none, empty, here). absurd (omega (arith, none, c.byte_at-title.ensures, c.if-title-eq118.true))) (λ (some, here). is t (constraints_part t ++ rest) shown here) (sets_cases t rest c.args.cursor.now e))
+    ⊎_elim (λ (none, empty, here). absurd (omega (arith, none, c.byte_at-title.ensures, c.if-title-eq118.true)))
+    (λ (some, here). is t (constraints_part t ++ rest) shown here) (sets_cases t rest c.args.cursor.now e))
     c.sets_list.ensures
 
 pub returns : goal.returns
 returns c = λ t rest shown e.
-    ⊎_elim (λ (none, empty, here). (c.new.ensures.items ∙ sym empty, here)) (λ (some, here). absurd (c.if-title-eq118.false (c.byte_at-title.ensures ∙ some))) (sets_cases t rest c.args.cursor.now e)
+    ⊎_elim (λ (none, empty, here). (c.new.ensures.items ∙ sym empty, here))
+    (λ (some, here). absurd (c.if-title-eq118.false (c.byte_at-title.ensures ∙ some))) (sets_cases t rest c.args.cursor.now e)

@@ -5,4 +5,5 @@ use Rattle.meta_table_reader.proofs.template.bytes.Given as goal
 
 -- what is read, and what is left to read
 abbrev pub invariant-loop : goal.invariant-loop
-invariant-loop l = (bs : List ℕ) → All IsByte bs → l.shown ≡ bytes_text bs → (l.bytes.items ≡ take l.counter bs) × (l.cursor ≡ bytes_text (drop l.counter bs))
+invariant-loop l = (bs : List ℕ) → All IsByte bs → l.shown ≡ bytes_text bs
+    → (l.bytes.items ≡ take l.counter bs) × (l.cursor ≡ bytes_text (drop l.counter bs))

@@ -10,7 +10,8 @@ returns c =
     IfOk-weaker c.bytes.result _ _
     (λ v is name bs rest named all e.
     let shown = bytes_text bs in
-    let a = c.skip_lines.ensures (template_lines name) (before_defaults ++ (shown ++ (behind_defaults ++ rest))) (template_lines_are name named) refl (e ∙ template_opened name shown rest) in
-    let (read, left) = c.until-shown.ensures shown (behind_defaults ++ rest) (bytes_lack bs all) refl a in
-    (is bs all read, c.pass.ensures rest left))
+    let a = c.skip_lines.ensures.item (template_lines name) (before_defaults ++ (shown ++ (behind_defaults ++ rest)))
+    (template_lines_are name named) refl (e ∙ template_opened name shown rest) in
+    let (read, left) = c.until-shown.ensures.item shown (behind_defaults ++ rest) (bytes_lack bs all) refl a in
+    (is bs all read, c.pass.ensures.item rest left))
     c.bytes.ensures

@@ -7,4 +7,6 @@ use Rattle.meta_table_text.specs.ConstraintText.{quoted}
 use Rattle.meta_table_text.proofs.constraint_text.push_quoted_all.Given as goal
 
 abbrev pub invariant-loop-constraint : goal.invariant-loop-constraint
-invariant-loop-constraint l = shadow (Utf8 l.before) × (string_bytes l.out ++ parted_behind l.before (map quoted (map number_constraint_of (drop l.constraint-index l.constraints))) ≡ string_bytes l.initial.out ++ parted_behind [] (map quoted (map number_constraint_of l.constraints)))
+invariant-loop-constraint l = shadow (Utf8 l.before)
+    × (string_bytes l.out ++ parted_behind l.before (map quoted (map number_constraint_of (drop l.constraint-index l.constraints)))
+    ≡ string_bytes l.initial.out ++ parted_behind [] (map quoted (map number_constraint_of l.constraints)))

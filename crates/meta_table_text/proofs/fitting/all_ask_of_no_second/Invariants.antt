@@ -5,4 +5,5 @@ use Rattle.meta_table_text.specs.Fits.{asks_of_no_second}
 use Rattle.meta_table_text.proofs.fitting.all_ask_of_no_second.Given as goal
 
 abbrev pub invariant-loop-constraint : goal.invariant-loop-constraint
-invariant-loop-constraint l = list_all asks_of_no_second (map number_constraint_of (drop l.constraint-index l.constraints)) ≡ list_all asks_of_no_second (map number_constraint_of l.constraints)
+invariant-loop-constraint l = list_all asks_of_no_second (map number_constraint_of (drop l.constraint-index l.constraints))
+    ≡ list_all asks_of_no_second (map number_constraint_of l.constraints)

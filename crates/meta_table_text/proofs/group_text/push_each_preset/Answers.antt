@@ -1,4 +1,5 @@
-use Rattle.std.proofs.Common.{◌≡◌, ◌+◌, ◌++◌, append_assoc, length, drop, flat_map, slice_get, Some, refl, sym, ap, ◌∙◌, string_bytes, arith}
+use Rattle.std.proofs.Common.{◌≡◌, ◌+◌, ◌++◌, append_assoc, length, drop, flat_map, slice_get, Some, refl, sym, ap, ◌∙◌, string_bytes}
+use Rattle.std.proofs.Common.{arith}
 use Rattle.std.proofs.lemmas.Option.{slice_get_read}
 use Rattle.meta_lists.proofs.Places.{drop_next}
 use Rattle.meta_setting_tables.specs.declared.descriptor.Descriptor.{Descriptor}
@@ -12,11 +13,15 @@ loop-k-preserved c =
     let k = c.loop-k.k in
     let entries = c.descriptors-entries.result.now in
     let d = c.index-entries-k.result in
-    let there : slice_get g.descriptors k ≡ Some d = ap (λ w. slice_get w k) (sym c.descriptors-entries.ensures.entries) ∙ slice_get_read entries (length entries) k d refl c.loop-k-test.true c.index-entries-k.is in
+    let there : slice_get g.descriptors k ≡ Some d = ap (λ w. slice_get w k) (sym c.descriptors-entries.ensures.entries)
+    ∙ slice_get_read entries (length entries) k d refl c.loop-k-test.true c.index-entries-k.is in
     let text = preset_text g.descriptors (length g.defaults) g.preset_masks in
     let left = flat_map text (presets_in (drop (k + 1) g.descriptors)) in
-    let next = ap (λ es. flat_map text (presets_in es)) (drop_next g.descriptors k d there) ∙ entry_written text d (drop (k + 1) g.descriptors) in
-    ap (λ t. t ++ left) (c.in_ok-push_entry.ensures d there (c.as_str.ensures ∙ ap (λ (x : Descriptor). x.name) (sym c.index-entries-k.is))) ∙ append_assoc (string_bytes c.loop-k.out) _ left ∙ ap (λ t. string_bytes c.loop-k.out ++ t) (sym next) ∙ c.loop-k.invariant
+    let next = ap (λ es. flat_map text (presets_in es)) (drop_next g.descriptors k d there)
+    ∙ entry_written text d (drop (k + 1) g.descriptors) in
+    ap (λ t. t ++ left) (c.in_ok-push_entry.ensures d there (c.as_str.ensures
+    ∙ ap (λ (x : Descriptor). x.name) (sym c.index-entries-k.is))) ∙ append_assoc (string_bytes c.loop-k.out) _ left
+    ∙ ap (λ t. string_bytes c.loop-k.out ++ t) (sym next) ∙ c.loop-k.invariant
 
 pub returns : goal.returns
 returns c =
@@ -25,4 +30,5 @@ returns c =
     let count = ap length c.descriptors-entries.ensures.entries in
     let past = c.loop-k-test.false in
     let none = none_left g.descriptors c.loop-k.k (omega (arith, count, past)) in
-    all_is (string_bytes c.args.out.now) (flat_map text (presets_in g.descriptors)) _ _ c.loop-k.invariant (ap (λ es. flat_map text (presets_in es)) none)
+    all_is (string_bytes c.args.out.now) (flat_map text (presets_in g.descriptors)) _ _ c.loop-k.invariant
+    (ap (λ es. flat_map text (presets_in es)) none)

@@ -5,5 +5,7 @@ use Rattle.meta_table_text.proofs.group_text.push_each_preset.Given as goal
 -- what is written, and then what is left to write
 abbrev pub invariant-loop-k : goal.invariant-loop-k
 invariant-loop-k l =
-    string_bytes l.out ++ flat_map (preset_text l.group.descriptors (length l.group.defaults) l.group.preset_masks) (presets_in (drop l.k l.group.descriptors))
-    ≡ string_bytes l.initial.out ++ flat_map (preset_text l.group.descriptors (length l.group.defaults) l.group.preset_masks) (presets_in l.group.descriptors)
+    string_bytes l.out ++ flat_map (preset_text l.group.descriptors (length l.group.defaults) l.group.preset_masks)
+    (presets_in (drop l.k l.group.descriptors))
+    ≡ string_bytes l.initial.out ++ flat_map (preset_text l.group.descriptors (length l.group.defaults) l.group.preset_masks)
+    (presets_in l.group.descriptors)

@@ -9,7 +9,7 @@ returns c =
     let e = c.args.entry in
     let n = result_count e.flags + value_count e.flags in
     let held = c.operand_constraints.result.now in
-    ap (map number_constraint_of) c.part.ensures
+    ap (map number_constraint_of) c.constraints_from.ensures
     ∙ ap (λ k. map number_constraint_of (take (k + c.value_count.result) (drop e.constraint_offset held))) c.result_count.ensures.count
     ∙ ap (λ k. map number_constraint_of (take (result_count e.flags + k) (drop e.constraint_offset held))) c.value_count.ensures.count
     ∙ sym (take-map number_constraint_of n (drop e.constraint_offset held))

@@ -1,9 +1,9 @@
 use Rattle.std.proofs.Common.{string_bytes}
 use Rattle.std.proofs.lemmas.Result.{on_ok_weaker}
+use Rattle.meta_lists.proofs.Joined.{three}
 use Rattle.meta_opcode_tables.specs.Constraint.{entry_of}
 use Rattle.meta_table_text.specs.TypeSetText.{block_end}
 use Rattle.meta_table_text.specs.OpcodeText.{entry_fields, entry_comments, entry_block}
-use Rattle.meta_table_text.proofs.Chains.{three}
 use Rattle.meta_table_text.proofs.opcode_block.push_entry.Goals as goal
 
 pub returns : goal.returns

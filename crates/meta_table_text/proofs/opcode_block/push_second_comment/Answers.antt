@@ -7,10 +7,14 @@ use Rattle.meta_table_text.proofs.opcode_block.push_second_comment.Goals as goal
 
 pub returns-in-One : goal.returns-in-One
 returns-in-One c =
-    sym (append-nil (string_bytes c.args.out.now)) ∙ ap (λ text. string_bytes c.args.out.now ++ text) (sym (second_hidden c.args.version c.args.tables.now.opcodes (entry_of c.args.entry) c.in-One.is))
+    sym (append-nil (string_bytes c.args.out.now))
+    ∙ ap (λ text. string_bytes c.args.out.now ++ text)
+    (sym (second_hidden c.args.version c.args.tables.now.opcodes (entry_of c.args.entry) c.in-One.is))
 
 pub returns-in-Two : goal.returns-in-Two
 unfolding second_comment
 returns-in-Two c =
-    let shown = second_shown c.args.version c.args.tables.now.opcodes (entry_of c.args.entry) (control_comment c.args.tables.now.opcodes (codes "Second control over ") c.args.entry.second_offset) refl refl c.in-Two.is in
-    on_ok_weaker c.push_control_comment.result (λ e. e ∙ ap (λ text. string_bytes c.args.out.now ++ text) (sym shown)) c.push_control_comment.ensures
+    let shown = second_shown c.args.version c.args.tables.now.opcodes (entry_of c.args.entry)
+    (control_comment c.args.tables.now.opcodes (codes "Second control over ") c.args.entry.second_offset) refl refl c.in-Two.is in
+    on_ok_weaker c.push_control_comment.result (λ e. e
+    ∙ ap (λ text. string_bytes c.args.out.now ++ text) (sym shown)) c.push_control_comment.ensures

@@ -8,5 +8,7 @@ pub returns : goal.returns
 unfolding format_line
 returns c =
     on_ok_weaker c.write.result
-    (λ e. e ∙ ap₂ (λ format name. string_bytes c.args.out.now ++ text_of (at 1 (codes "InstructionFormat::" ∷ (format ∷ (codes ", // " ∷ (name ∷ [])))) ∷ [])) c.format_of-format.ensures c.name_of-name.ensures)
+    (λ e. e ∙ ap₂ (λ format name. string_bytes c.args.out.now
+    ++ text_of (at 1 (codes "InstructionFormat::" ∷ format ∷ codes ", // " ∷ name ∷ []) ∷ [])) c.format_of-format.ensures
+    c.name_of-name.ensures)
     c.write.ensures.bytes

@@ -8,5 +8,6 @@ pub returns : goal.returns
 unfolding slot_line
 returns c =
     rw c.in-Some.is (on_ok_weaker c.write.result
-    (λ e. e ∙ ap (λ name. string_bytes c.args.out.now ++ text_of (at 1 (codes "Some(Opcode::" ∷ (name ∷ (codes ")," ∷ []))) ∷ [])) (c.as_str-name.ensures ∙ c.in_ok-camel.ensures))
+    (λ e. e ∙ ap (λ name. string_bytes c.args.out.now ++ text_of
+    (at 1 (codes "Some(Opcode::" ∷ name ∷ codes ")," ∷ []) ∷ [])) (c.as_str-name.ensures ∙ c.in_ok-camel.ensures))
     c.write.ensures.bytes)

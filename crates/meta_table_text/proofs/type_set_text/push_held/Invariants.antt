@@ -6,4 +6,6 @@ use Rattle.meta_table_text.specs.TypeSetText.{parted_behind, held}
 use Rattle.meta_table_text.proofs.type_set_text.push_held.Given as goal
 
 abbrev pub invariant-loop-number : goal.invariant-loop-number
-invariant-loop-number l = shadow (Utf8 l.before) × (string_bytes l.out ++ parted_behind l.before (map decimal (held l.mask (drop l.number-index l.numbers))) ≡ string_bytes l.initial.out ++ parted_behind [] (map decimal (held l.mask l.numbers)))
+invariant-loop-number l = shadow (Utf8 l.before)
+    × (string_bytes l.out ++ parted_behind l.before (map decimal (held l.mask (drop l.number-index l.numbers)))
+    ≡ string_bytes l.initial.out ++ parted_behind [] (map decimal (held l.mask l.numbers)))

@@ -6,4 +6,5 @@ use Rattle.meta_text.proofs.line_writer.put_fields.Given as goal
 
 -- the fields that are left are still to be written
 abbrev pub invariant-loop-field : goal.invariant-loop-field
-invariant-loop-field g l = Writing g.K.Sink.taken g.K.Sink.faults (flat_map behind_comma l.fields) (flat_map behind_comma (drop l.field-index l.fields)) l.initial.sink l.sink
+invariant-loop-field g l = Writing g.K.Sink.taken g.K.Sink.faults (flat_map behind_comma l.fields)
+    (flat_map behind_comma (drop l.field-index l.fields)) l.initial.sink l.sink

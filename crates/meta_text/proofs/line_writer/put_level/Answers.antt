@@ -9,7 +9,8 @@ pub loop-left-preserved : goal.loop-left-preserved
 loop-left-preserved g c = goes_on (left_as (one_level _ c.loop-left-test.true) c.loop-left.invariant) c.in_ok-put.ensures
 
 pub returns-in_err-put : goal.returns-in_err-put
-returns-in_err-put g c = stops _ c.from_residual.ensures.1 (left_as (one_level _ c.loop-left-test.true) c.loop-left.invariant) c.in_err-put.ensures
+returns-in_err-put g c = stops _ c.from_residual.ensures.1
+    (left_as (one_level _ c.loop-left-test.true) c.loop-left.invariant) c.in_err-put.ensures
 
 pub returns : goal.returns
 returns g c = all_written c.loop-left.invariant (no_level _ c.loop-left-test.false)

@@ -7,5 +7,6 @@ pub loop-rest-preserved : goal.loop-rest-preserved
 loop-rest-preserved g c = record {
   taken = rw c.split_at.ensures.back (took_next _ _ _ _ _ _ c.loop-rest.invariant.taken c.in-Wrote.ensures.wrote);
   counted = omega (arith, c.in-Wrote.ensures.counted, c.loop-rest.invariant.counted);
-  no_bytes = λ none. absurd (took_of_none _ _ _ _ _ c.loop-rest.invariant.taken none c.in-Wrote.ensures.in_range.0 c.in-Wrote.ensures.in_range.1);
+  no_bytes =
+      λ none. absurd (took_of_none _ _ _ _ _ c.loop-rest.invariant.taken none c.in-Wrote.ensures.in_range.0 c.in-Wrote.ensures.in_range.1);
 }

@@ -4,12 +4,16 @@ use Rattle.meta_types.proofs.type_name.type_number.Goals as goal
 
 pub returns-in_err-code-clause-none : goal.returns-in_err-code-clause-none
 returns-in_err-code-clause-none c =
-    rw c.from_residual.ensures (no_lane c.args.name.now _ _ _ c.lane_len.ensures.length c.split_at.ensures.front c.split_at.ensures.back (sym c.in_err-code.ensures.code))
+    rw c.from_residual.ensures
+    (no_lane c.args.name.now _ _ _ c.lane_len.ensures.length c.split_at.ensures.front c.split_at.ensures.back
+    (sym c.in_err-code.ensures.code))
 
 pub returns-in_err-row-clause-none : goal.returns-in_err-row-clause-none
 returns-in_err-row-clause-none c =
-    rw c.from_residual-in_err-row.ensures (no_row c.args.name.now _ _ _ c.lane_len.ensures.length c.split_at.ensures.front c.split_at.ensures.back (sym c.in_err-row.ensures.row))
+    rw c.from_residual-in_err-row.ensures
+    (no_row c.args.name.now _ _ _ c.lane_len.ensures.length c.split_at.ensures.front c.split_at.ensures.back (sym c.in_err-row.ensures.row))
 
 pub returns-clause-found : goal.returns-clause-found
 returns-clause-found c =
-    named_by c.args.name.now _ _ _ c.lane_len.ensures.length c.split_at.ensures.front c.split_at.ensures.back c.in_ok-code.code c.in_ok-row.row (sym c.in_ok-code.ensures.code) (sym c.in_ok-row.ensures.row)
+    named_by c.args.name.now _ _ _ c.lane_len.ensures.length c.split_at.ensures.front c.split_at.ensures.back
+    c.in_ok-code.code c.in_ok-row.row (sym c.in_ok-code.ensures.code) (sym c.in_ok-row.ensures.row)

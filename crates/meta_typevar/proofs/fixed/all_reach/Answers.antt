@@ -14,6 +14,7 @@ returns-then-not-member_reaches c = (
 
 pub returns : goal.returns
 returns c = (
-  (λ _ r h from. let high = (number_between r h.is_type).1 in c.loop-number.invariant r h from (omega (arith, high, c.loop-number-test.false))),
+  (λ _ r h from. let high = (number_between r h.is_type).1 in
+      c.loop-number.invariant r h from (omega (arith, high, c.loop-number-test.false))),
   (λ _. refl),
 )

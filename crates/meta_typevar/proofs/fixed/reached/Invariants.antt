@@ -7,4 +7,6 @@ use Rattle.meta_typevar.proofs.fixed.reached.Given as goal
 
 -- what is left of the chain leads from the type so far where the whole leads from the first
 abbrev pub invariant-loop-derived_func : goal.invariant-loop-derived_func
-invariant-loop-derived_func l = (x : TypeParts) → (Reaches (functions_of (drop l.derived_func-index l.fn.chain)) (type_parts_of l.t) x ↔ Reaches (functions_of l.fn.chain) (type_parts_of l.fn.r) x)
+invariant-loop-derived_func l = (x : TypeParts)
+    → (Reaches (functions_of (drop l.derived_func-index l.fn.chain)) (type_parts_of l.t) x
+    ↔ Reaches (functions_of l.fn.chain) (type_parts_of l.fn.r) x)

@@ -14,7 +14,12 @@ pub by-requires : goal.by-requires
 by-requires c = one_or_more c.args.lanes c.requires
 
 pub loop-lane_type-preserved : goal.loop-lane_type-preserved
-loop-lane_type-preserved c = pushed_more type_parts_of (λ (x : LaneType). lanes_of (lane_parts x) c.args.lanes) c.args.lane_types.now c.loop-lane_type.lane_type-index _ _ _ _ _ c.loop-lane_type-test.true c.in_ok-push.ensures.items c.by.ensures c.loop-lane_type.invariant
+loop-lane_type-preserved c =
+    pushed_more type_parts_of (λ (x : LaneType). lanes_of (lane_parts x) c.args.lanes) c.args.lane_types.now
+    c.loop-lane_type.lane_type-index _ _ _ _ _ c.loop-lane_type-test.true c.in_ok-push.ensures.items c.by.ensures c.loop-lane_type.invariant
 
 pub returns : goal.returns
-returns c = c.loop-lane_type.invariant ∙ ap (λ (xs : List LaneType). map type_parts_of c.args.types.now.items ++ map (λ (x : LaneType). lanes_of (lane_parts x) c.args.lanes) xs) (take_all c.loop-lane_type.lane_type-index c.args.lane_types.now c.loop-lane_type-test.false)
+returns c = c.loop-lane_type.invariant
+    ∙ ap (λ (xs : List LaneType). map type_parts_of c.args.types.now.items ++ map
+    (λ (x : LaneType). lanes_of (lane_parts x) c.args.lanes) xs)
+    (take_all c.loop-lane_type.lane_type-index c.args.lane_types.now c.loop-lane_type-test.false)

@@ -5,5 +5,6 @@ use Rattle.meta_typevar.proofs.registry.push_both.Goals.{in-Ok, in-Err}
 pub returns-clause-children_stay : goal.returns-clause-children_stay
 returns-clause-children_stay c = elim c.match-push.branch [
   | in-Ok w ↦ rw w.result-is tt
-  | in-Err w ↦ rw (w.result-is, w.children-is) (popped c.args.children.now.items _ _ _ _ c.in_ok-push.ensures.items c.push.new.self.ok.0 w.pop.ensures.rest)
+  | in-Err w ↦ rw (w.result-is, w.children-is)
+      (popped c.args.children.now.items _ _ _ _ c.in_ok-push.ensures.items c.push.new.self.ok.0 w.pop.ensures.rest)
 ]

@@ -11,4 +11,5 @@ returns g c =
     c.loop-slot.invariant ∙ ap (λ n. replicate n None) all
 
 pub loop-slot-preserved : goal.loop-slot-preserved
-loop-slot-preserved g c = c.in_ok-push.ensures.items ∙ ap (λ (w : List _). w ++ None ∷ []) c.loop-slot.invariant ∙ replicate_more c.loop-slot._slot None
+loop-slot-preserved g c = c.in_ok-push.ensures.items ∙ ap (λ (w : List _). w ++ None ∷ []) c.loop-slot.invariant
+    ∙ replicate_more c.loop-slot._slot None

@@ -10,5 +10,6 @@ returns-then-size c = (λ t. (cc), λ p. absurd (omega (arith, power_within c.ar
 pub returns : goal.returns
 returns c = (
   λ t. subst IsPowerOfTwo (eqb-true _ _ t) c.next_power_of_two.ensures.power,
-  λ p. eq-eqb _ _ (own_next c.args.size _ p c.next_power_of_two.ensures.power c.next_power_of_two.ensures.lower_bound c.next_power_of_two.ensures.upper_bound),
+  λ p. eq-eqb _ _ (own_next c.args.size _ p c.next_power_of_two.ensures.power c.next_power_of_two.ensures.lower_bound
+      c.next_power_of_two.ensures.upper_bound),
 )

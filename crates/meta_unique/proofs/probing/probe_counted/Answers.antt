@@ -8,8 +8,16 @@ use Rattle.meta_unique.proofs.probing.probe_counted.Goals as goal
 pub walk-preserved : goal.walk-preserved
 walk-preserved g c =
     let read = walk_read c.args.slots.now _ _ _ _ _ _ c.walk.invariant.0 c.in-Some.is in
-    let vacant = contained_vacant c.args.slots.now c.requires.vacant in
-    (walk_next c.args.slots.now _ _ _ vacant.0 (IsPassed (given.M-post g c.args.matches) c.args.slots.now) c.requires.power vacant.1 (λ s p. (p.number, p.taken)) c.walk.invariant.0 (record { number = c.in-Some.number; taken = read; refused = c.if-matches.ensures }), omega arith)
+    let vacant = contained_vacant c.args.slots.now c.requires.vacant in (
+      walk_next c.args.slots.now _ _ _ vacant.0 (IsPassed (given.M-post g c.args.matches) c.args.slots.now) c.requires.power vacant.1
+          (λ s p. (p.number, p.taken)) c.walk.invariant.0 (record {
+            number = c.in-Some.number;
+            taken = read;
+            refused =
+                c.if-matches.ensures;
+          }),
+      omega arith,
+    )
 
 pub returns-in-None-clause-lookup : goal.returns-in-None-clause-lookup
 returns-in-None-clause-lookup g c = grind (arith, elements)

@@ -2,13 +2,15 @@ use Rattle.std.proofs.Common.{◌≡◌, ℕ, ◌||◌, is_some, map, take, drop
 use Rattle.std.specs.Ordering.{nat_cmp}
 use Rattle.std.specs.BTreeSet.{contains}
 use Rattle.meta_verify.specs.Environment.{with_values, first_redefined}
-use Rattle.meta_verify.specs.Numbers.{typed}
+use Rattle.meta_verify.specs.Numbers.{typed_value_of}
 use Rattle.meta_verify.specs.Defined.{environment_of}
 use Rattle.meta_verify.proofs.defined.redefined.Given as goal
 
 -- what is defined behind the results so far is what was before, and what was seen; the answer is that to what is left
 abbrev pub invariant-loop-r : goal.invariant-loop-r
 invariant-loop-r l = record {
-  seen : (v : ℕ) → is_some (with_values (environment_of l.types) (map typed (take l.r-index l.results)) v) ≡ (is_some (environment_of l.types v) || contains nat_cmp l.seen v);
-  left : first_redefined (with_values (environment_of l.types) (map typed (take l.r-index l.results))) (map typed (drop l.r-index l.results)) ≡ first_redefined (environment_of l.types) (map typed l.results);
+  seen : (v : ℕ) → is_some (with_values (environment_of l.types) (map typed_value_of (take l.r-index l.results)) v)
+      ≡ (is_some (environment_of l.types v) || contains nat_cmp l.seen v);
+  left : first_redefined (with_values (environment_of l.types) (map typed_value_of (take l.r-index l.results)))
+      (map typed_value_of (drop l.r-index l.results)) ≡ first_redefined (environment_of l.types) (map typed_value_of l.results);
 }

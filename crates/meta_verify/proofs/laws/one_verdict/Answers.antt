@@ -1,7 +1,10 @@
-use Rattle.meta_answers.specs.Answer.{AcceptedReply}
+use Rattle.meta_answers.specs.Answer.{AllowedReply, AcceptedReply}
 use Rattle.meta_verify.proofs.OneAnswer.{one_said}
-use Rattle.meta_verify.proofs.OneReply.{one_accepted}
+use Rattle.meta_answers.proofs.OneReply.{one_allowed, one_accepted}
 use Rattle.meta_verify.proofs.laws.one_verdict.Goals as goal
 
-pub returns : goal.returns
-returns c = λ d input a b s t valid h g. one_said (AcceptedReply d.set) (one_accepted d.set valid.set) input a b s t h g
+pub returns-clause-tables : goal.returns-clause-tables
+returns-clause-tables c = λ tables input a b s t h g. one_said (AllowedReply tables) (one_allowed tables) input a b s t h g
+
+pub returns-clause-declared : goal.returns-clause-declared
+returns-clause-declared c = λ d input a b s t valid h g. one_said (AcceptedReply d.set) (one_accepted d.set valid.set) input a b s t h g

@@ -1,6 +1,9 @@
 use Rattle.meta_answers.specs.Answer.{AllowedReply, AcceptedReply}
-use Rattle.meta_verify.proofs.Meaning.{leads_named}
+use Rattle.meta_verify.proofs.Meaning.{nothing_named, leads_named}
 use Rattle.meta_verify.proofs.laws.types_stay_named.Goals as goal
+
+pub returns-clause-nothing : goal.returns-clause-nothing
+returns-clause-nothing c = nothing_named
 
 pub returns-clause-tables : goal.returns-clause-tables
 returns-clause-tables c = λ t env behind lines named h. leads_named (AllowedReply t) env behind lines named h

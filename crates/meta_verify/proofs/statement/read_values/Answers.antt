@@ -16,6 +16,10 @@ returns-clause-found c = λ e. listed value_text _ _ _ c.loop-piece.invariant.na
 
 pub loop-piece-preserved : goal.loop-piece-preserved
 loop-piece-preserved c = record {
-  known = rw c.in_ok-push.ensures.items (All-push IsValue c.loop-piece.values.items c.in-Some-parse_value.value c.loop-piece.invariant.known c.in-Some-parse_value.ensures.small);
-  named = rw c.in_ok-push.ensures.items (one_more value_text c.loop-piece.values.items c.in-Some-parse_value.value _ _ _ _ c.loop-piece.invariant.named c.in-Some.ensures.steps c.in-Some-parse_value.ensures.some);
+  known = rw c.in_ok-push.ensures.items
+      (All-push IsValue c.loop-piece.values.items c.in-Some-parse_value.value c.loop-piece.invariant.known
+      c.in-Some-parse_value.ensures.small);
+  named = rw c.in_ok-push.ensures.items
+      (one_more value_text c.loop-piece.values.items c.in-Some-parse_value.value _ _ _ _ c.loop-piece.invariant.named
+      c.in-Some.ensures.steps c.in-Some-parse_value.ensures.some);
 }

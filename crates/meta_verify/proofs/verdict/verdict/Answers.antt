@@ -14,12 +14,14 @@ loop-line-init c =
     let all : c.into_iter-line-iterator.result ≡ lines_of c.args.input.now = cc in
     record {
       left = sym all;
-      right = subst (λ (e : Environment). AreRightSoFar c.args.tables.now.opcodes (lines_of c.args.input.now) 0 e) (sym c.new-checker.ensures) (none_so_far c.args.tables.now.opcodes (lines_of c.args.input.now));
+      right = subst (λ (e : Environment). AreRightSoFar c.args.tables.now.opcodes (lines_of c.args.input.now) 0 e)
+          (sym c.new-checker.ensures) (none_so_far c.args.tables.now.opcodes (lines_of c.args.input.now));
     }
 
 pub overflow_add-number : goal.overflow_add-number
 overflow_add-number c =
-    let so_far = few_so_far (lines_of c.args.input.now) c.loop-line.number c.in-Some.line.now c.next.new.self (c.loop-line.invariant.left ∙ c.in-Some.ensures.steps) in
+    let so_far = few_so_far (lines_of c.args.input.now) c.loop-line.number c.in-Some.line.now c.next.new.self
+    (c.loop-line.invariant.left ∙ c.in-Some.ensures.steps) in
     let few = few_lines c.args.input.now in
     let within = c.requires.within in
     omega (arith, so_far, few, within)
@@ -28,8 +30,11 @@ pub returns-in-Some-2 : goal.returns-in-Some-2
 returns-in-Some-2 c =
     let R = AllowedReply c.args.tables.now.opcodes in
     let next = c.loop-line.invariant.left ∙ c.in-Some.ensures.steps in
-    let first = first_wrong c.args.tables.now.opcodes (lines_of c.args.input.now) c.loop-line.number (definitions c.loop-line.checker) (definitions c.feed.new.self) c.in-Some.line.now c.next.new.self c.in-Some-2.reason c.loop-line.invariant.right next
-    (subst (λ (o : Option Reason). Feeds R (definitions c.loop-line.checker) c.in-Some.line.now o (definitions c.feed.new.self)) c.in-Some-2.is c.in_ok-reason.ensures.fed) in
+    let first = first_wrong c.args.tables.now.opcodes (lines_of c.args.input.now) c.loop-line.number
+    (definitions c.loop-line.checker) (definitions c.feed.new.self) c.in-Some.line.now c.next.new.self
+    c.in-Some-2.reason c.loop-line.invariant.right next
+    (subst (λ (o : Option Reason). Feeds R (definitions c.loop-line.checker) c.in-Some.line.now o
+    (definitions c.feed.new.self)) c.in-Some-2.is c.in_ok-reason.ensures.fed) in
     (c.loop-line.number, c.in-Some-2.reason, first, c.in_ok-wrong_line.ensures)
 
 pub loop-line-preserved : goal.loop-line-preserved
@@ -38,10 +43,16 @@ loop-line-preserved c =
     let next = c.loop-line.invariant.left ∙ c.in-Some.ensures.steps in
     record {
       left = left_next (lines_of c.args.input.now) c.loop-line.number c.in-Some.line.now c.next.new.self next;
-      right = one_right c.args.tables.now.opcodes (lines_of c.args.input.now) c.loop-line.number (definitions c.loop-line.checker) (definitions c.feed.new.self) c.in-Some.line.now c.next.new.self c.loop-line.invariant.right next
-          (subst (λ (o : Option Reason). Feeds R (definitions c.loop-line.checker) c.in-Some.line.now o (definitions c.feed.new.self)) c.in_default.is c.in_ok-reason.ensures.fed);
+      right = one_right c.args.tables.now.opcodes (lines_of c.args.input.now) c.loop-line.number
+          (definitions c.loop-line.checker) (definitions c.feed.new.self) c.in-Some.line.now c.next.new.self
+          c.loop-line.invariant.right next
+          (subst (λ (o : Option Reason). Feeds R (definitions c.loop-line.checker) c.in-Some.line.now o
+          (definitions c.feed.new.self)) c.in_default.is c.in_ok-reason.ensures.fed);
     }
 
 pub returns : goal.returns
-returns c =
-    (all_right c.args.tables.now.opcodes (lines_of c.args.input.now) c.loop-line.number (definitions c.loop-line.checker) c.loop-line.invariant.right (c.loop-line.invariant.left ∙ c.in-None.ensures.steps.0), c.in_ok-from_str.ensures.ok)
+returns c = (
+  all_right c.args.tables.now.opcodes (lines_of c.args.input.now) c.loop-line.number
+      (definitions c.loop-line.checker) c.loop-line.invariant.right (c.loop-line.invariant.left ∙ c.in-None.ensures.steps.0),
+  c.in_ok-from_str.ensures.ok,
+)

@@ -7,10 +7,13 @@ pub returns-in_default-clause-none : goal.returns-in_default-clause-none
 returns-in_default-clause-none c = λ q h. c.in_default.ensures.none (OfQuestion q) h
 
 pub returns-in-Accept-clause-found : goal.returns-in-Accept-clause-found
-returns-in-Accept-clause-found c = IfOk-weaker c.of.result _ _ (λ o f. f c.args.line.now (rw c.in-Accept.is at c.in-Some.ensures.words) (rw c.in-Accept.is at c.in-Some.ensures.named)) c.of.ensures.found
+returns-in-Accept-clause-found c =
+    IfOk-weaker c.of.result _ _ (λ o f. f c.args.line.now (rw c.in-Accept.is at c.in-Some.ensures.words)
+    (rw c.in-Accept.is at c.in-Some.ensures.named)) c.of.ensures.found
 
 pub returns-in-Accept-clause-none : goal.returns-in-Accept-clause-none
-returns-in-Accept-clause-none c = IfOk-weaker c.of.result _ _ (λ o f. f c.args.line.now (rw c.in-Accept.is at c.in-Some.ensures.words)) c.of.ensures.none
+returns-in-Accept-clause-none c =
+    IfOk-weaker c.of.result _ _ (λ o f. f c.args.line.now (rw c.in-Accept.is at c.in-Some.ensures.words)) c.of.ensures.none
 
 pub returns-in-Infer-clause-none : goal.returns-in-Infer-clause-none
 returns-in-Infer-clause-none c = infer_accepts_nothing c.args.line.now _ _ (rw c.in-Infer.is at c.in-Some.ensures.words)

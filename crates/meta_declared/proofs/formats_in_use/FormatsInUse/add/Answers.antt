@@ -25,8 +25,10 @@ returns-clause-indexed c =
     (λ gains. record {
       of_table = of_table_more f.formats.now f.used.items c.push.new.self.items new i.of_table t pushed;
       marked = one_marked f.formats.now f.used.items c.push.new.self.items new f.is_used.items _ pushed c.number.ensures i.marked;
-      named = one_named f.formats.now f.used.items c.push.new.self.items new t.format name _ _ _ pushed t.at named place (new_name f i new t name named c.requires.apart) c.in_ok-insert.ensures.updates.0 i.named;
-      structured = one_structured f.used.items c.push.new.self.items new _ _ _ _ pushed structure place (ap (get same_structure f.by_structure) (sym structure) ∙ new_structure f i new t name named c.requires.apart) gains i.structured;
+      named = one_named f.formats.now f.used.items c.push.new.self.items new t.format name _ _ _ pushed t.at named place
+          (new_name f i new t name named c.requires.apart) c.in_ok-insert.ensures.updates.0 i.named;
+      structured = one_structured f.used.items c.push.new.self.items new _ _ _ _ pushed structure place
+          (ap (get same_structure f.by_structure) (sym structure) ∙ new_structure f i new t name named c.requires.apart) gains i.structured;
     })
     c.put_structure.ensures
 

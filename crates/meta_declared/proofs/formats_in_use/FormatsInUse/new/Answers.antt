@@ -13,7 +13,9 @@ returns-clause-indexed c =
     let none = c.new.ensures.items in
     record {
       of_table = subst (AreOfTable formats) (sym none) (λ k f at. absurd (cc));
-      marked = none_marked formats c.new.result.items _ none (c.in_ok-vec.ensures.items_if_clones_equal (λ y e. e) ∙ ap (λ n. replicate n false) c.len.ensures);
-      named = no_places (HasName formats) c.new.result.items _ none (λ key. ap (lookup (λ q. is_eq (name_order key q))) c.new-2.ensures.empty);
+      marked = none_marked formats c.new.result.items _ none (c.in_ok-vec.ensures.items_if_clones_equal (λ y e. e)
+          ∙ ap (λ n. replicate n false) c.len.ensures);
+      named = no_places (HasName formats) c.new.result.items _ none
+          (λ key. ap (lookup (λ q. is_eq (name_order key q))) c.new-2.ensures.empty);
       structured = no_places HasStructure c.new.result.items _ none (λ key. ap (lookup (same_structure key)) c.new-3.ensures.empty);
     }

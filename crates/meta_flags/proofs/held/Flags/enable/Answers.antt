@@ -15,8 +15,11 @@ use Rattle.meta_flags.proofs.held.Flags.enable.Goals as goal
 
 pub returns-in_default-clause-enabled : goal.returns-in_default-clause-enabled
 returns-in_default-clause-enabled c =
-    let t = c.self.inside.group.now in
-    (subst (λ (f : FlagContents). HasNone (served_in f.group) c.args.name.now) c.self.view_is (has_none t c.args.name.now c.in_default.ensures.found), refl)
+    let t = c.self.inside.group.now in (
+      subst (λ (f : FlagContents). HasNone (served_in f.group) c.args.name.now) c.self.view_is
+          (has_none t c.args.name.now c.in_default.ensures.found),
+      refl,
+    )
 
 pub returns-in_default-descriptor-clause-enabled : goal.returns-in_default-descriptor-clause-enabled
 returns-in_default-descriptor-clause-enabled c =
@@ -40,7 +43,8 @@ returns-in-Bool-clause-enabled c =
       place = c.in-Some.index;
       kind = kind_in t d.offset d.detail;
       entry = is_entry t c.args.name.now c.in-Some.index d c.in-Some.ensures.found (sym c.in-Some-descriptor.ensures.entry);
-      changed = subst (λ (x : Detail). IsEnabled (kind_in t d.offset x) c.in-Some.index (map value_of c.self.inside.values.items) new) (sym c.in-Bool.is) (map-set value_of c.self.inside.values.items c.in-Some.index (Bool true));
+      changed = subst (λ (x : Detail). IsEnabled (kind_in t d.offset x) c.in-Some.index (map value_of c.self.inside.values.items) new)
+          (sym c.in-Bool.is) (map-set value_of c.self.inside.values.items c.in-Some.index (Bool true));
     })
 
 pub returns-in-Enum-clause-enabled : goal.returns-in-Enum-clause-enabled
@@ -77,10 +81,13 @@ returns-in-Preset-clause-enabled c =
     let index = c.in-Some.index in
     let there = sym c.in-Some-descriptor.ensures.entry in
     let entry = is_entry t c.args.name.now index d c.in-Some.ensures.found there in
-    let preset = subst (λ (f : FlagContents). IsPresetIn f.group.descriptors index d) c.self.view_is (record { there = there; is_preset = c.in-Preset.is }) in
+    let preset = subst (λ (f : FlagContents). IsPresetIn f.group.descriptors index d) c.self.view_is
+    (record { there = there; is_preset = c.in-Preset.is }) in
     record {
       place = index;
       kind = kind_in own.group d.offset d.detail;
-      entry = subst (λ (f : FlagContents). IsEntry (served_in f.group) c.args.name.now index (kind_in f.group d.offset d.detail)) c.self.view_is entry;
-      changed = subst (λ (x : Detail). IsEnabled (kind_in own.group d.offset x) index own.state c.turn_on_by.new.self.state) (sym c.in-Preset.is) (c.turn_on_by.ensures.on d preset);
+      entry = subst (λ (f : FlagContents). IsEntry (served_in f.group) c.args.name.now index (kind_in f.group d.offset d.detail))
+          c.self.view_is entry;
+      changed = subst (λ (x : Detail). IsEnabled (kind_in own.group d.offset x) index own.state c.turn_on_by.new.self.state)
+          (sym c.in-Preset.is) (c.turn_on_by.ensures.on d preset);
     }

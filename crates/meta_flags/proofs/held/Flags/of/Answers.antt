@@ -10,4 +10,5 @@ invariant_of-result c =
     let kinds = all_kinds t.descriptors in
     let count = ap length c.descriptors-entries.ensures.entries in
     let past = c.loop-index-test.false in
-    held t (map value_of c.loop-index.values.items) c.descriptors-entries.ensures.well_formed (omega (arith, kinds)) (all_defaults t t.descriptors c.loop-index.index _ _ (omega (arith, count, past)) c.loop-index.invariant)
+    held t (map value_of c.loop-index.values.items) c.descriptors-entries.ensures.well_formed (omega (arith, kinds))
+    (all_defaults t t.descriptors c.loop-index.index _ _ (omega (arith, count, past)) c.loop-index.invariant)

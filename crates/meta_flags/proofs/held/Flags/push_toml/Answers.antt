@@ -13,7 +13,8 @@ pub loop-k-init : goal.loop-k-init
 loop-k-init c =
     let own = c.args.self.now in
     let name = c.as_str-name.ensures ∙ c.name.ensures ∙ ap (λ (f : FlagContents). f.group.name) c.self.view_is in
-    head_written (string_bytes c.args.out.now) own.group.name _ (string_bytes c.write.new.self) (c.in_ok-write.ensures.bytes ∙ ap (λ n. string_bytes c.args.out.now ++ (91 ∷ (n ++ (93 ∷ (10 ∷ []))))) name)
+    head_written (string_bytes c.args.out.now) own.group.name _ (string_bytes c.write.new.self) (c.in_ok-write.ensures.bytes
+    ∙ ap (λ n. string_bytes c.args.out.now ++ (91 ∷ (n ++ (93 ∷ 10 ∷ [])))) name)
 
 pub loop-k-preserved : goal.loop-k-preserved
 loop-k-preserved c =
@@ -29,12 +30,17 @@ loop-k-preserved c =
     let within = c.self.invariant.within in
     let mapped = length-map items value_of in
     let all = ap length c.descriptors-entries.ensures.entries in
-    let read = slice_get_read entries (length entries) k d refl (omega (arith, less, count, long, within, mapped, all)) c.index-entries-k.is in
-    let there : slice_get own.group.descriptors k ≡ Some d = sym (ap (λ (f : FlagContents). slice_get f.group.descriptors k) c.self.view_is) ∙ sym (ap (λ w. slice_get w k) c.descriptors-entries.ensures.entries) ∙ read in
-    let value = get_map value_of items k v (slice_get_read items (length items) k v refl (omega (arith, less, count, long)) c.index.ensures) in
+    let read =
+    slice_get_read entries (length entries) k d refl (omega (arith, less, count, long, within, mapped, all)) c.index-entries-k.is in
+    let there : slice_get own.group.descriptors k ≡ Some d =
+    sym (ap (λ (f : FlagContents). slice_get f.group.descriptors k) c.self.view_is)
+    ∙ sym (ap (λ w. slice_get w k) c.descriptors-entries.ensures.entries) ∙ read in
+    let value =
+    get_map value_of items k v (slice_get_read items (length items) k v refl (omega (arith, less, count, long)) c.index.ensures) in
     let held = sym (ap (λ (f : FlagContents). slice_get f.state k) c.self.view_is) ∙ value in
     let name = ap (λ (x : Descriptor). x.name) (sym c.index-entries-k.is) in
-    line_added (served_in own.group).entries own.state k (served_entry own.group d) (value_of v) (string_bytes c.loop-k.out) (string_bytes c.push_line.new.out) _ (get_map (served_entry own.group) own.group.descriptors k d there) held
+    line_added (served_in own.group).entries own.state k (served_entry own.group d) (value_of v) (string_bytes c.loop-k.out)
+    (string_bytes c.push_line.new.out) _ (get_map (served_entry own.group) own.group.descriptors k d there) held
     (c.in_ok-push_line.ensures ∙ ap (λ n. string_bytes c.loop-k.out ++ toml_line n (value_of v)) name) c.loop-k.invariant
 
 pub returns : goal.returns
@@ -46,4 +52,5 @@ returns c =
     let long = c.self.inside.values.ok.0 in
     let mapped = length-map items value_of in
     let shown = ap (λ (f : FlagContents). length f.state) c.self.view_is in
-    all_lines (served_in own.group).entries own.state c.loop-k.k (string_bytes c.loop-k.out) _ (omega (arith, past, count, long, mapped, shown)) c.loop-k.invariant
+    all_lines (served_in own.group).entries own.state c.loop-k.k (string_bytes c.loop-k.out) _
+    (omega (arith, past, count, long, mapped, shown)) c.loop-k.invariant

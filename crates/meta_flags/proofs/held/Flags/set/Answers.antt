@@ -13,8 +13,11 @@ use Rattle.meta_flags.proofs.held.Flags.set.Goals as goal
 
 pub returns-in_default-clause-set : goal.returns-in_default-clause-set
 returns-in_default-clause-set c =
-    let t = c.self.inside.group.now in
-    (subst (λ (f : FlagContents). HasNone (served_in f.group) c.args.name.now) c.self.view_is (has_none t c.args.name.now c.in_default.ensures.found), refl)
+    let t = c.self.inside.group.now in (
+      subst (λ (f : FlagContents). HasNone (served_in f.group) c.args.name.now) c.self.view_is
+          (has_none t c.args.name.now c.in_default.ensures.found),
+      refl,
+    )
 
 pub returns-in_default-descriptor-clause-set : goal.returns-in_default-descriptor-clause-set
 returns-in_default-descriptor-clause-set c =
@@ -53,7 +56,8 @@ pub index_mut-requires : goal.index_mut-requires
 index_mut-requires c =
     let d = c.in-Some-descriptor.entry.now in
     let at = sym c.in-Some-descriptor.ensures.entry in
-    let less = (c.self.invariant.settings c.in-Some.index d at).0 (setting_detail d.detail (λ e. false≢true (sym c.if-is_preset.false ∙ c.is_preset.ensures.1 e))) in
+    let less = (c.self.invariant.settings c.in-Some.index d at).0
+    (setting_detail d.detail (λ e. false≢true (sym c.if-is_preset.false ∙ c.is_preset.ensures.1 e))) in
     let mapped = length-map c.self.inside.values.items value_of in
     omega (arith, less, mapped)
 
@@ -62,7 +66,8 @@ returns-clause-set c =
     let t = c.self.inside.group.now in
     let d = c.in-Some-descriptor.entry.now in
     let v = c.in-Some-value_in.written in
-    subst (λ (f : FlagContents). IsSet (served_in f.group) c.args.name.now c.args.value.now f.state (map value_of (slice_set c.self.inside.values.items c.in-Some.index v))) c.self.view_is (record {
+    subst (λ (f : FlagContents). IsSet (served_in f.group) c.args.name.now c.args.value.now f.state
+    (map value_of (slice_set c.self.inside.values.items c.in-Some.index v))) c.self.view_is (record {
       place = c.in-Some.index;
       kind = kind_in t d.offset d.detail;
       entry = is_entry t c.args.name.now c.in-Some.index d c.in-Some.ensures.found (sym c.in-Some-descriptor.ensures.entry);

@@ -7,7 +7,7 @@ use Rattle.meta_setting_tables.specs.EntryValues.{is_on, masks_from}
 use Rattle.meta_setting_tables.specs.GroupTables.{IsPresetIn}
 use Rattle.meta_flags.specs.declared.flag_value.FlagValue.{FlagValue}
 use Rattle.meta_flags.specs.Served.{marks_in}
-use Rattle.meta_flags.specs.Changes.{turned_on}
+use Rattle.meta_flags.specs.Changes.{with_marked_true}
 use Rattle.meta_flags.specs.Held.{FlagContents, value_of}
 use Rattle.meta_flags.proofs.TurningOn.{turned_by}
 use Rattle.meta_flags.proofs.held.Flags.turn_on_by.Goals as goal
@@ -25,7 +25,9 @@ returns-clause-on c = λ d is.
     let masks = m.2 ∙ ap (λ (x : Descriptor). masks_from (length t.defaults) t.preset_masks x.offset) one in
     let count = c.len-count.ensures ∙ sym c.deref_mut.ensures.len ∙ ap length c.deref_mut.ensures.value ∙ sym (length-map items value_of) in
     let some = take c.len-count.result c.descriptors.result.now in
-    let on = c.turn_on.ensures ∙ ap (λ (vs : List FlagValue). turned_on (map (λ (x : Descriptor). is_on c.in-Some.masks.now x.offset x.detail) some) (map value_of vs)) c.deref_mut.ensures.value in
+    let on = c.turn_on.ensures ∙ ap (λ (vs : List FlagValue). with_marked_true
+    (map (λ (x : Descriptor). is_on c.in-Some.masks.now x.offset x.detail) some) (map value_of vs)) c.deref_mut.ensures.value in
     ap (map value_of) whole
-    ∙ subst (λ (f : FlagContents). map value_of new ≡ turned_on (marks_in f.group d.offset) f.state) c.self.view_is
-    (turned_by t (map value_of items) (map value_of new) d.offset c.in-Some.masks.now some c.self.invariant.settings masks (λ i. take (count i) (c.descriptors.ensures.entries i)) on)
+    ∙ subst (λ (f : FlagContents). map value_of new ≡ with_marked_true (marks_in f.group d.offset) f.state) c.self.view_is
+    (turned_by t (map value_of items) (map value_of new) d.offset c.in-Some.masks.now some c.self.invariant.settings masks
+    (λ i. take (count i) (c.descriptors.ensures.entries i)) on)

@@ -1,5 +1,5 @@
 use Rattle.std.proofs.Common.{ap, sym, subst, ◌∙◌}
-use Rattle.meta_inst.specs.Built.{Built}
+use Rattle.meta_inst.specs.Built.{BuiltInstruction}
 use Rattle.meta_inst.specs.Content.{content_of}
 use Rattle.meta_inst.specs.FoundControl.{IsFound}
 use Rattle.meta_inst.specs.Instruction.{Instruction}
@@ -10,14 +10,20 @@ use Rattle.meta_inst.proofs.builder.InstructionBuilder.build.Goals as goal
 
 pub returns-clause-control : goal.returns-clause-control
 returns-clause-control c =
-    info_of c.args.vars.now c.args.formats.now c.args.self.now (instruction_of_operands c.args.vars.now c.in_ok-operands.operands) c.control-control.result c.polymorphic_info-polymorphic_info.result c.in_ok-content.field-0.polymorphic_info
-    (c.in_ok-operands.ensures.meaning c.args.vars.now) c.in_default-operands_fault.ensures.none c.control-control.ensures.found (ap (λ (x : Built). x.polymorphic_info) (c.in_ok-content.ensures c.args.formats.now c.in_ok-operands.ensures.operands))
-    c.polymorphic_info-polymorphic_info.ensures.kept c.polymorphic_info-polymorphic_info.ensures.of_registry c.in_ok-operands.operands.second c.in_ok-operands.ensures.second c.polymorphic_info-polymorphic_info.ensures.second c.polymorphic_info-polymorphic_info.ensures.designated
+    info_of c.args.vars.now c.args.formats.now c.args.self.now
+    (instruction_of_operands c.args.vars.now c.in_ok-operands.operands) c.control-control.result
+    c.polymorphic_info-polymorphic_info.result c.in_ok-content.field-0.polymorphic_info
+    (c.in_ok-operands.ensures.meaning c.args.vars.now) c.in_default-operands_fault.ensures.none
+    c.control-control.ensures.found (ap (λ (x : BuiltInstruction). x.polymorphic_info)
+    (c.in_ok-content.ensures c.args.formats.now c.in_ok-operands.ensures.operands))
+    c.polymorphic_info-polymorphic_info.ensures.kept c.polymorphic_info-polymorphic_info.ensures.of_registry
+    c.in_ok-operands.operands.second c.in_ok-operands.ensures.second
+    c.polymorphic_info-polymorphic_info.ensures.second c.polymorphic_info-polymorphic_info.ensures.designated
 
 pub returns-clause-content : goal.returns-clause-content
 returns-clause-content c =
     let is = c.in_ok-content.ensures c.args.formats.now c.in_ok-operands.ensures.operands in
-    is ∙ ap (content_of c.args.formats.now c.args.self.now) (sym (ap (λ (x : Built). x.polymorphic_info) is))
+    is ∙ ap (content_of c.args.formats.now c.args.self.now) (sym (ap (λ (x : BuiltInstruction). x.polymorphic_info) is))
 
 pub control-control-requires-clause-variables : goal.control-control-requires-clause-variables
 control-control-requires-clause-variables c = c.in_ok-operands.ensures.fits c.args.vars.now c.requires
@@ -39,7 +45,8 @@ returns-in-Some-clause-refused c = λ other. c.in-Some.ensures.found c.args.vars
 
 pub operands_fault-requires-clause-found : goal.operands_fault-requires-clause-found
 operands_fault-requires-clause-found c =
-    subst (λ (i : Instruction). IsFound c.args.vars.now i c.control-control.result) (c.in_ok-operands.ensures.meaning c.args.vars.now) c.control-control.ensures.found
+    subst (λ (i : Instruction). IsFound c.args.vars.now i c.control-control.result)
+    (c.in_ok-operands.ensures.meaning c.args.vars.now) c.control-control.ensures.found
 
 pub operands_fault-requires-clause-control : goal.operands_fault-requires-clause-control
 operands_fault-requires-clause-control c = c.control-control.ensures.of_registry

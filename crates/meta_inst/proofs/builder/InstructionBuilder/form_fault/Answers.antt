@@ -13,11 +13,20 @@ pub returns-in-Some-clause-found : goal.returns-in-Some-clause-found
 returns-in-Some-clause-found c = λ vars.
     let named : IsName c.args.self.now.name = search rules in
     let bad : HasBadOutput c.args.self.now c.in-Some.place = search rules in
-    record { position = OutputRule; shows = (c.in-Some.place, refl, bad); first = kept_name vars c.args.formats.now c.args.self.now named c.args.number }
+    record {
+      position = OutputRule;
+      shows = (c.in-Some.place, refl, bad);
+      first = kept_name vars c.args.formats.now c.args.self.now named c.args.number;
+    }
 
 pub returns-then-not-matches_format-clause-found : goal.returns-then-not-matches_format-clause-found
 returns-then-not-matches_format-clause-found c = λ vars.
     let named : IsName c.args.self.now.name = search rules in
     let good : (place : ℕ) → HasBadOutput c.args.self.now place → ⊥ = search rules in
     let bad : HasFormatMismatch c.args.formats.now c.args.self.now = search rules in
-    record { position = MismatchRule; shows = (refl, bad); first = kept_output vars c.args.formats.now c.args.self.now (kept_name vars c.args.formats.now c.args.self.now named) good c.args.number }
+    record {
+      position = MismatchRule;
+      shows = (refl, bad);
+      first = kept_output vars c.args.formats.now c.args.self.now
+          (kept_name vars c.args.formats.now c.args.self.now named) good c.args.number;
+    }

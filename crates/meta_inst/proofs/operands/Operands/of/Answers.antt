@@ -9,9 +9,11 @@ use Rattle.meta_inst.proofs.operands.Operands.of.Goals as goal
 
 -- the variables of the results, and of all
 results : (c : goal.After-second) → c.push_variables.new.out.items ≡ variables_of (outputs_of c.args.builder.now)
-results c = c.in_ok-push_variables.ensures ∙ ap (λ (xs : List ℕ). xs ++ variables_of c.outputs.result.now) c.in_ok-variables.ensures.items ∙ ap variables_of c.outputs.ensures
+results c = c.in_ok-push_variables.ensures
+    ∙ ap (λ (xs : List ℕ). xs ++ variables_of c.outputs.result.now) c.in_ok-variables.ensures.items ∙ ap variables_of c.outputs.ensures
 
-variables : (c : goal.After-second) → c.push_variables-2.new.out.items ≡ variables_of (outputs_of c.args.builder.now) ++ variables_of (inputs_of c.args.builder.now)
+variables : (c : goal.After-second)
+    → c.push_variables-2.new.out.items ≡ variables_of (outputs_of c.args.builder.now) ++ variables_of (inputs_of c.args.builder.now)
 variables c =
     c.in_ok-push_variables-2.ensures
     ∙ ap (λ (xs : List ℕ). xs ++ variables_of c.inputs.result.now) (results c)
@@ -28,7 +30,8 @@ returns-clause-operands c =
 
 pub returns-clause-fits : goal.returns-clause-fits
 returns-clause-fits c = λ vars fits.
-    subst (AreOf vars) (sym (variables c)) (are_of_both vars (variables_of (outputs_of c.args.builder.now)) (variables_of (inputs_of c.args.builder.now)) fits.outputs fits.inputs)
+    subst (AreOf vars) (sym (variables c)) (are_of_both vars (variables_of (outputs_of c.args.builder.now))
+    (variables_of (inputs_of c.args.builder.now)) fits.outputs fits.inputs)
 
 pub returns-clause-variables : goal.returns-clause-variables
 returns-clause-variables c = variables c

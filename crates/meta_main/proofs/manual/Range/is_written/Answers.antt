@@ -17,5 +17,6 @@ returns-in-Some c =
         least = subst (λ n. n ≤ c.in-Some.number) lower (leb-true _ _ t);
         most = within;
       },
-      λ h. le-leb _ _ (subst (λ n. n ≤ c.in-Some.number) (sym lower) (written_least c.args.self.now c.args.word.now c.in-Some.number few within is h)),
+      λ h. le-leb _ _ (subst (λ n. n ≤ c.in-Some.number) (sym lower)
+          (written_least c.args.self.now c.args.word.now c.in-Some.number few within is h)),
     )

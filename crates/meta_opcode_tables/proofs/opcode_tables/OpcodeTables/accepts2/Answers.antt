@@ -1,4 +1,5 @@
-use Rattle.meta_opcode_tables.proofs.Reading.{refused_result_count, refused_value_count, refused_control, refused_second, refused_results, values_decide, refused, answer_means}
+use Rattle.meta_opcode_tables.proofs.Reading.{refused_result_count, refused_value_count, refused_control, refused_second, refused_results}
+use Rattle.meta_opcode_tables.proofs.Reading.{values_decide, refused, answer_means}
 use Rattle.std.proofs.Common.{rules, arith}
 use Rattle.std.proofs.lemmas.Bool.{false≢true}
 use Rattle.meta_opcode_tables.proofs.opcode_tables.OpcodeTables.accepts2.Goals as goal
@@ -40,7 +41,9 @@ returns-then-not-all_pass-clause-meaning c = answer_means _ _ _ _ _ _ _ (returns
 
 pub returns-clause-decoding : goal.returns-clause-decoding
 returns-clause-decoding c =
-    values_decide _ _ _ _ _ _ _ c.in-Some.ensures.entry _ (search rules) (search rules) (c.control_fits.ensures.0 c.if-not-control_fits.false) (c.control_fits-2.ensures.0 c.if-not-control_fits-2.false) (c.all_pass.ensures.0 c.if-not-all_pass.false) c.all_pass-2.ensures
+    values_decide _ _ _ _ _ _ _ c.in-Some.ensures.entry _ (search rules) (search rules)
+    (c.control_fits.ensures.0 c.if-not-control_fits.false) (c.control_fits-2.ensures.0 c.if-not-control_fits-2.false)
+    (c.all_pass.ensures.0 c.if-not-all_pass.false) c.all_pass-2.ensures
 
 pub returns-clause-meaning : goal.returns-clause-meaning
 returns-clause-meaning c = answer_means _ _ _ _ _ _ _ (returns-clause-decoding c)

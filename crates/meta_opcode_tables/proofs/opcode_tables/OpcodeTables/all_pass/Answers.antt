@@ -10,7 +10,8 @@ loop-k-preserved c = grind (arith, elements)
 
 pub returns-then-not-passes_at : goal.returns-then-not-passes_at
 returns-then-not-passes_at c =
-    refused (one_refused _ _ _ _ c.loop-k.k _ (slice_get-get_or c.args.numbers.now c.loop-k.k 0 c.loop-k-test.true) (λ p. false≢true (sym c.if-not-passes_at.true ∙ c.passes_at.ensures.1 p)))
+    refused (one_refused _ _ _ _ c.loop-k.k _ (slice_get-get_or c.args.numbers.now c.loop-k.k 0 c.loop-k-test.true)
+    (λ p. false≢true (sym c.if-not-passes_at.true ∙ c.passes_at.ensures.1 p)))
 
 pub returns : goal.returns
 returns c = grind (arith, elements)

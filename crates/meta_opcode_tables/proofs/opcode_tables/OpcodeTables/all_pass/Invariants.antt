@@ -4,4 +4,5 @@ use Rattle.meta_meaning.specs.Tables.{PassesAt}
 use Rattle.meta_opcode_tables.proofs.opcode_tables.OpcodeTables.all_pass.Given as goal
 
 abbrev pub invariant-loop-k : goal.invariant-loop-k
-invariant-loop-k l = (j n : ℕ) → j < l.k → slice_get l.numbers j ≡ Some n → PassesAt l.self (both l.controls.ctrl l.controls.second) (l.offset + j) n
+invariant-loop-k l = (j n : ℕ) → j < l.k → slice_get l.numbers j ≡ Some n
+    → PassesAt l.self (both l.controls.ctrl l.controls.second) (l.offset + j) n

@@ -6,7 +6,8 @@ use Rattle.meta_opcode_tables.proofs.opcode_tables.OpcodeTables.find_opcode.Goal
 
 pub returns : goal.returns
 returns c =
-    let here = look_up _ _ _ _ _ _ _ _ c.self.view_is (distinct_differ _ c.self.invariant.well_formed.parts.distinct) c.self.invariant.well_formed.slots c.deref.ensures.value c.simple_hash.ensures (λ op told says. search rules) c.probe.ensures.1 in
+    let here = look_up _ _ _ _ _ _ _ _ c.self.view_is (distinct_differ _ c.self.invariant.well_formed.parts.distinct)
+    c.self.invariant.well_formed.slots c.deref.ensures.value c.simple_hash.ensures (λ op told says. search rules) c.probe.ensures.1 in
     record {
       found = first_named _ _ _ here.0 here.1;
       finds = here.1;

@@ -14,7 +14,8 @@ read c =
     let own = ap (map number_constraint_of) c.deref.ensures.value ∙ ap (λ (t : TableContents). t.operand_constraints) c.self.view_is in
     let l = c.in-Some.ensures.lookup.3 in
     let at = slice_get_read c.deref.result.now _ c.args.place c.in-Some.constraint.now refl l.0 (l.1 _) in
-    ap (λ (xs : List NumberConstraint). slice_get xs c.args.place) (sym own) ∙ get_map number_constraint_of c.deref.result.now c.args.place _ at
+    ap (λ (xs : List NumberConstraint). slice_get xs c.args.place) (sym own)
+    ∙ get_map number_constraint_of c.deref.result.now c.args.place _ at
 
 pub returns-in-Some-clause-some : goal.returns-in-Some-clause-some
 returns-in-Some-clause-some c = given_read _ _ _ _ _ (read c) c.given.ensures.some
@@ -25,4 +26,5 @@ returns-in-Some-clause-none c = none_read _ _ _ _ _ (read c) c.given.ensures.non
 pub returns-in-None-clause-none : goal.returns-in-None-clause-none
 returns-in-None-clause-none c =
     let own = ap (map number_constraint_of) c.deref.ensures.value ∙ ap (λ (t : TableContents). t.operand_constraints) c.self.view_is in
-    nothing_given _ _ _ (ap (λ (xs : List NumberConstraint). slice_get xs c.args.place) (sym own) ∙ none_mapped c.deref.result.now c.args.place c.in-None.ensures.lookup.3)
+    nothing_given _ _ _ (ap (λ (xs : List NumberConstraint). slice_get xs c.args.place) (sym own)
+    ∙ none_mapped c.deref.result.now c.args.place c.in-None.ensures.lookup.3)

@@ -4,7 +4,8 @@ use Rattle.meta_opcode_tables.proofs.opcode_tables.OpcodeTables.infer_control.Go
 
 pub returns-then-set_contains-clause-meaning : goal.returns-then-set_contains-clause-meaning
 returns-then-set_contains-clause-meaning c = λ d typed of control second rs vs allows.
-    designated_typed d _ _ _ control second rs vs typed of c.in_ok-entry.ensures.entry (c.designated_controls.ensures.0 c.if-designated_controls.true) allows
+    designated_typed d _ _ _ control second rs vs typed of c.in_ok-entry.ensures.entry
+    (c.designated_controls.ensures.0 c.if-designated_controls.true) allows
 
 pub returns-then-set_contains-clause-some : goal.returns-then-set_contains-clause-some
 returns-then-set_contains-clause-some c = (

@@ -11,9 +11,11 @@ returns-in-Some c =
     let own = ap (map number_constraint_of) c.deref.ensures.value ∙ ap (λ (t : TableContents). t.operand_constraints) c.self.view_is in
     let l = c.in-Some.ensures.lookup.3 in
     let read = slice_get_read c.deref.result.now _ c.args.place c.in-Some.constraint.now refl l.0 (l.1 _) in
-    passes_read _ _ _ _ _ _ (ap (λ (xs : List NumberConstraint). slice_get xs c.args.place) (sym own) ∙ get_map number_constraint_of c.deref.result.now c.args.place _ read) c.passes.ensures
+    passes_read _ _ _ _ _ _ (ap (λ (xs : List NumberConstraint). slice_get xs c.args.place) (sym own)
+    ∙ get_map number_constraint_of c.deref.result.now c.args.place _ read) c.passes.ensures
 
 pub returns-in-None : goal.returns-in-None
 returns-in-None c =
     let own = ap (map number_constraint_of) c.deref.ensures.value ∙ ap (λ (t : TableContents). t.operand_constraints) c.self.view_is in
-    refused (nothing_passes _ _ _ _ (ap (λ (xs : List NumberConstraint). slice_get xs c.args.place) (sym own) ∙ none_mapped c.deref.result.now c.args.place c.in-None.ensures.lookup.3))
+    refused (nothing_passes _ _ _ _ (ap (λ (xs : List NumberConstraint). slice_get xs c.args.place) (sym own)
+    ∙ none_mapped c.deref.result.now c.args.place c.in-None.ensures.lookup.3))

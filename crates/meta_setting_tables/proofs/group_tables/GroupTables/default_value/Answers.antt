@@ -10,8 +10,11 @@ pub default_of-requires : goal.default_of-requires
 default_of-requires c =
     let d = c.in_ok-get.field-0.now in
     let h = c.in_ok-get.ensures.lookup in
-    let at = read_at c.self.inside.descriptors.items _ c.args.index d c.deref-2.ensures.value h.3.0 (h.3.1 d) in
-    (length c.self.inside.preset_masks.items, rw (sym c.deref.ensures.value) at (inside_of _ c.self.invariant.well_formed c.args.index d at))
+    let at = read_at c.self.inside.descriptors.items _ c.args.index d c.deref-2.ensures.value h.3.0 (h.3.1 d) in (
+      length c.self.inside.preset_masks.items,
+      rw (sym c.deref.ensures.value) at
+          (inside_of _ c.self.invariant.well_formed c.args.index d at),
+    )
 
 pub returns-clause-entry : goal.returns-clause-entry
 returns-clause-entry c =
@@ -38,8 +41,10 @@ returns-in_err-get-clause-absent c = search rules
 
 pub returns-in_err-get-clause-entry : goal.returns-in_err-get-clause-entry
 returns-in_err-get-clause-entry c = λ d at.
-    let same : c.deref-2.result.now ≡ c.args.self.now.descriptors = c.deref-2.ensures.value ∙ ap (λ (t : GroupContents). t.descriptors) c.self.view_is in
-    let none : slice_get c.args.self.now.descriptors c.args.index ≡ None = ap (λ w. slice_get w c.args.index) (sym same) ∙ slice_get_past c.deref-2.result.now c.args.index c.in_err-get.ensures.lookup.3 in
+    let same : c.deref-2.result.now ≡ c.args.self.now.descriptors = c.deref-2.ensures.value
+    ∙ ap (λ (t : GroupContents). t.descriptors) c.self.view_is in
+    let none : slice_get c.args.self.now.descriptors c.args.index ≡ None = ap (λ w. slice_get w c.args.index) (sym same)
+    ∙ slice_get_past c.deref-2.result.now c.args.index c.in_err-get.ensures.lookup.3 in
     let bad : None ≡ Some d = sym none ∙ at in
     absurd (cc)
 

@@ -8,10 +8,13 @@ use Rattle.meta_setting_tables.proofs.group_tables.GroupTables.find_setting_coun
 
 pub returns-clause-found : goal.returns-clause-found
 returns-clause-found g c =
-    let own = subst (λ (t : GroupContents). AreNameSlots 0 (names_in t.descriptors) t.slots) c.self.view_is c.self.invariant.well_formed.slots in
+    let own =
+    subst (λ (t : GroupContents). AreNameSlots 0 (names_in t.descriptors) t.slots) c.self.view_is c.self.invariant.well_formed.slots in
     let l = c.probe_counted.ensures.lookup in
-    finds_in (names_in c.args.self.now.descriptors) c.args.name.now _ c.args.self.now.slots c.as_slice.result.now c.simple_hash.result c.probe_counted.result own
-    (c.as_slice.ensures.value ∙ ap (λ (t : GroupContents). t.slots) c.self.view_is) c.simple_hash.ensures (λ number b says. search rules) (l.0, l.1)
+    finds_in (names_in c.args.self.now.descriptors) c.args.name.now _ c.args.self.now.slots c.as_slice.result.now c.simple_hash.result
+    c.probe_counted.result own
+    (c.as_slice.ensures.value ∙ ap (λ (t : GroupContents). t.slots) c.self.view_is) c.simple_hash.ensures (λ number b says. search rules)
+    (l.0, l.1)
 
 pub returns-clause-meaning : goal.returns-clause-meaning
 returns-clause-meaning g c = λ group t. subst (λ w. FindsEntry w c.args.name.now c.probe_counted.result) t.names (returns-clause-found g c)
@@ -19,8 +22,11 @@ returns-clause-meaning g c = λ group t. subst (λ w. FindsEntry w c.args.name.n
 pub returns-clause-counted : goal.returns-clause-counted
 returns-clause-counted g c =
     let l = c.probe_counted.ensures.lookup in
-    let lookup = lookup_read 0 (names_in c.args.self.now.descriptors) c.args.name.now _ _ c.args.self.now.slots _ _ l.0 (c.as_slice.ensures.value ∙ ap (λ (t : GroupContents). t.slots) c.self.view_is) c.simple_hash.ensures (λ number b says. search rules) l.1 in
+    let lookup = lookup_read 0 (names_in c.args.self.now.descriptors) c.args.name.now _ _ c.args.self.now.slots _ _ l.0
+    (c.as_slice.ensures.value ∙ ap (λ (t : GroupContents). t.slots) c.self.view_is) c.simple_hash.ensures
+    (λ number b says. search rules) l.1 in
     (l.0, lookup, l.2)
 
 pub returns-clause-exact : goal.returns-clause-exact
-returns-clause-exact g c = λ group t apart. finds_exactly _ c.args.name.now c.probe_counted.result (returns-clause-meaning g c group t) apart
+returns-clause-exact g c =
+    λ group t apart. finds_exactly _ c.args.name.now c.probe_counted.result (returns-clause-meaning g c group t) apart

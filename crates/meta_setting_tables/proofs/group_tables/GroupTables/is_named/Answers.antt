@@ -12,10 +12,12 @@ returns-in-Some c =
     let d = c.in-Some.descriptor.now in
     let h = c.in-Some.ensures.lookup in
     let at = slice_get_read ds (length ds) c.args.index d refl h.3.0 (h.3.1 d) in
-    subst (λ (w : List Descriptor). NameAnswers 0 (names_in w) c.args.name.now c.args.index c.eq.result) (c.deref.ensures.value ∙ ap (λ (t : GroupContents). t.descriptors) c.self.view_is)
+    subst (λ (w : List Descriptor). NameAnswers 0 (names_in w) c.args.name.now c.args.index c.eq.result) (c.deref.ensures.value
+    ∙ ap (λ (t : GroupContents). t.descriptors) c.self.view_is)
     (has_name ds c.args.index d c.as_bytes.result.now c.args.name.now c.eq.result at c.as_bytes.ensures c.eq.ensures)
 
 pub returns-in-None : goal.returns-in-None
 returns-in-None c =
-    subst (λ (w : List Descriptor). NameAnswers 0 (names_in w) c.args.name.now c.args.index false) (c.deref.ensures.value ∙ ap (λ (t : GroupContents). t.descriptors) c.self.view_is)
+    subst (λ (w : List Descriptor). NameAnswers 0 (names_in w) c.args.name.now c.args.index false) (c.deref.ensures.value
+    ∙ ap (λ (t : GroupContents). t.descriptors) c.self.view_is)
     (has_no_name c.deref.result.now c.args.index c.args.name.now c.in-None.ensures.lookup.3)

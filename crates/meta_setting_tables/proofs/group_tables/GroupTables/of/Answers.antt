@@ -25,9 +25,14 @@ invariant_of-result c =
       slots = c.in_ok-slots.slots.items;
     } in
     let tables =
-    tables_are g t (c.in_ok-copy.ensures ∙ c.name.ensures) c.in_ok-described.ensures.names c.in_ok-described.ensures.entries c.in_ok-described.ensures.enumerators c.in_ok-bytes.ensures.defaults c.in_ok-bytes.ensures.masks
+    tables_are g t (c.in_ok-copy.ensures ∙ c.name.ensures) c.in_ok-described.ensures.names
+    c.in_ok-described.ensures.entries c.in_ok-described.ensures.enumerators c.in_ok-bytes.ensures.defaults c.in_ok-bytes.ensures.masks
     (subst (λ (w : List Descriptor). AreNameSlots 0 (names_in w) t.slots) c.as_slice.ensures.value c.in_ok-slots.ensures.slots) in
-    record { well_formed = well_formed g t c.requires c.described.ensures.sized tables c.described.ensures.small c.in_ok-bytes.ensures.bytes; vacant = c.in_ok-slots.ensures.vacant }
+    record {
+      well_formed = well_formed g t c.requires c.described.ensures.sized tables c.described.ensures.small
+          c.in_ok-bytes.ensures.bytes;
+      vacant = c.in_ok-slots.ensures.vacant;
+    }
 
 pub returns-clause-tables : goal.returns-clause-tables
 returns-clause-tables c =
@@ -40,7 +45,8 @@ returns-clause-tables c =
       preset_masks = c.in_ok-bytes.bytes.preset_masks.items;
       slots = c.in_ok-slots.slots.items;
     } in
-    tables_are g t (c.in_ok-copy.ensures ∙ c.name.ensures) c.in_ok-described.ensures.names c.in_ok-described.ensures.entries c.in_ok-described.ensures.enumerators c.in_ok-bytes.ensures.defaults c.in_ok-bytes.ensures.masks
+    tables_are g t (c.in_ok-copy.ensures ∙ c.name.ensures) c.in_ok-described.ensures.names
+    c.in_ok-described.ensures.entries c.in_ok-described.ensures.enumerators c.in_ok-bytes.ensures.defaults c.in_ok-bytes.ensures.masks
     (subst (λ (w : List Descriptor). AreNameSlots 0 (names_in w) t.slots) c.as_slice.ensures.value c.in_ok-slots.ensures.slots)
 
 pub returns-clause-well_formed : goal.returns-clause-well_formed

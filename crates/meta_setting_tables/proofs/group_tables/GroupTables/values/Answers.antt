@@ -10,7 +10,8 @@ returns-in-Enum-clause-meaning c = λ g s made at.
     let d = c.in-Some.entry.now in
     let h = c.in-Some.ensures.lookup in
     let there = read_at t.descriptors c.descriptors.result.now c.args.index d c.descriptors.ensures.entries h.3.0 (h.3.1 d) in
-    let is = enum_values t.enumerators c.enumerators.result.now c.from-place.result c.from.result c.in-Enum.last c.in-Enum.enumerators d.detail c.enumerators.ensures c.from-place.ensures c.from.ensures c.in-Enum.is in
+    let is = enum_values t.enumerators c.enumerators.result.now c.from-place.result c.from.result c.in-Enum.last
+    c.in-Enum.enumerators d.detail c.enumerators.ensures c.from-place.ensures c.from.ensures c.in-Enum.is in
     values_meant g t c.args.index _ (for_entry t.descriptors t.enumerators _ c.args.index d there is) s made at
 
 pub returns-in-Bool : goal.returns-in-Bool

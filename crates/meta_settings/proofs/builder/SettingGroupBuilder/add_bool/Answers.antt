@@ -5,7 +5,8 @@ use Rattle.meta_settings.proofs.builder.SettingGroupBuilder.add_bool.Goals as go
 
 pub overflow_add-self : goal.overflow_add-self
 overflow_add-self c =
-    let room : length c.self.inside.settings.items + length c.self.inside.presets.items + 1 < 2 ^ 32 = subst (λ (d : GroupDeclaration). entry_count d + 1 < 2 ^ 32) (sym c.self.view_is) c.requires in
+    let room : length c.self.inside.settings.items + length c.self.inside.presets.items + 1 < 2 ^ 32 =
+    subst (λ (d : GroupDeclaration). entry_count d + 1 < 2 ^ 32) (sym c.self.view_is) c.requires in
     let counted = all_counted c.self.inside.settings.items in
     let booleans = c.self.invariant.are_booleans in
     omega arith

@@ -13,4 +13,5 @@ overflow_sub-result c =
 pub returns : goal.returns
 returns c =
     subst (λ (d : GroupDeclaration). c.len.result - c.from-booleans.result + (c.from-booleans.result + 7) / 8 ≡ byte_count d) c.self.view_is
-    (bytes_counted c.self.inside.settings.items _ _ (c.len.ensures ∙ c.self.inside.settings.ok.0) (c.from-booleans.ensures ∙ c.self.invariant.are_booleans))
+    (bytes_counted c.self.inside.settings.items _ _ (c.len.ensures ∙ c.self.inside.settings.ok.0)
+    (c.from-booleans.ensures ∙ c.self.invariant.are_booleans))

@@ -14,4 +14,5 @@ loop-number-preserved c = λ named e.
     ∙ ap firsts (append_assoc named (take i numbers) _ ∙ ap (λ z. named ++ z) (sym (take_more numbers i 0 c.loop-number-test.true)))
 
 pub returns : goal.returns
-returns c = λ named e. c.loop-number.invariant named e ∙ ap (λ z. firsts (named ++ z)) (take_all c.loop-number.number-index c.args.numbers.now c.loop-number-test.false)
+returns c = λ named e. c.loop-number.invariant named e
+    ∙ ap (λ z. firsts (named ++ z)) (take_all c.loop-number.number-index c.args.numbers.now c.loop-number-test.false)

@@ -10,7 +10,8 @@ pub returns-clause-numbers : goal.returns-clause-numbers
 returns-clause-numbers c = numbered_from _ _ _ _ c.in_ok-ids.ensures.numbers c.deref.ensures.value c.named.ensures
 
 pub returns-clause-of : goal.returns-clause-of
-returns-clause-of c = numbered_below _ _ _ (numbered_from _ _ _ _ c.in_ok-ids.ensures.numbers c.deref.ensures.value c.named.ensures) (all_counted _ _ _ _ c.in_ok-ids.ensures.added)
+returns-clause-of c = numbered_below _ _ _ (numbered_from _ _ _ _ c.in_ok-ids.ensures.numbers c.deref.ensures.value c.named.ensures)
+    (all_counted _ _ _ _ c.in_ok-ids.ensures.added)
 
 pub returns-in_err-ids-clause-added : goal.returns-in_err-ids-clause-added
 returns-in_err-ids-clause-added c = IfOk-from_err c.from_residual.result _ c.from_residual.ensures.0

@@ -17,17 +17,22 @@ pub copy_from-requires-clause-underived : goal.copy_from-requires-clause-underiv
 copy_from-requires-clause-underived c = ap (λ (v : Variable). v.chain) (mem_root c.in_ok-found.ensures _ c.index-mem.ensures).root
 
 pub named-requires : goal.named-requires
-named-requires c = ap length (c.deref.ensures.value ∙ c.in_ok-push.ensures.items) ∙ (whole_numbers c.in_ok-found.ensures _ c.in_ok-copy_from.ensures.number).count_is
+named-requires c = ap length (c.deref.ensures.value ∙ c.in_ok-push.ensures.items)
+    ∙ (whole_numbers c.in_ok-found.ensures _ c.in_ok-copy_from.ensures.number).count_is
 
 pub returns-clause-numbers : goal.returns-clause-numbers
-returns-clause-numbers c root = number_named _ root _ (subst (AreNumbered 0 50) (sym (c.deref.ensures.value ∙ c.in_ok-push.ensures.items)) (whole_numbers c.in_ok-found.ensures _ c.in_ok-copy_from.ensures.number)) (c.named.ensures root)
+returns-clause-numbers c root =
+    number_named _ root _ (subst (AreNumbered 0 50) (sym (c.deref.ensures.value ∙ c.in_ok-push.ensures.items))
+    (whole_numbers c.in_ok-found.ensures _ c.in_ok-copy_from.ensures.number)) (c.named.ensures root)
 
 pub returns-clause-roots : goal.returns-clause-roots
 returns-clause-roots c root = subst (λ v. IsRootWith c.copy_from.new.vars v (set_of_root root)) (sym (returns-clause-numbers c root))
-    (roots_whole c.in_ok-found.ensures _ _ _ (mem_root c.in_ok-found.ensures _ c.index-mem.ensures).set_is c.in_ok-copy_from.ensures.added root)
+    (roots_whole c.in_ok-found.ensures _ _ _ (mem_root c.in_ok-found.ensures _ c.index-mem.ensures).set_is
+    c.in_ok-copy_from.ensures.added root)
 
 pub returns-clause-count : goal.returns-clause-count
-returns-clause-count c = ap length c.in_ok-copy_from.ensures.added ∙ (length-append c.add_roots.new.vars _ ∙ ap (λ n. n + 1) (vars_counted c.in_ok-found.ensures))
+returns-clause-count c = ap length c.in_ok-copy_from.ensures.added
+    ∙ (length-append c.add_roots.new.vars _ ∙ ap (λ n. n + 1) (vars_counted c.in_ok-found.ensures))
 
 pub returns-in_err-found-clause-numbers : goal.returns-in_err-found-clause-numbers
 returns-in_err-found-clause-numbers c = IfOk-from_err c.from_residual.result _ c.from_residual.ensures.0
@@ -48,7 +53,8 @@ pub returns-in_err-new-clause-count : goal.returns-in_err-new-clause-count
 returns-in_err-new-clause-count c = IfOk-from_err c.from_residual-in_err-new.result _ c.from_residual-in_err-new.ensures.0
 
 pub returns-in_err-copy_from-clause-numbers : goal.returns-in_err-copy_from-clause-numbers
-returns-in_err-copy_from-clause-numbers c = IfOk-from_err c.from_residual-in_err-copy_from.result _ c.from_residual-in_err-copy_from.ensures.0
+returns-in_err-copy_from-clause-numbers c =
+    IfOk-from_err c.from_residual-in_err-copy_from.result _ c.from_residual-in_err-copy_from.ensures.0
 
 pub returns-in_err-copy_from-clause-roots : goal.returns-in_err-copy_from-clause-roots
 returns-in_err-copy_from-clause-roots c = IfOk-from_err c.from_residual-in_err-copy_from.result _ c.from_residual-in_err-copy_from.ensures.0

@@ -11,5 +11,7 @@ returns-in-Some c =
     let x = c.in-Some.constraint.now in
     let (l, holds) = c.in-Some.ensures.lookup.3 in
     let at = slice_get_read xs (length xs) c.args.place x refl l (holds x) in
-    c.is_open.ensures ∙ sym (get_or_from_slice_get (map is_open (map number_constraint_of xs)) c.args.place (is_open (number_constraint_of x)) false
-    (get_map is_open (map number_constraint_of xs) c.args.place (number_constraint_of x) (get_map number_constraint_of xs c.args.place x at)))
+    c.is_open.ensures ∙ sym (get_or_from_slice_get (map is_open (map number_constraint_of xs)) c.args.place
+    (is_open (number_constraint_of x)) false
+    (get_map is_open (map number_constraint_of xs) c.args.place (number_constraint_of x)
+    (get_map number_constraint_of xs c.args.place x at)))

@@ -5,4 +5,5 @@ use Rattle.meta_table_text.proofs.group_items.DetailTextDisplay.fmt.Goals as goa
 
 pub returns-in-Enum-clause-writes : goal.returns-in-Enum-clause-writes
 returns-in-Enum-clause-writes g c = λ plain ok.
-    subst (λ d. HasWritten g.W.Write.write_str_gives c.args.f.now (detail_text d) c.write-in-Enum.new.self) (sym c.in-Enum.is) (c.write-in-Enum.ensures.writes plain ok)
+    subst (λ d. HasWritten g.W.Write.write_str_gives c.args.f.now (detail_text d) c.write-in-Enum.new.self) (sym c.in-Enum.is)
+    (c.write-in-Enum.ensures.writes plain ok)

@@ -9,7 +9,8 @@ use Rattle.meta_types.proofs.derived_func.DerivedFunc.apply_number.Goals as goal
 pub returns-in_err-t-clause-none : goal.returns-in_err-t-clause-none
 returns-in_err-t-clause-none c =
     subst (λ r. IfNone r ((m : ℕ) → ¬ AnswersNumber (function_of c.args.self) c.args.c m)) (sym c.from_residual-in_err-t.ensures)
-    (λ m. no_number _ (type_parts_of c.in_ok-from_number.field-0) _ m (typed c.in_ok-from_number.field-0) c.in_ok-from_number.ensures.found c.in_err-t.ensures.none)
+    (λ m. no_number _ (type_parts_of c.in_ok-from_number.field-0) _ m
+    (typed c.in_ok-from_number.field-0) c.in_ok-from_number.ensures.found c.in_err-t.ensures.none)
 
 pub returns-clause-found : goal.returns-clause-found
 returns-clause-found c = search rules

@@ -7,16 +7,19 @@ use Rattle.meta_types.proofs.earlier_names.EarlierNames.add.Goals.{in-Ok, in-Err
 
 pub returns-in-Some-clause-shared : goal.returns-in-Some-clause-shared
 returns-in-Some-clause-shared c =
-    shared_name c.self.inside.places _ _ _ _ c.args.self.now (sym c.in-Some.ensures.value) c.in_ok-camel.ensures (subst (Keeps c.self.inside.places) c.self.view_is c.self.invariant) refl
+    shared_name c.self.inside.places _ _ _ _ c.args.self.now (sym c.in-Some.ensures.value) c.in_ok-camel.ensures
+    (subst (Keeps c.self.inside.places) c.self.view_is c.self.invariant) refl
 
 pub invariant_of-self-in-Ok : goal.invariant_of-self-in-Ok
 invariant_of-self-in-Ok c =
-    added_reference c.self.inside.places c.insert.new.self _ _ c.self.inside.names.items _ c.args.name c.in_ok-push.ensures.items (c.len-place.ensures ∙ c.self.inside.names.ok.0)
+    added_reference c.self.inside.places c.insert.new.self _ _ c.self.inside.names.items _ c.args.name c.in_ok-push.ensures.items
+    (c.len-place.ensures ∙ c.self.inside.names.ok.0)
     c.in-Ok.ensures.updates (sym c.in_default.ensures.value) c.in_ok-camel.ensures c.self.invariant
 
 pub returns-clause-unshared : goal.returns-clause-unshared
 returns-clause-unshared c = elim c.match-insert.branch [
-  | in-Ok w ↦ rw w.result-is (unshared_name c.self.inside.places _ _ _ c.args.self.now (sym c.in_default.ensures.value) c.in_ok-camel.ensures (subst (Keeps c.self.inside.places) c.self.view_is c.self.invariant) refl)
+  | in-Ok w ↦ rw w.result-is (unshared_name c.self.inside.places _ _ _ c.args.self.now
+      (sym c.in_default.ensures.value) c.in_ok-camel.ensures (subst (Keeps c.self.inside.places) c.self.view_is c.self.invariant) refl)
   | in-Err w ↦ rw w.result-is tt
 ]
 
@@ -78,10 +81,16 @@ returns-clause-added c = elim c.match-insert.branch [
 ]
 
 pub invariant_of-self-in-Err : goal.invariant_of-self-in-Err
-invariant_of-self-in-Err c = rw (c.in-Err.ensures.err, popped c.self.inside.names.items c.push.new.self.items c.pop.new.self.items c.args.name c.push.new.self.len c.in_ok-push.ensures.items c.push.new.self.ok.0 c.pop.ensures.rest) c.self.invariant
+invariant_of-self-in-Err c = rw (
+  c.in-Err.ensures.err,
+  popped c.self.inside.names.items c.push.new.self.items c.pop.new.self.items c.args.name c.push.new.self.len c.in_ok-push.ensures.items
+      c.push.new.self.ok.0 c.pop.ensures.rest,
+) c.self.invariant
 
 pub returns-clause-unchanged : goal.returns-clause-unchanged
 returns-clause-unchanged c = elim c.match-insert.branch [
   | in-Ok w ↦ rw w.result-is tt
-  | in-Err w ↦ rw w.result-is (w.self-is ∙ ap (map (λ q. q.now)) (popped c.self.inside.names.items _ _ c.args.name _ c.in_ok-push.ensures.items c.push.new.self.ok.0 w.pop.ensures.rest) ∙ c.self.view_is)
+  | in-Err w ↦ rw w.result-is (w.self-is
+      ∙ ap (map (λ q. q.now)) (popped c.self.inside.names.items _ _ c.args.name _ c.in_ok-push.ensures.items c.push.new.self.ok.0
+      w.pop.ensures.rest) ∙ c.self.view_is)
 ]

@@ -8,7 +8,8 @@ use Rattle.meta_types.proofs.Left.{still_left, none_left}
 use Rattle.meta_types.proofs.lane.LaneType.from_code.Goals as goal
 
 pub loop-lane-init : goal.loop-lane-init
-loop-lane-init c = λ x e. subst (λ (xs : List LaneType). Contains xs x) (sym (ap lane_types_left c.into_iter-lane-iterator.ensures.into_iter_gives ∙ c.new-lane-items.ensures)) (among_lane_types x)
+loop-lane-init c = λ x e. subst (λ (xs : List LaneType). Contains xs x)
+    (sym (ap lane_types_left c.into_iter-lane-iterator.ensures.into_iter_gives ∙ c.new-lane-items.ensures)) (among_lane_types x)
 
 pub loop-lane-preserved : goal.loop-lane-preserved
 loop-lane-preserved c = λ x e.

@@ -11,4 +11,5 @@ invariant-loop-lanes l = map type_parts_of l.types.items ≡ flat_map (types_at 
 
 -- and, after all of these, those with the dynamic lane counts before this place
 abbrev pub invariant-loop-least : goal.invariant-loop-least
-invariant-loop-least l = map type_parts_of l.types.items ≡ flat_map (types_at (sets_in l.fn.self) false) (sets_in l.fn.self).lanes ++ flat_map (types_at (sets_in l.fn.self) true) (take l.least-index l.least-items)
+invariant-loop-least l = map type_parts_of l.types.items ≡ flat_map (types_at (sets_in l.fn.self) false) (sets_in l.fn.self).lanes
+    ++ flat_map (types_at (sets_in l.fn.self) true) (take l.least-index l.least-items)

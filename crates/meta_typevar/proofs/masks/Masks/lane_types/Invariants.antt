@@ -10,4 +10,5 @@ invariant-loop-int l = map lane_parts l.lane_types.items ≡ map (scalar IntKind
 
 -- all ints were added, and the floats before this place
 abbrev pub invariant-loop-float : goal.invariant-loop-float
-invariant-loop-float l = map lane_parts l.lane_types.items ≡ map (scalar IntKind) (sets_in l.fn.self).ints ++ map (scalar FloatKind) (take l.float-index l.float-items)
+invariant-loop-float l = map lane_parts l.lane_types.items ≡ map (scalar IntKind) (sets_in l.fn.self).ints
+    ++ map (scalar FloatKind) (take l.float-index l.float-items)

@@ -20,7 +20,8 @@ loop-n-preserved g c = elim c.if-self-n.branch [
       let all = c.self.inside.all.now in
       let more = held_more mask all c.loop-n.n-index c.loop-n-test.true w.if-self-n.true in
       let x = slice_index_or all c.loop-n.n-index 0 in
-      let text = ap (λ (l : List ℕ). codes "{" ++ l) (sym (ap (join_by decimal (codes ", ")) more ∙ number_more _ x c.loop-n.follows c.loop-n.invariant.0)) in (
+      let text = ap (λ (l : List ℕ). codes "{" ++ l) (sym (ap (join_by decimal (codes ", ")) more
+      ∙ number_more _ x c.loop-n.follows c.loop-n.invariant.0)) in (
         rw w.follows-is (sym (ap has_some more ∙ some_pushed _ x)),
         λ plain.
             let so_far = c.loop-n.invariant.1 plain in
@@ -30,7 +31,8 @@ loop-n-preserved g c = elim c.if-self-n.branch [
   | else-self-n w ↦
       let same = held_same c.self.inside.mask c.self.inside.all.now c.loop-n.n-index c.loop-n-test.true w.if-self-n.false in (
         rw w.follows-is (c.loop-n.invariant.0 ∙ ap has_some (sym same)),
-        λ plain. rw w.f-is (has_written_of_eq _ _ _ _ _ (ap (λ (l : List ℕ). codes "{" ++ join_by decimal (codes ", ") l) (sym same)) (c.loop-n.invariant.1 plain)),
+        λ plain. rw w.f-is (has_written_of_eq _ _ _ _ _ (ap (λ (l : List ℕ). codes "{" ++ join_by decimal (codes ", ") l) (sym same))
+            (c.loop-n.invariant.1 plain)),
       )
 ]
 
@@ -38,5 +40,7 @@ pub returns-clause-writes : goal.returns-clause-writes
 returns-clause-writes g c plain ok =
     let so_far = c.loop-n.invariant.1 plain in
     let step = c.write_str-2.ensures.writes so_far.plain ok in
-    let all = ap (λ (l : List ℕ). filter (holds c.self.inside.mask) l) (take_all c.loop-n.n-index c.self.inside.all.now c.loop-n-test.false) ∙ c.self.view_is in
-    has_written_of_eq _ _ _ _ _ (ap (λ (l : List ℕ). codes "{" ++ (join_by decimal (codes ", ") l ++ codes "}")) all) (has_written_append _ _ _ _ _ _ so_far step)
+    let all = ap (λ (l : List ℕ). filter (holds c.self.inside.mask) l)
+    (take_all c.loop-n.n-index c.self.inside.all.now c.loop-n-test.false) ∙ c.self.view_is in
+    has_written_of_eq _ _ _ _ _ (ap (λ (l : List ℕ). codes "{" ++ (join_by decimal (codes ", ") l ++ codes "}")) all)
+    (has_written_append _ _ _ _ _ _ so_far step)

@@ -9,4 +9,5 @@ use Rattle.meta_typevar.proofs.part_numbers.NumbersDisplay.fmt.Given as goal
 abbrev pub invariant-loop-n : goal.invariant-loop-n
 invariant-loop-n g l =
     (l.follows ≡ has_some (filter (holds l.self-inside.mask) (take l.n-index l.n-items)))
-    × (IsPlainFormatter l.fn.f → HasWritten g.W.Write.write_str_gives l.fn.f (codes "{" ++ join_by decimal (codes ", ") (filter (holds l.self-inside.mask) (take l.n-index l.n-items))) l.f)
+    × (IsPlainFormatter l.fn.f → HasWritten g.W.Write.write_str_gives l.fn.f
+    (codes "{" ++ join_by decimal (codes ", ") (filter (holds l.self-inside.mask) (take l.n-index l.n-items))) l.f)

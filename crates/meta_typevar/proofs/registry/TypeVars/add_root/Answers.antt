@@ -8,6 +8,9 @@ invariant_of-self c = both_stay _ _ _ _ c.in_err-push_both.ensures.content_stays
 
 pub invariant_of-self-2 : goal.invariant_of-self-2
 invariant_of-self-2 c = (
-  root_added c.self.inside.contents.items c.args.self.now _ _ _ _ _ _ c.self.view_is c.self.invariant.0 c.masks-masks.ensures.sets c.requires (c.of-tv.ensures ∙ c.len.ensures ∙ c.self.inside.contents.ok.0) c.new-chain.ensures c.in_ok-push_both.ensures.content,
-  root_noted c.self.inside.contents.items _ c.self.inside.children.items _ _ _ c.self.invariant.0 c.self.invariant.1 refl c.in_ok-push_both.ensures.content refl c.in_ok-push_both.ensures.children,
+  root_added c.self.inside.contents.items c.args.self.now _ _ _ _ _ _ c.self.view_is c.self.invariant.0
+      c.masks-masks.ensures.sets c.requires (c.of-tv.ensures ∙ c.len.ensures
+      ∙ c.self.inside.contents.ok.0) c.new-chain.ensures c.in_ok-push_both.ensures.content,
+  root_noted c.self.inside.contents.items _ c.self.inside.children.items _ _ _ c.self.invariant.0 c.self.invariant.1
+      refl c.in_ok-push_both.ensures.content refl c.in_ok-push_both.ensures.children,
 )

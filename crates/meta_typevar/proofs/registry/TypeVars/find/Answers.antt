@@ -12,6 +12,8 @@ returns-in-None-clause-none c = λ m h.
     let child = subst (λ (v : List TypeVarContent). IsChild v c.args.tv c.args.derived_func m) (sym is) h in
     let shown : length c.self.inside.contents.items ≡ length c.args.self.now = λ i. length (is i) in
     let below : c.args.tv < length c.self.inside.children.items = omega (arith, c.requires, known.as_many, shown) in
-    let at : slice_get c.self.inside.children.items c.args.tv ≡ Some c.index-2.result.now = slice_get_read c.self.inside.children.items (length c.self.inside.children.items) c.args.tv c.index-2.result.now refl below (c.index-2.ensures ∙ ap (λ k. slice_index_or c.self.inside.children.items k c.index-2.result.now) c.index.ensures) in
+    let at : slice_get c.self.inside.children.items c.args.tv ≡ Some c.index-2.result.now =
+    slice_get_read c.self.inside.children.items (length c.self.inside.children.items) c.args.tv c.index-2.result.now
+    refl below (c.index-2.ensures ∙ ap (λ k. slice_index_or c.self.inside.children.items k c.index-2.result.now) c.index.ensures) in
     let noted = known.complete c.args.tv m c.index-2.result.now c.args.derived_func at child in
     (cc)

@@ -10,5 +10,7 @@ use Rattle.meta_typevar.proofs.registry.TypeVars.new.Goals as goal
 
 pub invariant_of-result : goal.invariant_of-result
 invariant_of-result c =
-    let known = subst (λ (v : List TypeVarContent). AreKnown v []) (sym c.new.ensures.items) known_empty in
-    (subst IsRegistry (sym c.new.ensures.items) empty_registry, subst (λ (k : List Children). AreKnown c.new.result.items k) (sym c.new-2.ensures.items) known)
+    let known = subst (λ (v : List TypeVarContent). AreKnown v []) (sym c.new.ensures.items) known_empty in (
+      subst IsRegistry (sym c.new.ensures.items) empty_registry,
+      subst (λ (k : List Children). AreKnown c.new.result.items k) (sym c.new-2.ensures.items) known,
+    )

@@ -8,7 +8,9 @@ use Rattle.meta_typevar.proofs.Listed.{listed_members, listed_once}
 use Rattle.meta_typevar.proofs.type_set.TypeSet.concrete_types.Goals as goal
 
 pub returns-clause-listed : goal.returns-clause-listed
-returns-clause-listed c = subst (λ (s : TypeSetParts). IfOk c.concrete_types.result (λ v. map type_parts_of v.items ≡ types_in s)) c.self.view_is c.concrete_types.ensures
+returns-clause-listed c =
+    subst (λ (s : TypeSetParts). IfOk c.concrete_types.result (λ v. map type_parts_of v.items ≡ types_in s))
+    c.self.view_is c.concrete_types.ensures
 
 pub returns-clause-members : goal.returns-clause-members
 returns-clause-members c = listed_members c.args.self.now (subst IsTypeSet c.self.view_is (is_type_set c.self.inside.masks))

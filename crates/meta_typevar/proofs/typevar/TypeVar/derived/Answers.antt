@@ -5,10 +5,12 @@ pub returns-in-Some-clause-derives : goal.returns-in-Some-clause-derives
 returns-in-Some-clause-derives c = derives_known _ _ _ _ c.find.ensures.registry c.in-Some.ensures.found
 
 pub returns-in_err-content-clause-derives : goal.returns-in_err-content-clause-derives
-returns-in_err-content-clause-derives c = derives_failed _ _ _ _ c.find.ensures.registry c.requires.of c.in_default.ensures.none c.from_residual-in_err-content.ensures.0
+returns-in_err-content-clause-derives c =
+    derives_failed _ _ _ _ c.find.ensures.registry c.requires.of c.in_default.ensures.none c.from_residual-in_err-content.ensures.0
 
 pub returns-clause-derives : goal.returns-clause-derives
-returns-clause-derives c = derives_added _ _ _ _ _ _ c.find.ensures.registry c.requires.of c.in_default.ensures.none c.in_ok-content.ensures c.add_derived.ensures.number c.add_derived.ensures.added c.add_derived.ensures.err
+returns-clause-derives c = derives_added _ _ _ _ _ _ c.find.ensures.registry c.requires.of c.in_default.ensures.none
+    c.in_ok-content.ensures c.add_derived.ensures.number c.add_derived.ensures.added c.add_derived.ensures.err
 
 pub returns-in-Some-clause-grows : goal.returns-in-Some-clause-grows
 returns-in-Some-clause-grows c = grows_none _

@@ -5,5 +5,7 @@ use Rattle.meta_verify.proofs.verifier.VerifierAnswerer.answer.Goals as goal
 pub returns : goal.returns
 returns c =
     IfOk-weaker c.verdict.result _ _
-    (λ answer h. c.answers_mean.ensures.verdict c.args.built.now.declared _ c.declarations-declarations.ensures.valid c.in_ok-tables.ensures.tables.opcodes c.in_ok-tables.ensures.acceptance c.args.input.now answer.is_rejection (string_bytes answer.text) h)
+    (λ answer h. c.verdicts_mean.ensures.verdict c.args.built.now.declared _ c.declarations-declarations.ensures.valid
+    c.in_ok-tables.ensures.tables.opcodes c.in_ok-tables.ensures.acceptance c.args.input.now answer.is_rejection
+    (string_bytes answer.text) h)
     c.verdict.ensures

@@ -1,0 +1,15 @@
+use Rattle.meta_verify.proofs.Meaning.{answered_means, verdict_means, fed_means, led_means}
+use Rattle.meta_verify.proofs.laws.verdicts_mean.Goals as goal
+
+pub returns-clause-line : goal.returns-clause-line
+returns-clause-line c = λ d t made means lines n answer h. answered_means d t made means lines n answer h
+
+pub returns-clause-verdict : goal.returns-clause-verdict
+returns-clause-verdict c = λ d t valid made means input is_rejection text h.
+    verdict_means d.set t made means valid.set input is_rejection text h
+
+pub returns-clause-fed : goal.returns-clause-fed
+returns-clause-fed c = λ d t valid made means env named line answer behind. fed_means d t made means valid env named line answer behind
+
+pub returns-clause-led : goal.returns-clause-led
+returns-clause-led c = λ d t valid made means env named lines behind. led_means d t made means valid env named lines behind
