@@ -1,9 +1,8 @@
 -- What the auditor says of tables beside declarations.
 --     IsVerdict d t verdict          the verdict on the tables t beside the declarations d
 --     IsComparison own t verdict     the same beside the tables of these declarations
-use Rattle.std.specs.Prelude.{◌≡◌, ◌≢◌, ◌<◌, ◌+◌, ◌⊎◌, ℕ, List, [], ◌∷◌, ◌++◌, Option, None, Some, length, slice_get, codes}
+use Rattle.std.specs.Prelude.{◌≡◌, ◌≢◌, ◌<◌, ◌+◌, ◌⊎◌, ℕ, List, [], ◌∷◌, ◌++◌, Option, None, Some, length, slice_get}
 use Rattle.std.specs.Option.{option_map}
-use Rattle.std.specs.Fmt.{decimal}
 use Rattle.meta_lists.specs.First.{IsFirst}
 use Rattle.meta_inst.specs.Builder.{Builder}
 use Rattle.meta_inst.specs.InstructionSet.{InstructionSet}

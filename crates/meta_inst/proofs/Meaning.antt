@@ -135,8 +135,7 @@ module _ (vars : List TypeVarContent) (o : OperandList) (within : o.result_count
   may_from v l m = record {
     underived = m.underived;
     not_second = λ e. m.not_second (ap (option_map (variable_at vars)) e);
-    all =
-        λ k n at. ruled_from v k n l m.underived at (m.others k (variable_at vars n) (operand_at k n at));
+    all = λ k n at. ruled_from v k n l m.underived at (m.others k (variable_at vars n) (operand_at k n at));
   }
 
   -- the designated variable and the first are of the registry
@@ -157,8 +156,7 @@ module _ (vars : List TypeVarContent) (o : OperandList) (within : o.result_count
       (λ place is at. record {
         place = place;
         designates = is;
-        is_value =
-            get_map (variable_at vars) (drop o.result_count o.variables) place d at;
+        is_value = get_map (variable_at vars) (drop o.result_count o.variables) place d at;
       })
 
   pub designated_from : (w : Variable) → IsDesignated i w → (d : ℕ) × (designated_number o ≡ Some d) × (w ≡ variable_at vars d)
@@ -191,8 +189,7 @@ module _ (vars : List TypeVarContent) (o : OperandList) (within : o.result_count
     place = h.place;
     variable = variable_at vars h.variable;
     operand = operand_at h.place h.variable h.at;
-    several =
-        h.several;
+    several = h.several;
   }
 
   one_everywhere : AllHaveOneType vars o.variables → HasOneEverywhere (sets_of vars) i
@@ -257,8 +254,7 @@ module _ (vars : List TypeVarContent) (o : OperandList) (within : o.result_count
   found_by_numbers Missing h = record {
     polymorphic = polymorphic h.several;
     designated = designates_none h.designated_may_not;
-    first =
-        first_never h.first_may_not;
+    first = first_never h.first_may_not;
   }
 
   -- the variable that controls is of the registry

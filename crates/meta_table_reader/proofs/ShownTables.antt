@@ -51,8 +51,7 @@ masks_shown m are =
       lanes = omega (arith, lanes, l);
       dynamic_lanes = omega (arith, dynamic_lanes, d);
       ints = omega (arith, ints, i);
-      floats =
-          omega (arith, floats, f);
+      floats = omega (arith, floats, f);
     }
 
 -- ---- constraints and entries
@@ -114,6 +113,5 @@ opcodes_shown v t is fits =
 pub tables_shown : (v : Version) (t : WholeTables) → IsWellFormed t → Fits v t → AreShown v t
 tables_shown v t is fits = record {
   opcodes = opcodes_shown v t is.opcodes fits;
-  groups =
-      All-weaker IsWellFormedGroup AreShownGroup group_shown t.groups is.groups;
+  groups = All-weaker IsWellFormedGroup AreShownGroup group_shown t.groups is.groups;
 }

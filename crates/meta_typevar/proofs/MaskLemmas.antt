@@ -21,8 +21,7 @@ pub is_type_set : (m : Masks) → IsTypeSet (sets_in m)
 is_type_set m = record {
   lanes = part m.lanes (lane_counts false);
   dynamic_lanes = part m.dynamic_lanes (lane_counts true);
-  ints =
-      part m.ints (widths IntKind);
+  ints = part m.ints (widths IntKind);
   floats = part m.floats (widths FloatKind);
 }
 

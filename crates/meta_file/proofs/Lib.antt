@@ -1,0 +1,4 @@
+pub mod ToolRuns
+pub mod OneTool
+pub mod Texts
+pub mod FileRuns

@@ -1,0 +1,6 @@
+pub mod Arguments
+pub mod BeforeGroup
+pub mod Growing
+pub mod Kept
+pub mod OneSaying
+pub mod Utf8
