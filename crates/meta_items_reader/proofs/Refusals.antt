@@ -14,7 +14,8 @@ use Rattle.meta_items_reader.specs.declared.fault.ReadError.{ReadError}
 use Rattle.meta_items_reader.specs.declared.fault.ReadError.TheVariants as reads
 use Rattle.meta_items_reader.specs.ItemLines.{key_lines}
 use Rattle.meta_items_reader.specs.Reading.{items_at}
-use Rattle.meta_items_reader.specs.Refused.{AllFit, IsRefusalOf, IsRefused, GivesItems, items_in}
+use Rattle.meta_items_reader.specs.Fits.{AllFit}
+use Rattle.meta_items_reader.specs.Refused.{IsRefusalOf, IsRefused, GivesItems, items_in}
 use Rattle.meta_items_reader.proofs.PartLaws.{ok_is}
 use Rattle.meta_items_reader.proofs.AllItems.{all_takes, all_again, all_refused}
 use Rattle.meta_items_reader.proofs.KeyCount.{a_line_each}

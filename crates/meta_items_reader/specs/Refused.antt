@@ -1,37 +1,37 @@
 -- What is read of a text, and where a text is refused.
-use Rattle.std.specs.Prelude.{◌≡◌, ℕ, ◌+◌, ◌-◌, ◌<◌, ◌≤◌, ◌^◌, Bool, List, [], ◌∷◌, ◌++◌, length, slice_get, Result, Ok, Err}
+use Rattle.std.specs.Prelude.{◌≡◌, ℕ, ◌+◌, ◌-◌, ◌≤◌, Bool, true, false, List, [], ◌∷◌, ◌++◌, length, slice_get, Result, Ok, Err}
 use Rattle.meta_tokens.specs.declared.token.Token.{Token}
+use Rattle.meta_tokens.specs.declared.token.Token.TheVariants.{Key, Word, Quoted, Sign, Doc, Stray}
 use Rattle.meta_tokens.specs.TokenLines.{line_at}
 use Rattle.meta_tokens.specs.Encoding.{text_last_line}
 use Rattle.meta_tokens.specs.Squeezed.{read_in, read_lines}
 use Rattle.meta_items.specs.declared.items.Item.{Item}
-use Rattle.meta_items.specs.declared.items.Item.TheVariants as item
-use Rattle.meta_items.specs.Spelling.{spelled_all}
+use Rattle.meta_items.specs.Spelling.{spelled, spelled_all}
 use Rattle.meta_items_reader.specs.declared.fault.Fault.{Fault}
 use Rattle.meta_items_reader.specs.declared.fault.Refusal.{Refusal}
 use Rattle.meta_items_reader.specs.declared.fault.ReadError.{ReadError}
 use Rattle.meta_items_reader.specs.declared.fault.ReadError.TheVariants as reads
+use Rattle.meta_items_reader.specs.Fits.{AllFit}
 use Rattle.meta_items_reader.specs.Reading.{items_at}
 
--- the number of a setting is one of a byte
-abbrev pub Fits : Item → Type 0
-Fits (item.Group n) = Unit {0}
-Fits (item.Bool i) = Unit {0}
-Fits (item.Num i) = i.default < 2 ^ 8
-Fits (item.Enum i) = Unit {0}
-Fits (item.Preset i) = Unit {0}
+-- here an item ends: nothing follows, or a keyword, or documentation
+abbrev pub ends : List Token → Bool
+ends [] = true
+ends (Key k ∷ ts) = true
+ends (Word w ∷ ts) = false
+ends (Quoted t ∷ ts) = false
+ends (Sign c ∷ ts) = false
+ends (Doc d ∷ ts) = true
+ends (Stray f ∷ ts) = false
 
-abbrev pub AllFit : List Item → Type 0
-AllFit [] = Unit {0}
-AllFit (i ∷ is) = Fits i × AllFit is
-
--- the tokens are some items, as many as stand there, and then what no item begins: so many of them are left at a place among the latter,
--- or at the end
+-- the tokens are some items, as many as stand there one behind the other, and then what is no item up to where items end: so many of them
+-- are left at a place among the latter, or at the end
 pub record AreRefused (ts : List Token) (left : ℕ) : Type 0 where
   pub front : List Item
   pub rest : List Token
   pub are : ts ≡ spelled_all front ++ rest
-  pub longest : (is : List Item) (more : List Token) → AllFit is → ts ≡ spelled_all is ++ more → length rest ≤ length more
+  pub longest : (is : List Item) (more : List Token) → AllFit is → ends more ≡ true → ts ≡ spelled_all is ++ more
+      → length rest ≤ length more
   pub some : rest ≡ [] → ⊥
   pub within : left ≤ length rest
 
@@ -45,13 +45,14 @@ pub record IsRefusalOf (tokens : List Token) (lines : List ℕ) (last : ℕ) (f 
   pub wanted : r.wanted ≡ f.wanted
   pub found : r.found ≡ slice_get tokens (length tokens - f.left)
 
--- the text is some items, as many as stand there, and then what no item begins: the refusal stands at a place among the latter, or at the
--- end of the text
+-- the text is some items, as many as stand there one behind the other, and then what is no item up to where items end: the refusal stands
+-- at a place among the latter, or at the end of the text
 pub record IsRefused (text : List ℕ) (r : Refusal) : Type 0 where
   pub front : List Item
   pub rest : List Token
   pub are : read_in text ≡ spelled_all front ++ rest
-  pub longest : (is : List Item) (more : List Token) → AllFit is → read_in text ≡ spelled_all is ++ more → length rest ≤ length more
+  pub longest : (is : List Item) (more : List Token) → AllFit is → ends more ≡ true → read_in text ≡ spelled_all is ++ more
+      → length rest ≤ length more
   pub some : rest ≡ [] → ⊥
   pub place : ℕ
   pub behind : length (spelled_all front) ≤ place

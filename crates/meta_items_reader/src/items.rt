@@ -1,9 +1,14 @@
-ghost use Rattle.std.specs.Prelude.{◌≡◌, length};
-ghost use Rattle.meta_items_reader.specs.Reading.{Gives, wanted_item, item_behind, item_at, items_at};
+ghost use Rattle.std.specs.Prelude.{◌≡◌, List, length, IfOk};
+ghost use Rattle.meta_items_reader.specs.Parts.{Gives};
+ghost use Rattle.meta_items_reader.specs.Reading.{wanted_item, item_behind, item_at, items_at};
 
 use super::fault::{Fault, PartError, Wanted};
+use super::formats::format_item;
+use super::insts::inst_item;
+use super::kinds::kind_item;
 use super::parts::{docs_of, name_of};
 use super::settings::{bool_item, enum_item, num_item, preset_item};
+use super::types::type_item;
 use meta_items::{Docs, Item};
 use meta_tokens::{Keyword, Token};
 use std::alloc::Global;
@@ -28,6 +33,22 @@ fn item_behind(alloc: Global, docs: Docs, tokens: &[Token]) -> Result<(Item, &[T
         wanted: wanted_item(&docs),
     };
     match tokens {
+        [Token::Key(Keyword::Type), rest @ ..] => type_item(alloc, docs, rest),
+        [Token::Key(Keyword::Kind), rest @ ..] => {
+            let (item, rest) = kind_item(alloc, docs, rest)?;
+            Ok((Item::Kind(item), rest))
+        }
+        [Token::Key(Keyword::Format), rest @ ..] => {
+            if !docs.as_slice().is_empty() {
+                return Err(PartError::Fault(fault));
+            }
+            let (item, rest) = format_item(alloc, rest)?;
+            Ok((Item::Format(item), rest))
+        }
+        [Token::Key(Keyword::Inst), rest @ ..] => {
+            let (item, rest) = inst_item(alloc, docs, rest)?;
+            Ok((Item::Inst(item), rest))
+        }
         [Token::Key(Keyword::Group), rest @ ..] => {
             if !docs.as_slice().is_empty() {
                 return Err(PartError::Fault(fault));

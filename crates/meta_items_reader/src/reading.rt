@@ -6,8 +6,10 @@ ghost use Rattle.meta_items.specs.declared.items.Item.{Item};
 ghost use Rattle.meta_items_reader.specs.declared.fault.Refusal.{Refusal};
 ghost use Rattle.meta_items_reader.specs.declared.fault.ReadError.TheVariants.{Refused};
 ghost use Rattle.meta_items_reader.specs.ItemLines.{key_line, key_lines};
-ghost use Rattle.meta_items_reader.specs.Reading.{Gives, items_at};
-ghost use Rattle.meta_items_reader.specs.Refused.{AllFit, IsRefusalOf, IsRefused, GivesItems, items_in};
+ghost use Rattle.meta_items_reader.specs.Parts.{Gives};
+ghost use Rattle.meta_items_reader.specs.Reading.{items_at};
+ghost use Rattle.meta_items_reader.specs.Fits.{AllFit};
+ghost use Rattle.meta_items_reader.specs.Refused.{IsRefusalOf, IsRefused, GivesItems, items_in};
 
 use super::fault::{Fault, PartError, ReadError, Refusal};
 use super::items::items;
