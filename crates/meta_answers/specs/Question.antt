@@ -14,7 +14,7 @@ pub record Question : Type 0 where
   pub results : List TypeParts
   pub values : List TypeParts
 
--- the words of the line that asks: `accept NAME CTRL RESULTS VALUES`, where CTRL gives both controlling types
+-- the words of the line that asks: `accept NAME CONTROL RESULTS VALUES`, where CONTROL gives both controlling types
 abbrev pub question_words : List ℕ → List ℕ → List ℕ → List ℕ → List (List ℕ)
 question_words name control results values = codes "accept" ∷ name ∷ control ∷ results ∷ values ∷ []
 

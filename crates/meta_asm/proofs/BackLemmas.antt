@@ -72,8 +72,7 @@ low_mark : (byte : ℕ) → byte < 32 → IsMark byte
 low_mark byte h = record {
   digit = λ d. (let l : 48 ≤ byte = d.low in omega (arith, h, l));
   value = λ e. omega (arith, h, e);
-  int =
-      λ e. omega (arith, h, e);
+  int = λ e. omega (arith, h, e);
   float = λ e. omega (arith, h, e);
   lanes = λ e. omega (arith, h, e);
   dynamic = λ e. omega (arith, h, e);

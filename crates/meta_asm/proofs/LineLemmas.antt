@@ -80,8 +80,7 @@ high byte h = record {
   mark = record {
     digit = λ d. (let l : byte ≤ 57 = d.high in omega (arith, h, l));
     value = λ e. omega (arith, h, e);
-    int =
-        λ e. omega (arith, h, e);
+    int = λ e. omega (arith, h, e);
     float = λ e. omega (arith, h, e);
     lanes = λ e. omega (arith, h, e);
     dynamic = λ e. omega (arith, h, e);
@@ -159,8 +158,7 @@ shown leaves_out a = record {
   name = a.name;
   control = shown_control leaves_out a.control a.second;
   second = a.second;
-  results =
-      [];
+  results = [];
   values = a.values;
 }
 

@@ -173,8 +173,7 @@ module _ (tables : TableContents) where
     some = some;
     lines = h.lines;
     before = env;
-    reads =
-        h.reads;
+    reads = h.reads;
     unread = none;
   }
 

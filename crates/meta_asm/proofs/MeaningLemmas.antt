@@ -41,8 +41,7 @@ module _ (d : InstructionSet) (tables : TableContents) (means : (env : Environme
         lines = h.lines;
         before = h.before;
         reads = before.0;
-        unread =
-            λ line short. h.unread line ((means h.before before.1 line h.text).1 short);
+        unread = λ line short. h.unread line ((means h.before before.1 line h.text).1 short);
       }
 
   pub spelled_means : (input : List ℕ) (is_rejection : Bool) (text : List ℕ)

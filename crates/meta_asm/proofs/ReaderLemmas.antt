@@ -27,7 +27,7 @@ use Rattle.meta_meaning.specs.Tables.{NumberPasses, PassesAt, Allows, at_opcode,
 use Rattle.meta_opcode_tables.specs.Constraint.{number_constraint_of}
 use Rattle.meta_opcode_tables.specs.declared.constraint.Constraint.{Constraint}
 use Rattle.meta_opcode_tables.specs.declared.constraint.Constraint.TheVariants.{Same}
-use Rattle.meta_opcode_tables.specs.Contents.{IsOpcode, IsOpcodeNamed}
+use Rattle.meta_opcode_tables.specs.Contents.{IsOpcodeNamed}
 use Rattle.meta_opcode_tables.specs.WellFormed.{IsWellFormedOpcodes}
 use Rattle.meta_lists.proofs.Everywhere.{at_place}
 use Rattle.meta_words.specs.Control.{control_text, IsBehind}
@@ -94,20 +94,9 @@ shown_whole : (c d : Option TypeParts) (w : Option ℕ) → w ≡ option_map num
 shown_whole c None w e = e
 shown_whole c (Some d) w e = e
 
--- as it is written
-pub control_written_is : (m : Manner) (a : Application) (w : Option ℕ)
-    → w ≡ option_map number_of (shown_control m.leaves_out a.control a.second) → is_some w ≡ true → w ≡ option_map number_of a.control
-control_written_is m a w e some = shown_some m.leaves_out a.control a.second w e some
-
 no_number : (w : Option ℕ) → is_some w ≡ false → w ≡ None
 no_number None e = refl
 no_number (Some n) e = absurd (cc)
-
--- or there is none
-pub control_none : (m : Manner) (a : Application) (w : Option ℕ) → w ≡ option_map number_of (shown_control m.leaves_out a.control a.second)
-    → is_some w ≡ false → m.leaves_out ≡ false → None ≡ option_map number_of a.control
-control_none m a w e none closed = sym (no_number w none)
-    ∙ shown_whole a.control a.second w (e ∙ ap (λ b. option_map number_of (shown_control b a.control a.second)) closed)
 
 -- the type of a value at its place
 have_at : (env : Environment) (values : List ℕ) (types : List TypeParts) (j v : ℕ) → HaveTypes env values types
@@ -304,12 +293,6 @@ no_place cs e =
     let past = none_passes has_control cs e in
     list_any_none is_control (map number_constraint_of cs)
     (All-map (λ x. is_control x ≡ false) number_constraint_of cs (λ k d l. fails_before_first has_control cs k d (omega (arith, past, l))))
-
--- an opcode that has an entry is one of the tables
-pub opcode_is_one : (tables : TableContents) (op : ℕ) (entry : OpcodeNumbers) → at_opcode tables.entries op ≡ Some entry
-    → IsOpcode tables op
-opcode_is_one tables zero entry e = absurd (cc)
-opcode_is_one tables (suc k) entry e = let l = slice_get_within tables.entries k entry e in (omega arith, omega (arith, l))
 
 -- the name of an application that is right has no mark of a line
 pub right_plain : (tables : TableContents) (well : IsWellFormedOpcodes tables) (env : Environment) (line : List ℕ) (a : Application)

@@ -216,16 +216,3 @@ pub no_results_written : (opened : List Bool) (rs : List TypedValue)
 no_results_written opened [] e = refl
 no_results_written [] (r ∷ rs) e = absurd (cc)
 no_results_written (o ∷ os) (r ∷ rs) e = absurd (cc)
-
--- a piece is left only where a number is
-pub number_left : (rs : List TypedValue) (left : List (List ℕ)) (piece : List ℕ) (pieces : List (List ℕ)) (word : List ℕ)
-    → AreLeft rs [] left word → left ≡ piece ∷ pieces → ⊥
-number_left rs left piece pieces word h e =
-    by h.opened h.results h.tell.count (subst (λ ps. AreSpaced ps (map short_result_text (short_results h.opened h.results))) e h.spaced)
-  where
-    by : (opened : List Bool) (results : List TypedValue) → 0 ≡ length results
-        → AreSpaced (piece ∷ pieces) (map short_result_text (short_results opened results)) → ⊥
-    by [] [] c spaced = spaced
-    by (o ∷ os) [] c spaced = spaced
-    by [] (r ∷ qs) c spaced = omega (arith, c)
-    by (o ∷ os) (r ∷ qs) c spaced = omega (arith, c)

@@ -1,5 +1,5 @@
 -- The words of a line.
-use Rattle.std.proofs.Common.{◌≡◌, ◌≢◌, ℕ, ◌==◌, not, false, List, [], ◌∷◌, ◌++◌, map, All, None, Some, codes, refl, sym, ap, ap₂, ◌∙◌}
+use Rattle.std.proofs.Common.{◌≡◌, ◌≢◌, ℕ, ◌==◌, not, false, List, [], ◌∷◌, ◌++◌, map, All, Some, refl, sym, ap, ap₂, ◌∙◌}
 use Rattle.std.proofs.Common.{rules, tests}
 use Rattle.std.specs.List.{join_with_byte, filter}
 use Rattle.std.proofs.lemmas.List.Elements.{All-head, All-tail, filter-append}
@@ -42,10 +42,6 @@ list_kept [] list h e = absurd (cc)
 list_kept (t ∷ ts) list h e =
     let is : list ≡ joined (t ∷ ts) = cc in
     ap no_spaces is ∙ behind_kept t ts h
-
-pub no_list : (ts : List (List ℕ)) → None ≡ values_written ts → codes "-" ≡ list_text ts
-no_list [] e = refl
-no_list (t ∷ ts) e = absurd (cc)
 
 -- the name of the type that has the number
 pub value_name : (t : ValueType) (n : ℕ) → number_of (type_parts_of t) ≡ n → name_of (type_parts_of t) ≡ name_of (type_with n)

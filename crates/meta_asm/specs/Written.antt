@@ -18,6 +18,7 @@ pub record HasWritten (m : Manner) (a : Application) (w : Written) : Type 0 wher
   pub second : w.second ≡ option_map number_of a.second
   pub values : w.values.items ≡ a.values
 
+-- what is written of an application in this manner, which always is something
 abbrev pub IsWritten : Manner → Application → Option Written → Type 0
 IsWritten m a None = ⊥
 IsWritten m a (Some w) = HasWritten m a w

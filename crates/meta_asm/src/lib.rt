@@ -15,6 +15,7 @@ mod words;
 mod written;
 
 pub use assembler::asm;
+pub use form::Form;
 pub use laws::{lists_are_written_back, one_form, one_output_of_a_form};
 pub use meta_run::Ending as AsmStatus;
 pub use meta_short::print_line;

@@ -1,4 +1,4 @@
-ghost use Rattle.std.specs.Prelude.{◌≡◌, ◌≢◌, ◌≤◌, ◌++◌, ℕ, List, [], ◌∷◌, true, false, None, length, IfOk, OnOk, string_bytes};
+ghost use Rattle.std.specs.Prelude.{◌≡◌, ◌≢◌, ◌≤◌, ◌++◌, ℕ, List, [], ◌∷◌, true, false, None, length, IfOk, string_bytes};
 ghost use Rattle.meta_text.specs.Outside.{longest_input};
 ghost use Rattle.meta_answers.specs.Answer.{AllowedReply};
 ghost use Rattle.meta_verify.specs.Defined.{definitions};

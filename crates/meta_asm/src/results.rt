@@ -1,7 +1,7 @@
 ghost use Rattle.std.specs.Prelude.{◌≡◌, ◌++◌, ℕ, Bool, true, List, ◌∷◌, map, All, Option, Some, IfOk, IfSome, IfNone, OnOk, [], false};
 ghost use Rattle.std.specs.Option.{option_map};
 ghost use Rattle.meta_types.specs.TypeParts.{number_of};
-ghost use Rattle.meta_verify.specs.Statement.{TypedValue, IsTyped, value_text, typed_text, list_text};
+ghost use Rattle.meta_verify.specs.Statement.{TypedValue, IsTyped, typed_text, list_text};
 ghost use Rattle.meta_short.specs.Short.{shortened, short_results, short_result_text, values_written};
 ghost use Rattle.meta_asm.specs.Parts.{TellTypes, comma_behind};
 

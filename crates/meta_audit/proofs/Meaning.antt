@@ -5,7 +5,7 @@ use Rattle.meta_lists.proofs.Places.{get_there}
 use Rattle.meta_types.specs.TypeParts.{TypeParts, number_of, IsType}
 use Rattle.meta_typevar.specs.Variable.{Variable, Sets}
 use Rattle.meta_inst.specs.Which.{Which, First, Second, both}
-use Rattle.meta_inst.specs.Instruction.{Instruction, IsOperand, operands, controls_of}
+use Rattle.meta_inst.specs.Instruction.{Instruction, IsOperand, controls_of}
 use Rattle.meta_inst.specs.Control.{IsControl, HasBadSecond}
 use Rattle.meta_inst.specs.Builder.{Builder}
 use Rattle.meta_inst.specs.InstructionSet.{InstructionSet, root_sets, instruction_in_set}
@@ -126,8 +126,7 @@ module _ (d : InstructionSet) (tables : TableContents) (valid : IsValid d) (well
         number = omega arith;
         control = m.control;
         is_control = m.is_control;
-        accepts =
-            allows_at k b at c e rs vs a;
+        accepts = allows_at k b at c e rs vs a;
       }
 
   from : (op : ℕ) (c e : Option ℕ) (rs vs : List ℕ) → AcceptsOpcode d op c e rs vs → Allows tables op c e rs vs

@@ -1,13 +1,13 @@
 -- What is of one form means the same.
-use Rattle.std.proofs.Common.{◌≡◌, ◌≢◌, ◌↔◌, ◌⊎◌, ◌<◌, ◌≤◌, ℕ, Option, None, Some, slice_get, length, refl, sym, ap, ◌∙◌, subst, inl, inr}
+use Rattle.std.proofs.Common.{◌≡◌, ◌≢◌, ◌↔◌, ◌⊎◌, ◌<◌, ◌≤◌, ℕ, Option, None, Some, refl, sym, ◌∙◌, subst, inl, inr}
 use Rattle.std.proofs.Common.{arith}
 use Rattle.std.proofs.lemmas.Option.{same_Some, slice_get_within}
 use Rattle.meta_typevar.specs.Masks.{ContainsNumber}
 use Rattle.meta_inst.specs.Which.{Which}
 use Rattle.meta_meaning.specs.Tables.{TableContents, NumberConstraint, ConcreteNumber, FreeOf, SameNumber, ByNumber, SetContains}
-use Rattle.meta_meaning.specs.Tables.{ControlNumberFits, NumberPasses, PassesAt, no_type_set}
+use Rattle.meta_meaning.specs.Tables.{ControlNumberFits, NumberPasses, no_type_set}
 use Rattle.meta_opcode_tables.specs.WellFormed.{IsWellFormedOpcodes}
-use Rattle.meta_audit.specs.Comparison.{SameNumbers, SameControl, SameMasks, NamesNoSet, SameFree, AreOneForm, HaveOneForm}
+use Rattle.meta_audit.specs.Comparison.{SameNumbers, SameControl, SameMasks, NamesNoSet, AreOneForm, HaveOneForm}
 use Rattle.meta_audit.proofs.Typed.{absent_fits, some_fits, none_fits, number_fits}
 
 -- type sets with the same masks contain the same numbers
@@ -15,8 +15,7 @@ contained : (own other : TableContents) (j k n : ℕ) → SameMasks own other j 
 contained own other j k n m c = record {
   masks = m.masks;
   is_set = m.other_at;
-  contains =
-      subst (λ x. ContainsNumber x n) (same_Some c.masks m.masks (sym c.is_set ∙ m.at)) c.contains;
+  contains = subst (λ x. ContainsNumber x n) (same_Some c.masks m.masks (sym c.is_set ∙ m.at)) c.contains;
 }
 
 -- and the other way round

@@ -4,7 +4,7 @@ use Rattle.meta_lists.proofs.First.{one_first}
 use Rattle.meta_declared.specs.AllDeclared.{Declared}
 use Rattle.meta_gen.specs.WholeTables.{WholeTables}
 use Rattle.meta_table_reader.specs.Readable.{Reads}
-use Rattle.meta_audit.specs.Verdict.{AllMatch, Differs, DiffersAt, IsVerdict}
+use Rattle.meta_audit.specs.Verdict.{AllMatch, Differs, DiffersAt, IsAuditVerdict}
 use Rattle.meta_audit.specs.AuditLine.{verdict_text, IsAuditLine}
 use Rattle.meta_audit.specs.declared.verdict.Verdict.{Verdict}
 use Rattle.meta_audit.specs.declared.verdict.Verdict.TheVariants.{Yes, Opcodes, Opcode, Group}
@@ -14,7 +14,7 @@ module _ (d : Declared) (t : WholeTables) where
   none_differs : AllMatch d.set t.opcodes → (k : ℕ) → Differs d.set t.opcodes k → ⊥
   none_differs all k x = x.other (all k x.builder x.at)
 
-  pub one_verdict : (v w : Verdict) → IsVerdict d t v → IsVerdict d t w → v ≡ w
+  pub one_verdict : (v w : Verdict) → IsAuditVerdict d t v → IsAuditVerdict d t w → v ≡ w
   one_verdict Yes Yes a b = refl
   one_verdict Yes Opcodes a b = absurd (b a.count)
   one_verdict Yes (Opcode n) a b = absurd (none_differs a.opcodes b.place b.first.holds)
@@ -39,7 +39,7 @@ pub one_line : ((text : List ℕ) (t u : WholeTables) → Reads text t → Reads
 one_line one_reading d text one other (inl a) (inl b) =
     let same : a.tables ≡ b.tables = one_reading text a.tables b.tables a.reads b.reads in
     let verdict : a.verdict ≡ b.verdict =
-    one_verdict d b.tables a.verdict b.verdict (subst (λ t. IsVerdict d t a.verdict) same a.is_verdict) b.is_verdict in
+    one_verdict d b.tables a.verdict b.verdict (subst (λ t. IsAuditVerdict d t a.verdict) same a.is_verdict) b.is_verdict in
     a.is ∙ ap (λ v. verdict_text v ++ 10 ∷ []) verdict ∙ sym b.is
 one_line one_reading d text one other (inl a) (inr b) = absurd (b.reads_none a.tables a.reads)
 one_line one_reading d text one other (inr a) (inl b) = absurd (a.reads_none b.tables b.reads)

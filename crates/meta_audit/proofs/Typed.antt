@@ -1,10 +1,10 @@
 -- Which numbers can pass: those of types alone, from 112 to 383.
-use Rattle.std.proofs.Common.{◌≡◌, ◌≢◌, ◌↔◌, ◌+◌, ◌<◌, ◌≤◌, ◌==◌, ◌⊎◌, ltb, ℕ, Bool, true, List, Option, None, Some, IfSome, MatchBool, All}
-use Rattle.std.proofs.Common.{length, slice_get, refl, sym, ap, ◌∙◌, subst, inl, inr, arith}
+use Rattle.std.proofs.Common.{◌≡◌, ◌≢◌, ◌↔◌, ◌+◌, ◌<◌, ◌≤◌, ◌==◌, ◌⊎◌, ltb, ℕ, Bool, true, Option, None, Some, IfSome, MatchBool}
+use Rattle.std.proofs.Common.{length, refl, sym, ◌∙◌, subst, inl, inr, arith}
 use Rattle.std.proofs.lemmas.Bool.{MatchBool-at_true, MatchBool-at_false, eq-eqb, ne_eqb, ltb-true, cases_eq}
 use Rattle.std.proofs.lemmas.Option.{same_Some, none-some}
 use Rattle.meta_lists.proofs.Everywhere.{at_place}
-use Rattle.meta_types.specs.TypeParts.{TypeParts, IsType, number_of}
+use Rattle.meta_types.specs.TypeParts.{TypeParts, number_of}
 use Rattle.meta_types.proofs.AllTypes.{at_all, at_all_types}
 use Rattle.meta_types.proofs.TypeNumbers.{number_is_one}
 use Rattle.meta_inst.specs.Which.{Which, First, Second, both}

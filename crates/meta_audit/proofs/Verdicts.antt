@@ -2,7 +2,6 @@
 use Rattle.std.proofs.Common.{◌≡◌, ◌≢◌, ◌↔◌, ◌+◌, ◌<◌, ℕ, zero, suc, List, length, Option, None, Some, option_map, slice_get, refl, sym, ap}
 use Rattle.std.proofs.Common.{◌∙◌, subst, arith}
 use Rattle.std.proofs.lemmas.Option.{same_Some, none-some, slice_get_within}
-use Rattle.meta_lists.specs.First.{IsFirst}
 use Rattle.meta_lists.proofs.Places.{get_there}
 use Rattle.meta_lists.proofs.Mapped.{get_map}
 use Rattle.meta_typevar.specs.TypeSetParts.{IsTypeSet}
@@ -30,7 +29,7 @@ use Rattle.meta_gen.specs.WholeTables.{WholeTables, AreTablesOfGroups, AreWholeT
 use Rattle.meta_gen.specs.WellFormed.{IsWellFormed}
 use Rattle.meta_audit.specs.Matching.{Matches, MatchesEntry}
 use Rattle.meta_audit.specs.Comparison.{SameEntry, SameOpcode}
-use Rattle.meta_audit.specs.Verdict.{declared_entries, entries_at, AreAsMany, AllMatch, FindsOpcode, FindsSettingIn, Differs, IsVerdict}
+use Rattle.meta_audit.specs.Verdict.{declared_entries, entries_at, AreAsMany, AllMatch, FindsOpcode, FindsSettingIn, IsAuditVerdict}
 use Rattle.meta_audit.specs.Verdict.{AreMeant, AreSameBelow, IsComparison}
 use Rattle.meta_audit.specs.declared.verdict.Verdict.{Verdict}
 use Rattle.meta_audit.specs.declared.verdict.Verdict.TheVariants.{Yes, Opcodes, Opcode, Group}
@@ -117,7 +116,7 @@ module _ (d : Declared) (own t : WholeTables) (sets : HoldTypeSets d.set.vars) (
   groups_are = own_groups d.groups own.groups made.groups
 
   -- What is said beside the tables of the declarations is the verdict.
-  pub verdict_of : (v : Verdict) → IsComparison own t v → IsVerdict d t v
+  pub verdict_of : (v : Verdict) → IsComparison own t v → IsAuditVerdict d t v
   verdict_of Yes (same, groups) = record {
     count = same.count ∙ made.opcodes.count;
     opcodes = all_match same;
@@ -135,8 +134,7 @@ module _ (d : Declared) (own t : WholeTables) (sets : HoldTypeSets d.set.vars) (
           holds = record {
             builder = b;
             at = at;
-            other =
-                λ m. differ.differ (same_from d.set own.opcodes t.opcodes sets made.opcodes own_well.opcodes well.opcodes k b at m);
+            other = λ m. differ.differ (same_from d.set own.opcodes t.opcodes sets made.opcodes own_well.opcodes well.opcodes k b at m);
           };
           none_before =
               λ j less x. x.other (matches_from d.set own.opcodes t.opcodes sets made.opcodes j x.builder x.at (same.same j less));
@@ -170,8 +168,7 @@ own_meant d own sets made = record {
       matches_from d.set own.opcodes own.opcodes sets made.opcodes k b at (record {
         name = refl;
         entry = held.entry;
-        at =
-            held.at;
+        at = held.at;
         other_entry = held.entry;
         other_at = held.at;
         same = same_self own.opcodes held.entry;
@@ -203,16 +200,14 @@ module _ (d : InstructionSet) (other : TableContents) (well : IsWellFormedOpcode
   finds_to name None none = λ k b at is. none (suc k) ((all k b at).named ∙ ap Some is)
   finds_to name (Some op) first = record {
     holds = named_to name op first.holds;
-    none_before =
-        λ j less h. first.none_before j less (named_from name j h);
+    none_before = λ j less h. first.none_before j less (named_from name j h);
   }
 
   finds_from : (name : List ℕ) (answer : Option ℕ) → FindsName d name answer → FindsOpcode other name answer
   finds_from name None none = λ op at. let h = named_to name op at in none h.place h.builder h.at h.named
   finds_from name (Some op) first = record {
     holds = named_from name op first.holds;
-    none_before =
-        λ j less h. first.none_before j less (named_to name j h);
+    none_before = λ j less h. first.none_before j less (named_to name j h);
   }
 
   pub finds_declared : (name : List ℕ) (answer : Option ℕ) → (FindsOpcode other name answer ↔ FindsName d name answer)

@@ -4,8 +4,8 @@ use Rattle.std.specs.Prelude.{◌≡◌, ◌⊎◌, ℕ, List, [], ◌∷◌, �
 use Rattle.std.specs.Fmt.{decimal}
 use Rattle.meta_declared.specs.AllDeclared.{Declared}
 use Rattle.meta_gen.specs.WholeTables.{WholeTables}
-use Rattle.meta_table_reader.specs.Readable.{Reads}
-use Rattle.meta_audit.specs.Verdict.{IsVerdict}
+use Rattle.meta_table_reader.specs.Readable.{Reads, refused_line}
+use Rattle.meta_audit.specs.Verdict.{IsAuditVerdict}
 use Rattle.meta_audit.specs.declared.verdict.Verdict.{Verdict}
 use Rattle.meta_audit.specs.declared.verdict.Verdict.TheVariants.{Yes, Opcodes, Opcode, Group}
 
@@ -16,16 +16,12 @@ verdict_text Opcodes = codes "opcodes"
 verdict_text (Opcode n) = codes "opcode " ++ decimal n
 verdict_text (Group g) = codes "group " ++ decimal g
 
--- the line for a text that reads as no tables
-abbrev pub refused_line : List ℕ
-refused_line = codes "refused" ++ 10 ∷ []
-
 -- the text reads as tables, of which there is one value at most, and the line is the verdict on them
 pub record IsVerdictLine (d : Declared) (text out : List ℕ) : Type 0 where
   pub tables : WholeTables
   pub reads : Reads text tables
   pub verdict : Verdict
-  pub is_verdict : IsVerdict d tables verdict
+  pub is_verdict : IsAuditVerdict d tables verdict
   pub is : out ≡ verdict_text verdict ++ 10 ∷ []
 
 -- the text reads as no tables, and the line says so

@@ -1,9 +1,8 @@
 -- What the auditor says of tables beside declarations.
---     IsVerdict d t verdict          the verdict on the tables t beside the declarations d
+--     IsAuditVerdict d t verdict          the verdict on the tables t beside the declarations d
 --     IsComparison own t verdict     the same beside the tables of these declarations
-use Rattle.std.specs.Prelude.{◌≡◌, ◌≢◌, ◌<◌, ◌+◌, ◌⊎◌, ℕ, List, [], ◌∷◌, ◌++◌, Option, None, Some, length, slice_get, codes}
+use Rattle.std.specs.Prelude.{◌≡◌, ◌≢◌, ◌<◌, ◌+◌, ◌⊎◌, ℕ, List, [], ◌∷◌, ◌++◌, Option, None, Some, length, slice_get}
 use Rattle.std.specs.Option.{option_map}
-use Rattle.std.specs.Fmt.{decimal}
 use Rattle.meta_lists.specs.First.{IsFirst}
 use Rattle.meta_inst.specs.Builder.{Builder}
 use Rattle.meta_inst.specs.InstructionSet.{InstructionSet}
@@ -67,11 +66,11 @@ pub record IsOtherGroup (d : Declared) (t : WholeTables) (g : ℕ) : Type 0 wher
 
 -- the verdict: that there are more or fewer opcodes; the first opcode or the first group that differs; or that the tables mean the
 -- declarations
-abbrev pub IsVerdict : Declared → WholeTables → Verdict → Type 0
-IsVerdict d t Yes = AreMeant d t
-IsVerdict d t Opcodes = AreAsMany d.set t.opcodes → ⊥
-IsVerdict d t (Opcode n) = IsOtherOpcode d t n
-IsVerdict d t (Group g) = IsOtherGroup d t g
+abbrev pub IsAuditVerdict : Declared → WholeTables → Verdict → Type 0
+IsAuditVerdict d t Yes = AreMeant d t
+IsAuditVerdict d t Opcodes = AreAsMany d.set t.opcodes → ⊥
+IsAuditVerdict d t (Opcode n) = IsOtherOpcode d t n
+IsAuditVerdict d t (Group g) = IsOtherGroup d t g
 
 -- ---- what is found by a name in tables
 

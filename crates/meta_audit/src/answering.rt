@@ -1,12 +1,12 @@
 ghost use Rattle.std.specs.Prelude.{◌≡◌, [], ◌∷◌, ◌++◌, IfOk, OnOk, string_bytes};
 ghost use Rattle.meta_gen.specs.WholeTables.{AreWholeTablesOf};
-ghost use Rattle.meta_audit.specs.AuditLine.{verdict_text, IsAuditLine, refused_line};
+ghost use Rattle.meta_audit.specs.AuditLine.{verdict_text, IsAuditLine};
 
 use super::auditing::verdict_beside;
 use super::verdict::Verdict;
 use meta_gen::{Built, Declarations, Tables, tables_of};
 use meta_run::{Answer, Answerer};
-use meta_table_reader::{TextError, read_tables};
+use meta_table_reader::{TextError, read_tables, refused};
 use std::alloc::{AllocError, Global};
 
 /// Adds the verdict.
@@ -29,13 +29,6 @@ fn line_of(alloc: Global, verdict: Verdict) -> Result<String, AllocError>
     push_verdict(&mut out, verdict)?;
     out.push_str("\n")?;
     Ok(out)
-}
-
-/// The line of a text that reads as no tables.
-fn refused(alloc: Global) -> Result<String, AllocError>
-    ensures { IfOk result (λ out. string_bytes out ≡ refused_line) }
-{
-    String::from_str(alloc, "refused\n")
 }
 
 /// The line for a text beside declarations, of which these are the own tables.

@@ -6,7 +6,7 @@ ghost use Rattle.meta_opcode_tables.specs.TablesOf.{AcceptsOpcode};
 ghost use Rattle.meta_declared.specs.AllDeclared.{ShowsFirst, AreValid};
 ghost use Rattle.meta_gen.specs.WholeTables.{AreWholeTablesOf, FindsSetting};
 ghost use Rattle.meta_gen.specs.WellFormed.{IsWellFormed};
-ghost use Rattle.meta_audit.specs.Verdict.{IsComparison, IsVerdict, FindsOpcode, FindsSettingIn};
+ghost use Rattle.meta_audit.specs.Verdict.{IsComparison, IsAuditVerdict, FindsOpcode, FindsSettingIn};
 
 use super::groups::first_other_group;
 use super::laws::{
@@ -43,7 +43,7 @@ fn compared(own: &Tables, other: &Tables) -> Verdict
 /// The verdict on tables beside declarations and the tables that these have.
 pub(crate) fn verdict_beside(declarations: &Declarations, own: &Tables, tables: &Tables) -> Verdict
     requires { AreWholeTablesOf declarations.now own.now }
-    ensures { IsVerdict declarations.now tables.now result }
+    ensures { IsAuditVerdict declarations.now tables.now result }
 {
     comparisons_are_verdicts();
     let _variables = declarations.vars();
@@ -65,8 +65,8 @@ pub fn audit(
     ensures valid { OnOk result (AreValid declarations.now) }
 
     // The verdict, which is one, and `Yes` for the tables that the declarations have.
-    ensures verdict { IfOk result (λ v. IsVerdict declarations.now tables.now v) }
-    ensures one { IfOk result (λ v. (w : Verdict) → IsVerdict declarations.now tables.now w → v ≡ w) }
+    ensures verdict { IfOk result (λ v. IsAuditVerdict declarations.now tables.now v) }
+    ensures one { IfOk result (λ v. (w : Verdict) → IsAuditVerdict declarations.now tables.now w → v ≡ w) }
     ensures own_tables { AreWholeTablesOf declarations.now tables.now → IfOk result (λ v. v ≡ Verdict.Yes) }
 
     // After a yes the tables allow exactly what the declarations accept, and a name finds in them what it finds in the declarations.

@@ -8,34 +8,34 @@ ghost use Rattle.meta_gen.specs.WholeTables.{WholeTables, AreWholeTablesOf, Find
 ghost use Rattle.meta_gen.specs.WellFormed.{IsWellFormed};
 ghost use Rattle.meta_audit.specs.AuditLine.{IsAuditLine};
 ghost use Rattle.meta_audit.specs.declared.verdict.Verdict.{Verdict};
-ghost use Rattle.meta_audit.specs.Verdict.{IsComparison, IsVerdict, FindsOpcode, FindsSettingIn};
+ghost use Rattle.meta_audit.specs.Verdict.{IsComparison, IsAuditVerdict, FindsOpcode, FindsSettingIn};
 
 use meta_table_reader::a_text_reads_as_one;
 
 /// What is said of tables beside those of declarations is the verdict on them beside the declarations.
 pub(crate) fn comparisons_are_verdicts()
     ensures { (d : Declared) (own t : WholeTables) (v : Verdict) → HoldTypeSets d.set.vars → AreWholeTablesOf d own → IsWellFormed own
-        → IsWellFormed t → IsComparison own t v → IsVerdict d t v }
+        → IsWellFormed t → IsComparison own t v → IsAuditVerdict d t v }
 {}
 
 /// There is one verdict at most on tables beside declarations.
 pub fn one_verdict()
-    ensures { (d : Declared) (t : WholeTables) (v w : Verdict) → IsVerdict d t v → IsVerdict d t w → v ≡ w }
+    ensures { (d : Declared) (t : WholeTables) (v w : Verdict) → IsAuditVerdict d t v → IsAuditVerdict d t w → v ≡ w }
 {}
 
 /// The verdict on the tables that declarations have is `Yes`. The variables have sets of types, as those of `Declarations` always do.
 pub fn tables_of_declarations_are_meant()
-    ensures { (d : Declared) (t : WholeTables) → HoldTypeSets d.set.vars → AreWholeTablesOf d t → IsVerdict d t Verdict.Yes }
+    ensures { (d : Declared) (t : WholeTables) → HoldTypeSets d.set.vars → AreWholeTablesOf d t → IsAuditVerdict d t Verdict.Yes }
 {}
 
 /// Where the verdict is `Yes`, the tables mean the declarations, whoever made them: the decoding allows exactly those numbers, of all
 /// numbers, that the declarations accept, and what is found by a name in the tables is what has the name in the declarations.
 pub fn meant_tables_mean_the_declarations()
-    ensures acceptance { (d : Declared) (t : WholeTables) → AreValid d → IsWellFormed t → IsVerdict d t Verdict.Yes
+    ensures acceptance { (d : Declared) (t : WholeTables) → AreValid d → IsWellFormed t → IsAuditVerdict d t Verdict.Yes
         → (op : ℕ) (c e : Option ℕ) (rs vs : List ℕ) → (Allows t.opcodes op c e rs vs ↔ AcceptsOpcode d.set op c e rs vs) }
-    ensures names { (d : Declared) (t : WholeTables) → IsWellFormed t → IsVerdict d t Verdict.Yes → (name : List ℕ) (answer : Option ℕ)
+    ensures names { (d : Declared) (t : WholeTables) → IsWellFormed t → IsAuditVerdict d t Verdict.Yes → (name : List ℕ) (answer : Option ℕ)
         → (FindsOpcode t.opcodes name answer ↔ FindsName d.set name answer) }
-    ensures settings { (d : Declared) (t : WholeTables) → AreValid d → IsVerdict d t Verdict.Yes
+    ensures settings { (d : Declared) (t : WholeTables) → AreValid d → IsAuditVerdict d t Verdict.Yes
         → (group : ℕ) (name : List ℕ) (answer : Option ℕ) → (FindsSettingIn t group name answer ↔ FindsSetting d group name answer) }
 {}
 

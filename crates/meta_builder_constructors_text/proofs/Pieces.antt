@@ -1,5 +1,5 @@
 -- Texts of numbers, of elements by their places, and of names, that are added one after the other, and what is left to add.
-use Rattle.std.proofs.Common.{◌≡◌, ℕ, ◌+◌, ◌-◌, ◌<◌, ◌≤◌, zero, suc, List, [], ◌∷◌, ◌++◌, codes, append_assoc, append-nil, length, drop}
+use Rattle.std.proofs.Common.{◌≡◌, ℕ, ◌+◌, ◌-◌, ◌<◌, ◌≤◌, zero, suc, List, [], ◌∷◌, ◌++◌, codes, length, drop}
 use Rattle.std.proofs.Common.{get_or, Option, None, Some, Bor, unwrap_or, sym, ap, ◌∙◌, add-one, zero-add, drop-cons, arith}
 use Rattle.std.specs.List.{flat_map, join_by, range_with_len, enumerate_from}
 use Rattle.std.specs.Option.{option_map}

@@ -1,7 +1,6 @@
 ghost use Rattle.std.specs.Prelude.{◌≡◌, ◌++◌, IfOk, OnOk, string_bytes};
 ghost use Rattle.meta_operands.specs.Operand.{variables_of};
 ghost use Rattle.meta_inst.specs.Operands.{AreOf};
-ghost use Rattle.meta_rust_lines.specs.Ends.{gap_text};
 ghost use Rattle.meta_builder_constructors_text.specs.ImmBuilders.{suffix_of, extends_sign, extension_of, truth_of, summary_text};
 ghost use Rattle.meta_builder_constructors_text.specs.ImmBuilders.{deprecation_text, mark_text, signature_text, number_text, imm_call_text};
 ghost use Rattle.meta_builder_constructors_text.specs.ImmBuilders.{imm_method_text, three_methods_text, was_signed, methods_of};

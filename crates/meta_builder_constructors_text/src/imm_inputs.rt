@@ -1,4 +1,4 @@
-ghost use Rattle.std.specs.Prelude.{◌≡◌, ◌++◌, ◌<◌, ◌==◌, ℕ, Some, IfOk, OnOk, length, string_bytes};
+ghost use Rattle.std.specs.Prelude.{◌≡◌, ◌++◌, ◌<◌, ◌==◌, ℕ, Some, IfOk, length, string_bytes};
 ghost use Rattle.meta_operands.specs.Operand.{variable_of, variables_of};
 ghost use Rattle.meta_inst.specs.Operands.{AreOf};
 ghost use Rattle.meta_builder_constructors_text.specs.ImmBuilders.{input_doc, input_type, input_docs, input_arguments, input_names};

@@ -1,7 +1,6 @@
 ghost use Rattle.std.specs.Prelude.{◌≡◌, ◌++◌, IfOk, OnOk, slice_get, string_bytes};
 ghost use Rattle.std.specs.List.{flat_map};
 ghost use Rattle.meta_inst.specs.InstructionSet.{AreOfRegistries};
-ghost use Rattle.meta_rust_lines.specs.Ends.{gap_text, item_end};
 ghost use Rattle.meta_builder_text.specs.BuilderText.{HasVariablesOf, HaveVariablesOf, method_text, imm_methods_text, methods_text};
 ghost use Rattle.meta_builder_text.specs.BuilderText.{constructor_at, constructors_text, trait_head, builder_text};
 

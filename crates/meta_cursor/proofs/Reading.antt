@@ -1,5 +1,5 @@
 -- Items that are read one after the other.
-use Rattle.std.proofs.Common.{◌≡◌, ℕ, suc, ◌+◌, ◌<◌, ◌≤◌, List, [], ◌∷◌, ◌++◌, length, get_or, slice_get, take, drop, Some, All, refl, sym}
+use Rattle.std.proofs.Common.{◌≡◌, ℕ, suc, ◌+◌, ◌<◌, ◌≤◌, List, [], ◌∷◌, ◌++◌, length, get_or, slice_get, take, drop, Some, All, sym}
 use Rattle.std.proofs.Common.{ap, ◌∙◌, append_assoc, add-one, arith}
 use Rattle.std.specs.List.{flat_map}
 use Rattle.std.proofs.Math.Seq.{drop-cons}
@@ -31,11 +31,6 @@ one_within P (x ∷ xs) i all within = (
 pub record AreRead {X : Type 0} (text : X → List ℕ) (items : List X) (rest : List ℕ) (i : ℕ) (so_far : List X) (now : List ℕ) : Type 0 where
   pub got : so_far ≡ take i items
   pub left : now ≡ flat_map text (drop i items) ++ rest
-
--- none is
-pub none_read_yet : {X : Type 0} (text : X → List ℕ) (items : List X) (rest left : List ℕ)
-    → left ≡ flat_map text items ++ rest → AreRead text items rest 0 [] left
-none_read_yet text items rest left e = record { got = refl; left = e }
 
 -- the next one is at the front of what is left
 pub front : {X : Type 0} (text : X → List ℕ) (items : List X) (rest left : List ℕ) (i : ℕ) (x : X) → At items i x

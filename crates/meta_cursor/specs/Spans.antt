@@ -1,5 +1,5 @@
 -- What stands in a text up to where an item of it ends.
---     Lacks stop text        the byte doesn't stand in the text
+--     lacks stop text        the byte doesn't stand in the text
 --     begins_with stop rest  the rest begins with the byte
 --     is_line text           the text is one line, with its end
 --     from_byte stop text    what a text has from the first such byte on

@@ -92,8 +92,7 @@ module _ (d : InstructionSet) (xs ys : List TypeSetParts) (hx : AreNeededSets d 
   -- the first list isn't longer
   no_longer : length xs ≤ length ys
   no_longer = injected (length xs) (length ys) goes (record {
-    within =
-        λ k l. slice_get_within ys (goes k) (get_or xs k no_types) (reached k l);
+    within = λ k l. slice_get_within ys (goes k) (get_or xs k no_types) (reached k l);
     apart = goes_apart;
   })
 

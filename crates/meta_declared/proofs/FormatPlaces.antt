@@ -63,8 +63,7 @@ one_marked formats used more new marks i pushed own m = record {
     before f true other among = record {
       place = among.place;
       format = among.format;
-      at =
-          stays used more new pushed among.place among.format among.at;
+      at = stays used more new pushed among.place among.format among.at;
       is = among.is;
     }
     before f false other none = λ k g there same. elim (get_pushed used new k g (ap (λ xs. slice_get xs k) (sym pushed) ∙ there)) [
@@ -91,8 +90,8 @@ not_found has used look_up key places none = by (look_up key) refl
     by (Some place) e = absurd (none place (places.sound key place e))
 
 -- a look-up that gained the key of one format more
-module _ {K : Type 0} (has : UsedFormat → K → Type 0) (same : K → K
-    → Bool) (used more : List UsedFormat) (new : UsedFormat) (pushed : more ≡ used ++ new ∷ []) (key : K)
+module _ {K : Type 0} (has : UsedFormat → K → Type 0)
+    (same : K → K → Bool) (used more : List UsedFormat) (new : UsedFormat) (pushed : more ≡ used ++ new ∷ []) (key : K)
     (own : (q : K) → same key q ≡ true → has new q) (only : (q : K) → has new q → same key q ≡ true) (back : (g : UsedFormat) (q : K)
     → has g q → same key q ≡ true → has g key)
     (n : ℕ) (len : n ≡ length used) (look_up look_up' : K → Option ℕ) (places : ArePlaces has used look_up) (absent : look_up key ≡ None)
@@ -143,8 +142,8 @@ one_named formats used more new x key n look_up look_up' pushed at is len absent
     (λ g q h e. record { format = h.format; at = h.at; is = h.is ∙ sym ((texts_Decides key.now q.now).0 e) })
     n len look_up look_up' places absent (λ q. gains q ∙ ap (λ b. cond b (Some n) (look_up q)) (is_eq-slice_cmp key.now q.now))
 
-pub one_structured : (used more : List UsedFormat) (new : UsedFormat) (key : FormatStructure) (n : ℕ) (look_up look_up' : FormatStructure
-    → Option ℕ) → more ≡ used ++ new ∷ [] → new.structure ≡ key → n ≡ length used → look_up key ≡ None
+pub one_structured : (used more : List UsedFormat) (new : UsedFormat) (key : FormatStructure) (n : ℕ)
+    (look_up look_up' : FormatStructure → Option ℕ) → more ≡ used ++ new ∷ [] → new.structure ≡ key → n ≡ length used → look_up key ≡ None
     → ((q : FormatStructure) → look_up' q ≡ cond (same_structure key q) (Some n) (look_up q)) → ArePlaces HasStructure used look_up
     → ArePlaces HasStructure more look_up'
 one_structured used more new key n look_up look_up' pushed is len absent gains places =
@@ -164,8 +163,7 @@ module _ (f : FormatsInUse) (i : AreIndexed f) (new : UsedFormat) (t : IsOfTable
     other = h.is.format;
     is_one = t.at;
     is_other = h.is.at;
-    shares =
-        inl (sym named ∙ sym h.is.is);
+    shares = inl (sym named ∙ sym h.is.is);
   }
 
   clash_by_structure : (place : ℕ) (h : IsPlaceOf HasStructure f.used.items new.structure place) → ClashIn f.formats.now new.id h.format.id
@@ -180,8 +178,7 @@ module _ (f : FormatsInUse) (i : AreIndexed f) (new : UsedFormat) (t : IsOfTable
     | inl e ↦ inl (record {
       format = g;
       at = at;
-      is =
-          record { format = c.other; at = c.is_other; is = sym e ∙ ap (λ (x : InstructionFormat). x.name) own ∙ sym named };
+      is = record { format = c.other; at = c.is_other; is = sym e ∙ ap (λ (x : InstructionFormat). x.name) own ∙ sym named };
     })
     | inr e ↦ inr (record {
       format = g;

@@ -94,8 +94,7 @@ module _ (d : InstructionSet) (k : ℕ) (b : Builder) (used : List UsedFormat) (
         (λ (e : (j ≡ length used) × (new ≡ f)). record {
           place = k;
           before = omega arith;
-          first_use =
-              subst (λ (z : UsedFormat). IsFirstUse d z.id k) e.1 here;
+          first_use = subst (λ (z : UsedFormat). IsFirstUse d z.id k) e.1 here;
         })
         (get_pushed used new j f is);
     all = λ i other l is.
@@ -104,8 +103,7 @@ module _ (d : InstructionSet) (k : ℕ) (b : Builder) (used : List UsedFormat) (
         record {
           place = among.place;
           format = among.format;
-          at =
-              get_before used new among.place (slice_get_within used among.place among.format among.at) ∙ among.at;
+          at = get_before used new among.place (slice_get_within used among.place among.format among.at) ∙ among.at;
           is = among.is;
         })
         (λ (m : k ≤ i).
@@ -191,8 +189,7 @@ module _ (d : InstructionSet) (k : ℕ) (b : Builder) (used : List UsedFormat) (
       record {
         place = user.place;
         first_use = subst (λ (z : ℕ). IsFirstUse d z user.place) c.is user.first_use;
-        earlier =
-            user.before;
+        earlier = user.before;
         clashes = are_clashing d b.format g c.clashes;
         first = none_before g c;
       }

@@ -103,8 +103,7 @@ needs_set d k p s n = record {
   at = n.at;
   control = n.needs.control;
   is_control = n.needs.is_control;
-  needs =
-      which p n.needs.needs;
+  needs = which p n.needs.needs;
 }
   where
     which : (p : ℕ) → NeedsUnder (root_sets d) (instruction_in_set d n.user) n.needs.control p s
@@ -123,8 +122,7 @@ set_needed d k s n = ⊎_elim
       record {
         user = n.user;
         at = n.at;
-        needs =
-            record { control = n.control; is_control = n.is_control; needs = (f, refl) };
+        needs = record { control = n.control; is_control = n.is_control; needs = (f, refl) };
       },
     ))
     n.needs
@@ -304,7 +302,6 @@ module _ (sets : List TypeSetParts) (x s : TypeSetParts) (same : x ≡ s) (there
       let at : IsIndexOf are_equal sets x there.0 = record {
         entry = s;
         there = there.1;
-        equal =
-            ap (λ (q : TypeSetParts). are_equal q s) same ∙ equal_self s;
+        equal = ap (λ (q : TypeSetParts). are_equal q s) same ∙ equal_self s;
       } in
       ap (slice_get sets) (only there.0 at) ∙ there.1

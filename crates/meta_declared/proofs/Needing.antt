@@ -46,8 +46,7 @@ module _ (vars : List TypeVarContent) (o : OperandList) (within : o.result_count
   control_to : (a : Which) (s : TypeSetParts) → IsControlSetOf vars controls a s → IsControlSet (sets_of vars) (controls_of i control) a s
   control_to a s h = record {
     variable = variable_at vars h.variable;
-    controls_is =
-        control_is vars controls a h.variable h.controls_is;
+    controls_is = control_is vars controls a h.variable h.controls_is;
     set = h.set;
   }
 

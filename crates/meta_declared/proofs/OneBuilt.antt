@@ -3,11 +3,10 @@ use Rattle.std.proofs.Common.{◌≡◌, ◌≢◌, ◌<◌, ◌↔◌, ◌⊎�
 use Rattle.std.proofs.Common.{map, slice_get, Option, None, Some, refl, sym, ap, ◌∙◌, subst, arith}
 use Rattle.std.specs.Ordering.{nat_cmp, ordering_reverse}
 use Rattle.std.specs.Cmp.Lexicographic.{slice_cmp}
-use Rattle.std.specs.declared.cmp.Ordering.{Ordering}
-use Rattle.std.specs.declared.cmp.Ordering.TheVariants.{Less, Equal, Greater}
+use Rattle.std.specs.declared.cmp.Ordering.TheVariants.{Less, Greater}
 use Rattle.std.proofs.lemmas.Bool.{false≢true}
 use Rattle.std.proofs.lemmas.Cmp.{nat_list_cmp_total}
-use Rattle.std.proofs.lemmas.Option.{same_Some, slice_get_within}
+use Rattle.std.proofs.lemmas.Option.{same_Some}
 use Rattle.meta_lists.proofs.Places.{get_there, same_places}
 use Rattle.meta_typevar.specs.TypeSetParts.{TypeSetParts}
 use Rattle.meta_typevar.specs.Registry.{sets_of, variable_at, IsRegistry}
@@ -17,7 +16,6 @@ use Rattle.meta_operands.specs.declared.format.InstructionFormat.{InstructionFor
 use Rattle.meta_inst.specs.Builder.{Builder}
 use Rattle.meta_inst.specs.Built.{BuiltInstruction}
 use Rattle.meta_inst.specs.Content.{content_of, control_kept, IsPolymorphicInfoOf}
-use Rattle.meta_inst.specs.Faults.{IsAt}
 use Rattle.meta_inst.specs.Instruction.{IsDesignated}
 use Rattle.meta_inst.specs.InstructionSet.{InstructionSet, AreOfRegistries, instruction_of_builder}
 use Rattle.meta_inst.specs.declared.polymorphic.PolymorphicInfo.{PolymorphicInfo}
@@ -119,8 +117,7 @@ module _ (d : InstructionSet) (fits : AreOfRegistries d.vars d.formats d.instruc
         other = other;
         is_one = is_one;
         is_other = is_other;
-        before =
-            h.sorted j k f g l at_j at_k one other is_one is_other;
+        before = h.sorted j k f g l at_j at_k one other is_one is_other;
       }
 
   among : (ids others : List ℕ) → AreFormatsByName d ids → AreFormatsByName d others → (f k : ℕ) → slice_get ids k ≡ Some f

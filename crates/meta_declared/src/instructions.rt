@@ -1,4 +1,4 @@
-ghost use Rattle.std.specs.Prelude.{◌≡◌, ◌≢◌, ◌↔◌, ◌<◌, ◌≤◌, ℕ, ◌+◌, IsTrue, IfOk, IfErr, OnOk, MatchResult, Err, length, take};
+ghost use Rattle.std.specs.Prelude.{◌≡◌, ◌≢◌, ◌↔◌, ◌<◌, ◌≤◌, ℕ, ◌+◌, IsTrue, IfOk, IfErr, OnOk, Err, length, take};
 ghost use Rattle.meta_types.specs.declared.fault.Place.{Place};
 ghost use Rattle.meta_types.specs.declared.fault.DefinitionError.TheVariants.{BadName, OutOfMemory};
 ghost use Rattle.meta_inst.specs.InstructionFaults.{NameRule};

@@ -10,19 +10,10 @@ pub answered : (g : Option Served) (line : List ℕ) (old new : State) (out : Li
 answered g [] old new out some h = absurd (cc)
 answered g (c ∷ cs) old new out some h = h
 
--- an empty one has no answer
-pub unanswered : (g : Option Served) (line : List ℕ) (state : State) → line ≡ [] → IsAnswered g line state state []
-unanswered g line state none = subst (λ l. IsAnswered g l state state []) (sym none) (refl, refl)
-
 -- Whatever answers the lines that are left, from these values on, completes what was written.
 abbrev pub Continues : Option Served → State → List (List ℕ) → State → List (List ℕ) → List ℕ → Type 0
 Continues g first all state lines written = (rest : List ℕ) → AreFlagAnswers g state lines rest
     → AreFlagAnswers g first all (written ++ rest)
-
--- at the beginning nothing is written
-pub nothing_written : (g : Option Served) (first : State) (all : List (List ℕ)) (written : List ℕ) → written ≡ []
-    → Continues g first all first all written
-nothing_written g first all written none rest answers = subst (λ w. AreFlagAnswers g first all (w ++ rest)) (sym none) answers
 
 -- one more line is answered
 pub more_answers : (g : Option Served) (first : State) (all lines left : List (List ℕ)) (state next : State)

@@ -1,11 +1,11 @@
 -- The defaults of entries, one entry after another.
-use Rattle.std.proofs.Common.{◌≡◌, ℕ, ◌+◌, ◌≤◌, List, [], ◌∷◌, ◌++◌, append_assoc, append-nil, length, take, drop, slice_get, Option, None}
+use Rattle.std.proofs.Common.{◌≡◌, ℕ, ◌+◌, ◌≤◌, List, [], ◌∷◌, ◌++◌, append-nil, length, take, drop, slice_get, Option, None}
 use Rattle.std.proofs.Common.{Some, sym, ap, ◌∙◌, subst, arith}
 use Rattle.std.specs.Prelude.{slice_index_or}
 use Rattle.std.proofs.lemmas.List.{length-drop, length-take}
 use Rattle.std.proofs.lemmas.Option.{slice_get_past, same_Some, none-some}
 use Rattle.meta_lists.proofs.Everywhere.{at_place}
-use Rattle.meta_lists.proofs.Places.{drop_next, drop_past}
+use Rattle.meta_lists.proofs.Places.{drop_past}
 use Rattle.meta_setting_tables.specs.declared.descriptor.Descriptor.{Descriptor}
 use Rattle.meta_setting_tables.specs.declared.descriptor.Detail.{Detail}
 use Rattle.meta_setting_tables.specs.declared.descriptor.Detail.TheVariants.{Enum as EnumDetail, Num as NumDetail}
@@ -15,15 +15,6 @@ use Rattle.meta_setting_tables.specs.WellFormed.{HasValues, HasItsValues, IsWell
 use Rattle.meta_flags.specs.Served.{NumValue, EnumValue, State, default_of, kind_in}
 use Rattle.meta_flags.specs.Held.{AreHeld}
 use Rattle.meta_flags.proofs.Places.{defaults, counted, settings_first, setting_count}
-
--- the default of one more entry is added
-pub default_added : (t : GroupContents) (ds : List Descriptor) (i : ℕ) (d : Descriptor) (old new own all : State) → slice_get ds i ≡ Some d
-    → own ≡ default_of (kind_in t d.offset d.detail) → new ≡ old ++ own
-    → old ++ defaults t (drop i ds) ≡ all → new ++ defaults t (drop (i + 1) ds) ≡ all
-default_added t ds i d old new own all at is more before =
-    let rest = defaults t (drop (i + 1) ds) in
-    ap (λ (s : State). s ++ rest) more ∙ append_assoc old own rest ∙ ap (λ (s : State). old ++ (s ++ rest)) is
-    ∙ ap (λ (xs : List Descriptor). old ++ defaults t xs) (sym (drop_next ds i d at)) ∙ before
 
 -- behind the last there are no more
 pub all_defaults : (t : GroupContents) (ds : List Descriptor) (i : ℕ) (old all : State) → length ds ≤ i

@@ -49,8 +49,7 @@ module _ (t : GroupContents) (name : List ℕ) (state : State) (settings : AreSe
         place = e;
         kind = kind_in t d.offset d.detail;
         entry = is_entry t name e d found at;
-        setting =
-            no_preset t d.offset d.detail ((settings e d at).1 less);
+        setting = no_preset t d.offset d.detail ((settings e d at).1 less);
         there = there;
       }
 
@@ -62,6 +61,5 @@ module _ (t : GroupContents) (name : List ℕ) (state : State) (settings : AreSe
         place = e;
         kind = kind_in t d.offset d.detail;
         entry = is_entry t name e d found at;
-        is_preset =
-            a_preset t d.offset d.detail (λ is. let less = (settings e d at).0 is in omega (arith, less, past));
+        is_preset = a_preset t d.offset d.detail (λ is. let less = (settings e d at).0 is in omega (arith, less, past));
       }

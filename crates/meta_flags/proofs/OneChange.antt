@@ -4,17 +4,17 @@ use Rattle.std.proofs.lemmas.Bool.{cases_lt}
 use Rattle.std.proofs.lemmas.Fmt.{decimal_injective}
 use Rattle.std.proofs.lemmas.Option.{same_Some}
 use Rattle.meta_flags.specs.Served.{SettingValue, NumValue, EntryKind, BoolKind, NumKind, EnumKind, PresetKind, ServedEntry, Served, State}
-use Rattle.meta_flags.specs.Changes.{HasNone, IsEntry, IsPresetKind, IsText, IsSet, IsOfPreset, IsNoValue, Sets, IsEnabled, IsNoSwitch}
+use Rattle.meta_flags.specs.Changes.{HasNone, IsNamedEntry, IsPresetKind, IsText, IsSet, IsOfPreset, IsNoValue, Sets, IsEnabled, IsNoSwitch}
 use Rattle.meta_flags.specs.Changes.{Enabled, IsOfNoSwitch, Enables, HasValue, Gets}
 use Rattle.meta_flags.specs.declared.flag_error.FlagError.{FlagError}
 use Rattle.meta_flags.specs.declared.flag_error.FlagError.TheVariants.{Unknown, Kind, Value}
 
 module _ (g : Served) (name : List ℕ) where
-  not_before : (p q : ℕ) (k l : EntryKind) → IsEntry g name p k → IsEntry g name q l → p < q → ⊥
+  not_before : (p q : ℕ) (k l : EntryKind) → IsNamedEntry g name p k → IsNamedEntry g name q l → p < q → ⊥
   not_before p q k l one other less = other.first p (record { name = name; kind = k }) less one.at refl
 
   -- the entry of a name is one
-  one_place : (p q : ℕ) (k l : EntryKind) → IsEntry g name p k → IsEntry g name q l → p ≡ q
+  one_place : (p q : ℕ) (k l : EntryKind) → IsNamedEntry g name p k → IsNamedEntry g name q l → p ≡ q
   one_place p q k l one other = elim (cases_lt p q) [
     | inl less ↦ absurd (not_before p q k l one other less)
     | inr few ↦ elim (cases_lt q p) [
@@ -23,12 +23,12 @@ module _ (g : Served) (name : List ℕ) where
     ]
   ]
 
-  one_kind : (p q : ℕ) (k l : EntryKind) → IsEntry g name p k → IsEntry g name q l → k ≡ l
+  one_kind : (p q : ℕ) (k l : EntryKind) → IsNamedEntry g name p k → IsNamedEntry g name q l → k ≡ l
   one_kind p q k l one other =
       ap (λ (e : ServedEntry). e.kind) (same_Some _ _ (sym one.at ∙ ap (slice_get g.entries) (one_place p q k l one other) ∙ other.at))
 
   -- a name that an entry has is that of some
-  not_none : (p : ℕ) (k : EntryKind) → IsEntry g name p k → HasNone g name → ⊥
+  not_none : (p : ℕ) (k : EntryKind) → IsNamedEntry g name p k → HasNone g name → ⊥
   not_none p k entry none = none p (record { name = name; kind = k }) entry.at refl
 
   -- a value that is written is one

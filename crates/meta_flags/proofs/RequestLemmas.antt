@@ -1,6 +1,6 @@
 -- The words of the lines that ask.
-use Rattle.std.proofs.Common.{◌≡◌, ◌≢◌, ℕ, ◌<◌, List, [], ◌∷◌, ◌++◌, length, All, codes, get_or, refl, sym, ap, ◌∙◌, arith}
-use Rattle.std.proofs.lemmas.List.Elements.{All-head, All-tail, All-cons, All-nil, All-weaker}
+use Rattle.std.proofs.Common.{◌≡◌, ◌≢◌, ℕ, ◌<◌, List, [], ◌∷◌, ◌++◌, length, All, get_or, refl, sym, ap, ◌∙◌, arith}
+use Rattle.std.proofs.lemmas.List.Elements.{All-weaker}
 use Rattle.meta_words.specs.Words.{IsWord, pieces_of}
 use Rattle.meta_words.proofs.WordLemmas.{words_pieces, are_words}
 use Rattle.meta_flags.specs.Request.{Request, Set, Enable, Get, Toml, request_words, Requests, command_word}
@@ -55,41 +55,6 @@ request_pieces line r h = words_pieces line (request_words r) h (some r)
     some (Enable name) = omega arith
     some (Get name) = omega arith
     some Toml = omega arith
-
--- ---- a command and the words behind it
-
-module _ (words : List (List ℕ)) where
-  -- `set` asks where two words stand behind it
-  pub asks_set : (r : Request) → All HasBytes (request_words r) → codes "set" ∷ words ≡ request_words r
-      → (name value : List ℕ) × HasBytes name × HasBytes value × (words ≡ name ∷ value ∷ [])
-  asks_set (Set name value) some e =
-      let behind = All-tail HasBytes (codes "set") (name ∷ value ∷ []) some in
-      let same : words ≡ name ∷ value ∷ [] = cc in (
-        name,
-        value,
-        All-head HasBytes name (value ∷ []) behind,
-        All-head HasBytes value [] (All-tail HasBytes name (value ∷ []) behind),
-        same,
-      )
-  asks_set (Enable name) some e = absurd (omega (arith, ap first_letter e))
-  asks_set (Get name) some e = absurd (omega (arith, ap first_letter e))
-  asks_set Toml some e = absurd (omega (arith, ap first_letter e))
-
-  pub asks_enable : (r : Request) → All HasBytes (request_words r) → codes "enable" ∷ words ≡ request_words r
-      → (name : List ℕ) × HasBytes name × (words ≡ name ∷ [])
-  asks_enable (Enable name) some e =
-      let same : words ≡ name ∷ [] = cc in (name, All-head HasBytes name [] (All-tail HasBytes (codes "enable") (name ∷ []) some), same)
-  asks_enable (Set name value) some e = absurd (omega (arith, ap first_letter e))
-  asks_enable (Get name) some e = absurd (omega (arith, ap first_letter e))
-  asks_enable Toml some e = absurd (omega (arith, ap first_letter e))
-
-  pub asks_get : (r : Request) → All HasBytes (request_words r) → codes "get" ∷ words ≡ request_words r
-      → (name : List ℕ) × HasBytes name × (words ≡ name ∷ [])
-  asks_get (Get name) some e =
-      let same : words ≡ name ∷ [] = cc in (name, All-head HasBytes name [] (All-tail HasBytes (codes "get") (name ∷ []) some), same)
-  asks_get (Set name value) some e = absurd (omega (arith, ap first_letter e))
-  asks_get (Enable name) some e = absurd (omega (arith, ap first_letter e))
-  asks_get Toml some e = absurd (omega (arith, ap first_letter e))
 
 -- no request is another with more words
 no_longer : (q r : Request) (word : List ℕ) (rest : List (List ℕ)) → request_words q ++ word ∷ rest ≡ request_words r → ⊥
@@ -172,16 +137,3 @@ module _ (line : List ℕ) where
             all Toml = refl
 
 -- ---- the words of requests have bytes
-
-pub set_words : (name value : List ℕ) → HasBytes name → HasBytes value → All HasBytes (request_words (Set name value))
-set_words name value n v = All-cons HasBytes (codes "set") (name ∷ value ∷ []) (omega arith)
-    (All-cons HasBytes name (value ∷ []) n (All-cons HasBytes value [] v (All-nil HasBytes)))
-
-pub enable_words : (name : List ℕ) → HasBytes name → All HasBytes (request_words (Enable name))
-enable_words name n = All-cons HasBytes (codes "enable") (name ∷ []) (omega arith) (All-cons HasBytes name [] n (All-nil HasBytes))
-
-pub get_words : (name : List ℕ) → HasBytes name → All HasBytes (request_words (Get name))
-get_words name n = All-cons HasBytes (codes "get") (name ∷ []) (omega arith) (All-cons HasBytes name [] n (All-nil HasBytes))
-
-pub toml_words : All HasBytes (request_words Toml)
-toml_words = All-cons HasBytes (codes "toml") [] (omega arith) (All-nil HasBytes)

@@ -13,7 +13,7 @@ abbrev pub HasNone : Served → List ℕ → Type 0
 HasNone g name = (e : ℕ) (entry : ServedEntry) → slice_get g.entries e ≡ Some entry → entry.name ≢ name
 
 -- entry e, the first that has the name, is of this kind
-pub record IsEntry (g : Served) (name : List ℕ) (e : ℕ) (kind : EntryKind) : Type 0 where
+pub record IsNamedEntry (g : Served) (name : List ℕ) (e : ℕ) (kind : EntryKind) : Type 0 where
   pub at : slice_get g.entries e ≡ Some (record { name = name; kind = kind })
   pub first : (j : ℕ) (entry : ServedEntry) → j < e → slice_get g.entries j ≡ Some entry → entry.name ≢ name
 
@@ -33,7 +33,7 @@ IsText (PresetKind marks) text v = ⊥
 pub record IsSet (g : Served) (name text : List ℕ) (old new : State) : Type 0 where
   pub place : ℕ
   pub kind : EntryKind
-  pub entry : IsEntry g name place kind
+  pub entry : IsNamedEntry g name place kind
   pub value : SettingValue
   pub is_text : IsText kind text value
   pub changed : new ≡ slice_set old place value
@@ -42,14 +42,14 @@ pub record IsSet (g : Served) (name text : List ℕ) (old new : State) : Type 0 
 pub record IsOfPreset (g : Served) (name : List ℕ) : Type 0 where
   pub place : ℕ
   pub kind : EntryKind
-  pub entry : IsEntry g name place kind
+  pub entry : IsNamedEntry g name place kind
   pub is_preset : IsPresetKind kind
 
 -- the entry of the name is a setting, and no value of its kind is so written
 pub record IsNoValue (g : Served) (name text : List ℕ) : Type 0 where
   pub place : ℕ
   pub kind : EntryKind
-  pub entry : IsEntry g name place kind
+  pub entry : IsNamedEntry g name place kind
   pub setting : IsPresetKind kind → ⊥
   pub none : (v : SettingValue) → IsText kind text v → ⊥
 
@@ -81,13 +81,13 @@ IsNoSwitch kind = ((default : ℕ) × (kind ≡ NumKind default)) ⊎ ((values :
 pub record Enabled (g : Served) (name : List ℕ) (old new : State) : Type 0 where
   pub place : ℕ
   pub kind : EntryKind
-  pub entry : IsEntry g name place kind
+  pub entry : IsNamedEntry g name place kind
   pub changed : IsEnabled kind place old new
 
 pub record IsOfNoSwitch (g : Served) (name : List ℕ) : Type 0 where
   pub place : ℕ
   pub kind : EntryKind
-  pub entry : IsEntry g name place kind
+  pub entry : IsNamedEntry g name place kind
   pub no_switch : IsNoSwitch kind
 
 -- the boolean of the name, or each that the preset of the name marks, becomes true; else nothing changes, since no entry has the name,
@@ -102,7 +102,7 @@ Enables g name old (Err Value) new = ⊥
 pub record HasValue (g : Served) (name : List ℕ) (state : State) (v : SettingValue) : Type 0 where
   pub place : ℕ
   pub kind : EntryKind
-  pub entry : IsEntry g name place kind
+  pub entry : IsNamedEntry g name place kind
   pub setting : IsPresetKind kind → ⊥
   pub there : slice_get state place ≡ Some v
 

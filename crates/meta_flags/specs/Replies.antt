@@ -1,7 +1,7 @@
 -- The lines that a service of settings answers.
 use Rattle.std.specs.Prelude.{ℕ, List, [], ◌∷◌, ◌++◌, Result, Ok, Err, codes}
 use Rattle.meta_flags.specs.Served.{SettingValue}
-use Rattle.meta_flags.specs.Toml.{value_text}
+use Rattle.meta_flags.specs.Toml.{setting_value_text}
 use Rattle.meta_flags.specs.declared.flag_error.FlagError.{FlagError}
 use Rattle.meta_flags.specs.declared.flag_error.FlagError.TheVariants.{Unknown, Kind, Value}
 
@@ -17,5 +17,5 @@ change_line (Ok done) = codes "ok" ++ 10 ∷ []
 change_line (Err e) = error_text e ++ 10 ∷ []
 
 abbrev pub got_line : Result SettingValue FlagError → List ℕ
-got_line (Ok v) = value_text v ++ 10 ∷ []
+got_line (Ok v) = setting_value_text v ++ 10 ∷ []
 got_line (Err e) = error_text e ++ 10 ∷ []

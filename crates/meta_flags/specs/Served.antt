@@ -58,6 +58,7 @@ initial g = flat_map (λ (e : ServedEntry). default_of e.kind) g.entries
 
 -- ---- by the layout of a declared group
 
+-- a setting is of the kind that its group lays out, under its name
 abbrev pub kind_of_setting : SpecificSetting → EntryKind
 kind_of_setting (ABool b) = BoolKind b.default
 kind_of_setting (AnEnum values) = EnumKind values
@@ -70,6 +71,7 @@ served_setting s = record { name = s.name; kind = kind_of_setting s.specific }
 abbrev pub served_preset : Layout → BuiltPreset → ServedEntry
 served_preset g p = record { name = p.name; kind = PresetKind (map (λ (s : PlacedSetting). is_one_of p.booleans s.specific) g.settings) }
 
+-- a group has its settings, and then its presets
 abbrev pub served_of : Layout → Served
 served_of g = record { name = g.name; entries = map served_setting g.settings ++ map (served_preset g) g.presets }
 

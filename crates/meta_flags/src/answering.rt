@@ -3,7 +3,7 @@ ghost use Rattle.meta_words.specs.Lines.{lines_of};
 ghost use Rattle.meta_flags.specs.Served.{served_in};
 ghost use Rattle.meta_flags.specs.Held.{got, value_of, served_by, state_of};
 ghost use Rattle.meta_flags.specs.Request.{request_of};
-ghost use Rattle.meta_flags.specs.Toml.{value_text};
+ghost use Rattle.meta_flags.specs.Toml.{setting_value_text};
 ghost use Rattle.meta_flags.specs.Replies.{change_line, got_line};
 ghost use Rattle.meta_flags.specs.FlagAnswers.{none_text, IsServed, IsAnswered, AreFlagAnswers};
 
@@ -27,7 +27,7 @@ fn push_outcome(out: &mut String, outcome: Result<(), FlagError>) -> Result<(), 
 
 /// Adds a value as it is written by itself.
 fn push_value(out: &mut String, value: FlagValue<'_>) -> Result<(), AllocError>
-    ensures { OnOk result (string_bytes out.new ≡ string_bytes out.old ++ value_text (value_of value.entry)) }
+    ensures { OnOk result (string_bytes out.new ≡ string_bytes out.old ++ setting_value_text (value_of value.entry)) }
 {
     match value {
         FlagValue::Bool(truth) => write!(out, "{truth}"),

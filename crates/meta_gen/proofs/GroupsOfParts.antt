@@ -1,7 +1,7 @@
 -- The tables of groups from their parts, one after another.
 use Rattle.std.proofs.Common.{◌≡◌, ◌<◌, ◌+◌, ⊎_elim, ℕ, List, [], ◌∷◌, ◌++◌, All, length, get_or, slice_get, Some, refl, sym, ap, ◌∙◌}
 use Rattle.std.proofs.Common.{subst, length-append, arith}
-use Rattle.std.proofs.lemmas.List.Elements.{All-nil, All-push, All-same}
+use Rattle.std.proofs.lemmas.List.Elements.{All-push, All-same}
 use Rattle.std.proofs.lemmas.Option.{same_Some, slice_get_read}
 use Rattle.meta_lists.proofs.Everywhere.{at_place}
 use Rattle.meta_lists.proofs.Places.{get_beside}
@@ -16,9 +16,6 @@ use Rattle.meta_gen.specs.Parts.{HaveGroupParts}
 pub record MadeOf (parts : List GroupParts) (groups : List GroupContents) : Type 0 where
   pub have : HaveGroupParts parts groups
   pub well_formed : All IsWellFormedGroup groups
-
-pub none_made : MadeOf [] []
-none_made = record { have = record { count = refl; each = λ k p g at at_g. absurd (cc) }; well_formed = All-nil IsWellFormedGroup }
 
 -- one more group
 pub one_made : (front : List GroupParts) (p : GroupParts) (old new : List GroupContents) (g : GroupContents) → new ≡ old ++ g ∷ []

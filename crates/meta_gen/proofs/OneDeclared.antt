@@ -1,5 +1,5 @@
 -- Declarations have one value of whole tables.
-use Rattle.std.proofs.Common.{◌≡◌, ◌<◌, ℕ, List, length, slice_get, Some, sym, ap, ◌∙◌, arith}
+use Rattle.std.proofs.Common.{◌≡◌, ◌<◌, ℕ, List, Some, sym, ap, ◌∙◌, arith}
 use Rattle.meta_lists.proofs.Places.{get_there, same_places}
 use Rattle.meta_typevar.specs.Registry.{HoldTypeSets}
 use Rattle.meta_inst.specs.InstructionSet.{InstructionSet}

@@ -1,5 +1,5 @@
 -- Parts have one well-formed table at most.
-use Rattle.std.proofs.Common.{◌≡◌, ◌<◌, ℕ, List, All, length, slice_get, Some, sym, ap, ◌∙◌, arith}
+use Rattle.std.proofs.Common.{◌≡◌, ◌<◌, ℕ, List, All, Some, sym, ap, ◌∙◌, arith}
 use Rattle.meta_lists.proofs.Everywhere.{at_place}
 use Rattle.meta_lists.proofs.Places.{get_there, same_places}
 use Rattle.meta_typevar.specs.declared.masks.Masks.{Masks}

@@ -16,11 +16,6 @@ use Rattle.meta_inst.specs.declared.controls.Which.{Which as WhichType}
 use Rattle.meta_inst.specs.declared.operands.Controlling.{Controlling}
 use Rattle.meta_inst.specs.declared.operands.Controlling.TheVariants.{NotPolymorphic, By, Missing}
 
--- what holds of both holds of each
-pub each_control : (P : Which → Type 0) → P First → P Second → (a : Which) → P a
-each_control P f s First = f
-each_control P f s Second = s
-
 -- ---- what the tests tell
 
 pub neither : (controls : Which → Option ℕ) (n : ℕ) → (controls First ≡ Some n → ⊥) → (controls Second ≡ Some n → ⊥) → IsOneOf controls n

@@ -54,8 +54,8 @@ module _ (vars : List TypeVarContent) (r : IsRegistry vars) (n : ℕ) (d : TypeV
   pub not_root : (variable_at vars n).chain ≡ [] → ⊥
   not_root none = not_empty (variable_at vars p.type_var).chain (function_of p.derived_func) (sym one_step.chain ∙ none)
 
-module _ (vars : List TypeVarContent) (r : IsRegistry vars) (controls : Which
-    → Option ℕ) (n : ℕ) (d : TypeVarContent) (k : IsKept vars n d) where
+module _ (vars : List TypeVarContent) (r : IsRegistry vars)
+    (controls : Which → Option ℕ) (n : ℕ) (d : TypeVarContent) (k : IsKept vars n d) where
   abbrev Bad : Type 0
   Bad = IsBadlyDerived (sets_of vars) (controls_at vars controls) (variable_at vars n)
 
@@ -121,8 +121,7 @@ module _ (vars : List TypeVarContent) (o : OperandList) (within : o.result_count
       record {
         number = n;
         at = at;
-        bad =
-            subst (λ (w : Variable). IsBadlyDerived (sets_of vars) (both (control_in vars c) (second_in vars o.second)) w) is h.bad;
+        bad = subst (λ (w : Variable). IsBadlyDerived (sets_of vars) (both (control_in vars c) (second_in vars o.second)) w) is h.bad;
       }
 
   -- what was found among the variables is found of the instruction

@@ -2,7 +2,6 @@
 use Rattle.std.proofs.Common.{◌≡◌, ◌<◌, ◌≤◌, inl, inr, ℕ, List, [], Bool, true, false, length, take, drop, Option, None, Some, slice_get}
 use Rattle.std.proofs.Common.{arith, refl, sym, ap, ◌∙◌, map, subst, ⊎_elim, ◌+◌}
 use Rattle.std.specs.Prelude.{◌↔◌, IsTrue, option_map, option_and_then, if◌then◌else◌}
-use Rattle.std.proofs.lemmas.Bool.{false≢true}
 use Rattle.std.proofs.lemmas.Option.{same_Some, option_and_then_some}
 use Rattle.meta_lists.proofs.Options.{mapped}
 use Rattle.std.proofs.lemmas.List.{take-append-drop, map-append, length-map, length-take}
@@ -135,8 +134,7 @@ module _ (vars : List TypeVarContent) (o : OperandList) (within : o.result_count
   may_from v l m = record {
     underived = m.underived;
     not_second = λ e. m.not_second (ap (option_map (variable_at vars)) e);
-    all =
-        λ k n at. ruled_from v k n l m.underived at (m.others k (variable_at vars n) (operand_at k n at));
+    all = λ k n at. ruled_from v k n l m.underived at (m.others k (variable_at vars n) (operand_at k n at));
   }
 
   -- the designated variable and the first are of the registry
@@ -157,8 +155,7 @@ module _ (vars : List TypeVarContent) (o : OperandList) (within : o.result_count
       (λ place is at. record {
         place = place;
         designates = is;
-        is_value =
-            get_map (variable_at vars) (drop o.result_count o.variables) place d at;
+        is_value = get_map (variable_at vars) (drop o.result_count o.variables) place d at;
       })
 
   pub designated_from : (w : Variable) → IsDesignated i w → (d : ℕ) × (designated_number o ≡ Some d) × (w ≡ variable_at vars d)
@@ -191,8 +188,7 @@ module _ (vars : List TypeVarContent) (o : OperandList) (within : o.result_count
     place = h.place;
     variable = variable_at vars h.variable;
     operand = operand_at h.place h.variable h.at;
-    several =
-        h.several;
+    several = h.several;
   }
 
   one_everywhere : AllHaveOneType vars o.variables → HasOneEverywhere (sets_of vars) i
@@ -221,10 +217,6 @@ module _ (vars : List TypeVarContent) (o : OperandList) (within : o.result_count
         let number : u ≡ s = same_Some u s (sym at ∙ is) in
         told.1 (no_second_from s (subst (CannotBeSecond (sets_of vars) i) (sym same ∙ ap (variable_at vars) number) why))),
   )
-
-  pub no_bad_second : o.second ≡ None → (IsTrue false ↔ HasBadSecond (sets_of vars) i)
-  no_bad_second none =
-      ((λ t. absurd (false≢true t)), (λ (v, e, why). let at : None ≡ Some v = sym (ap (second_in vars) none) ∙ e in absurd (cc)))
 
   -- a candidate that may not control
   designates_none : MayNot vars o.second o.variables o.result_count (designated_number o) → DesignatesNone (sets_of vars) i
@@ -257,8 +249,7 @@ module _ (vars : List TypeVarContent) (o : OperandList) (within : o.result_count
   found_by_numbers Missing h = record {
     polymorphic = polymorphic h.several;
     designated = designates_none h.designated_may_not;
-    first =
-        first_never h.first_may_not;
+    first = first_never h.first_may_not;
   }
 
   -- the variable that controls is of the registry

@@ -6,7 +6,7 @@ use Rattle.meta_types.specs.declared.fault.Place.{Place}
 use Rattle.meta_types.specs.declared.fault.DefinitionError.{DefinitionError}
 use Rattle.meta_types.specs.declared.fault.DefinitionError.TheVariants.{BadName, BadOutput, BadDerivation, TooManyOperands}
 use Rattle.meta_types.proofs.FirstFault as first
-use Rattle.meta_types.proofs.FirstFault.{IsIn, IsSearchable}
+use Rattle.meta_types.proofs.FirstFault.{IsSearchable}
 use Rattle.meta_typevar.specs.Variable.{Variable, Sets}
 use Rattle.meta_typevar.specs.declared.content.TypeVarContent.{TypeVarContent}
 use Rattle.meta_operands.specs.declared.format.InstructionFormat.{InstructionFormat}

@@ -17,8 +17,7 @@ fixed_from_one : (s : TypeSetParts) (one : HasOne s) → IsFixed s [] one.one
 fixed_from_one s one = record {
   functions = All-nil (λ (f : Function). (f ≢ Narrower) × (f ≢ Wider));
   member = one.one;
-  inhabited =
-      one.member;
+  inhabited = one.member;
   reached = λ r m. sym (one.only r m);
   only = λ r x m e. e ∙ one.only r m;
 }

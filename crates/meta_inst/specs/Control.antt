@@ -39,8 +39,8 @@ HasSecondRoot i w = i.second ≡ Some (underived w.root)
 abbrev pub IsRuled : Sets → Instruction → Variable → ℕ → Variable → Type 0
 IsRuled sets i v k w = (w.root ≡ v.root) ⊎ HasSecondRoot i w ⊎ HasOne (sets w.root) ⊎ IsLoneInput i k w
 
--- v is underived and isn't the second control, and each operand is ruled by it or by the second control, has one type, or is a
--- lone input
+-- v is underived and isn't the second control, and each operand is ruled by it or by the second control, is of a root that has one
+-- type, or is a lone input
 pub record MayControl (sets : Sets) (i : Instruction) (v : Variable) : Type 0 where
   pub underived : v.chain ≡ []
   pub not_second : i.second ≢ Some v

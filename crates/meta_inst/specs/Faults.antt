@@ -82,7 +82,7 @@ pub record IsFreeSet (sets : Sets) (i : Instruction) (control : Option Variable)
   pub set : s ≡ sets variable.root
   pub several : HasOne s → ⊥
 
--- the instruction at place k needs the set in the tables: it is the set of its control, or that of another underived value
+-- the instruction at place k needs the set in the tables: it is the set of one of its controls, or that of another underived value
 -- operand whose set hasn't exactly one type
 pub record NeedsSetAt (d : InstructionSet) (k : ℕ) (s : TypeSetParts) : Type 0 where
   pub user : Builder

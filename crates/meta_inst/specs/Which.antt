@@ -17,6 +17,7 @@ pub both_again : (f : Which → Option ℕ) (a : Which) → both (f First) (f Se
 both_again f First = refl
 both_again f Second = refl
 
+-- two controls are told by the first and the second
 abbrev pub controls_code : Coded (Which → Option ℕ)
 controls_code = code_by (Option ℕ × Option ℕ) (coded× (coded_option coded_ℕ) (coded_option coded_ℕ))
     (λ f. (f First, f Second)) (λ p. both p.0 p.1) (λ f. fun_ext (both_again f))

@@ -1,9 +1,8 @@
 ghost use Rattle.std.specs.Prelude.{◌≡◌, ◌++◌, ◌∷◌, [], if◌then◌else◌, IfOk, OnOk, Some};
-ghost use Rattle.std.specs.Option.{option_copied};
 ghost use Rattle.std.specs.Fmt.{DisplaysOnOk};
 ghost use Rattle.meta_operands.specs.Operand.{is_immediate_or_entityref_operand};
 ghost use Rattle.meta_inst.specs.FormatMatch.{is_value_operand};
-ghost use Rattle.meta_inst.specs.Content.{ctrl_number, control_numbers, places_where, snake_name_of, names_text, more_names_text};
+ghost use Rattle.meta_inst.specs.Content.{ctrl_number, control_numbers, places_where, snake_name_of, more_names_text};
 ghost use Rattle.meta_inst.specs.Content.{outputs_text, inputs_text};
 
 use super::controls::Controls;

@@ -79,6 +79,7 @@ impl Controls {
     /// Which of them the variable is, and `None` exactly where it is neither. It is the first where it is both.
     pub fn find(&self, tv: TypeVar) -> Option<Which>
         ensures found { IfSome result (λ a. self.now (which_of a) ≡ Some tv) }
+        ensures first { self.now First ≡ Some tv → result ≡ Some Which.First }
         ensures none { IfNone result (¬ IsOneOf self.now tv) }
     {
         if self.is_first(tv) {
@@ -97,10 +98,11 @@ impl Controls {
         self.find(tv).is_some()
     }
 
-    /// Which of them a variable is that is one of them.
+    /// Which of them a variable is that is one of them. It is the first where it is both.
     pub fn which(&self, tv: TypeVar) -> Which
         requires { IsOneOf self.now tv }
-        ensures { self.now (which_of result) ≡ Some tv }
+        ensures is { self.now (which_of result) ≡ Some tv }
+        ensures first { self.now First ≡ Some tv → result ≡ Which.First }
     {
         if self.is_first(tv) {
             return Which::First;

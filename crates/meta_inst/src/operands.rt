@@ -4,7 +4,7 @@ ghost use Rattle.meta_typevar.specs.declared.content.TypeVarContent.{TypeVarCont
 ghost use Rattle.meta_typevar.specs.Registry.{sets_of, variable_at, IsRegistry};
 ghost use Rattle.meta_operands.specs.Operand.{variables_of};
 ghost use Rattle.meta_inst.specs.Builder.{inputs_of, outputs_of};
-ghost use Rattle.meta_inst.specs.InstructionSet.{instruction_of_builder, designated_in, begins_with_value};
+ghost use Rattle.meta_inst.specs.InstructionSet.{instruction_of_builder, begins_with_value};
 ghost use Rattle.meta_inst.specs.Instruction.{IsDesignated};
 ghost use Rattle.meta_inst.specs.Content.{control_kept, operand_list};
 ghost use Rattle.meta_inst.specs.Control.{IsBadlyDerived};
@@ -369,7 +369,7 @@ impl Operands {
     }
 
     /// The second control, where one is named.
-    fn second(&self) -> &Option<TypeVar>
+    pub fn second(&self) -> &Option<TypeVar>
         ensures { result.now ≡ self.now.second }
     {
         &self.second

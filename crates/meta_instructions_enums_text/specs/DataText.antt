@@ -4,7 +4,7 @@
 use Rattle.std.specs.Prelude.{ℕ, ◌==◌, Bool, List, [], ◌∷◌, ◌++◌, if◌then◌else◌, codes}
 use Rattle.std.specs.List.{flat_map}
 use Rattle.std.specs.Fmt.{decimal}
-use Rattle.meta_text.specs.Lines.{at, empty_line, text_of}
+use Rattle.meta_text.specs.Lines.{at, text_of}
 use Rattle.meta_rust_lines.specs.Ends.{spaced_item_end}
 use Rattle.meta_operands.specs.declared.field.FormatField.{FormatField}
 use Rattle.meta_operands.specs.declared.format.InstructionFormat.{InstructionFormat}

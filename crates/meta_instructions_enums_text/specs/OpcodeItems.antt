@@ -41,6 +41,7 @@ abbrev pub docs_with : Option InstructionFormat → BuiltInstruction → List �
 docs_with None c = []
 docs_with (Some f) c = shown_line (instruction_text c) f.name ++ inferred_line (inferring_input f c)
 
+-- the documentation of the opcode of an instruction, by its format
 unfoldable pub docs_text : List InstructionFormat → BuiltInstruction → List ℕ
 docs_text formats c = docs_with (slice_get formats c.format) c
 

@@ -1,6 +1,5 @@
 ghost use Rattle.std.specs.Prelude.{◌≡◌, ◌++◌, OnOk, map, string_bytes};
 ghost use Rattle.std.specs.List.{flat_map};
-ghost use Rattle.meta_rust_lines.specs.Ends.{spaced_item_end};
 ghost use Rattle.meta_instructions_enums_text.specs.DataText.{data_head, variant_head, values_text, blocks_text, raw_blocks_text};
 ghost use Rattle.meta_instructions_enums_text.specs.DataText.{member_line, field_line, variant_end, variant_text, data_part, data_text};
 

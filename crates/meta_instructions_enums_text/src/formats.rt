@@ -1,7 +1,6 @@
 ghost use Rattle.std.specs.Prelude.{◌≡◌, ◌++◌, OnOk, map, string_bytes};
 ghost use Rattle.std.specs.List.{flat_map};
 ghost use Rattle.meta_operands.specs.FormatText.{format_text};
-ghost use Rattle.meta_rust_lines.specs.Ends.{spaced_item_end};
 ghost use Rattle.meta_instructions_enums_text.specs.FormatsText.{formats_enum_head, entry_lines, entry_text, formats_enum_text, told_head};
 ghost use Rattle.meta_instructions_enums_text.specs.FormatsText.{arm_line, told_arm, told_end, told_text, formats_part, formats_text};
 

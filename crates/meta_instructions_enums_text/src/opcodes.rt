@@ -1,6 +1,5 @@
 ghost use Rattle.std.specs.Prelude.{◌≡◌, ◌++◌, OnOk, string_bytes};
 ghost use Rattle.std.specs.List.{flat_map};
-ghost use Rattle.meta_rust_lines.specs.Ends.{spaced_item_end};
 ghost use Rattle.meta_instructions_enums_text.specs.OpcodeItems.{opcode_text};
 ghost use Rattle.meta_instructions_enums_text.specs.OpcodesText.{HaveFormats, number_type, opcodes_head, each_opcode, opcodes_enum_text};
 ghost use Rattle.meta_instructions_enums_text.specs.OpcodesText.{opcodes_part, opcodes_text};

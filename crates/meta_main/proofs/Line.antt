@@ -3,7 +3,7 @@ use Rattle.std.proofs.Common.{◌≡◌, ℕ, suc, ◌<◌, ◌≤◌, ◌⊎◌
 use Rattle.std.proofs.Common.{flat_map, refl, sym, subst, arith}
 use Rattle.std.specs.Char.Escape.{escape_ascii}
 use Rattle.std.proofs.lemmas.Bool.{cases_lt}
-use Rattle.meta_main.specs.Usage.{IsPlain, IsShown, IsShownAt, misuse_text, misuse_place, IsWrongBehind, TellsWrong, command_behind_comma}
+use Rattle.meta_main.specs.Usage.{IsPlain, IsShown, IsShownAt, misuse_text, misuse_place, TellsWrong, command_behind_comma}
 use Rattle.meta_main.specs.Usage.{command_names_text, commands_text, ArePlainlyNamed}
 use Rattle.meta_main.specs.declared.manual.CommandForm.{CommandForm}
 use Rattle.meta_main.specs.declared.misuse.Misuse.{Misuse}

@@ -2,7 +2,7 @@
 use Rattle.std.proofs.Common.{◌≡◌, ◌≢◌, ◌∙◌, ℕ, ◌+◌, ◌<◌, ◌≤◌, ⊎_elim, List, [], ◌∷◌, length, slice_get, Some, refl, sym, ap, subst, arith}
 use Rattle.std.proofs.lemmas.Bool.{cases_lt}
 use Rattle.std.proofs.lemmas.Option.{same_Some, slice_get_within}
-use Rattle.meta_main.specs.Misuse.{AreNumbersTo, AreNumbersIn, NamesNone, NamesNoneBefore, IsNamed, IsFirstNamed, AreCommandWords, AreTaken}
+use Rattle.meta_main.specs.Misuse.{AreNumbersIn, IsFirstNamed, AreTaken}
 use Rattle.meta_main.specs.Misuse.{IsMisuseBehind, IsMisuseOf, IsMisuse}
 use Rattle.meta_main.specs.declared.manual.CommandForm.{CommandForm}
 use Rattle.meta_main.specs.declared.manual.Range.{Range}

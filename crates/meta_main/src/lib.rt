@@ -17,6 +17,6 @@ pub use asked::Asked;
 pub use laws::never_both;
 pub use manual::{CommandForm, Manual, Range};
 pub use misuse::Misuse;
-pub use program::{Program, start};
+pub use program::{Program, answer_of_itself, start, tell, tell_wrong, words};
 pub use telling::about;
 pub use usage::usage_line;

@@ -31,7 +31,7 @@ fn no_words(error: &io::Error) -> Ending {
 }
 
 /// The words after the program's name.
-fn words(rt: &HostRuntime) -> Result<Vec<Text>, Ending> {
+pub fn words(rt: &HostRuntime) -> Result<Vec<Text>, Ending> {
     let alloc = rt.alloc();
     let args = std::env::args(rt).map_err(|error| no_words(&error))?;
     let mut words = Vec::new(alloc);
@@ -50,30 +50,36 @@ fn printed(outcome: io::Result<()>) -> Ending {
     }
 }
 
-/// Does what the words ask.
-fn answer<P: Program>(rt: &HostRuntime, manual: &Manual, program: &P, words: &[Text]) -> Ending {
+/// Prints the help or the version, where the words ask for it, and says how that ended.
+pub fn answer_of_itself(rt: &HostRuntime, manual: &Manual, words: &[Text]) -> Option<Ending> {
     let (name, version, help) = (manual.name, manual.version, manual.help);
     match Asked::of(words) {
-        Asked::Help => printed(println!(rt; "{help}")),
-        Asked::Version => printed(println!(rt; "{name} {version}")),
-        Asked::Work => {
-            let mut source = StdSource::new(rt.reader());
-            let mut sink = StdSink::new(io::writer(rt));
-            program.run(rt.alloc(), words, &mut source, &mut sink)
-        }
+        Asked::Help => Some(printed(println!(rt; "{help}"))),
+        Asked::Version => Some(printed(println!(rt; "{name} {version}"))),
+        Asked::Work => None,
     }
+}
+
+/// Does what the words ask.
+fn answer<P: Program>(rt: &HostRuntime, manual: &Manual, program: &P, words: &[Text]) -> Ending {
+    if let Some(ending) = answer_of_itself(rt, manual, words) {
+        return ending;
+    }
+    let mut source = StdSource::new(rt.reader());
+    let mut sink = StdSink::new(io::writer(rt));
+    program.run(rt.alloc(), words, &mut source, &mut sink)
 }
 
 /// Says in one line on standard error what an ending other than `Done` was about. Where standard error fails too, the exit status
 /// still tells.
-fn tell(rt: &HostRuntime, manual: &Manual, ending: Ending) {
+pub fn tell(rt: &HostRuntime, manual: &Manual, ending: Ending) {
     if let Some(about) = about(ending) {
         let _ = eprintln!(rt; "{}: {about}", manual.name);
     }
 }
 
 /// The same of words that are no command: which of them is wrong, and which commands there are.
-fn tell_wrong(rt: &HostRuntime, manual: &Manual, words: &[Text]) {
+pub fn tell_wrong(rt: &HostRuntime, manual: &Manual, words: &[Text]) {
     match usage_line(rt.alloc(), manual, words) {
         Ok(line) => {
             let _ = eprintln!(rt; "{}: {line}", manual.name);

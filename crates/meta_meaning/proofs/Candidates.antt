@@ -59,8 +59,8 @@ module _ (sets : Sets) (i : Instruction) (controls : Which → Option Variable) 
     pub agrees : Agrees w.chain type_of t
     pub reason : RootReason k w t type_of
 
-module _ (sets : Sets) (i : Instruction) (controls : Which → Option Variable) (ruling : Ruling sets i controls) (c : Which
-    → Option TypeParts) where
+module _ (sets : Sets) (i : Instruction) (controls : Which → Option Variable) (ruling : Ruling sets i controls)
+    (c : Which → Option TypeParts) where
   -- two controls over one variable have one controlling type
   under_same : (v w : Variable) (a b : Which) → IsUnder controls v a → IsUnder controls w b → v.root ≡ w.root → c a ≡ c b
   under_same v w a b p q r = ap c (ruling.one a b p.variable q.variable p.controls_is q.controls_is (sym p.root ∙ (r ∙ q.root)))
@@ -127,15 +127,13 @@ module _ (sets : Sets) (i : Instruction) (controls : Which → Option Variable) 
         type_of = one.one;
         member = one.member;
         agrees = agrees_alone w one.one t free one.member one.only x r passes;
-        reason =
-            inr (free, inl one);
+        reason = inr (free, inl one);
       }
   candidate_of k w t fits (x, r, passes) (inr (free, inr lone)) =
       record {
         type_of = t;
         member = member_alone w t free lone.underived x r passes;
-        agrees =
-            agrees_underived w.chain t t lone.underived refl;
+        agrees = agrees_underived w.chain t t lone.underived refl;
         reason = inr (free, inr (lone, refl));
       }
 

@@ -36,8 +36,7 @@ module _ (sets : Sets) (w : Variable) (controls : Which → Option Variable) (un
     record {
       not_fixed = open_;
       underived = d;
-      other =
-          λ a e. none (a, record { variable = w; controls_is = e; root = refl });
+      other = λ a e. none (a, record { variable = w; controls_is = e; root = refl });
       set = refl;
     },
   )
@@ -51,8 +50,7 @@ module _ (sets : Sets) (w : Variable) (controls : Which → Option Variable) (un
       not_fixed = open_;
       variable = p.variable;
       controls_is = p.controls_is;
-      derived =
-          record { root = p.root; chain = d ∙ ap (λ (gs : List Function). gs ++ (f ∷ [])) (sym (under a p.variable p.controls_is)) };
+      derived = record { root = p.root; chain = d ∙ ap (λ (gs : List Function). gs ++ (f ∷ [])) (sym (under a p.variable p.controls_is)) };
     },
   )
   derived f (g ∷ fs) d (inl (a, p)) =
@@ -67,8 +65,7 @@ module _ (sets : Sets) (w : Variable) (controls : Which → Option Variable) (un
       absurd (good (record {
         derived = λ e. let h : f ∷ fs ≡ [] = sym d ∙ e in cc;
         not_fixed = open_;
-        no_step =
-            λ b v h e step. none (b, record { variable = v; controls_is = e; root = step.root });
+        no_step = λ b v h e step. none (b, record { variable = v; controls_is = e; root = step.root });
       }))
 
   -- an open operand, by its chain

@@ -200,8 +200,7 @@ module _ (sets : Sets) (i : Instruction) (control : Option Variable) (c d : Opti
         values = a.values;
         choice = choice;
         members = fits.members;
-        controlled =
-            fits.controlled First;
+        controlled = fits.controlled First;
         second_controlled = fits.controlled Second;
         agrees = fits.agrees;
       }

@@ -20,8 +20,8 @@ use Rattle.meta_meaning.proofs.Passing.{control_number_fits}
 use Rattle.meta_meaning.proofs.Allowing.{TellsOperands, allows_exactly}
 
 module _ (sets : Sets) (i : Instruction) (control : Option Variable) (tables : TableContents) (entry : OpcodeNumbers)
-    (typed : (k : ℕ) (w : Variable) → IsOperand i k w → IsTypeSet (sets w.root)) (h : IsControl sets i control) (good : HasBadSecond sets i
-    → ⊥) (is : AreOpcodeNumbersOf sets i control tables entry) where
+    (typed : (k : ℕ) (w : Variable) → IsOperand i k w → IsTypeSet (sets w.root)) (h : IsControl sets i control)
+    (good : HasBadSecond sets i → ⊥) (is : AreOpcodeNumbersOf sets i control tables entry) where
   -- the root of a control has a set of types
   control_typed : (a : Which) (v : Variable) → controls_of i control a ≡ Some v → IsTypeSet (sets v.root)
   control_typed a v e =

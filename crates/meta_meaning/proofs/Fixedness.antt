@@ -102,7 +102,3 @@ fixed_from_one s one = record {
 -- Where a type is fixed for an underived variable, its set has that one type.
 pub one_from_fixed : (s : TypeSetParts) (t : TypeParts) → IsFixed s [] t → HasOne s
 one_from_fixed s t h = record { one = h.member; member = h.inhabited; only = λ r m. sym (h.reached r m) ∙ h.reached h.member h.inhabited }
-
--- Where a set hasn't exactly one type, none is fixed for an underived variable.
-pub nowhere_from_several : (s : TypeSetParts) → (HasOne s → ⊥) → IsFixedNowhere s []
-nowhere_from_several s several t h = several (one_from_fixed s t h)

@@ -3,15 +3,15 @@ use Rattle.std.proofs.Common.{◌≡◌, ◌≢◌, ℕ, zero, suc, ◌+◌, Lis
 use Rattle.std.proofs.Common.{inl, inr, arith}
 use Rattle.std.proofs.lemmas.Option.{same_Some}
 use Rattle.meta_lists.proofs.Places.{get_stays}
-use Rattle.meta_types.specs.TypeParts.{TypeParts, number_of}
-use Rattle.meta_types.proofs.Functions.{relation_or_not, no_function}
-use Rattle.meta_types.specs.Function.{Function, IsFunction, StepsTypes, StepsNumbers, AnswersNumber}
+use Rattle.meta_types.specs.TypeParts.{number_of}
+use Rattle.meta_types.proofs.Functions.{relation_or_not}
+use Rattle.meta_types.specs.Function.{Function, StepsTypes, StepsNumbers, AnswersNumber}
 use Rattle.meta_types.proofs.OneAnswer.{one}
 use Rattle.meta_types.proofs.Numbers.{one_number}
 use Rattle.meta_inst.specs.Which.{Which, both}
 use Rattle.meta_meaning.specs.Inference.{GivesNumber, GivesAt, GivesResults}
 use Rattle.meta_meaning.specs.Tables.{TableContents, NumberConstraint, ConcreteNumber, FreeOf, SameNumber, ByNumber, NumberPasses, PassesAt}
-use Rattle.meta_meaning.specs.Tables.{Allows, OpcodeNumbers, at_opcode}
+use Rattle.meta_meaning.specs.Tables.{Allows, OpcodeNumbers}
 
 module _ (tables : TableContents) (c : Which → Option ℕ) where
   -- a constraint that some number passes gives one
@@ -44,8 +44,7 @@ module _ (tables : TableContents) (c : Which → Option ℕ) where
       each zero n e = record {
         constraint = p.constraint;
         is_constraint = p.is_constraint;
-        gives =
-            subst (GivesNumber c p.constraint) (same_Some given.0 n e) given.1;
+        gives = subst (GivesNumber c p.constraint) (same_Some given.0 n e) given.1;
       }
       each (suc k) n e = let there : offset + 1 + k ≡ offset + suc k = omega arith
           in subst (λ m. GivesAt tables c m n) there (rest.each k n e)
@@ -63,8 +62,7 @@ module _ (tables : TableContents) (c : Which → Option ℕ) where
       ∙ sym a.steps.number_from) in
       let to : s.to ≡ a.steps.to = one f a.steps.from s.to a.steps.to (record {
         is_function = a.is_function;
-        steps =
-            subst (λ v. StepsTypes f v s.to) from s.steps;
+        steps = subst (λ v. StepsTypes f v s.to) from s.steps;
       }) (record { is_function = a.is_function; steps = a.steps.steps }) in
       sym s.number_to ∙ ap number_of to ∙ a.steps.number_to
 
@@ -88,8 +86,7 @@ module _ (tables : TableContents) (op : ℕ) (c d : Option ℕ) (rs vs : List �
           entry = a.entry;
           is_opcode = a.is_opcode;
           control_fits = a.control_fits;
-          second_fits =
-              a.second_fits;
+          second_fits = a.second_fits;
           count = given.count ∙ a.results;
           each = given.each;
         },

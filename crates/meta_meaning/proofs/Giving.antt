@@ -1,13 +1,13 @@
 -- What a constraint gives for a result is the number of the type that is inferred.
-use Rattle.std.proofs.Common.{◌≡◌, ◌↔◌, ◌≤◌, ◌<◌, ◌+◌, ◌⊎◌, ℕ, List, [], ◌∷◌, ◌++◌, length, All, Option, None, Some, slice_get, refl, sym}
+use Rattle.std.proofs.Common.{◌≡◌, ◌↔◌, ◌≤◌, ◌<◌, ◌+◌, ◌⊎◌, ℕ, List, [], ◌∷◌, ◌++◌, length, All, Option, Some, slice_get, refl, sym}
 use Rattle.std.proofs.Common.{ap, ◌∙◌, subst, inl, inr, arith}
 use Rattle.std.proofs.lemmas.Option.{same_Some, slice_get_within}
 use Rattle.std.proofs.lemmas.List.{same_from_push}
 use Rattle.std.proofs.lemmas.List.Elements.{All-head, All-tail}
 use Rattle.meta_lists.proofs.Pushed.{not_empty}
 use Rattle.meta_lists.proofs.Places.{get_beside, get_stays}
-use Rattle.meta_types.specs.TypeParts.{TypeParts, IsType, number_of}
-use Rattle.meta_types.specs.Function.{Function, IsRelation, IsFunction, StepsTypes, AnswersNumber}
+use Rattle.meta_types.specs.TypeParts.{TypeParts, number_of}
+use Rattle.meta_types.specs.Function.{Function, IsRelation, IsFunction, StepsTypes}
 use Rattle.meta_types.proofs.Functions.{relation_or_not, no_function}
 use Rattle.meta_types.proofs.Numbers.{one_number}
 use Rattle.meta_typevar.specs.TypeSetParts.{IsMember, IsTypeSet}
@@ -18,14 +18,14 @@ use Rattle.meta_inst.specs.Instruction.{Instruction, IsOperand, controls_of}
 use Rattle.meta_inst.specs.Control.{IsControl, HasBadSecond, IsLoneInput}
 use Rattle.meta_meaning.specs.Acceptance.{IsNumberOf}
 use Rattle.meta_meaning.specs.Constraint.{TypeConstraint, ConcreteType, FreeType, SameType, ByType, IsConstraint, ControlFits}
-use Rattle.meta_meaning.specs.Inference.{EndsInRelation, IsRootOf, RootHas, IsInferred, IsResultNumber, Infers, InfersNumbers, GivesNumber}
+use Rattle.meta_meaning.specs.Inference.{EndsInRelation, IsRootOf, RootHas, IsResultNumber, InfersNumbers, GivesNumber}
 use Rattle.meta_meaning.specs.Inference.{GivesAt, GivesResults}
-use Rattle.meta_meaning.specs.Tables.{TableContents, NumberConstraint, ConcreteNumber, FreeOf, SameNumber, ByNumber, OpcodeNumbers}
-use Rattle.meta_meaning.specs.Tables.{ControlNumberFits, NumberPasses, PassesAt, Allows, StandsFor, AreOpcodeNumbersOf, at_opcode}
+use Rattle.meta_meaning.specs.Tables.{TableContents, NumberConstraint, ByNumber, OpcodeNumbers}
+use Rattle.meta_meaning.specs.Tables.{ControlNumberFits, StandsFor, AreOpcodeNumbersOf, at_opcode}
 use Rattle.meta_meaning.specs.Tables.{result_count}
 use Rattle.meta_meaning.proofs.Candidates.{same_variable, underived_agrees, agrees_step}
 use Rattle.meta_meaning.proofs.Fixedness.{fixed_from_one}
-use Rattle.meta_meaning.proofs.Family.{IsUnder, IsSettled, IsUsed, Ruling}
+use Rattle.meta_meaning.proofs.Family.{IsSettled, IsUsed, Ruling}
 use Rattle.meta_meaning.proofs.ControlFamily.{ruling_of}
 use Rattle.meta_meaning.proofs.Listed.{type_of_number, number_of_type}
 use Rattle.meta_meaning.proofs.Passing.{controlling_type, control_number_fits}
@@ -39,8 +39,8 @@ last_function (g ∷ gs) f h = last_function gs f (All-tail IsFunction g (gs ++ 
 functions_end : (w : Variable) → All IsFunction w.chain → EndsInRelation w → ⊥
 functions_end w h e = no_function e.last e.relation (last_function e.before e.last (subst (All IsFunction) e.chain h))
 
-module _ (sets : Sets) (i : Instruction) (controls : Which → Option Variable) (ruling : Ruling sets i controls) (e : Which
-    → Option TypeParts) (fits : (a : Which) → ControlFits sets (controls a) (e a)) where
+module _ (sets : Sets) (i : Instruction) (controls : Which → Option Variable) (ruling : Ruling sets i controls)
+    (e : Which → Option TypeParts) (fits : (a : Which) → ControlFits sets (controls a) (e a)) where
   -- the type of a control is a member of its set
   control_member : (a : Which) (v : Variable) → controls a ≡ Some v → (t : TypeParts) × (e a ≡ Some t) × IsMember (sets v.root) t
   control_member a v is = subst (λ (o : Option Variable). ControlFits sets o (e a)) is (fits a)
@@ -152,8 +152,7 @@ module _ (sets : Sets) (i : Instruction) (controls : Which → Option Variable) 
                           to = u;
                           steps = step;
                           number_from = refl;
-                          number_to =
-                              sym (number ∙ ap number_of end);
+                          number_to = sym (number ∙ ap number_of end);
                         };
                       },
                     )
@@ -224,8 +223,8 @@ module _ (sets : Sets) (i : Instruction) (controls : Which → Option Variable) 
                 )
 
 module _ (sets : Sets) (i : Instruction) (control : Option Variable) (tables : TableContents) (entry : OpcodeNumbers)
-    (typed : (k : ℕ) (w : Variable) → IsOperand i k w → IsTypeSet (sets w.root)) (h : IsControl sets i control) (good : HasBadSecond sets i
-    → ⊥) (is : AreOpcodeNumbersOf sets i control tables entry) (c d : Option ℕ) where
+    (typed : (k : ℕ) (w : Variable) → IsOperand i k w → IsTypeSet (sets w.root)) (h : IsControl sets i control)
+    (good : HasBadSecond sets i → ⊥) (is : AreOpcodeNumbersOf sets i control tables entry) (c d : Option ℕ) where
   -- the root of a control has a set of types
   control_typed : (a : Which) (v : Variable) → controls_of i control a ≡ Some v → IsTypeSet (sets v.root)
   control_typed a v e =
@@ -313,8 +312,7 @@ module _ (sets : Sets) (i : Instruction) (control : Option Variable) (tables : T
       entry = entry;
       is_opcode = at;
       control_fits = r.control_fits;
-      second_fits =
-          r.second_fits;
+      second_fits = r.second_fits;
       count = r.count;
       each = r.each;
     }),

@@ -18,8 +18,8 @@ use Rattle.meta_meaning.proofs.Family.{Ruling, AllFit, IsChoice}
 use Rattle.meta_meaning.proofs.Candidates.{Candidate, RootReason, has_candidate, same_candidate, underived_agrees, step_agrees}
 use Rattle.meta_meaning.proofs.Choice.{AskedTypes, choose, chosen}
 
-module _ (sets : Sets) (i : Instruction) (controls : Which → Option Variable) (ruling : Ruling sets i controls) (c : Which
-    → Option TypeParts) (ts : List TypeParts) where
+module _ (sets : Sets) (i : Instruction) (controls : Which → Option Variable) (ruling : Ruling sets i controls)
+    (c : Which → Option TypeParts) (ts : List TypeParts) where
   -- each operand's type passes its rule
   abbrev pub AllPass : Type 0
   AllPass = (k : ℕ) (w : Variable) (t : TypeParts) → IsOperand i k w → slice_get ts k ≡ Some t → PassesOwn sets controls c w t

@@ -50,8 +50,7 @@ module _ (tables : TableContents) (j : ℕ) (s : TypeSetParts) (is : IsTypeSet s
   set_of_member t m = record {
     masks = holds.masks;
     is_set = holds.is_set;
-    contains =
-        (numbers_of_members s holds.masks (number_of t) is holds.are_masks).1 (t, m, refl);
+    contains = (numbers_of_members s holds.masks (number_of t) is holds.are_masks).1 (t, m, refl);
   }
 
 module _ (tables : TableContents) (e : Which → Option TypeParts) (c : Which → Option ℕ) (numbered : (a : Which)
@@ -104,8 +103,7 @@ module _ (tables : TableContents) (e : Which → Option TypeParts) (c : Which �
           from = u;
           to = t;
           steps = steps;
-          number_from =
-              refl;
+          number_from = refl;
           number_to = refl;
         },
       )

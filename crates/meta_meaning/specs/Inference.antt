@@ -32,8 +32,8 @@ RootHas sets controls c w r = ((a : Which) × IsRootOf controls a w × (c a ≡ 
     ⊎ (((a : Which) → IsRootOf controls a w → ⊥) × (one : HasOne (sets w.root)) × (r ≡ one.one))
 
 -- from the type that the root of w has so, the chain of w leads to t
-pub record IsInferred (sets : Sets) (controls : Which → Option Variable) (c : Which
-    → Option TypeParts) (w : Variable) (t : TypeParts) : Type 0 where
+pub record IsInferred (sets : Sets) (controls : Which → Option Variable)
+    (c : Which → Option TypeParts) (w : Variable) (t : TypeParts) : Type 0 where
   pub root_type : TypeParts
   pub root : RootHas sets controls c w root_type
   pub agrees : Agrees w.chain root_type t

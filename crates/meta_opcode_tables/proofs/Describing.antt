@@ -34,16 +34,14 @@ module _ (vars : List TypeVarContent) (controls : Which → Option ℕ) (type_se
   concrete t number fixed e = record {
     constraint = ConcreteType (type_parts_of t);
     is_constraint = fixed;
-    stands =
-        λ tables has. ap ConcreteNumber e;
+    stands = λ tables has. ap ConcreteNumber e;
   }
 
   pub same : IsOpen (sets_of vars) (variable_at vars n) → (a : Which) → controls a ≡ Some n → (y : Constraint)
       → number_constraint_of y ≡ SameNumber a → Describes vars controls type_sets n y
   same not_fixed a e y told = record {
     constraint = SameType a;
-    is_constraint =
-        record { not_fixed = not_fixed; controls_is = control_is vars controls a n e };
+    is_constraint = record { not_fixed = not_fixed; controls_is = control_is vars controls a n e };
     stands = λ tables has. told;
   }
 
@@ -94,8 +92,7 @@ module _ (vars : List TypeVarContent) (controls : Which → Option ℕ) (type_se
         is_constraint = record {
           not_fixed = not_fixed;
           variable = variable_at vars p.type_var;
-          controls_is =
-              control_is vars controls a p.type_var is;
+          controls_is = control_is vars controls a p.type_var is;
           derived = one_step vars registry n d kept p e;
         };
         stands = λ tables has. told;
@@ -106,8 +103,8 @@ module _ (vars : List TypeVarContent) (controls : Which → Option ℕ) (type_se
     underived_by d kept e = (underived_told vars n d registry kept).0 e
 
 -- what described a variable describes it in a longer list
-pub described_later : (vars : List TypeVarContent) (controls : Which
-    → Option ℕ) (type_sets : List TypeSetParts) (old new : List Constraint) (place n : ℕ) → StaysIn old new
+pub described_later : (vars : List TypeVarContent)
+    (controls : Which → Option ℕ) (type_sets : List TypeSetParts) (old new : List Constraint) (place n : ℕ) → StaysIn old new
     → IsDescribedAt vars controls type_sets old place n → IsDescribedAt vars controls type_sets new place n
 described_later vars controls type_sets old new place n stay h =
     record { constraint = h.constraint; at = stay place h.constraint h.at; describes = h.describes }
@@ -126,7 +123,6 @@ module _ (vars : List TypeVarContent) (controls : Which → Option ℕ) (type_se
       record {
         constraint = x;
         at = last old new x added place (sym count);
-        describes =
-            subst (λ i. Describes vars controls type_sets i x) e describes;
+        describes = subst (λ i. Describes vars controls type_sets i x) e describes;
       })
       k l m at_k

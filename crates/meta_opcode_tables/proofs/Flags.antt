@@ -24,8 +24,8 @@ not_true true h = absurd (h refl)
 not_true false h = refl
 
 module _ (vars : List TypeVarContent) (o : OperandList) (within : o.result_count ≤ length o.variables) (registry : IsRegistry vars)
-    (are : AreOf vars o.variables) (second_of : SecondIsOf vars o.second) (controls : Which
-    → Option ℕ) (of : AreControlsOf vars controls) where
+    (are : AreOf vars o.variables) (second_of : SecondIsOf vars o.second)
+    (controls : Which → Option ℕ) (of : AreControlsOf vars controls) where
   abbrev i : Instruction
   i = instruction_of_operands vars o
 

@@ -48,8 +48,7 @@ one_format_more formats instructions old new x place b format added count at is 
     (λ k l c at_c. let h = before k c l at_c in record {
       format = h.format;
       is_format = h.is_format;
-      named =
-          stays old new x added k h.format.name h.named;
+      named = stays old new x added k h.format.name h.named;
     })
     (λ c at_c.
     let here : IsFormatName formats b new place = record {

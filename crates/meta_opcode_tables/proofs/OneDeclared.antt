@@ -1,5 +1,5 @@
 -- Declarations have one value of tables.
-use Rattle.std.proofs.Common.{◌≡◌, ℕ, List, length, map, take, slice_get, Option, Some, refl, sym, ap, ap₂, ◌∙◌, subst, arith}
+use Rattle.std.proofs.Common.{◌≡◌, ℕ, List, map, take, slice_get, Option, Some, refl, sym, ap, ◌∙◌, subst, arith}
 use Rattle.std.proofs.lemmas.Option.{same_Some}
 use Rattle.meta_lists.proofs.Places.{get_there, get_beside, same_places}
 use Rattle.meta_typevar.specs.Registry.{HoldTypeSets}
@@ -7,7 +7,6 @@ use Rattle.meta_typevar.specs.Variable.{Variable}
 use Rattle.meta_operands.specs.declared.format.InstructionFormat.{InstructionFormat}
 use Rattle.meta_inst.specs.Builder.{Builder}
 use Rattle.meta_inst.specs.InstructionSet.{InstructionSet, root_sets, instruction_in_set}
-use Rattle.meta_inst.specs.Faults.{IsAt}
 use Rattle.meta_inst.proofs.OneControl.{same_control}
 use Rattle.meta_meaning.specs.Tables.{TableContents, OpcodeNumbers, AreOpcodeNumbersOf}
 use Rattle.meta_unique.specs.NameSlots.{AreNameSlots}

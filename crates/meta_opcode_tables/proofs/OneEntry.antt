@@ -1,15 +1,13 @@
 -- An instruction has one entry in tables of declarations, and one list of operand constraints.
-use Rattle.std.proofs.Common.{◌≡◌, ◌<◌, ◌↔◌, ◌+◌, ◌/◌, ◌%◌, ℕ, List, length, slice_get, Option, None, Some, refl, sym, ap, ◌∙◌, subst}
+use Rattle.std.proofs.Common.{◌≡◌, ◌<◌, ◌↔◌, ◌+◌, ◌/◌, ◌%◌, ℕ, List, slice_get, Option, None, Some, refl, sym, ap, ◌∙◌, subst}
 use Rattle.std.proofs.Common.{⊎_elim, length-append, arith}
 use Rattle.std.proofs.lemmas.Bool.{cases_lt}
-use Rattle.std.proofs.lemmas.Option.{same_Some}
 use Rattle.meta_lists.proofs.Places.{get_there, same_places}
 use Rattle.meta_typevar.specs.Registry.{HoldTypeSets}
 use Rattle.meta_typevar.specs.TypeSetParts.{TypeSetParts, IsTypeSet}
-use Rattle.meta_typevar.specs.Masks.{AreMasksOf}
-use Rattle.meta_typevar.specs.Variable.{Variable, Sets}
+use Rattle.meta_typevar.specs.Variable.{Variable}
 use Rattle.meta_typevar.specs.declared.masks.Masks.{Masks}
-use Rattle.meta_inst.specs.Instruction.{Instruction, IsOperand, operands, controls_of}
+use Rattle.meta_inst.specs.Instruction.{Instruction, operands, controls_of}
 use Rattle.meta_inst.specs.Control.{IsControl, HasBadSecond}
 use Rattle.meta_inst.specs.InstructionSet.{InstructionSet, root_sets}
 use Rattle.meta_meaning.specs.Constraint.{TypeConstraint, ConcreteType, FreeType, SameType, ByType, IsConstraint}

@@ -17,8 +17,7 @@ same_tables s t names formats slots type_sets operand_constraints entries =
       formats = formats i;
       opcode_slots = slots i;
       type_sets = type_sets i;
-      operand_constraints =
-          operand_constraints i;
+      operand_constraints = operand_constraints i;
       entries = entries i;
     }
 

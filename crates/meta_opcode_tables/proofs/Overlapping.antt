@@ -1,6 +1,6 @@
 -- Lists of constraints that overlap.
-use Rattle.std.proofs.Common.{◌≡◌, ◌≤◌, ◌<◌, ◌+◌, ℕ, eqb, true, List, [], ◌∷◌, ◌++◌, length, take, drop, slice_get, Some, refl, sym, ap}
-use Rattle.std.proofs.Common.{◌∙◌, subst, arith, length-append}
+use Rattle.std.proofs.Common.{◌≡◌, ◌≤◌, ◌+◌, ℕ, eqb, true, List, [], ◌∷◌, ◌++◌, length, take, drop, slice_get, Some, refl, sym, ap}
+use Rattle.std.proofs.Common.{◌∙◌, subst, length-append}
 use Rattle.std.specs.Bool.{Decides}
 use Rattle.std.specs.List.{starts_with}
 use Rattle.std.specs.Cmp.Lexicographic.{pointwise, pointwise_decides}
@@ -9,7 +9,7 @@ use Rattle.std.proofs.lemmas.List.Sums.{fold-append}
 use Rattle.std.proofs.lemmas.Bool.{eqb-true, eq-eqb}
 use Rattle.std.proofs.lemmas.Option.{slice_get_within}
 use Rattle.meta_lists.proofs.Places.{get_take, get_drop}
-use Rattle.meta_unique.specs.Overlap.{AreAlike, added, added_at, stands_at, IsShortest}
+use Rattle.meta_unique.specs.Overlap.{AreAlike, added, stands_at, IsShortest}
 use Rattle.meta_opcode_tables.specs.Entries.{StaysIn}
 use Rattle.meta_opcode_tables.specs.ConstraintLists.{same_constraint, three_same, overlapped}
 use Rattle.meta_opcode_tables.specs.declared.constraint.Constraint.{Constraint}
@@ -95,14 +95,6 @@ grows old list new h =
     unlike list (take (length list) (drop (length old) (old ++ list))) (sym (ap (take (length list)) (drop-append_seam old list)
     ∙ take-length list)) in
     subst (λ n. length new ≤ n) (length-append old list) (h (old ++ list) (length old) front behind)
-
--- where a list stands is below the length of a table that isn't empty
-pub placed_below : (old list new : List Constraint) (place bound : ℕ) → place ≡ added_at same_constraint old list
-    → stands_at same_constraint new list place ≡ true → length new < bound → place < bound
-placed_below old [] new place bound is stands small = omega (arith, is)
-placed_below old (x ∷ xs) new place bound is stands small =
-    let inside = slice_get_within new (place + 0) x (stands_read new (x ∷ xs) place stands 0 x refl) in
-    omega arith
 
 -- one list more
 pub one_list_more : (lists : List (List Constraint)) (list : List Constraint)

@@ -82,8 +82,7 @@ module _ (tables : TableContents) (op : ℕ) (c d : Option ℕ) (rs vs : List �
         results = results;
         values = values;
         control_fits = fits;
-        second_fits =
-            second_fits;
+        second_fits = second_fits;
         passes = both_pass first (h.0 t);
       }
 

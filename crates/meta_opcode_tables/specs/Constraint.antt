@@ -44,6 +44,5 @@ entry_of e = record {
   flags = e.flags;
   typeset_offset = e.typeset_offset;
   second_offset = e.second_offset;
-  constraint_offset =
-      e.constraint_offset;
+  constraint_offset = e.constraint_offset;
 }

@@ -10,8 +10,8 @@ use Rattle.meta_inst.specs.InstructionSet.{InstructionSet, root_sets, instructio
 use Rattle.meta_inst.specs.Faults.{IsAt}
 use Rattle.meta_meaning.specs.Tables.{TableContents, OpcodeNumbers, AreOpcodeNumbersOf}
 
--- op is the number of a declared instruction, and the entry holds it under its control: its flags, its type set and its
--- constraints are those of the declaration
+-- op is the number of a declared instruction, and the entry holds it under its control: its flags, the type sets of its
+-- controls and its constraints are those of the declaration
 pub record IsDeclaredAs (d : InstructionSet) (tables : TableContents) (op : ℕ) (entry : OpcodeNumbers) : Type 0 where
   pub place : ℕ
   pub builder : Builder

@@ -1,4 +1,4 @@
-ghost use Rattle.std.specs.Prelude.{◌≡◌, ◌↔◌, ◌<◌, ◌≤◌, ◌+◌, ◌^◌, ℕ, List, Bool, false, IsTrue, IfOk, OnOk, IfSome, length, slice_get};
+ghost use Rattle.std.specs.Prelude.{◌≡◌, ◌↔◌, ◌<◌, ◌≤◌, ◌+◌, ◌^◌, ℕ, List, false, IsTrue, IfOk, OnOk, length, slice_get};
 ghost use Rattle.std.specs.Prelude.{take, Some};
 ghost use Rattle.meta_typevar.specs.Registry.{sets_of, variable_at, IsRegistry};
 ghost use Rattle.meta_typevar.specs.declared.content.TypeVarContent.{TypeVarContent};

@@ -11,7 +11,6 @@ ghost use Rattle.meta_opcode_tables.specs.TablesOf.{AreTablesOf, AcceptsOpcode};
 ghost use Rattle.meta_opcode_tables.specs.Constraint.{number_constraint_of, entry_of};
 ghost use Rattle.meta_opcode_tables.specs.WellFormed.{AreWellFormedParts, IsWellFormedOpcodes};
 ghost use Rattle.meta_opcode_tables.specs.Contents.{contents_of, IsOpcode, IsOpcodeNamed, AllPass};
-ghost use Rattle.meta_opcode_tables.specs.ConstraintLists.{same_constraint};
 ghost use Rattle.meta_unique.specs.NameSlots.{AreNameSlots, NameAnswers, IsNameLookup};
 ghost use Rattle.meta_opcode_tables.specs.Found.{IsDeclaredAs, FindsName};
 ghost use Rattle.meta_opcode_tables.specs.Inferred.{InfersControl, InfersOpcode, HasControlType};

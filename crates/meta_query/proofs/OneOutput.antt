@@ -18,7 +18,7 @@ use Rattle.meta_query.specs.declared.command.Command.{Command}
 use Rattle.meta_query.specs.declared.command.Command.TheVariants.{Query, Recheck, Tables, Types, Settings, Instructions, Builder, Synth}
 use Rattle.meta_query.specs.Recheck.{sameness_line, IsTold, IsAnswerBy, IsRecheckOf}
 use Rattle.meta_query.specs.Synthesis.{IsSynthOutput}
-use Rattle.meta_query.specs.Run.{IsBuiltText, IsRechecked, IsOutputOf}
+use Rattle.meta_query.specs.Run.{IsBuiltText, IsOutputOf}
 use Rattle.meta_query.proofs.Marks.{same_cut}
 use Rattle.meta_query.proofs.TableReplies.{same_answers}
 

@@ -5,7 +5,7 @@
 use Rattle.std.specs.Prelude.{◌≡◌, ◌≢◌, ℕ, ◌+◌, ◌⊎◌, Bool, true, false, List, [], ◌∷◌, ◌++◌, length, take, drop, slice_get, Some, codes}
 use Rattle.meta_lists.specs.First.{IsFirst}
 use Rattle.meta_gen.specs.WholeTables.{WholeTables}
-use Rattle.meta_table_reader.specs.Readable.{Reads}
+use Rattle.meta_table_reader.specs.Readable.{Reads, refused_line}
 use Rattle.meta_words.specs.Lines.{lines_of}
 use Rattle.meta_answers.specs.Answer.{IsTableReply, AreWrittenAnswers}
 
@@ -48,10 +48,6 @@ abbrev pub sameness_line : Bool → List ℕ
 sameness_line true = codes "same" ++ 10 ∷ []
 sameness_line false = codes "different" ++ 10 ∷ []
 
--- what is said of a text that reads as no tables
-abbrev pub refused_line : List ℕ
-refused_line = codes "refused" ++ 10 ∷ []
-
 -- the line, and behind it what the tables answer to the lines of the queries, by the tables alone
 pub record IsTold (line : List ℕ) (t : WholeTables) (queries out : List ℕ) : Type 0 where
   pub answers : List ℕ
@@ -66,7 +62,7 @@ pub record AreOthersTold (tables : WholeTables) (text queries out : List ℕ) : 
   pub told : IsTold (sameness_line false) read queries out
 
 -- the text reads as no tables, and that alone is said
-pub record IsRefused (text out : List ℕ) : Type 0 where
+pub record IsNoTables (text out : List ℕ) : Type 0 where
   pub reads_none : (t : WholeTables) → Reads text t → ⊥
   pub is : out ≡ refused_line
 
@@ -74,7 +70,7 @@ pub record IsRefused (text out : List ℕ) : Type 0 where
 -- as others, and `refused` alone where it reads as none
 abbrev pub IsAnswerBy : WholeTables → List ℕ → List ℕ → List ℕ → Type 0
 IsAnswerBy tables text queries out = (Reads text tables × IsTold (sameness_line true) tables queries out)
-    ⊎ (AreOthersTold tables text queries out ⊎ IsRefused text out)
+    ⊎ (AreOthersTold tables text queries out ⊎ IsNoTables text out)
 
 -- the output for an input: the answer to its text and its queries
 pub record IsRecheckOf (tables : WholeTables) (input out : List ℕ) : Type 0 where

@@ -43,8 +43,8 @@ pub const COMMANDS: &[CommandForm] = &[
     },
 ];
 
-/// `COMMANDS`. Words are a command of `run` exactly where it lists them, and of each name it lists one: a usage error names each command
-/// and no other, and comes for no command.
+/// `COMMANDS`. Words are a command of `run` exactly where it lists them: a usage error names each command and no other, and comes for no
+/// command.
 pub fn listed_commands() -> &'static [CommandForm]
     ensures listed { (words : List (List ℕ)) → IsCommand words → AreTaken result.now words }
     ensures commands { (words : List (List ℕ)) → AreCommandWords result.now words → IsCommand words }

@@ -1,10 +1,10 @@
 ghost use Rattle.std.specs.Prelude.{◌≡◌, ◌↔◌, IfOk, IsTrue, string_bytes};
-ghost use Rattle.meta_query.specs.Recheck.{sameness_line, IsTold, IsRecheckOf, refused_line};
+ghost use Rattle.meta_query.specs.Recheck.{sameness_line, IsTold, IsRecheckOf};
 
 use super::queries::cut_queries;
 use meta_answers::push_answers;
 use meta_gen::Tables;
-use meta_table_reader::{TextError, read_tables};
+use meta_table_reader::{TextError, read_tables, refused};
 use std::alloc::{AllocError, Global};
 
 /// Whether the tables that were read are the ones that they are compared with.
@@ -45,13 +45,4 @@ pub(crate) fn recheck(alloc: Global, tables: &Tables, input: &[u8]) -> Result<St
         Err(TextError::Refused) => refused(alloc),
         Err(TextError::OutOfMemory) => Err(AllocError),
     }
-}
-
-/// What is said of a text that reads as no tables.
-fn refused(alloc: Global) -> Result<String, AllocError>
-    ensures { IfOk result (λ out. string_bytes out ≡ refused_line) }
-{
-    let mut out = String::new(alloc);
-    out.push_str("refused\n")?;
-    Ok(out)
 }

@@ -1,4 +1,4 @@
--- What is known of a run of a program with words, by how it ended.
+-- What is known of a run of a program, with words or without, by how it ended.
 use Rattle.std.proofs.Common.{◌≡◌, ◌≢◌, ◌≤◌, inl, inr, ℕ, Bool, true, false, List, ◌++◌, Option, Some, refl, sym, ◌∙◌, subst, le_refl}
 use Rattle.std.specs.Prelude.{⊤}
 use Rattle.meta_types.specs.declared.fault.DefinitionError.{DefinitionError}
@@ -127,8 +127,8 @@ module _ {S K W : Type 0} {left : S → Option (List ℕ)} {reads : S → ℕ} {
 
 -- a program that rejects nothing is done where it answers
 module _ {S K W : Type 0} {left : S → Option (List ℕ)} {reads : S → ℕ} {taken : K → Option (List ℕ)} {writes : K
-    → ℕ} {d : Declared} {s s' : S} {k k' : K} {Means : W → Type 0} {has_input : W → Bool} (outputs : W
-    → Outputs) {ending : Ending} (run : IsRun left reads taken writes d s s' k k' Means has_input
+    → ℕ} {d : Declared} {s s' : S} {k k' : K} {Means : W → Type 0} {has_input : W → Bool}
+    (outputs : W → Outputs) {ending : Ending} (run : IsRun left reads taken writes d s s' k k' Means has_input
     (λ w. never_rejecting (outputs w)) ending) (one : (v w : W) → Means v → Means w → v ≡ w) (no_fault : (e : DefinitionError) → AreValid d
     → ShowsFirst d e → ⊥) (w : W) (means : Means w) where
   pub output : WritesOutput left reads taken writes d s s' k k' (has_input w) (outputs w) ending

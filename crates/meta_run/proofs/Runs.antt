@@ -37,8 +37,8 @@ pub gave_nothing : (left : Option (List ℕ)) → GaveAtMost longest_input left 
 gave_nothing None = record { bytes = []; given = refl; within = omega arith }
 gave_nothing (Some rest) = record { bytes = []; given = refl; within = omega arith }
 
-module _ {S K : Type 0} (left : S → Option (List ℕ)) (reads : S → ℕ) (taken : K → Option (List ℕ)) (writes : K
-    → ℕ) (d : Declared) (s s' : S) (k k' : K) (texts : Texts) where
+module _ {S K : Type 0} (left : S → Option (List ℕ)) (reads : S → ℕ) (taken : K → Option (List ℕ))
+    (writes : K → ℕ) (d : Declared) (s s' : S) (k k' : K) (texts : Texts) where
   -- what was answered is what was given
   given : (has_input : Bool) (input bytes : List ℕ) → IsGiven left reads taken writes d s s' k k' has_input input
       → IsInput left has_input s s' bytes → bytes ≡ input
@@ -115,8 +115,8 @@ module _ {S K : Type 0} (left : S → Option (List ℕ)) (reads : S → ℕ) (ta
   at_ending has_input ending other same did = subst (λ e. Did left reads taken writes d s s' k k' has_input texts e) same did
 
 -- the refusal of declarations is a run that read nothing
-module _ {S K : Type 0} (left : S → Option (List ℕ)) (reads : S → ℕ) (taken : K → Option (List ℕ)) (writes : K
-    → ℕ) (d : Declared) (s : S) (k k' : K) (has_input : Bool) (texts : Texts) (fault : DefinitionError) (first : fault
+module _ {S K : Type 0} (left : S → Option (List ℕ)) (reads : S → ℕ) (taken : K → Option (List ℕ))
+    (writes : K → ℕ) (d : Declared) (s : S) (k k' : K) (has_input : Bool) (texts : Texts) (fault : DefinitionError) (first : fault
     ≢ fault_of.OutOfMemory → ShowsFirst d fault) where
   pub refused : (ending : Ending) → Refuses taken writes fault k k' ending → Did left reads taken writes d s s k k' has_input texts ending
   refused Done h = absurd h

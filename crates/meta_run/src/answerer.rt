@@ -1,4 +1,4 @@
-ghost use Rattle.std.specs.Prelude.{◌≡◌, ◌≤◌, Bool, true, false, List, [], ℕ, length, IfOk, string_bytes};
+ghost use Rattle.std.specs.Prelude.{◌≡◌, ◌≤◌, Bool, false, List, [], ℕ, length, IfOk, string_bytes};
 ghost use Rattle.meta_text.specs.Outside.{longest_input};
 ghost use Rattle.meta_declared.specs.AllDeclared.{Declared};
 

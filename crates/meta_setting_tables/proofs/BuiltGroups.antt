@@ -139,8 +139,7 @@ preset_after earlier (q ∷ presets) k p at = go (preset_after (earlier ++ built
       place = 0;
       declared = q;
       there = refl;
-      name =
-          ap (λ (p : BuiltPreset). p.name) (sym end.1);
+      name = ap (λ (p : BuiltPreset). p.name) (sym end.1);
       description = ap (λ (p : BuiltPreset). p.description) (sym end.1);
     })
 
@@ -273,8 +272,7 @@ module _ (d : GroupDeclaration) (valid : IsValidGroup d) where
           record {
             boolean = b.0;
             is_boolean = ap (λ (s : PlacedSetting). s.specific) is ∙ b.1;
-            byte_is =
-                ap (λ (s : PlacedSetting). s.byte_offset) is;
+            byte_is = ap (λ (s : PlacedSetting). s.byte_offset) is;
             bit_is = b.2;
           };
       settings = λ k s at.

@@ -42,8 +42,7 @@ boolean_bit own booleans byte bit behind e low = (
       in record {
         number = behind * 8 + bit;
         within = below;
-        place =
-            record { byte_is = omega (arith, e, low); bit_is = omega (arith, low) };
+        place = record { byte_is = omega (arith, e, low); bit_is = omega (arith, low) };
       },
   λ h. let within = h.within in let byte_is = h.place.byte_is in let bit_is = h.place.bit_is
       in (Decides-ltb (behind * 8 + bit) booleans).1 (omega (arith, e, within, byte_is, bit_is)),

@@ -78,8 +78,7 @@ detail_kept old new before s d kept h = record {
   name = h.name;
   description = h.description;
   offset = h.offset;
-  detail =
-      of s.specific h.detail;
+  detail = of s.specific h.detail;
 }
   where
     of : (x : SpecificSetting) → IsDetailOf old before x d.detail → IsDetailOf new before x d.detail
@@ -90,8 +89,7 @@ detail_kept old new before s d kept h = record {
       is = e.is;
       count = e.count;
       place_is = e.place_is;
-      stand =
-          stand_kept old new values e.place kept e.stand;
+      stand = stand_kept old new values e.place kept e.stand;
     }
     of (ANum default) e = e
 

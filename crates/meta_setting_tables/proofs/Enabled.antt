@@ -98,8 +98,7 @@ module _ (b : BoolSetting) where
         description = x.description;
         comment = x.comment;
         specific = placed_specific k x.specific;
-        byte_offset =
-            start + k / 8;
+        byte_offset = start + k / 8;
       } ≡ s → s.specific ≡ ABool b → HasItsPlace start s b
   in_its_place start k x s e is = of_specific x.specific (ap (λ s. s.specific) e ∙ is) (sym (ap (λ s. s.byte_offset) e))
     where
@@ -128,8 +127,8 @@ in_place g k s b e is = ⊎_elim
 -- ---- what is on
 
 -- the descriptor has the name of the setting, and both are among those that are looked for, or neither
-pub record AreNamedAlike (looked_for : Descriptor → Bool) (is_named : PlacedSetting
-    → Bool) (s : PlacedSetting) (d : Descriptor) : Type 0 where
+pub record AreNamedAlike (looked_for : Descriptor → Bool)
+    (is_named : PlacedSetting → Bool) (s : PlacedSetting) (d : Descriptor) : Type 0 where
   pub name : d.name ≡ s.name
   pub same : looked_for d ≡ is_named s
 
@@ -212,8 +211,7 @@ module _ (g : GroupDeclaration) (t : GroupContents) (made : AreTablesOfGroup (bu
     off e =
         (has_bits.bits b.bit_offset bit_small).1 (record {
           boolean = b.predicate_number;
-          is_on =
-              contained b.predicate_number p.booleans e;
+          is_on = contained b.predicate_number p.booleans e;
           byte_is = placed.byte;
           bit_is = placed.bit;
         })

@@ -136,7 +136,6 @@ one_group g s t p q =
       descriptors = descriptors i;
       enumerators = enumerators i;
       defaults = defaults i;
-      preset_masks =
-          masks i;
+      preset_masks = masks i;
       slots = slots i;
     }

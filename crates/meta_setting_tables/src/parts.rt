@@ -1,7 +1,7 @@
 ghost use Rattle.std.specs.Prelude.{◌≡◌, ◌↔◌, ◌≤◌, ◌<◌, length, IfOk, IfSome, IfNone, IsTrue};
 ghost use Rattle.meta_setting_tables.specs.GroupTables.{GroupContents};
 ghost use Rattle.meta_setting_tables.specs.WellFormed.{KeepLimits, IsWellFormedGroup};
-ghost use Rattle.meta_setting_tables.specs.Shape.{IsShapeOf, HasSmallCounts};
+ghost use Rattle.meta_setting_tables.specs.Shape.{IsShapeOf};
 ghost use Rattle.meta_setting_tables.specs.Parts.{HasGroupParts, AreGoodParts};
 
 use super::descriptor::Descriptor;

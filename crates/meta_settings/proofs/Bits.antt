@@ -27,8 +27,7 @@ module _ (start : ℕ) (bs : List ℕ) (b : ℕ) where
   on_before byte bit h = record {
     boolean = h.boolean;
     is_on = Contains-append_left bs (b ∷ []) h.boolean h.is_on;
-    byte_is =
-        h.byte_is;
+    byte_is = h.byte_is;
     bit_is = h.bit_is;
   }
 

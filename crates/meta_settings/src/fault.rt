@@ -1,4 +1,4 @@
-ghost use Rattle.std.specs.Prelude.{◌≡◌, ◌↔◌, ◌<◌, ◌+◌, ◌-◌, ℕ, IsTrue, MatchOption, IfOk, IfNone, IfSome, All, length, take, unwrap_or};
+ghost use Rattle.std.specs.Prelude.{◌≡◌, ◌↔◌, ◌<◌, ◌+◌, ◌-◌, ℕ, IsTrue, MatchOption, IfOk, IfNone, IfSome, All, take};
 ghost use Rattle.std.specs.Prelude.{[]};
 ghost use Rattle.meta_settings.specs.GroupDeclaration.{boolean_count, byte_count, entry_count, names_of_entries};
 ghost use Rattle.meta_settings.specs.GroupFaults.{IsPlainByte, IsWellNamed, IsGoodEnum, IsMet, AreMet, EntryNameRule, OfEntry, OfCounts};

@@ -1,4 +1,4 @@
-ghost use Rattle.std.specs.Prelude.{◌≡◌, ◌↔◌, ◌<◌, All, IsTrue, length};
+ghost use Rattle.std.specs.Prelude.{◌≡◌, ◌↔◌, ◌<◌, All, IsTrue};
 ghost use Rattle.meta_settings.specs.Layout.{booleans_in, IsSized};
 ghost use Rattle.meta_settings.specs.PresetLayout.{HasAll};
 

@@ -1,4 +1,4 @@
-ghost use Rattle.std.specs.Prelude.{◌≡◌, ◌↔◌, IsTrue, IfOk};
+ghost use Rattle.std.specs.Prelude.{◌≡◌, ◌↔◌};
 ghost use Rattle.meta_settings.specs.GroupDeclaration.{is_bool, setting_entry, preset_entry};
 
 use super::entry::Entry;

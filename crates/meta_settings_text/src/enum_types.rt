@@ -1,6 +1,5 @@
 ghost use Rattle.std.specs.Prelude.{◌≡◌, ◌++◌, OnOk, string_bytes};
 ghost use Rattle.std.specs.List.{flat_map};
-ghost use Rattle.meta_rust_lines.specs.Ends.{item_end};
 ghost use Rattle.meta_settings_text.specs.EnumText.{enum_head, impl_head, all_head, all_end, shown_head, shown_end, read_head, read_end};
 ghost use Rattle.meta_settings_text.specs.EnumText.{enum_all_text, to_and_from_str_text, enum_parts, enum_text, enum_type_text};
 

@@ -1,6 +1,5 @@
 ghost use Rattle.std.specs.Prelude.{◌≡◌, ◌++◌, OnOk, string_bytes};
 ghost use Rattle.std.specs.List.{flat_map};
-ghost use Rattle.meta_rust_lines.specs.Ends.{item_end};
 ghost use Rattle.meta_settings_text.specs.GetterText.{getters_head, predicate_lines, predicate_text, bool_getter, number_getter};
 ghost use Rattle.meta_settings_text.specs.GetterText.{enum_getter_head, enum_getter_end, enum_getter_parts, enum_getter, getter_text};
 ghost use Rattle.meta_settings_text.specs.GetterText.{getters_text};

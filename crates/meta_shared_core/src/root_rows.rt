@@ -1,4 +1,4 @@
-ghost use Rattle.std.specs.Prelude.{◌≡◌, ◌+◌, ◌<◌, ◌-◌, ◌^◌, ◌++◌, ◌∷◌, [], IfOk, OnOk, OnErr, length};
+ghost use Rattle.std.specs.Prelude.{◌≡◌, ◌+◌, ◌<◌, ◌-◌, ◌^◌, ◌++◌, ◌∷◌, [], IfOk, OnOk, length};
 ghost use Rattle.meta_shared_core.specs.RootRows.{interval_meant, parts_of, root_row_content, CanBuildRow, AreRootRows, AreFirstRoots};
 
 use meta_types::{Float, Int, LaneType, Text, ValueType};

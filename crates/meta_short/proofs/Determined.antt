@@ -159,8 +159,7 @@ any_there p (x ∷ xs) h = by_test (p x) refl h (any_there p xs)
       place = suc more.place;
       element = more.element;
       there = more.there;
-      passes =
-          more.passes;
+      passes = more.passes;
     }
 
 -- the constraint of the control

@@ -55,8 +55,7 @@ space = record {
   digit = λ h. (let l : 48 ≤ 32 = h.low in omega arith);
   value = omega arith;
   int = omega arith;
-  float =
-      omega arith;
+  float = omega arith;
   lanes = omega arith;
   dynamic = omega arith;
 }
@@ -66,8 +65,7 @@ comma = record {
   digit = λ h. (let l : 48 ≤ 44 = h.low in omega arith);
   value = omega arith;
   int = omega arith;
-  float =
-      omega arith;
+  float = omega arith;
   lanes = omega arith;
   dynamic = omega arith;
 }
@@ -77,8 +75,7 @@ colon = record {
   digit = λ h. (let l : 58 ≤ 57 = h.high in omega arith);
   value = omega arith;
   int = omega arith;
-  float =
-      omega arith;
+  float = omega arith;
   lanes = omega arith;
   dynamic = omega arith;
 }
@@ -88,8 +85,7 @@ equals = record {
   digit = λ h. (let l : 61 ≤ 57 = h.high in omega arith);
   value = omega arith;
   int = omega arith;
-  float =
-      omega arith;
+  float = omega arith;
   lanes = omega arith;
   dynamic = omega arith;
 }
@@ -228,8 +224,7 @@ short_can [] (r ∷ rs) h = All-cons CanBeShort (shortened false r) (short_resul
 short_can (true ∷ os) (r ∷ rs) h =
     All-cons CanBeShort (shortened true r) (short_results os rs) (record {
       value = (All-head IsTyped r rs h).value;
-      type =
-          (All-head IsTyped r rs h).is_type;
+      type = (All-head IsTyped r rs h).is_type;
     }) (short_can os rs (All-tail IsTyped r rs h))
 short_can (false ∷ os) (r ∷ rs) h = All-cons CanBeShort (shortened false r) (short_results os rs)
     (record { value = (All-head IsTyped r rs h).value; type = tt }) (short_can os rs (All-tail IsTyped r rs h))

@@ -1,7 +1,7 @@
 -- What is written of a line, part by part.
-use Rattle.std.proofs.Common.{◌≡◌, ◌⊎◌, inl, inr, IfSome, is_some, ℕ, zero, suc, ◌+◌, ◌==◌, ◌||◌, Bool, true, false, IsTrue, List, [], ◌∷◌}
+use Rattle.std.proofs.Common.{◌≡◌, ◌⊎◌, inl, inr, IfSome, is_some, ℕ, zero, suc, ◌+◌, ◌==◌, ◌||◌, Bool, true, false, List, [], ◌∷◌}
 use Rattle.std.proofs.Common.{◌++◌, map, take, drop, length, get_or, slice_get, Option, None, Some, codes, Result, Ok, Err, is_ok, OnOk}
-use Rattle.std.proofs.Common.{if◌then◌else◌, refl, sym, ap, ap₂, ◌∙◌, append-nil, append_assoc, arith}
+use Rattle.std.proofs.Common.{if◌then◌else◌, refl, sym, ap, ap₂, ◌∙◌, append_assoc, arith}
 use Rattle.std.specs.List.{list_any, join_with_byte}
 use Rattle.std.proofs.Math.Seq.{take-length}
 use Rattle.std.proofs.lemmas.Bool.{eqb-true}
@@ -9,7 +9,6 @@ use Rattle.std.proofs.lemmas.Option.{same_Some}
 use Rattle.std.proofs.lemmas.List.{length-map, map-append, take-map, drop-map}
 use Rattle.meta_lists.proofs.Places.{take_next}
 use Rattle.meta_lists.proofs.Mapped.{get_map}
-use Rattle.meta_types.specs.TypeParts.{TypeParts, name_of}
 use Rattle.meta_meaning.specs.Tables.{TableContents, NumberConstraint}
 use Rattle.meta_opcode_tables.specs.Constraint.{number_constraint_of}
 use Rattle.meta_opcode_tables.specs.declared.constraint.Constraint.{Constraint}
@@ -19,7 +18,7 @@ use Rattle.meta_verify.specs.Wrong.{Replies, IsMistake, IsWrong}
 use Rattle.meta_verify.specs.declared.reason.Reason.{Reason}
 use Rattle.meta_verify.specs.Numbers.{typed_value_of}
 use Rattle.meta_verify.specs.declared.statement.TypedNumber.{TypedNumber}
-use Rattle.meta_short.specs.Short.{shortened, short_results, short_result_text, joined, behind, control_written, values_written}
+use Rattle.meta_short.specs.Short.{shortened, short_results, short_result_text, joined}
 use Rattle.meta_short.specs.Short.{results_part, parameter_text}
 use Rattle.meta_short.specs.Written.{AddsShort, before_place}
 
@@ -55,18 +54,6 @@ part_of held got all place count from n is at many same =
     ∙ sym (take-map number_constraint_of n (drop from held))
     ∙ ap (take n) (sym (drop-map number_constraint_of from held)) ∙ ap (λ cs. take n (drop from cs)) same
 
--- a mark of the flags as it is tested
-pub tested_bit : (bit : ℕ) (b : Bool) → ((IsTrue b → bit ≡ 1) × (bit ≡ 1 → IsTrue b)) → (bit == 1) ≡ b
-tested_bit bit true h = eq-one bit (h.0 refl)
-  where
-    eq-one : (n : ℕ) → n ≡ 1 → (n == 1) ≡ true
-    eq-one n e = ap (λ m. m == 1) e
-tested_bit bit false h = by_test (bit == 1) refl
-  where
-    by_test : (b : Bool) → (bit == 1) ≡ b → b ≡ false
-    by_test false e = refl
-    by_test true e = sym (h.1 (eqb-true bit 1 e))
-
 -- ---- lists
 
 pub nothing_listed : {X : Type 0} (xs : List X) → (length xs == 0) ≡ true → xs ≡ []
@@ -101,20 +88,7 @@ joined_all old xs k end e = e ∙ ap (λ n. old ++ joined (take n xs)) end ∙ a
 pub before_first : (k : ℕ) → k ≡ 0 → [] ≡ before_place k
 before_first k e = ap before_place (sym e)
 
-pub before_other : (k : ℕ) → (k ≡ 0 → ⊥) → codes ", " ≡ before_place k
-before_other zero h = absurd (h refl)
-before_other (suc k) h = refl
-
 -- ---- results
-
-pub opened_text : (o : Bool) (r : TypedValue) → o ≡ true
-    → value_text r.value ++ (codes ":" ++ name_of r.type) ≡ short_result_text (shortened o r)
-opened_text true r h = refl
-opened_text false r h = absurd (cc)
-
-pub closed_text : (o : Bool) (r : TypedValue) → o ≡ false → value_text r.value ≡ short_result_text (shortened o r)
-closed_text false r h = sym (append-nil (value_text r.value))
-closed_text true r h = absurd (cc)
 
 short_at : (opened : List Bool) (rs : List TypedValue) (k : ℕ) (r : TypedValue) → slice_get rs k ≡ Some r
     → slice_get (short_results opened rs) k ≡ Some (shortened (get_or opened k false) r)
@@ -149,9 +123,6 @@ texts_length opened rs = length-map (short_results opened (map typed_value_of rs
 pub values_length : (vs : List ℕ) → length (map value_text vs) ≡ length vs
 values_length vs = length-map vs value_text
 
-pub results_none : (opened : List Bool) (rs : List TypedNumber) → (length rs == 0) ≡ true → [] ≡ results_part (result_texts opened rs)
-results_none opened rs h = ap (λ qs. results_part (result_texts opened qs)) (sym (nothing_listed rs h))
-
 pub results_some : (opened : List Bool) (rs : List TypedNumber) → (length rs == 0) ≡ false
     → joined (result_texts opened rs) ++ codes " = " ≡ results_part (result_texts opened rs)
 results_some opened [] h = absurd (cc)
@@ -160,23 +131,7 @@ results_some (o ∷ os) (r ∷ rs) h = refl
 
 -- ---- values
 
-pub values_none : (vs : List ℕ) → (length vs == 0) ≡ true → [] ≡ behind 32 (values_written (map value_text vs))
-values_none vs h = ap (λ us. behind 32 (values_written (map value_text us))) (sym (nothing_listed vs h))
-
-pub values_some : (vs : List ℕ) → (length vs == 0) ≡ false
-    → codes " " ++ joined (map value_text vs) ≡ behind 32 (values_written (map value_text vs))
-values_some [] h = absurd (cc)
-values_some (v ∷ vs) h = refl
-
 -- ---- controls
-
-pub alone_left : (o : Bool) (t : TypeParts) → o ≡ true → [] ≡ behind 46 (control_written o (Some t) None)
-alone_left true t h = refl
-alone_left false t h = absurd (cc)
-
-pub alone_kept : (o : Bool) (t : TypeParts) → o ≡ false → codes "." ++ name_of t ≡ behind 46 (control_written o (Some t) None)
-alone_kept false t h = refl
-alone_kept true t h = absurd (cc)
 
 -- ---- what was added, and why nothing was
 

@@ -1,4 +1,4 @@
-ghost use Rattle.std.specs.Prelude.{◌≡◌, ◌≢◌, ◌↔◌, ◌+◌, ℕ, List, map, get_or, false, IsSome, IfSome, IfNone, None, Some};
+ghost use Rattle.std.specs.Prelude.{◌≡◌, ◌≢◌, ◌↔◌, ◌+◌, ℕ, map, get_or, false, IsSome, IfSome, IfNone, None, Some};
 ghost use Rattle.std.specs.List.{list_any};
 ghost use Rattle.meta_meaning.specs.Tables.{OpcodeNumbers, at_opcode};
 ghost use Rattle.meta_opcode_tables.specs.Constraint.{number_constraint_of, entry_of};

@@ -31,8 +31,7 @@ member : (s : TypeSetParts) (w : ℕ) → is_in (widths IntKind) w ≡ true → 
 member s w known has one = record {
   is_type = record {
     width = contains (widths IntKind) w (is_in_among (widths IntKind) w known);
-    lanes =
-        contains (lane_counts false) 1 (is_in_among (lane_counts false) 1 refl);
+    lanes = contains (lane_counts false) 1 (is_in_among (lane_counts false) 1 refl);
   };
   width = contains s.ints w (is_in_among s.ints w has);
   lanes = contains s.lanes 1 (is_in_among s.lanes 1 one);
@@ -77,8 +76,7 @@ abbrev parts : ℕ → Interval → Intervals
 parts least lanes = record {
   ints = Between (record { start = least; end = 128 });
   floats = Nothing;
-  simd_lanes =
-      lanes;
+  simd_lanes = lanes;
   dynamic_simd_lanes = Nothing;
   includes_scalars = true;
 }

@@ -66,13 +66,6 @@ of_root Widening x (suc (suc k)) w at = absurd (cc)
 no_operand : (x k : ℕ) (w : Variable) → IsOperand (model Bare x) k w → ⊥
 no_operand x k w at = absurd (cc)
 
--- an instruction takes and gives nothing, or its first result is of x
-pub bare_or_operand : (shape : Shape) (x : ℕ) → (shape ≡ Bare) ⊎ ((w : Variable) × IsOperand (model shape x) 0 w)
-bare_or_operand Bare x = inl refl
-bare_or_operand Copying x = inr (underived x, refl)
-bare_or_operand Comparing x = inr (longer (underived x) AsTruthy, refl)
-bare_or_operand Widening x = inr (underived x, refl)
-
 module _ (sets : Sets) (x : ℕ) (several : HasOne (sets x) → ⊥) where
   -- the root may control
   may_control : (shape : Shape) → MayControl sets (model shape x) (underived x)

@@ -91,8 +91,7 @@ builder_of number shape inputs outputs = record {
   name = name_of_number number;
   doc = [];
   format = format_of shape;
-  operands_in =
-      Some inputs;
+  operands_in = Some inputs;
   operands_out = Some outputs;
   marks = no_marks;
   second = None;

@@ -1,5 +1,4 @@
-ghost use Rattle.std.specs.Prelude.{◌≡◌, ◌+◌, ◌<◌, ◌-◌, ◌^◌, ◌++◌, ◌∷◌, [], IfOk, OnOk, None, length, codes};
-ghost use Rattle.std.specs.Fmt.{decimal};
+ghost use Rattle.std.specs.Prelude.{◌≡◌, ◌+◌, ◌<◌, ◌-◌, ◌^◌, ◌++◌, ◌∷◌, [], IfOk, OnOk, None, length};
 ghost use Rattle.meta_inst.specs.Marks.{no_marks};
 ghost use Rattle.meta_synth.specs.Shapes.{AreNumbered, format_of};
 ghost use Rattle.meta_synth.specs.Seeds.{name_of_number};

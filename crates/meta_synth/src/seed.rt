@@ -1,4 +1,4 @@
-ghost use Rattle.std.specs.Prelude.{◌≡◌, ◌<◌, ◌≤◌, ◌^◌, ◌+◌, ◌-◌, ◌∷◌, ◌++◌, [], IfOk, OnOk, OnErr, IsOkAnd, length, codes, if◌then◌else◌};
+ghost use Rattle.std.specs.Prelude.{◌≡◌, ◌<◌, ◌≤◌, ◌^◌, ◌+◌, ◌-◌, ◌∷◌, ◌++◌, [], IfOk, OnOk, length, codes, if◌then◌else◌};
 ghost use Rattle.meta_typevar.specs.Registry.{root_content};
 ghost use Rattle.meta_synth.specs.Seeds.{seed_of, shape_of, least_width_of, has_vectors, set_of_seed};
 

@@ -1,4 +1,4 @@
-ghost use Rattle.std.specs.Prelude.{◌≡◌, ◌≢◌, ◌<◌, ◌-◌, ◌^◌, ◌∷◌, ◌++◌, [], ℕ, List, IfOk, OnOk, IsTrue, length, codes, map};
+ghost use Rattle.std.specs.Prelude.{◌≡◌, ◌≢◌, ◌<◌, ◌-◌, ◌^◌, ◌∷◌, ◌++◌, [], ℕ, List, IfOk, OnOk, IsTrue, length, codes};
 ghost use Rattle.std.specs.List.{AllZip};
 ghost use Rattle.meta_types.specs.Function.{Narrower};
 ghost use Rattle.meta_types.specs.DerivedFunc.{function_of};

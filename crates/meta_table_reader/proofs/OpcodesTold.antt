@@ -190,8 +190,7 @@ opcodes_told v t u r s one other e =
         formats = naming.formats;
         type_sets = type_sets;
         operand_constraints = operand_constraints;
-        entries =
-            entries;
+        entries = entries;
       },
       left,
     )

@@ -126,8 +126,7 @@ module _ (settings size : ℕ) (masks : List ℕ) where
               in omega (arith, is, len, room, long) in
               record {
                 count = length-take-le size (drop d.offset masks) enough;
-                bytes =
-                    All-take IsByte size (drop d.offset masks) (All-drop IsByte d.offset masks bytes);
+                bytes = All-take IsByte size (drop d.offset masks) (All-drop IsByte d.offset masks bytes);
               }
       by_kind false is below = below
 

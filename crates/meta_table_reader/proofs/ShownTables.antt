@@ -1,6 +1,5 @@
 -- Well-formed tables that fit a version can be told from their text in it.
-use Rattle.std.proofs.Common.{◌≡◌, ℕ, suc, ◌+◌, ◌≤◌, true, false, inl, inr, List, [], ◌∷◌, length, sum, get_or, slice_get, Some, arith}
-use Rattle.std.specs.List.{fold}
+use Rattle.std.proofs.Common.{◌≡◌, ℕ, suc, ◌≤◌, true, false, inl, inr, length, get_or, slice_get, Some, arith}
 use Rattle.std.proofs.lemmas.List.Elements.{All-weaker}
 use Rattle.std.proofs.lemmas.Option.{slice_get-get_or}
 use Rattle.meta_types.specs.TypeParts.{IntKind, FloatKind, widths, lane_counts}
@@ -22,21 +21,6 @@ use Rattle.meta_opcode_tables.proofs.MaskTests.{sum_some}
 
 -- ---- type sets
 
--- a sum that begins with a number
-fold_from : (a : ℕ) (ns : List ℕ) → fold ◌+◌ a ns ≡ a + fold ◌+◌ 0 ns
-fold_from a [] = omega arith
-fold_from a (n ∷ ns) =
-    let here = fold_from (a + n) ns in
-    let there = fold_from (0 + n) ns in
-    let all : fold ◌+◌ (a + n) ns ≡ a + fold ◌+◌ (0 + n) ns = omega (arith, here, there) in
-    all
-
-sum-cons : (n : ℕ) (ns : List ℕ) → sum (n ∷ ns) ≡ n + sum ns
-sum-cons n ns =
-    let from = fold_from (0 + n) ns in
-    let all : fold ◌+◌ (0 + n) ns ≡ n + fold ◌+◌ 0 ns = omega (arith, from) in
-    all
-
 masks_shown : (m : Masks) → AreMasks m → AreShownMasks m
 masks_shown m are =
     let lanes = sum_some (holds m.lanes) (lane_counts false) in
@@ -51,8 +35,7 @@ masks_shown m are =
       lanes = omega (arith, lanes, l);
       dynamic_lanes = omega (arith, dynamic_lanes, d);
       ints = omega (arith, ints, i);
-      floats =
-          omega (arith, floats, f);
+      floats = omega (arith, floats, f);
     }
 
 -- ---- constraints and entries
@@ -114,6 +97,5 @@ opcodes_shown v t is fits =
 pub tables_shown : (v : Version) (t : WholeTables) → IsWellFormed t → Fits v t → AreShown v t
 tables_shown v t is fits = record {
   opcodes = opcodes_shown v t is.opcodes fits;
-  groups =
-      All-weaker IsWellFormedGroup AreShownGroup group_shown t.groups is.groups;
+  groups = All-weaker IsWellFormedGroup AreShownGroup group_shown t.groups is.groups;
 }

@@ -30,8 +30,7 @@ same_opcodes t u one other same =
       names = same.names i;
       formats = same.formats i;
       opcode_slots = slots i;
-      type_sets =
-          same.type_sets i;
+      type_sets = same.type_sets i;
       operand_constraints = same.operand_constraints i;
       entries = same.entries i;
     }
@@ -44,8 +43,7 @@ same_group g h one other same =
       name = same.name i;
       descriptors = same.descriptors i;
       enumerators = same.enumerators i;
-      defaults =
-          same.defaults i;
+      defaults = same.defaults i;
       preset_masks = same.preset_masks i;
       slots = slots i;
     }

@@ -2,7 +2,8 @@
 --     AreShown v t           the tables can be told from their text in this version
 --     IsReadIn v text t      the text is that of the tables in this version
 --     Reads text t           the text reads as the tables
-use Rattle.std.specs.Prelude.{◌≡◌, ℕ, List, All}
+--     refused_line           what is said of a text that reads as none
+use Rattle.std.specs.Prelude.{◌≡◌, ℕ, List, [], ◌∷◌, ◌++◌, All, codes}
 use Rattle.meta_gen.specs.WholeTables.{WholeTables}
 use Rattle.meta_gen.specs.WellFormed.{IsWellFormed}
 use Rattle.meta_table_text.specs.declared.version.Version.{Version}
@@ -26,3 +27,7 @@ pub record IsReadIn (version : Version) (text : List ℕ) (t : WholeTables) : Ty
 pub record Reads (text : List ℕ) (t : WholeTables) : Type 0 where
   pub version : Version
   pub in_version : IsReadIn version text t
+
+-- the line for a text that reads as no tables
+abbrev pub refused_line : List ℕ
+refused_line = codes "refused" ++ 10 ∷ []

@@ -21,4 +21,4 @@ mod template;
 mod type_sets;
 
 pub use laws::{a_text_reads_as_one, a_text_tells_its_tables};
-pub use reading::{TextError, read_tables};
+pub use reading::{TextError, read_tables, refused};

@@ -1,9 +1,9 @@
-ghost use Rattle.std.specs.Prelude.{◌≡◌, ◌↔◌, IfOk, IfSome, IfNone, IsErrOf, IsTrue};
+ghost use Rattle.std.specs.Prelude.{◌≡◌, ◌↔◌, IfOk, IfSome, IfNone, IsErrOf, IsTrue, string_bytes};
 ghost use Rattle.meta_gen.specs.Parts.{HasParts};
 ghost use Rattle.meta_gen.specs.WholeTables.{WholeTables};
 ghost use Rattle.meta_table_text.specs.Fits.{Fits};
 ghost use Rattle.meta_table_text.specs.TableText.{table_text};
-ghost use Rattle.meta_table_reader.specs.Readable.{AreShown, IsReadIn, Reads};
+ghost use Rattle.meta_table_reader.specs.Readable.{AreShown, IsReadIn, Reads, refused_line};
 ghost use Rattle.meta_table_reader.specs.declared.reading.TextError.TheVariants.{OutOfMemory};
 
 use super::groups::groups;
@@ -112,4 +112,11 @@ pub fn read_tables(alloc: Global, text: &[u8]) -> Result<Tables, TextError>
         Ok(None) => Err(TextError::Refused),
         Err(_) => Err(TextError::OutOfMemory),
     }
+}
+
+/// The line that programs write of a text that reads as no tables: `refused` (this project's own).
+pub fn refused(alloc: Global) -> Result<String, AllocError>
+    ensures line { IfOk result (λ out. string_bytes out ≡ refused_line) }
+{
+    String::from_str(alloc, "refused\n")
 }

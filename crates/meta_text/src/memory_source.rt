@@ -1,4 +1,4 @@
-ghost use Rattle.std.specs.Prelude.{◌≡◌, ℕ, ◌<◌, ◌≤◌, ◌↔◌, List, [], length, take, Option, Some, IsTrue};
+ghost use Rattle.std.specs.Prelude.{◌≡◌, ℕ, ◌<◌, ◌≤◌, ◌↔◌, [], length, take, Some, IsTrue};
 ghost use Rattle.meta_text.specs.Outside.{Rose, with_front, NothingLeft};
 ghost use Rattle.meta_text.specs.Outcomes.{IfGot, OnEnd, OnReadFailed, KeepsRest};
 ghost use Rattle.meta_text.specs.InMemory.{SourceState, is_listed, given_count, after_read};

@@ -1,6 +1,6 @@
-ghost use Rattle.std.specs.Prelude.{◌≡◌, ◌≢◌, ℕ, ◌<◌, ◌≤◌, length, take, drop, min, Option, None, Some};
-ghost use Rattle.meta_text.specs.Outside.{Rose, with_front, with_more, NothingLeft};
-ghost use Rattle.meta_text.specs.Outcomes.{IfGot, OnEnd, OnReadFailed, KeepsRest, IfWrote, OnWriteFailed};
+ghost use Rattle.std.specs.Prelude.{◌≡◌, ◌≢◌, ℕ, ◌<◌, ◌≤◌, length, take, drop, min, None, Some};
+ghost use Rattle.meta_text.specs.Outside.{with_front, NothingLeft};
+ghost use Rattle.meta_text.specs.Outcomes.{IfGot, OnEnd, KeepsRest};
 
 use crate::outside::{ReadOutcome, Sink, Source, WriteOutcome};
 use std::marker::Model;

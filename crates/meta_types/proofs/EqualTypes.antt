@@ -59,8 +59,7 @@ same_type (DynamicVector a) (Vector b) e = cc
 same_type (DynamicVector a) (DynamicVector b) e =
     λ i. DynamicVector (record {
       base = same_lane a.base b.base (and_parts _ _ e).0 i;
-      unscaled_lanes =
-          same_count a.unscaled_lanes b.unscaled_lanes (and_parts _ _ e).1 i;
+      unscaled_lanes = same_count a.unscaled_lanes b.unscaled_lanes (and_parts _ _ e).1 i;
     })
 
 pub equal_type : (a b : ValueType) → a ≡ b → eq-value.it a b ≡ true

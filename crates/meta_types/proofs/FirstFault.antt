@@ -12,8 +12,8 @@ pub record IsIn (parts : ℕ) (places rules : ℕ → ℕ) (k : Key) : Type 0 wh
 
 -- What is to be shown of an order in which faults are looked for: a position is known by its key; at a position one fault at most
 -- is shown; and there are so many parts, so many places in each where one can be shown, and so many rules for each.
-pub record IsSearchable {P : Type 0} (key : P → Key) (Shows : P → DefinitionError → Type 0) (parts : ℕ) (places rules : ℕ
-    → ℕ) : Type 0 where
+pub record IsSearchable {P : Type 0} (key : P → Key) (Shows : P → DefinitionError → Type 0) (parts : ℕ)
+    (places rules : ℕ → ℕ) : Type 0 where
   pub position_of : Key → P
   pub known : (p : P) → position_of (key p) ≡ p
   pub one : (p : P) (e f : DefinitionError) → Shows p e → Shows p f → e ≡ f

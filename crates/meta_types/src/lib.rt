@@ -1,4 +1,4 @@
-//! Value types, texts and the faults of declarations: what every other crate speaks of.
+//! Value types, texts and the faults of declarations: what the crates above speak of.
 //!
 //! A contract sees a value type as a `TypeParts` of `specs/`: a kind, a width, a count of lanes and a dynamic mark.
 #![tactic(auto)]

@@ -199,8 +199,7 @@ half_image m h =
     record {
       sets = λ i. record {
         lanes = filter (holds m.lanes) (lane_counts false);
-        dynamic_lanes =
-            filter (holds m.dynamic_lanes) (lane_counts true);
+        dynamic_lanes = filter (holds m.dynamic_lanes) (lane_counts true);
         ints = a.set i;
         floats = b.set i;
       };
@@ -215,8 +214,7 @@ double_image m h =
     record {
       sets = λ i. record {
         lanes = filter (holds m.lanes) (lane_counts false);
-        dynamic_lanes =
-            filter (holds m.dynamic_lanes) (lane_counts true);
+        dynamic_lanes = filter (holds m.dynamic_lanes) (lane_counts true);
         ints = a.set i;
         floats = b.set i;
       };

@@ -10,7 +10,7 @@ use Rattle.meta_typevar.specs.Masks.{AreMasksOf}
 use Rattle.meta_typevar.specs.MaskSets.{holds, sets_in, AreMasks}
 use Rattle.meta_typevar.specs.declared.interval.Interval.{Interval}
 use Rattle.meta_typevar.specs.declared.interval.Interval.TheVariants.{None as Nothing, All as Everything, Range as Between}
-use Rattle.meta_typevar.specs.Intervals.{Intervals, has, simd_counts, lanes_between, sets_between}
+use Rattle.meta_typevar.specs.Intervals.{Intervals, has, lanes_between, sets_between}
 use Rattle.meta_typevar.specs.declared.masks.Masks.{Masks}
 use Rattle.meta_typevar.proofs.Marks.{keeps, ints_keep, floats_keep, lanes_keep, dynamic_lanes_keep, holds_sum, ones_sum}
 
@@ -21,8 +21,7 @@ pub is_type_set : (m : Masks) → IsTypeSet (sets_in m)
 is_type_set m = record {
   lanes = part m.lanes (lane_counts false);
   dynamic_lanes = part m.dynamic_lanes (lane_counts true);
-  ints =
-      part m.ints (widths IntKind);
+  ints = part m.ints (widths IntKind);
   floats = part m.floats (widths FloatKind);
 }
 
@@ -75,11 +74,6 @@ masks_of lanes dynamic ints floats = record { lanes = lanes; dynamic_lanes = dyn
 vectors_made : (p : ℕ → Bool) (mask : ℕ) → mask ≡ sum (filter p (lane_counts true))
     → filter (holds mask) (lane_counts false) ≡ filter p (lane_counts true)
 vectors_made p mask h = made (lane_counts false) lanes_keep (λ n. not (n == 1) && p n) mask h
-
--- all lane counts, with or without one lane
-counts_keep : (b : Bool) → keeps (simd_counts b) ≡ true
-counts_keep true = lanes_keep
-counts_keep false = dynamic_lanes_keep
 
 -- the sum of the lanes that an interval has holds just them, of all lane counts
 lanes_made : (b : Bool) (i : Interval) (mask : ℕ) → mask ≡ sum (lanes_between b i)
@@ -144,3 +138,16 @@ masks_told s t m n a b p q = (
       (and_from _ _ (eq-eqb _ _ (a.ints ∙ ap (λ (x : TypeSetParts). sum x.ints) e ∙ sym b.ints))
       (eq-eqb _ _ (a.floats ∙ ap (λ (x : TypeSetParts). sum x.floats) e ∙ sym b.floats)))),
 )
+
+-- a set of types whose masks these are is what they hold
+pub sets_held : (s : TypeSetParts) (m : Masks) → IsTypeSet s → AreMasksOf s m → AreMasks m
+sets_held s m p a = record {
+  lanes = held (lane_counts false) lanes_keep s.lanes m.lanes p.lanes a.lanes;
+  dynamic_lanes = held (lane_counts true) dynamic_lanes_keep s.dynamic_lanes m.dynamic_lanes p.dynamic_lanes a.dynamic_lanes;
+  ints = held (widths IntKind) ints_keep s.ints m.ints p.ints a.ints;
+  floats = held (widths FloatKind) floats_keep s.floats m.floats p.floats a.floats;
+}
+  where
+    held : (all : List ℕ) → keeps all ≡ true → (xs : List ℕ) (mask : ℕ) → IsPart xs all → mask ≡ sum xs
+        → mask ≡ sum (filter (holds mask) all)
+    held all e xs mask q h = h ∙ ap sum (q.is ∙ sym (made all e q.test mask (h ∙ ap sum q.is)))

@@ -190,16 +190,14 @@ member_contained m t h = (
       record {
         is_type = h;
         width = (width_held m t.kind t.width h.width).0 at_t.width;
-        lanes =
-            (count_held m t.is_dynamic t.lanes h.lanes).0 at_t.lanes;
+        lanes = (count_held m t.is_dynamic t.lanes h.lanes).0 at_t.lanes;
       },
   λ x. record {
     type_of = t;
     contained = record {
       is_type = h;
       width = (width_held m t.kind t.width h.width).1 x.width;
-      lanes =
-          (count_held m t.is_dynamic t.lanes h.lanes).1 x.lanes;
+      lanes = (count_held m t.is_dynamic t.lanes h.lanes).1 x.lanes;
     };
     numbered = refl;
   },

@@ -126,8 +126,7 @@ one_width s h o = record {
       let m : IsMember s t = record {
         is_type = record {
           width = part_contains _ _ (widths_part s h k) n a;
-          lanes =
-              o.member.is_type.lanes;
+          lanes = o.member.is_type.lanes;
         };
         width = contains _ _ a;
         lanes = o.member.lanes;
@@ -146,8 +145,7 @@ one_lanes s h o = record {
       let m : IsMember s t = record {
         is_type = record {
           width = o.member.is_type.width;
-          lanes =
-              part_contains _ _ (lanes_part s h b) n a;
+          lanes = part_contains _ _ (lanes_part s h b) n a;
         };
         width = o.member.width;
         lanes = contains _ _ a;

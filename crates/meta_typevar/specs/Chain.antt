@@ -1,7 +1,7 @@
 -- Chains of derived functions, from a root outwards.
 --     Agrees chain r t       the chain leads from the type r of the root to the type t
 --     IsFixed s chain t      whatever member of s the root has, the chain leads to t alone
-use Rattle.std.specs.Prelude.{◌≡◌, ◌≢◌, List, [], ◌∷◌, All}
+use Rattle.std.specs.Prelude.{◌≡◌, List, [], ◌∷◌, All}
 use Rattle.meta_types.specs.TypeParts.{TypeParts}
 use Rattle.meta_types.specs.Function.{Function, StepsTypes, IsFunction}
 use Rattle.meta_typevar.specs.TypeSetParts.{TypeSetParts, IsMember}

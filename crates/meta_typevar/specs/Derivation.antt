@@ -31,8 +31,7 @@ singleton_sets t = record {
   lanes = t.lanes ∷ [];
   dynamic_lanes = vector_lanes t.lanes;
   ints = int_width_of t.kind t.width;
-  floats =
-      float_width_of t.kind t.width;
+  floats = float_width_of t.kind t.width;
 }
 
 -- a call answers the variable that is derived by f from the one with the number n. Where it was there, the registry stays;

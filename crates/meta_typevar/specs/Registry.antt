@@ -70,8 +70,7 @@ abbrev pub derived_content : List TypeVarContent → ℕ → TypeVarContent → 
 derived_content vars n c f = record {
   name = derived_name (function_of f) c.name;
   doc = [];
-  base =
-      Some (record { type_var = n; derived_func = f });
+  base = Some (record { type_var = n; derived_func = f });
   type_set = coded_at vars n;
   root = c.root;
   chain = c.chain ++ (function_of f ∷ []);

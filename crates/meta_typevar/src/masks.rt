@@ -1,13 +1,14 @@
-ghost use Rattle.std.specs.Prelude.{◌≡◌, ◌↔◌, ◌&&◌, IsTrue, nat_lt};
-ghost use Rattle.std.specs.List.{list_all};
+ghost use Rattle.std.specs.Prelude.{◌≡◌, ◌<◌, ◌^◌, ◌↔◌, ◌&&◌, IsTrue, nat_lt, sum};
+ghost use Rattle.std.specs.List.{filter, list_all};
 ghost use Rattle.meta_typevar.specs.Masks.{ContainsNumber, Holds};
 ghost use Rattle.meta_typevar.specs.Decoding.{HoldsLane, HoldsLanes};
 ghost use Rattle.meta_typevar.specs.Image.{can_derive, can_halve, can_double, has_some, has_scalars_alone};
-ghost use Rattle.meta_typevar.specs.MaskSets.{sets_in, AreMasks};
+ghost use Rattle.meta_typevar.specs.MaskSets.{holds as mask_holds, sets_in, AreMasks};
 ghost use Rattle.meta_typevar.specs.MaskImage.{IsMaskImage};
 ghost use Rattle.meta_types.specs.DerivedFunc.{function_of};
 ghost use Rattle.meta_types.specs.Function.{LaneOf, AsTruthy, HalfWidth, DoubleWidth, SplitLanes, MergeLanes, DynamicToVector};
 
+use super::builder::{FLOAT_WIDTHS, INT_WIDTHS, SIMD_LANES, VECTOR_LANES};
 use meta_types::DerivedFunc;
 
 /// A set of types as four masks. Bit `k` of a mask stands for the power of two `2^k`: a lane count or a width in bits.
@@ -23,6 +24,14 @@ pub struct Masks {
     pub floats: u8,
 }
 
+/// The sum of those of the numbers, which are powers of two, that the mask holds.
+fn held(mask: u16, all: &[u16]) -> u16
+    requires { sum all.now < 2 ^ 16 }
+    ensures { result ≡ sum (filter (mask_holds mask) all.now) }
+{
+    all.iter().filter(|n| holds(mask, **n)).sum()
+}
+
 /// The number from which the numbers of types count.
 const LANE_BASE: u16 = 0x70;
 
@@ -36,6 +45,16 @@ impl Masks {
         }
         let place = n - LANE_BASE;
         self.holds_lane(place % 16) && self.holds_lanes(place / 16)
+    }
+
+    /// Whether the masks are those of a set of types: each is the sum of some widths, or lane counts, that types have.
+    pub(crate) fn are_of_types(&self) -> bool
+        ensures { IsTrue result ↔ AreMasks self.now }
+    {
+        held(self.lanes, &SIMD_LANES) == self.lanes
+            && held(self.dynamic_lanes, &VECTOR_LANES) == self.dynamic_lanes
+            && held(self.ints as u16, &INT_WIDTHS) == self.ints as u16
+            && held(self.floats as u16, &FLOAT_WIDTHS) == self.floats as u16
     }
 
     /// Whether the masks hold the width of the lane with this code: `i8` is 4 and `f16` is 9.

@@ -1,7 +1,6 @@
 ghost use Rattle.std.specs.Prelude.{◌≡◌, ◌≢◌, ◌-◌, ◌+◌, ◌^◌, ◌<◌, ◌↔◌, [], ◌∷◌, ◌++◌, length, IsTrue, slice_get, Some, ℕ, Ok, OnOk, OnErr};
 ghost use Rattle.std.specs.Prelude.{IfOk, IfSome, IfNone};
 ghost use Rattle.std.specs.List.{filter};
-ghost use Rattle.meta_typevar.specs.TypeSetParts.{IsTypeSet};
 ghost use Rattle.meta_types.specs.DerivedFunc.{function_of};
 ghost use Rattle.meta_typevar.specs.Registry.{is_root, root_content, coded_at, derived_name, IsDerivation, IsRegistry};
 ghost use Rattle.meta_typevar.specs.Children.{IsChild, no_children};

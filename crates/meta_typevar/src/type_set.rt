@@ -6,7 +6,7 @@ ghost use Rattle.meta_types.specs.TypeParts.{TypeParts, number_of};
 ghost use Rattle.meta_types.specs.ValueTypes.{type_parts_of};
 ghost use Rattle.meta_typevar.specs.Concrete.{types_in};
 ghost use Rattle.meta_typevar.specs.Derivation.{singleton_sets, vector_lanes, int_width_of, float_width_of};
-ghost use Rattle.meta_typevar.specs.TypeSetParts.{IsMember, IsOnlyMember, HasOne, IsTypeSet};
+ghost use Rattle.meta_typevar.specs.TypeSetParts.{TypeSetParts, IsMember, IsOnlyMember, HasOne, IsTypeSet};
 ghost use Rattle.meta_typevar.specs.Image.{image_of, can_derive};
 ghost use Rattle.meta_typevar.specs.Masks.{AreMasksOf};
 ghost use Rattle.meta_typevar.specs.MaskSets.{sets_in, AreMasks};
@@ -65,6 +65,19 @@ impl TypeSet {
         ensures { result ≡ sets_in masks }
     {
         TypeSet { masks }
+    }
+
+    /// The set that the masks stand for; there is none exactly where a mask isn't the sum of some widths, or lane counts, that types have
+    /// (this project's own).
+    pub fn of(masks: Masks) -> Option<TypeSet>
+        ensures found { IfSome result (λ s. AreMasksOf s masks) }
+        ensures sets { IfSome result (λ s. IsTypeSet s) }
+        ensures none { IfNone result ((s : TypeSetParts) → IsTypeSet s → ¬ AreMasksOf s masks) }
+    {
+        if !masks.are_of_types() {
+            return None;
+        }
+        Some(TypeSet::from_masks(masks))
     }
 
     /// How many types are members.

@@ -8,8 +8,8 @@ use Rattle.std.specs.Cmp.{IsEquivalence}
 use Rattle.meta_lists.proofs.Pushed.{get_pushed_below, get_kept, get_end}
 use Rattle.meta_unique.specs.Interning.{pointed_to, IsIndexOf, IsNew, IsIndexed}
 
-module _ {X : Type 0} (eq : X → X → Bool) (entries shown : List X) (look_up : Bor X
-    → Option ℕ) (same : entries ≡ shown) (indexed : IsIndexed eq entries look_up) where
+module _ {X : Type 0} (eq : X → X → Bool) (entries shown : List X)
+    (look_up : Bor X → Option ℕ) (same : entries ≡ shown) (indexed : IsIndexed eq entries look_up) where
   shown_index : (x : X) (i : ℕ) → IsIndexOf eq shown x i → IsIndexOf eq entries x i
   shown_index x i h = subst (λ (es : List X). IsIndexOf eq es x i) (sym same) h
 
@@ -42,8 +42,8 @@ module _ {X : Type 0} (eq : X → X → Bool) (entries shown : List X) (look_up 
   found_at r o p e is = found_some r p.now (sym (ap option_copied is) ∙ e)
 
 -- a look-up that gained a new entry's index
-module _ {X : Type 0} (eq : X → X → Bool) (laws : IsEquivalence eq) (entries : List X) (look_up look_up' : Bor X
-    → Option ℕ) (r : Bor X) (indexed : IsIndexed eq entries look_up) (new : None ≡ look_up r)
+module _ {X : Type 0} (eq : X → X → Bool) (laws : IsEquivalence eq) (entries : List X)
+    (look_up look_up' : Bor X → Option ℕ) (r : Bor X) (indexed : IsIndexed eq entries look_up) (new : None ≡ look_up r)
     (gains : (q : Bor X) → look_up' q ≡ cond (eq r.now q.now) (Some (length entries)) (look_up q)) where
   is_new : IsNew eq entries r.now
   is_new i h = let f = indexed.complete r i h in (cc)
@@ -71,8 +71,7 @@ module _ {X : Type 0} (eq : X → X → Bool) (laws : IsEquivalence eq) (entries
           record {
             entry = r.now;
             there = subst (λ k. slice_get (entries ++ r.now ∷ []) k ≡ Some r.now) at (get_end entries r.now);
-            equal =
-                laws.symm q.now r.now ∙ h;
+            equal = laws.symm q.now r.now ∙ h;
           }
       go false h =
           let old = indexed.sound q i (sym (gains q ∙ ap (λ b. cond b (Some (length entries)) (look_up q)) h) ∙ e) in

@@ -141,8 +141,7 @@ pub parameter_right : (env : Environment) (r : TypedNumber) (R : Replies) → is
 parameter_right env r R absent = record {
   named = λ lacks. lacks;
   defined = refl;
-  fresh =
-      redefined_later env (typed_value_of r) [] absent;
+  fresh = redefined_later env (typed_value_of r) [] absent;
   accepted = tt;
 }
 

@@ -77,10 +77,6 @@ seen_step first env old new r h e v = by_test (nat_eq r.value v) ∙ ap (λ b. i
     by_test true = sym (or_right (is_some (first v)) true refl)
     by_test false = e v
 
--- the first value that isn't defined
-pub undefined_here : (env : Environment) (v : ℕ) (vs : List ℕ) → env v ≡ None → first_undefined env (v ∷ vs) ≡ Some v
-undefined_here env v vs h = ap (λ o. cond (is_some o) (first_undefined env vs) (Some v)) h
-
 pub undefined_later : (env : Environment) (v : ℕ) (vs : List ℕ) (t : TypeParts) → env v ≡ Some t
     → first_undefined env (v ∷ vs) ≡ first_undefined env vs
 undefined_later env v vs t h = ap (λ o. cond (is_some o) (first_undefined env vs) (Some v)) h

@@ -117,8 +117,7 @@ module _ (R S : Replies) (means : (q : Question) → HasTypes q → (r : Reply) 
     named = λ l. h.named (lacks_back s can l);
     defined = h.defined;
     fresh = h.fresh;
-    accepted =
-        accepts env s named can h.accepted;
+    accepted = accepts env s named can h.accepted;
   }
 
   wrong : (env : Environment) (line : List ℕ) (reason : Reason) → HasNamedTypes env → IsWrong R env line reason → IsWrong S env line reason
@@ -219,8 +218,7 @@ module _ (d : InstructionSet) (tables : TableContents) (made : AreTablesOf d tab
       reason,
       record {
         wrong = answered_means (lines_of input) n (Some reason) first.wrong;
-        before =
-            rights_mean (lines_of input) n first.before;
+        before = rights_mean (lines_of input) n first.before;
       },
       is,
     )

@@ -224,12 +224,6 @@ pub no_application : (line : List ℕ) → ((name control results values : List 
 no_application line none a h = none a.name (control_text a.control a.second) (list_text (map typed_text a.results))
     (list_text (map value_text a.values)) (name_has_bytes line a h) (pieces_are line (OfApplication a) h)
 
--- what is neither a parameter nor an application states nothing
-pub states_nothing : (line : List ℕ) → ((r : TypedValue) → IsStatement line (OfParameter r) → ⊥)
-    → ((a : Application) → IsStatement line (OfApplication a) → ⊥) → (s : Statement) → IsStatement line s → ⊥
-states_nothing line no_p no_a (OfParameter r) h = no_p r h
-states_nothing line no_p no_a (OfApplication a) h = no_a a h
-
 -- ---- a line states one thing at most
 
 pub one_statement : (line : List ℕ) (s t : Statement) → IsStatement line s → IsStatement line t → s ≡ t

@@ -1,7 +1,6 @@
 ghost use Rattle.std.specs.Prelude.{◌≡◌, ◌≢◌, ◌↔◌, ℕ, ◌<◌, true, false, List, [], ◌∷◌, length, map, All, IfOk, IfSome, IfNone, IsTrue};
 ghost use Rattle.std.specs.Prelude.{codes};
 ghost use Rattle.meta_words.specs.Words.{pieces_of};
-ghost use Rattle.meta_types.specs.TypeNumber.{IsTypeNumber};
 ghost use Rattle.meta_verify.specs.Statement as spec;
 ghost use Rattle.meta_verify.specs.Statement.{TypedValue, IsTyped, IsValue, IsStatement, value_text, typed_text, list_text};
 ghost use Rattle.meta_verify.specs.Numbers.{typed_value_of, stated, IsTypedNumber, HasTypeNumbers};
@@ -40,7 +39,7 @@ pub struct Application<'a> {
 pub enum Statement<'a> {
     /// A parameter of the list: `param V T`.
     Parameter(TypedNumber),
-    /// An instruction applied to values: `line NAME CTRL RESULTS VALUES`.
+    /// An instruction applied to values: `line NAME CONTROL RESULTS VALUES`.
     Applied(Application<'a>),
 }
 

@@ -1,7 +1,7 @@
 -- The words of a line.
 use Rattle.std.proofs.Common.{◌≡◌, ◌≢◌, ℕ, ◌<◌, ◌==◌, List, [], ◌∷◌, length, All, sym, ap, ◌∙◌, eq-eqb, false, arith}
 use Rattle.std.specs.List.{join_with_byte}
-use Rattle.std.proofs.lemmas.List.Elements.{All-cons, All-tail, All-same, All-weaker}
+use Rattle.std.proofs.lemmas.List.Elements.{All-same, All-weaker}
 use Rattle.std.proofs.lemmas.List.Splits.{join_with_byte-slice_split}
 use Rattle.std.proofs.lemmas.Bool.{false≢true}
 use Rattle.meta_words.specs.Words.{IsWord, AreWords, pieces_of}
@@ -33,18 +33,3 @@ are_words line words pieces some = record {
   each = words_from words some (All-same (λ w. All (λ b. (b == 32) ≡ false) w) words (pieces_of 32 line) pieces
       (All-slice_split (λ b. b == 32) line));
 }
-
--- the first word of a line and the words of what stands behind it are those of the line
-pub words_from_parts : (line word rest : List ℕ) (words : List (List ℕ))
-    → pieces_of 32 line ≡ word ∷ pieces_of 32 rest → 0 < length word → AreWords rest words → 0 < length words → AreWords line (word ∷ words)
-words_from_parts line word rest words pieces has h some =
-    are_words line (word ∷ words) (ap (λ ws. word ∷ ws) (sym (words_pieces rest words h some)) ∙ sym pieces)
-    (All-cons (λ w. 0 < length w) word words has (All-weaker IsWord (λ w. 0 < length w) (λ w is. is.has_bytes) words h.each))
-
--- and back
-pub words_from_behind : (line word rest : List ℕ) (words : List (List ℕ))
-    → pieces_of 32 line ≡ word ∷ pieces_of 32 rest → AreWords line (word ∷ words) → AreWords rest words
-words_from_behind line word rest words pieces h =
-    let same : word ∷ pieces_of 32 rest ≡ word ∷ words = sym pieces ∙ pieces_of-words line word words h in
-    let others : words ≡ pieces_of 32 rest = cc in
-    are_words rest words others (All-weaker IsWord (λ w. 0 < length w) (λ w is. is.has_bytes) words (All-tail IsWord word words h.each))

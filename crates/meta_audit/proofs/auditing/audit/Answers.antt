@@ -1,5 +1,5 @@
 use Rattle.std.proofs.Common.{subst}
-use Rattle.meta_audit.specs.Verdict.{IsVerdict}
+use Rattle.meta_audit.specs.Verdict.{IsAuditVerdict}
 use Rattle.meta_audit.specs.declared.verdict.Verdict.TheVariants.{Yes}
 use Rattle.meta_audit.proofs.auditing.audit.Goals as goal
 
@@ -12,4 +12,4 @@ pub returns-clause-acceptance : goal.returns-clause-acceptance
 returns-clause-acceptance c = λ yes.
     c.meant_tables_mean_the_declarations.ensures.acceptance c.args.declarations.now c.args.tables.now
     c.in_ok-own.ensures.valid c.opcode_count-count.ensures.well_formed
-    (subst (IsVerdict c.args.declarations.now c.args.tables.now) yes c.verdict_beside.ensures)
+    (subst (IsAuditVerdict c.args.declarations.now c.args.tables.now) yes c.verdict_beside.ensures)

@@ -1,4 +1,4 @@
-use Rattle.std.proofs.Common.{◌≡◌, ◌↔◌, ℕ, Some, sym, ◌∙◌, arith}
+use Rattle.std.proofs.Common.{◌≡◌, ◌↔◌, ℕ, Some, ◌∙◌, arith}
 use Rattle.meta_meaning.specs.Tables.{ControlNumberFits}
 use Rattle.meta_audit.proofs.Typed.{same_control}
 use Rattle.meta_audit.proofs.OneForm.{same_masks_fit, none_there}

@@ -1,4 +1,4 @@
-use Rattle.std.proofs.Common.{◌++◌, map, take, string_bytes, ap, ◌∙◌}
+use Rattle.std.proofs.Common.{◌++◌, map, string_bytes, ap, ◌∙◌}
 use Rattle.meta_builder_text.specs.Arguments.{bound_of}
 use Rattle.meta_builder_text.proofs.Behind.{one_behind, all_behind}
 use Rattle.meta_builder_text.proofs.type_parameters.push_bounds.Goals as goal

@@ -21,8 +21,7 @@ returns-then-not-is_name-clause-refused c = λ vars instructions place next othe
       shows = record {
         format = _;
         first_use = first_here d _ _ _ (next.before) next.at new;
-        breaks =
-            (refl, (_, format, λ is. false≢true (c.if-not-is_name.ensures.1 is)));
+        breaks = (refl, (_, format, λ is. false≢true (c.if-not-is_name.ensures.1 is)));
       };
       first = next.clean;
     })
@@ -40,8 +39,7 @@ returns-then-has_too_many_blocks-clause-refused c = λ vars instructions place n
       shows = record {
         format = _;
         first_use = first_here d _ _ _ used next.at new;
-        breaks =
-            (refl, (_, format, c.if-has_too_many_blocks.ensures.0 refl));
+        breaks = (refl, (_, format, c.if-has_too_many_blocks.ensures.0 refl));
       };
       first = named;
     })
@@ -64,8 +62,7 @@ returns-in-Some-clause-refused c = λ vars instructions place next other.
       shows = record {
         format = _;
         first_use = first_here d _ _ _ used next.at new;
-        breaks =
-            (_, refl, first_clash d _ _ _ used next.at _ first);
+        breaks = (_, refl, first_clash d _ _ _ used next.at _ first);
       };
       first = few;
     }))

@@ -42,8 +42,7 @@ loop-place-preserved c =
             user = c.get.result.now;
             at = c.get.ensures;
             uses = sym c.format-id.ensures;
-            before =
-                c.loop-place.invariant.used vars;
+            before = c.loop-place.invariant.used vars;
             new = c.if-contains.ensures;
             clean = c.loop-place.invariant.clean vars start;
           });
@@ -91,8 +90,7 @@ returns-in_err-format-clause-refused c = λ vars start.
       at = c.get.ensures;
       uses = sym c.format-id.ensures;
       before = c.loop-place.invariant.used vars;
-      new =
-          c.if-contains.ensures;
+      new = c.if-contains.ensures;
       clean = c.loop-place.invariant.clean vars start;
     }))
 

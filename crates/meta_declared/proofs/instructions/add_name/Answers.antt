@@ -1,5 +1,4 @@
-use Rattle.std.proofs.Common.{◌≡◌, ℕ, List, Some, sym, ap, ◌∙◌, refl, arith, slice_get}
-use Rattle.meta_inst.specs.Builder.{Builder}
+use Rattle.std.proofs.Common.{◌≡◌, ℕ, ◌∙◌, refl, arith}
 use Rattle.meta_declared.proofs.NamesSoFar.{read, shared_found, unshared_found, kept_more}
 use Rattle.meta_declared.proofs.instructions.add_name.Goals as goal
 

@@ -1,4 +1,4 @@
-use Rattle.std.proofs.Common.{◌∙◌, length}
+use Rattle.std.proofs.Common.{◌∙◌}
 use Rattle.std.proofs.lemmas.Result.{IfOk-from_err}
 use Rattle.meta_gen.proofs.GroupsSoFar.{groups_done, layouts}
 use Rattle.meta_gen.proofs.generation.tables_of.Goals as goal

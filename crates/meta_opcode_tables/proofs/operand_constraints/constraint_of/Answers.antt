@@ -28,7 +28,7 @@ returns-in-Some-base c =
     by_parent c.args.vars.now c.args.controls.now c.args.type_sets.now c.args.tv c.content.ensures.registry
     c.requires.controls c.requires.of_registry c.in_default.ensures.none c.in_default-find.ensures.none
     c.content.result.now c.in-Some-base.parent c.content.ensures.kept c.in-Some-base.is
-    (which_of c.which-which.result) c.which-which.ensures c.from-in-Some-base.result c.from-in-Some-base.ensures
+    (which_of c.which-which.result) c.which-which.ensures.is c.from-in-Some-base.result c.from-in-Some-base.ensures
 
 pub returns-in-None : goal.returns-in-None
 returns-in-None c =

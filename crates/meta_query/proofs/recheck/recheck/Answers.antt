@@ -28,4 +28,4 @@ returns-in-Err-Refused c =
       cut = c.cut_queries-parts.ensures;
       answer = inr (inr (record { reads_none = c.in-Err-Refused.ensures.refused (ap Err c.in-Err-Refused.field-0-is); is = is }));
     })
-    c.refused.ensures
+    c.refused.ensures.line

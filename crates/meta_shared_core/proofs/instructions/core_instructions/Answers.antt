@@ -24,8 +24,7 @@ returns-clause-fit c =
     let meant : AreMeant c.new.new.vars c.new-names.result =
     subst (AreMeant c.new.new.vars) (sym c.new-names.ensures) (record {
       immediates = c.requires.immediates;
-      entities =
-          c.requires.entities;
+      entities = c.requires.entities;
       roots = c.in_ok-roots.ensures.roots;
     }) in
     subst (λ formats. AllZip (FitsNames c.push_tables.new.vars c.args.formats.now) formats c.push_tables.new.all)
@@ -39,8 +38,7 @@ pub push_tables-requires-clause-meant : goal.push_tables-requires-clause-meant
 push_tables-requires-clause-meant c =
     subst (AreMeant c.new.new.vars) (sym c.new-names.ensures) (record {
       immediates = c.requires.immediates;
-      entities =
-          c.requires.entities;
+      entities = c.requires.entities;
       roots = c.in_ok-roots.ensures.roots;
     })
 
@@ -58,8 +56,7 @@ returns-clause-roots c =
     let meant : AreMeant c.new.new.vars c.new-names.result =
     subst (AreMeant c.new.new.vars) (sym c.new-names.ensures) (record {
       immediates = c.requires.immediates;
-      entities =
-          c.requires.entities;
+      entities = c.requires.entities;
       roots = c.in_ok-roots.ensures.roots;
     }) in
     let grown : AreMeant c.push_tables.new.vars c.new-names.result = meant_grows c.in_ok-push_tables.ensures.grows meant in

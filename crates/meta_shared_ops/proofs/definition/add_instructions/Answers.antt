@@ -1,4 +1,4 @@
-use Rattle.std.proofs.Common.{◌∙◌, ◌++◌, List, ℕ, map, sym, ap, subst}
+use Rattle.std.proofs.Common.{◌∙◌, ◌++◌, ℕ, map, sym, ap, subst}
 use Rattle.std.specs.List.{AllZip}
 use Rattle.std.proofs.lemmas.Result.{IfOk-from_err}
 use Rattle.meta_shared_core.specs.CoreFormats.{core_formats}
@@ -24,8 +24,7 @@ returns-clause-fit c =
     let meant : AreMeant c.core_instructions.new.vars c.new-names.result =
     subst (AreMeant c.core_instructions.new.vars) (sym c.new-names.ensures) (record {
       immediates = c.requires.immediates;
-      entities =
-          c.requires.entities;
+      entities = c.requires.entities;
       roots = c.in_ok-roots.ensures.roots;
     }) in
     subst (λ more. AllZip (FitsNames c.push_tables.new.vars c.args.formats.now) (core_formats ++ more) c.push_tables.new.all)

@@ -13,8 +13,7 @@ walk-preserved g c =
           (λ s p. (p.number, p.taken)) c.walk.invariant.0 (record {
             number = c.in-Some.number;
             taken = read;
-            refused =
-                c.if-matches.ensures;
+            refused = c.if-matches.ensures;
           }),
       omega arith,
     )

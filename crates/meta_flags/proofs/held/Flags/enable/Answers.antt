@@ -8,7 +8,7 @@ use Rattle.meta_setting_tables.specs.GroupTables.{IsPresetIn}
 use Rattle.meta_setting_tables.specs.WellFormed.{is_preset}
 use Rattle.meta_flags.specs.declared.flag_value.FlagValue.TheVariants.{Bool}
 use Rattle.meta_flags.specs.Served.{served_in, kind_in}
-use Rattle.meta_flags.specs.Changes.{HasNone, IsEntry, IsOfNoSwitch, IsEnabled, Enabled}
+use Rattle.meta_flags.specs.Changes.{HasNone, IsNamedEntry, IsOfNoSwitch, IsEnabled, Enabled}
 use Rattle.meta_flags.specs.Held.{FlagContents, value_of}
 use Rattle.meta_flags.proofs.Entries.{has_none, is_entry}
 use Rattle.meta_flags.proofs.held.Flags.enable.Goals as goal
@@ -86,7 +86,7 @@ returns-in-Preset-clause-enabled c =
     record {
       place = index;
       kind = kind_in own.group d.offset d.detail;
-      entry = subst (λ (f : FlagContents). IsEntry (served_in f.group) c.args.name.now index (kind_in f.group d.offset d.detail))
+      entry = subst (λ (f : FlagContents). IsNamedEntry (served_in f.group) c.args.name.now index (kind_in f.group d.offset d.detail))
           c.self.view_is entry;
       changed = subst (λ (x : Detail). IsEnabled (kind_in own.group d.offset x) index own.state c.turn_on_by.new.self.state)
           (sym c.in-Preset.is) (c.turn_on_by.ensures.on d preset);

@@ -8,3 +8,9 @@ returns-clause-none c =
     neither c.args.self.now c.args.tv
     (λ e. false≢true (sym c.if-is_first.false ∙ c.is_first.ensures.1 e))
     (λ e. false≢true (sym c.if-is_second.false ∙ c.is_second.ensures.1 e))
+
+pub returns-then-is_second-clause-first : goal.returns-then-is_second-clause-first
+returns-then-is_second-clause-first c e = absurd (false≢true (sym c.if-is_first.false ∙ c.is_first.ensures.1 e))
+
+pub returns-clause-first : goal.returns-clause-first
+returns-clause-first c e = absurd (false≢true (sym c.if-is_first.false ∙ c.is_first.ensures.1 e))

@@ -11,7 +11,6 @@ use Rattle.meta_opcode_tables.proofs.Decoded.{tables_of_mean}
 use Rattle.meta_opcode_tables.proofs.Inferring.{results_of_mean}
 use Rattle.meta_opcode_tables.specs.Contents.{OpcodeNames, contents_of}
 use Rattle.meta_opcode_tables.proofs.opcode_tables.OpcodeTables.of.Goals as goal
-use Rattle.meta_opcode_tables.proofs.opcode_tables.OpcodeTables.of.Goals.{In_ok-names, In_ok-format_names}
 
 -- the declared instructions that were read
 instructions_are : (read : List Builder) (given declared : Declared) → read ≡ given.set.instructions

@@ -33,8 +33,7 @@ returns-after-is_scalar-clause-found c =
     (subst (λ w. IfSome c.value_type-in-AsTruthy.result (λ t. type_parts_of t ≡ record {
       kind = IntKind;
       width = w;
-      lanes =
-          c.of-from.result.lanes;
+      lanes = c.of-from.result.lanes;
       is_dynamic = c.of-from.result.is_dynamic;
     })) (width c) c.value_type-in-AsTruthy.ensures.found)
 

@@ -10,8 +10,7 @@ from_masks-requires c =
       ints = b.ints;
       floats = b.floats;
       simd_lanes = b.simd_lanes;
-      dynamic_simd_lanes =
-          b.dynamic_simd_lanes;
+      dynamic_simd_lanes = b.dynamic_simd_lanes;
       includes_scalars = b.includes_scalars;
     } in
     let lanes = c.lanes_mask.ensures ∙ ap (λ (p : Intervals). sum (lanes_between p.includes_scalars p.simd_lanes)) (sym c.self.view_is) in
@@ -24,8 +23,7 @@ returns c =
       ints = b.ints;
       floats = b.floats;
       simd_lanes = b.simd_lanes;
-      dynamic_simd_lanes =
-          b.dynamic_simd_lanes;
+      dynamic_simd_lanes = b.dynamic_simd_lanes;
       includes_scalars = b.includes_scalars;
     } in
     let lanes = c.lanes_mask.ensures ∙ ap (λ (p : Intervals). sum (lanes_between p.includes_scalars p.simd_lanes)) (sym c.self.view_is) in
