@@ -97,7 +97,7 @@ differences() {
 
 [ $# -le 1 ] || fail 2 "one word at most, the path of the program"
 top=$(cd "$(dirname "$0")/../.." && pwd)
-program=${1:-$top/crates/meta_query_cli/out/meta_query_cli}
+program=${1:-$top/crates/ciderlater/out/ciderlater}
 if ! [ -f "$program" ] || ! [ -x "$program" ]; then
     fail 2 "there is no program $program: ./run makes the one of this repository, or name another"
 fi

@@ -1,0 +1,118 @@
+use meta_main::{CommandForm, Manual, Range};
+
+const HELP: &str = "\
+Answers by the declarations of an instruction set: those of Cranelift's shared instructions and settings, or those of a file.
+
+Usage: ciderlater [-d FILE] COMMAND    what the command answers
+       ciderlater check FILE           ok and how much is declared, or which line of the file is the first wrong one, and why
+
+Commands:
+  tables          the tables as text
+  tables --version N
+                  the same in an earlier version, 1 or 2, where the tables fit it
+  types           the constants of types as text
+  settings        the settings as Rust source
+  instructions    the formats, opcodes and data of instructions as Rust source
+  builder         the builder of instructions as Rust source
+  query           an answer to each line of standard input
+  recheck         same, different or refused, as what the text of tables in standard input reads as;
+                  then the answers of those tables to the lines behind the line `// Queries.`
+  synth N         a line on the tables of the declarations that are made from a number
+  verify          ok, or which line of the list in standard input is the first wrong one, and why
+  asm short       the list in standard input with the types left out that the others tell
+  asm explicit    such a list with all types
+  flags           the settings, set and told by name in standard input
+  audit           whether the tables in standard input mean what is declared
+  check           ok, and how many instructions, formats, type sets, constraints, and settings and presets there are
+
+A file declares groups of settings: `group NAME`, and below it `bool NAME = true`, `num NAME = 16`, `enum NAME(VALUE, VALUE)` and
+`preset NAME(NAME, NAME)`. Lines that begin with `///` document what stands below them.
+
+Options:
+  -d, --declarations FILE  the declarations of this file, in place of the shared ones; before the command
+  -h, --help               prints this
+  -V, --version            prints the version
+
+Status: 0 done, 1 declarations refused, 2 usage, 3 read fault, 4 write fault, 5 out of memory, 6 input or file too long,
+        7 a line of the list is wrong, or the tables don't fit the version, 8 the file can't be read";
+
+/// What the program says of itself, where `asm` is asked.
+pub(crate) const ASM_MANUAL: Manual = Manual {
+    name: "ciderlater",
+    version: "0.1.0",
+    help: HELP,
+    commands: &[
+        CommandForm {
+            name: "short",
+            numbers: &[],
+        },
+        CommandForm {
+            name: "explicit",
+            numbers: &[],
+        },
+    ],
+};
+
+/// What the program says of itself.
+pub(crate) const MANUAL: Manual = Manual {
+    name: "ciderlater",
+    version: "0.1.0",
+    help: HELP,
+    commands: &[
+        CommandForm {
+            name: "tables",
+            numbers: &[],
+        },
+        CommandForm {
+            name: "types",
+            numbers: &[],
+        },
+        CommandForm {
+            name: "settings",
+            numbers: &[],
+        },
+        CommandForm {
+            name: "instructions",
+            numbers: &[],
+        },
+        CommandForm {
+            name: "builder",
+            numbers: &[],
+        },
+        CommandForm {
+            name: "query",
+            numbers: &[],
+        },
+        CommandForm {
+            name: "recheck",
+            numbers: &[],
+        },
+        CommandForm {
+            name: "synth",
+            numbers: &[Range {
+                least: 0,
+                most: u32::MAX,
+            }],
+        },
+        CommandForm {
+            name: "verify",
+            numbers: &[],
+        },
+        CommandForm {
+            name: "asm",
+            numbers: &[],
+        },
+        CommandForm {
+            name: "flags",
+            numbers: &[],
+        },
+        CommandForm {
+            name: "audit",
+            numbers: &[],
+        },
+        CommandForm {
+            name: "check",
+            numbers: &[],
+        },
+    ],
+};

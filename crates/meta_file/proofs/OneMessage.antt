@@ -1,0 +1,116 @@
+-- A text is refused by one message at most.
+use Rattle.std.proofs.Common.{◌≡◌, inl, inr, ℕ, List, slice_get, Option, Some, sym, ap, ◌∙◌, subst}
+use Rattle.meta_types.specs.declared.fault.DefinitionError.{DefinitionError}
+use Rattle.meta_declared.specs.AllDeclared.{Declared, ShowsFirst}
+use Rattle.meta_tokens.specs.Encoding.{text_last_line}
+use Rattle.meta_tokens.specs.Squeezed.{read_in, read_lines}
+use Rattle.meta_items.specs.declared.items.Item.{Item}
+use Rattle.meta_items_reader.specs.declared.fault.Refusal.{Refusal}
+use Rattle.meta_items_reader.specs.Reason.{reason_of}
+use Rattle.meta_items_reader.specs.Refused.{IsRefusalOf}
+use Rattle.meta_items_declared.specs.Said.{SaysAll}
+use Rattle.meta_items_declared.specs.Refused.{IsWrongAt}
+use Rattle.meta_items_declared.specs.declared.refused.Reason.{Reason}
+use Rattle.meta_file.specs.Why.{declare_why, fault_why, located}
+use Rattle.meta_file.specs.File.{AreReadOf, IsMessageOf, IsWrongMessage, IsFaultMessageOf, IsUnread, IsUndeclared, IsFaulty, IsRefusal}
+use Rattle.meta_file.proofs.Texts.{SaysOne, SaysNoneWhereWrong, one_reading, one_said}
+
+some_is : {A : Type 0} (o : Option A) (x y : A) → o ≡ Some x → o ≡ Some y → x ≡ y
+some_is o x y h g = let same = sym h ∙ g in cc
+
+-- ---- a text that reads as no items
+
+same_refusal : (r s : Refusal) → r.line ≡ s.line → r.wanted ≡ s.wanted → r.found ≡ s.found → r ≡ s
+same_refusal r s line wanted found = λ i. record { line = line i; wanted = wanted i; found = found i }
+
+unread_one : (path text m n : List ℕ) → IsUnread path text m → IsUnread path text n → m ≡ n
+unread_one path text m n h g =
+    let fault : h.gives.0 ≡ g.gives.0 = (let e = sym h.gives.1 ∙ g.gives.1 in cc) in
+    let also = subst (λ f. IsRefusalOf (read_in text) (read_lines text) (text_last_line text) f h.refusal) fault h.gives.2 in
+    let own = g.gives.2 in
+    let refusal : h.refusal ≡ g.refusal = same_refusal h.refusal g.refusal (also.line ∙ sym own.line) (also.wanted ∙ sym own.wanted)
+    (also.found ∙ sym own.found) in
+    h.is ∙ ap (λ (r : Refusal). located path r.line (reason_of r)) refusal ∙ sym g.is
+
+-- ---- items of which one is wrong
+
+message_one : (path : List ℕ) (items : List Item) (lines : List ℕ) (place : ℕ) (reason : Reason) (m n : List ℕ)
+    → IsMessageOf path items lines place reason m → IsMessageOf path items lines place reason n → m ≡ n
+message_one path items lines place reason m n h g =
+    let item : h.item ≡ g.item = some_is _ h.item g.item h.at g.at in
+    let line : h.line ≡ g.line = some_is _ h.line g.line h.stands g.stands in
+    h.is ∙ ap (λ (i : Item). located path h.line (declare_why i reason)) item
+    ∙ ap (λ (l : ℕ). located path l (declare_why g.item reason)) line
+    ∙ sym g.is
+
+-- which item is the first that is wrong, and why
+abbrev pub OneIsWrong : Type 0
+OneIsWrong = (items : List Item) (p q : ℕ) (r s : Reason) → IsWrongAt items p r → IsWrongAt items q s → (p ≡ q) × (r ≡ s)
+
+wrong_one : OneIsWrong → (path : List ℕ) (items : List Item) (lines m n : List ℕ) → IsWrongMessage path items lines m
+    → IsWrongMessage path items lines n → m ≡ n
+wrong_one first path items lines m n h g =
+    let same = first items h.place g.place h.reason g.reason h.wrong g.wrong in
+    let at : IsMessageOf path items lines g.place h.reason m = subst (λ (p : ℕ). IsMessageOf path items lines p h.reason m) same.0 h.tells in
+    let own : IsMessageOf path items lines g.place g.reason m = subst (λ (r : Reason). IsMessageOf path items lines g.place r m) same.1 at in
+    message_one path items lines g.place g.reason m n own g.tells
+
+-- a text reads as one list of items, which stand in the same lines
+module _ (text : List ℕ) {is js : List Item} {ls ks : List ℕ} (a : AreReadOf text is ls) (b : AreReadOf text js ks) where
+  same_items : is ≡ js
+  same_items = one_reading text is js a.reads b.reads
+
+  same_lines : ls ≡ ks
+  same_lines = a.standing ∙ sym b.standing
+
+undeclared_one : OneIsWrong → (path text m n : List ℕ) → IsUndeclared path text m → IsUndeclared path text n → m ≡ n
+undeclared_one first path text m n h g =
+    let at = subst (λ (is : List Item). IsWrongMessage path is h.lines m) (same_items text h.read g.read) h.tells in
+    let own = subst (λ (ls : List ℕ). IsWrongMessage path g.items ls m) (same_lines text h.read g.read) at in
+    wrong_one first path g.items g.lines m n own g.tells
+
+-- ---- declarations that show a fault
+
+fault_one : (path : List ℕ) (items : List Item) (lines : List ℕ) (fault : DefinitionError) (m n : List ℕ)
+    → IsFaultMessageOf path items lines fault m → IsFaultMessageOf path items lines fault n → m ≡ n
+fault_one path items lines fault m n h g =
+    let place : h.place ≡ g.place = some_is _ h.place g.place h.at g.at in
+    let line : h.line ≡ g.line = some_is _ h.line g.line h.stands (ap (λ (p : ℕ). slice_get lines p) place ∙ g.stands) in
+    h.is ∙ ap (λ (l : ℕ). located path l (fault_why fault)) line ∙ sym g.is
+
+faulty_one : SaysOne → ((d : Declared) (e f : DefinitionError) → ShowsFirst d e → ShowsFirst d f → e ≡ f) → (path text m n : List ℕ)
+    → IsFaulty path text m → IsFaulty path text n → m ≡ n
+faulty_one says_one one_fault path text m n h g =
+    let items = same_items text h.read g.read in
+    let declared : h.declared ≡ g.declared = one_said says_one g.items h.declared g.declared
+    (subst (λ (is : List Item). SaysAll is h.declared) items h.says) g.says in
+    let fault : h.fault ≡ g.fault = one_fault g.declared h.fault g.fault (subst (λ (d : Declared). ShowsFirst d h.fault) declared h.first) g.first
+    in
+    let at = subst (λ (is : List Item). IsFaultMessageOf path is h.lines h.fault m) items h.tells in
+    let there = subst (λ (ls : List ℕ). IsFaultMessageOf path g.items ls h.fault m) (same_lines text h.read g.read) at in
+    let own = subst (λ (e : DefinitionError). IsFaultMessageOf path g.items g.lines e m) fault there in
+    fault_one path g.items g.lines g.fault m n own g.tells
+
+-- ---- each of these excludes the others
+
+module _ (says_one : SaysOne) (says_right : SaysNoneWhereWrong) (first : OneIsWrong)
+    (one_fault : (d : Declared) (e f : DefinitionError) → ShowsFirst d e → ShowsFirst d f → e ≡ f) (path text : List ℕ) where
+  unread_never : {m : List ℕ} {is : List Item} {ls : List ℕ} → IsUnread path text m → AreReadOf text is ls → ⊥
+  unread_never h g = let never = sym h.gives.1 ∙ g.reads.is in cc
+
+  wrong_never : {m n : List ℕ} → IsUndeclared path text m → IsFaulty path text n → ⊥
+  wrong_never h g =
+      let items = same_items text g.read h.read in
+      let says : SaysAll h.items g.declared = subst (λ (is : List Item). SaysAll is g.declared) items g.says in
+      says_right h.items g.declared.groups h.tells.place h.tells.reason says.groups h.tells.wrong
+
+  pub one_message : (m n : List ℕ) → IsRefusal path text m → IsRefusal path text n → m ≡ n
+  one_message m n (inl h) (inl g) = unread_one path text m n h g
+  one_message m n (inl h) (inr (inl g)) = absurd (unread_never h g.read)
+  one_message m n (inl h) (inr (inr g)) = absurd (unread_never h g.read)
+  one_message m n (inr (inl h)) (inl g) = absurd (unread_never g h.read)
+  one_message m n (inr (inl h)) (inr (inl g)) = undeclared_one first path text m n h g
+  one_message m n (inr (inl h)) (inr (inr g)) = absurd (wrong_never h g)
+  one_message m n (inr (inr h)) (inl g) = absurd (unread_never g h.read)
+  one_message m n (inr (inr h)) (inr (inl g)) = absurd (wrong_never g h)
+  one_message m n (inr (inr h)) (inr (inr g)) = faulty_one says_one one_fault path text m n h g

@@ -1,0 +1,8 @@
+use Rattle.std.proofs.Common.{inl, inr, refl}
+use Rattle.meta_file.proofs.file_run.attempt.Goals as goal
+
+pub run_read-requires : goal.run_read-requires
+run_read-requires g c = (c.in-Some._tool, c.in-Some.ensures.some)
+
+pub returns-in-None : goal.returns-in-None
+returns-in-None g c = inr (inl (λ asks. c.in-None.ensures.none asks.0 asks.1, refl, refl, (refl, refl)))

@@ -1,0 +1,23 @@
+use Rattle.std.proofs.Common.{◌≡◌, List, ℕ, Err, subst}
+use Rattle.meta_items.specs.declared.items.Item.{Item}
+use Rattle.meta_items_declared.specs.Refused.{IsWrongAt}
+use Rattle.meta_items_declared.specs.declared.refused.DeclareError.TheVariants as declare_errors
+use Rattle.meta_file.specs.File.{IsMessageOf}
+use Rattle.meta_file.proofs.loading.declared_by.Goals as goal
+
+pub returns-in_ok-message-in-Err-Refused-clause-refused : goal.returns-in_ok-message-in-Err-Refused-clause-refused
+returns-in_ok-message-in-Err-Refused-clause-refused c = λ message e.
+    let place = c.in-Err-Refused.place in
+    let reason = c.in-Err-Refused.reason in
+    let items = c.args.items.now in
+    let same : c.in_ok-message-in-Err-Refused.message ≡ message = cc in
+    let gave = c.in-Err-Refused.is in
+    let which = c.in-Err-Refused.field-0-is in
+    let refused : c.declare.result ≡ Err (declare_errors.Refused place reason) = cc in
+    record {
+      place = place;
+      reason = reason;
+      wrong = subst (λ (is : List Item). IsWrongAt is place reason) c.deref.ensures.value (c.declare.ensures.refused place reason refused);
+      tells = subst (λ (m : List ℕ). IsMessageOf c.args.path.now items.items.items items.lines.items place reason m) same
+          c.in_ok-message-in-Err-Refused.ensures;
+    }

@@ -1,0 +1,91 @@
+-- What the text of a file declares, and why it is refused.
+--     Declares text d                     the text reads as items, and these make the declarations
+--     IsRefusal path text message         the message tells the first thing that is wrong
+use Rattle.std.specs.Prelude.{◌≡◌, ◌⊎◌, ℕ, List, Ok, Err, slice_get, Some}
+use Rattle.meta_types.specs.declared.fault.DefinitionError.{DefinitionError}
+use Rattle.meta_declared.specs.AllDeclared.{Declared, ShowsFirst}
+use Rattle.meta_tokens.specs.Squeezed.{read_in, read_lines}
+use Rattle.meta_items.specs.declared.items.Item.{Item}
+use Rattle.meta_items.specs.Spelling.{spelled_all}
+use Rattle.meta_items_reader.specs.declared.fault.ReadError.TheVariants as reads
+use Rattle.meta_items_reader.specs.declared.fault.Refusal.{Refusal}
+use Rattle.meta_items_reader.specs.ItemLines.{key_lines}
+use Rattle.meta_items_reader.specs.Reason.{reason_of}
+use Rattle.meta_items_reader.specs.Refused.{IsRefused, GivesItems, items_in}
+use Rattle.meta_items_declared.specs.Said.{SaysAll}
+use Rattle.meta_items_declared.specs.Refused.{IsWrongAt}
+use Rattle.meta_items_declared.specs.Places.{place_of_fault}
+use Rattle.meta_items_declared.specs.declared.refused.Reason.{Reason}
+use Rattle.meta_file.specs.Why.{declare_why, fault_why, located}
+
+-- the text reads as these items: its tokens are those that spell them
+pub record Reads (text : List ℕ) (items : List Item) : Type 0 where
+  pub is : items_in text ≡ Ok items
+  pub spelled : read_in text ≡ spelled_all items
+
+-- the text reads as items, and these make the declarations
+pub record Declares (text : List ℕ) (d : Declared) : Type 0 where
+  pub items : List Item
+  pub reads : Reads text items
+  pub says : SaysAll items d
+
+-- the text reads as these items, each of which stands in its line: that of its keyword
+pub record AreReadOf (text : List ℕ) (items : List Item) (lines : List ℕ) : Type 0 where
+  pub reads : Reads text items
+  pub standing : lines ≡ key_lines (read_in text) (read_lines text)
+
+-- ---- messages
+
+-- the message tells what is wrong with the item at a place, in its line
+pub record IsMessageOf (path : List ℕ) (items : List Item) (lines : List ℕ) (place : ℕ) (reason : Reason) (message : List ℕ) : Type 0 where
+  pub item : Item
+  pub at : slice_get items place ≡ Some item
+  pub line : ℕ
+  pub stands : slice_get lines place ≡ Some line
+  pub is : message ≡ located path line (declare_why item reason)
+
+-- the message tells the first item that is wrong, and why
+pub record IsWrongMessage (path : List ℕ) (items : List Item) (lines : List ℕ) (message : List ℕ) : Type 0 where
+  pub place : ℕ
+  pub reason : Reason
+  pub wrong : IsWrongAt items place reason
+  pub tells : IsMessageOf path items lines place reason message
+
+-- the message tells the fault, in the line of the item that declares what it names
+pub record IsFaultMessageOf (path : List ℕ) (items : List Item) (lines : List ℕ) (fault : DefinitionError) (message : List ℕ) : Type 0 where
+  pub place : ℕ
+  pub at : place_of_fault items fault ≡ Some place
+  pub line : ℕ
+  pub stands : slice_get lines place ≡ Some line
+  pub is : message ≡ located path line (fault_why fault)
+
+-- ---- why a text is refused
+
+-- it reads as no items: the message tells where that shows, and why; the items before that place are read, and none begins there
+pub record IsUnread (path text message : List ℕ) : Type 0 where
+  pub refusal : Refusal
+  pub gives : GivesItems (λ (items : List Item). items) text (Err (reads.Refused refusal)) (items_in text)
+  pub refused : IsRefused text refusal
+  pub is : message ≡ located path refusal.line (reason_of refusal)
+
+-- it reads as items, of which one is wrong: the message tells the first
+pub record IsUndeclared (path text message : List ℕ) : Type 0 where
+  pub items : List Item
+  pub lines : List ℕ
+  pub read : AreReadOf text items lines
+  pub tells : IsWrongMessage path items lines message
+
+-- it makes declarations that show a fault: the message tells the first
+pub record IsFaulty (path text message : List ℕ) : Type 0 where
+  pub items : List Item
+  pub lines : List ℕ
+  pub read : AreReadOf text items lines
+  pub declared : Declared
+  pub says : SaysAll items declared
+  pub fault : DefinitionError
+  pub first : ShowsFirst declared fault
+  pub tells : IsFaultMessageOf path items lines fault message
+
+-- why the text is refused, of these three
+abbrev pub IsRefusal : List ℕ → List ℕ → List ℕ → Type 0
+IsRefusal path text message = IsUnread path text message ⊎ (IsUndeclared path text message ⊎ IsFaulty path text message)

@@ -1,0 +1,97 @@
+-- What a run over the declarations of a file does.
+--     DidFile .. ending                     what was read and written, by how it ended
+--     AnswersFile, RefusesFile .. ending    what is done where nothing fails
+use Rattle.std.specs.Prelude.{◌≡◌, ◌≢◌, ◌⊎◌, ◌≤◌, ℕ, Bool, List, ◌++◌, length, Option, Some}
+use Rattle.meta_text.specs.Outside.{Rose, longest_input, GaveMore}
+use Rattle.meta_declared.specs.AllDeclared.{Declared, AreValid}
+use Rattle.meta_run.specs.Run.{IsReadWhole, IsGiven, Ran as RanOver}
+use Rattle.meta_run.specs.Ending.{code_of, written_as}
+use Rattle.meta_run.specs.declared.ending.Ending.{Ending}
+use Rattle.meta_run.specs.declared.ending.Ending.TheVariants as ends
+use Rattle.meta_file.specs.Tool.{AreToolWords, AskSomething, reads_input, texts_of}
+use Rattle.meta_file.specs.File.{Declares, IsRefusal}
+use Rattle.meta_file.specs.declared.tool.Tool.{Tool}
+use Rattle.meta_file.specs.declared.file_ending.FileEnding.{FileEnding}
+use Rattle.meta_file.specs.declared.file_ending.FileEnding.TheVariants.{Ran, Refused, FileFault, FileTooLong}
+
+-- the exit status of the process: that of the run; 1 where the file is refused, 6 where it is too long, 8 where it can't be read
+abbrev pub file_code : FileEnding → ℕ
+file_code (Ran ending) = code_of ending
+file_code (Refused message) = code_of ends.Refused
+file_code FileFault = 8
+file_code FileTooLong = code_of ends.TooLong
+
+-- the words, the path and a text; and a source and a sink, by what they tell, before and after a run over what the text declares
+module _ {S K : Type 0} (left : S → Option (List ℕ)) (reads : S → ℕ) (taken : K → Option (List ℕ)) (writes : K → ℕ)
+    (words : List (List ℕ)) (path text : List ℕ) (s s' : S) (k k' : K) where
+  -- the text declares what shows no fault, and what the words ask ran over that
+  pub record RanText (ending : Ending) : Type 0 where
+    pub declared : Declared
+    pub declares : Declares text declared
+    pub valid : AreValid declared
+    pub tool : Tool
+    pub asked : AreToolWords tool words
+    pub ran : RanOver left reads taken writes declared s s' k k' (reads_input tool) (texts_of tool) ending
+
+  -- what was read and written of a text
+  abbrev pub DidText : FileEnding → Type 0
+  DidText (Ran ending) = RanText ending ⊎ ((ending ≡ ends.OutOfMemory) × (s' ≡ s) × (k' ≡ k))
+  DidText (Refused message) = IsRefusal path text message × (s' ≡ s) × (k' ≡ k)
+  DidText FileFault = ⊥
+  DidText FileTooLong = ⊥
+
+-- the words and the path; and a file, a source and a sink, by what they tell, before and after a run
+module _ {F S K : Type 0} (file_left : F → Option (List ℕ)) (file_reads : F → ℕ) (left : S → Option (List ℕ)) (reads : S → ℕ)
+    (taken : K → Option (List ℕ)) (writes : K → ℕ) (words : List (List ℕ)) (path : List ℕ) (f f' : F) (s s' : S) (k k' : K) where
+  -- nothing was read beside the file, and nothing was written
+  abbrev pub LeavesAll : Type 0
+  LeavesAll = (s' ≡ s) × (k' ≡ k)
+
+  -- the file was read whole, and what the words ask ran over what it declares
+  pub record RanFile (ending : Ending) : Type 0 where
+    pub text : List ℕ
+    pub read : IsReadWhole file_left f f' text
+    pub ran : RanText left reads taken writes words path text s s' k k' ending
+
+  -- the file was read whole, and the message tells why it is refused
+  pub record IsRefusedFile (message : List ℕ) : Type 0 where
+    pub text : List ℕ
+    pub read : IsReadWhole file_left f f' text
+    pub refusal : IsRefusal path text message
+
+  -- What was read and written. Where the words ask nothing, not even the file was read.
+  abbrev pub DidFile : FileEnding → Type 0
+  DidFile (Ran ending) =
+      RanFile ending
+      ⊎ (((AskSomething words → ⊥) × (ending ≡ ends.Usage) × (f' ≡ f) × LeavesAll)
+      ⊎ (AskSomething words × (ending ≡ ends.OutOfMemory) × LeavesAll))
+  DidFile (Refused message) = AskSomething words × IsRefusedFile message × LeavesAll
+  DidFile FileFault = AskSomething words × Rose (file_reads f) (file_reads f') × LeavesAll
+  DidFile FileTooLong = AskSomething words × GaveMore longest_input (file_left f) (file_left f') × LeavesAll
+
+  -- the file told its text, which is within the limit, and no read of it failed
+  abbrev pub IsFileGiven : List ℕ → Type 0
+  IsFileGiven text = (file_left f ≡ Some text) × (length text ≤ longest_input) × (Rose (file_reads f) (file_reads f') → ⊥)
+
+  -- Where the file declares what shows no fault, the words ask something, memory didn't run out and nothing failed, the sink took
+  -- exactly a text that answers what is given over these declarations, and the ending says which.
+  abbrev pub AnswersFile : FileEnding → Type 0
+  AnswersFile ending =
+      (text : List ℕ) (d : Declared) (tool : Tool) → IsFileGiven text → Declares text d → AreValid d → AreToolWords tool words
+      → ending ≢ Ran ends.OutOfMemory → (input before : List ℕ) → IsGiven left reads taken writes d s s' k k' (reads_input tool) input
+      → taken k ≡ Some before → (Rose (writes k) (writes k') → ⊥)
+      → (is_rejection : Bool) × (out : List ℕ) × texts_of tool d input is_rejection out × (ending ≡ Ran (written_as is_rejection))
+      × (taken k' ≡ Some (before ++ out))
+
+  -- Where the file declares nothing, or what shows a fault, the words ask something, memory didn't run out and no read of the file
+  -- failed, it is refused, and the message tells the first thing that is wrong.
+  abbrev pub RefusesFile : FileEnding → Type 0
+  RefusesFile ending =
+      (text : List ℕ) → IsFileGiven text → AskSomething words → ((d : Declared) → Declares text d → AreValid d → ⊥)
+      → ending ≢ Ran ends.OutOfMemory
+      → (message : List ℕ) × (ending ≡ Refused message) × IsRefusal path text message × LeavesAll
+
+  -- It is refused only there: what it declares, if it declares anything, shows a fault.
+  abbrev pub IsRefusedOnly : FileEnding → Type 0
+  IsRefusedOnly ending =
+      (message text : List ℕ) (d : Declared) → ending ≡ Refused message → IsFileGiven text → Declares text d → AreValid d → ⊥

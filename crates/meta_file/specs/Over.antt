@@ -1,0 +1,19 @@
+-- What words are asked over.
+use Rattle.std.specs.Prelude.{◌≡◌, ◌⊎◌, ℕ, List, [], ◌∷◌, codes}
+use Rattle.meta_file.specs.declared.over.Over.{Over}
+use Rattle.meta_file.specs.declared.over.Over.TheVariants.{Shared, File}
+
+-- the word says that a file follows
+abbrev pub IsOption : List ℕ → Type 0
+IsOption word = (word ≡ codes "-d") ⊎ (word ≡ codes "--declarations")
+
+-- the words ask this over the declarations of the file at this path: `-d FILE WORDS`, or `check FILE`
+abbrev pub AskOverFile : List (List ℕ) → List ℕ → List (List ℕ) → Type 0
+AskOverFile words path asked =
+    ((option : List ℕ) × IsOption option × (words ≡ option ∷ (path ∷ asked)))
+    ⊎ ((words ≡ codes "check" ∷ (path ∷ [])) × (asked ≡ codes "check" ∷ []))
+
+-- the words ask this of a file, or they ask nothing of any file and all of them are for the shared declarations
+abbrev pub IsOver : List (List ℕ) → Over → Type 0
+IsOver words (File path asked) = AskOverFile words path.now asked.now
+IsOver words (Shared asked) = (asked.now ≡ words) × ((path : List ℕ) (others : List (List ℕ)) → AskOverFile words path others → ⊥)

@@ -1,0 +1,62 @@
+-- What one asks over declarations, and how.
+--     AreToolWords tool words       the words ask this
+--     texts_of tool                 what it is answered with
+use Rattle.std.specs.Prelude.{◌≡◌, ℕ, Bool, true, false, List, [], ◌∷◌, codes}
+use Rattle.meta_run.specs.Run.{Texts, Outputs, never_rejecting}
+use Rattle.meta_query.specs.Command.{AreWordsOf}
+use Rattle.meta_query.specs.Run as query
+use Rattle.meta_verify.specs.Verifier.{verdicts}
+use Rattle.meta_asm.specs.Form.{words_for, written_in}
+use Rattle.meta_flags.specs.FlagsOutput.{IsFlagsOutput}
+use Rattle.meta_audit.specs.AuditLine.{IsAuditLine}
+use Rattle.meta_file.specs.TablesIn.{version_words, shown_in}
+use Rattle.meta_file.specs.Counts.{IsCheckLine}
+use Rattle.meta_file.specs.declared.tool.Lone.{Lone}
+use Rattle.meta_file.specs.declared.tool.Lone.TheVariants as lone
+use Rattle.meta_file.specs.declared.tool.Tool.{Tool}
+use Rattle.meta_file.specs.declared.tool.Tool.TheVariants.{Run, TablesIn, Verify, Asm, Flags, Audit, Check}
+
+-- the name of a tool that has one word
+abbrev pub lone_name : Lone → List ℕ
+lone_name lone.Verify = codes "verify"
+lone_name lone.Flags = codes "flags"
+lone_name lone.Audit = codes "audit"
+lone_name lone.Check = codes "check"
+
+-- the words ask this: those of a command of `run` are its own, those of `asm` are its name and a form, and `tables` may have a version
+abbrev pub AreToolWords : Tool → List (List ℕ) → Type 0
+AreToolWords (Run command) words = AreWordsOf command words
+AreToolWords (TablesIn version) words = words ≡ codes "tables" ∷ version_words version
+AreToolWords Verify words = words ≡ codes "verify" ∷ []
+AreToolWords (Asm form) words = words ≡ codes "asm" ∷ words_for form
+AreToolWords Flags words = words ≡ codes "flags" ∷ []
+AreToolWords Audit words = words ≡ codes "audit" ∷ []
+AreToolWords Check words = words ≡ codes "check" ∷ []
+
+-- the words ask something
+abbrev pub AskSomething : List (List ℕ) → Type 0
+AskSomething words = (tool : Tool) × AreToolWords tool words
+
+-- whether there is an input
+abbrev pub reads_input : Tool → Bool
+reads_input (Run command) = query.has_input command
+reads_input (TablesIn version) = false
+reads_input Verify = true
+reads_input (Asm form) = true
+reads_input Flags = true
+reads_input Audit = true
+reads_input Check = false
+
+-- of declarations that show no fault it is said how much of each kind there is
+abbrev pub says_counts : Outputs
+says_counts d input output = IsCheckLine d output
+
+-- the texts that answer an input over declarations: those of the programs of these names, and of `check` the line that begins with `ok`
+abbrev pub texts_of : Tool → Texts
+texts_of (Run command) = never_rejecting (query.IsOutputOf command)
+texts_of (TablesIn version) = shown_in version
+texts_of Verify = verdicts
+texts_of (Asm form) = written_in form
+texts_of Flags = never_rejecting IsFlagsOutput
+texts_of Audit = never_rejecting IsAuditLine
+texts_of Check = never_rejecting says_counts

@@ -1,0 +1,38 @@
+ghost use Rattle.std.specs.Prelude.{◌≡◌, ℕ, List};
+ghost use Rattle.meta_typevar.specs.Registry.{HoldTypeSets};
+ghost use Rattle.meta_declared.specs.AllDeclared.{Declared, AreValid};
+ghost use Rattle.meta_file.specs.Counts.{IsCheckLine};
+ghost use Rattle.meta_file.specs.Tool.{AreToolWords};
+ghost use Rattle.meta_file.specs.File.{Declares, IsRefusal};
+ghost use Rattle.meta_file.specs.declared.tool.Tool.{Tool as spec_Tool};
+
+use meta_asm::one_form;
+use meta_declared::one_first_fault;
+use meta_gen::one_table_of_declarations;
+use meta_items_declared::items_say_one_thing;
+use meta_query::one_command;
+
+/// Words ask one thing at most.
+pub fn one_tool()
+    ensures { (t u : spec_Tool) (words : List (List ℕ)) → AreToolWords t words → AreToolWords u words → t ≡ u }
+{
+    one_command();
+    one_form();
+}
+
+/// A text makes one list of declarations at most, and none that show no fault where it is refused. It is refused by one message.
+pub fn a_text_declares_one_thing()
+    ensures same { (text : List ℕ) (d e : Declared) → Declares text d → Declares text e → d ≡ e }
+    ensures refused { (path text message : List ℕ) (d : Declared) → IsRefusal path text message → Declares text d → AreValid d → ⊥ }
+    ensures message { (path text m n : List ℕ) → IsRefusal path text m → IsRefusal path text n → m ≡ n }
+{
+    items_say_one_thing();
+    one_first_fault();
+}
+
+/// What `check` says of declarations is one line. The variables have sets of types, as those of `Declarations` always do.
+pub fn one_check_line()
+    ensures { (d : Declared) (line other : List ℕ) → HoldTypeSets d.set.vars → IsCheckLine d line → IsCheckLine d other → line ≡ other }
+{
+    one_table_of_declarations();
+}

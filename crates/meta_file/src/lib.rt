@@ -1,0 +1,24 @@
+//! The commands of all programs over one set of declarations, and over those that a file declares.
+//!
+//! `Tool::parse` says which command words are, and `run_words` runs it over declarations. `run_file` reads a file of declarations
+//! first, and says in which line it is wrong, if it is.
+#![tactic(auto)]
+
+mod checking;
+mod file_ending;
+mod file_run;
+mod laws;
+mod loading;
+mod over;
+mod running;
+mod tables_in;
+mod tool;
+mod why;
+
+pub use file_ending::FileEnding;
+pub use file_run::run_file;
+pub use laws::{a_text_declares_one_thing, one_check_line, one_tool};
+pub use loading::{LoadError, load};
+pub use over::Over;
+pub use running::run_words;
+pub use tool::Tool;

@@ -1,0 +1,169 @@
+ghost use Rattle.std.specs.Prelude.{◌≡◌, ◌↔◌, ℕ, List, Err, IfOk, IfSome, IfNone, IsTrue};
+ghost use Rattle.meta_types.specs.declared.fault.DefinitionError.{DefinitionError};
+ghost use Rattle.meta_declared.specs.AllDeclared.{Declared, ShowsFirst, AreValid};
+ghost use Rattle.meta_items_declared.specs.Said.{SaysAll};
+ghost use Rattle.meta_items_reader.specs.Reason.{reason_of};
+ghost use Rattle.meta_file.specs.Why.{located};
+ghost use Rattle.meta_file.specs.File.{AreReadOf, IsMessageOf, IsWrongMessage, IsFaultMessageOf, Declares, IsUnread, IsRefusal};
+ghost use Rattle.meta_file.specs.declared.loading.LoadError.TheVariants as errors;
+
+use super::laws::a_text_declares_one_thing;
+use super::why::{declare_why, fault_why, located};
+use meta_declared::{Declarations, build_all};
+use meta_items_declared::{DeclareError, Reason, declare, place_of_fault};
+use meta_items_reader::{ReadError, ReadItems, Refusal, read_items};
+use meta_tokens::Bytes;
+use meta_types::DefinitionError;
+use std::alloc::{AllocError, Global};
+
+/// Why a text isn't declarations without a fault (this project's own).
+#[derive(Drop)]
+pub enum LoadError {
+    /// Memory ran out.
+    Memory,
+    /// The text is refused, and why: `PATH:LINE: WHY`, without a line feed.
+    Refused(Bytes),
+}
+
+impl From<AllocError> for LoadError {
+    ghost from_gives = { λ _ e. e ≡ errors.Memory };
+
+    fn from(_e: AllocError) -> LoadError {
+        LoadError::Memory
+    }
+}
+
+/// The message where the text reads as no items.
+fn unread(alloc: Global, path: &[u8], refusal: &Refusal) -> Result<Bytes, AllocError>
+    ensures { IfOk result (λ message. message ≡ located path.now refusal.now.line (reason_of refusal.now)) }
+{
+    let why = refusal.reason(alloc)?;
+    located(alloc, path, refusal.line, &why)
+}
+
+/// The message where the item at a place declares nothing. Each item has a line; where there is none, that is handled as want of memory.
+fn undeclared(
+    alloc: Global,
+    path: &[u8],
+    items: &ReadItems,
+    place: usize,
+    reason: Reason,
+) -> Result<Bytes, AllocError>
+    ensures { IfOk result (IsMessageOf path.now items.now.items.items items.now.lines.items place reason) }
+{
+    let (Some(item), Some(line)) = (items.items.get(place), items.lines.get(place)) else {
+        return Err(AllocError);
+    };
+    let why = declare_why(alloc, item, reason)?;
+    located(alloc, path, *line, &why)
+}
+
+/// The message where the declarations show a fault. An item declares what the fault names; where there is none, that is handled as want
+/// of memory.
+fn faulty(
+    alloc: Global,
+    path: &[u8],
+    items: &ReadItems,
+    fault: &DefinitionError,
+) -> Result<Bytes, AllocError>
+    ensures { IfOk result (IsFaultMessageOf path.now items.now.items.items items.now.lines.items fault.now) }
+{
+    let Some(place) = place_of_fault(&items.items, fault) else {
+        return Err(AllocError);
+    };
+    let Some(line) = items.lines.get(place) else {
+        return Err(AllocError);
+    };
+    let why = fault_why(alloc, fault)?;
+    located(alloc, path, *line, &why)
+}
+
+/// The items that the text reads as.
+fn items_in(alloc: Global, path: &[u8], text: &[u8]) -> Result<ReadItems, LoadError>
+    ensures read { IfOk result (λ r. AreReadOf text.now r.items.items r.lines.items) }
+    ensures refused { (message : List ℕ) → result ≡ Err (errors.Refused message) → IsUnread path.now text.now message }
+{
+    match read_items(alloc, text) {
+        Ok(items) => Ok(items),
+        Err(ReadError::Memory) => Err(LoadError::Memory),
+        Err(ReadError::Refused(refusal)) => {
+            let message = unread(alloc, path, &refusal)?;
+            Err(LoadError::Refused(message))
+        }
+    }
+}
+
+/// The declarations that the items make.
+fn declared_by(alloc: Global, path: &[u8], items: &ReadItems) -> Result<Declarations, LoadError>
+    ensures said { IfOk result (SaysAll items.now.items.items) }
+    ensures refused { (message : List ℕ) → result ≡ Err (errors.Refused message)
+        → IsWrongMessage path.now items.now.items.items items.now.lines.items message }
+{
+    match declare(alloc, &items.items) {
+        Ok(declarations) => Ok(declarations),
+        Err(DeclareError::Memory) => Err(LoadError::Memory),
+        Err(DeclareError::Refused(place, reason)) => {
+            let message = undeclared(alloc, path, items, place, reason)?;
+            Err(LoadError::Refused(message))
+        }
+    }
+}
+
+/// Whether the fault is none of the declarations.
+fn is_out_of_memory(fault: &DefinitionError) -> bool
+    ensures { IsTrue result ↔ (fault.now ≡ DefinitionError.OutOfMemory) }
+{
+    matches!(fault, DefinitionError::OutOfMemory)
+}
+
+/// Why the declarations are refused, if they show a fault.
+fn fault_in(
+    alloc: Global,
+    declarations: &Declarations,
+) -> Result<Option<DefinitionError>, AllocError>
+    ensures none { IfOk result (λ o. IfNone o (AreValid declarations.now)) }
+    ensures some { IfOk result (λ o. IfSome o (ShowsFirst declarations.now)) }
+{
+    match build_all(alloc, declarations) {
+        Ok(_built) => Ok(None),
+        Err(fault) => {
+            if is_out_of_memory(&fault) {
+                return Err(AllocError);
+            }
+            Ok(Some(fault))
+        }
+    }
+}
+
+/// The declarations of a text, which show no fault.
+fn loaded(alloc: Global, path: &[u8], text: &[u8]) -> Result<Declarations, LoadError>
+    ensures declared { IfOk result (Declares text.now) }
+    ensures valid { IfOk result AreValid }
+    ensures refused { (message : List ℕ) → result ≡ Err (errors.Refused message) → IsRefusal path.now text.now message }
+{
+    let items = items_in(alloc, path, text)?;
+    let declarations = declared_by(alloc, path, &items)?;
+    match fault_in(alloc, &declarations)? {
+        None => Ok(declarations),
+        Some(fault) => {
+            let message = faulty(alloc, path, &items, &fault)?;
+            Err(LoadError::Refused(message))
+        }
+    }
+}
+
+/// The declarations of a text, which show no fault (this project's own). The text is refused exactly where it reads as no items, or an item
+/// declares nothing, or the declarations show a fault: by the first such thing, with its line. The path stands before the line in
+/// the message. `Memory` may come in any case.
+pub fn load(alloc: Global, path: &[u8], text: &[u8]) -> Result<Declarations, LoadError>
+    // The declarations that the text makes.
+    ensures declared { IfOk result (Declares text.now) }
+    ensures valid { IfOk result AreValid }
+    // The message tells the first thing that is wrong, in its line.
+    ensures refused { (message : List ℕ) → result ≡ Err (errors.Refused message) → IsRefusal path.now text.now message }
+    // What declares something that shows no fault isn't refused.
+    ensures only { (d : Declared) (message : List ℕ) → Declares text.now d → AreValid d → ¬ (result ≡ Err (errors.Refused message)) }
+{
+    a_text_declares_one_thing();
+    loaded(alloc, path, text)
+}

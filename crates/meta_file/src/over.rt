@@ -1,0 +1,55 @@
+ghost use Rattle.std.specs.Prelude.{◌≡◌, ◌↔◌, ◌∷◌, IsTrue, codes};
+ghost use Rattle.meta_file.specs.Over.{IsOption, IsOver};
+
+use meta_types::Text;
+
+/// What words are asked over (this project's own).
+#[derive(Clone, Copy)]
+pub enum Over<'w> {
+    /// The shared declarations: what is asked of them.
+    Shared(&'w [Text]),
+    /// Those of a file: its path, and what is asked of them.
+    File(&'w Text, &'w [Text]),
+}
+
+/// Whether the word says that a file follows.
+fn is_option(word: &Text) -> bool
+    ensures { IsTrue result ↔ IsOption word.now }
+{
+    word.as_bytes() == b"-d".as_slice() || word.as_bytes() == b"--declarations".as_slice()
+}
+
+/// Whether the word is `check`.
+fn is_check(word: &Text) -> bool
+    ensures { IsTrue result ↔ (word.now ≡ codes "check") }
+{
+    word.as_bytes() == b"check".as_slice()
+}
+
+impl<'w> Over<'w> {
+    /// Behind `-d FILE` or `--declarations FILE` words are asked over the declarations of the file; `check FILE` asks `check` over
+    /// them. All other words are asked over the shared declarations.
+    pub fn of(words: &'w [Text]) -> Over<'w>
+        ensures { IsOver words.now result }
+    {
+        match words {
+            [] => Over::Shared(words),
+            [_] => Over::Shared(words),
+            [first, path, rest @ ..] => Over::of_two(words, first, path, rest),
+        }
+    }
+
+    /// The same, where there are two words and more.
+    fn of_two(words: &'w [Text], first: &'w Text, path: &'w Text, rest: &'w [Text]) -> Over<'w>
+        requires { words.now ≡ first.now ∷ (path.now ∷ rest.now) }
+        ensures { IsOver words.now result }
+    {
+        if is_option(first) {
+            return Over::File(path, rest);
+        }
+        if is_check(first) && rest.is_empty() {
+            return Over::File(path, words.split_at(1).0);
+        }
+        Over::Shared(words)
+    }
+}

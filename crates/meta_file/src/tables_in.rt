@@ -1,0 +1,132 @@
+ghost use Rattle.std.specs.Prelude.{◌≡◌, ◌≢◌, ◌↔◌, ◌∷◌, [], codes, IfOk, IfSome, IfNone, IsTrue, string_bytes};
+ghost use Rattle.meta_table_text.specs.declared.version.Version as spec_version;
+ghost use Rattle.meta_file.specs.TablesIn.{version_word, version_words, limits_of, unfit_line, AreShownIn};
+
+use meta_declared::Built;
+use meta_gen::{Tables, tables_of};
+use meta_run::{Answer, Answerer};
+use meta_table_text::{Version, fits, table_text};
+use meta_types::Text;
+use std::alloc::{AllocError, Global};
+
+/// The version of this number.
+fn version_named(number: &[u8]) -> Option<Version>
+    ensures some { IfSome result (λ v. number.now ≡ version_word v) }
+    ensures none { IfNone result ((v : spec_version.Version) → number.now ≢ version_word v) }
+{
+    if number == b"1".as_slice() {
+        return Some(Version::One);
+    }
+    if number == b"2".as_slice() {
+        return Some(Version::Two);
+    }
+    if number == b"3".as_slice() {
+        return Some(Version::Three);
+    }
+    None
+}
+
+/// Whether the words are `tables` and `--version`.
+fn ask_a_version(name: &Text, option: &Text) -> bool
+    ensures { IsTrue result ↔ ((name.now ≡ codes "tables") × (option.now ≡ codes "--version")) }
+{
+    name.as_bytes() == b"tables".as_slice() && option.as_bytes() == b"--version".as_slice()
+}
+
+/// The version that three words ask for.
+fn version_of_three(words: &[Text], name: &Text, option: &Text, number: &Text) -> Option<Version>
+    requires { words.now ≡ name.now ∷ (option.now ∷ (number.now ∷ [])) }
+    ensures some { IfSome result (λ v. words.now ≡ codes "tables" ∷ version_words v) }
+    ensures none { IfNone result ((v : spec_version.Version) → words.now ≢ codes "tables" ∷ version_words v) }
+{
+    if ask_a_version(name, option) {
+        return version_named(number.as_bytes());
+    }
+    None
+}
+
+/// The version of the text of tables that the words ask for: `tables --version` and its number.
+pub(crate) fn version_asked(words: &[Text]) -> Option<Version>
+    ensures some { IfSome result (λ v. words.now ≡ codes "tables" ∷ version_words v) }
+    ensures none { IfNone result ((v : spec_version.Version) → words.now ≢ codes "tables" ∷ version_words v) }
+{
+    match words {
+        [name, option, number] => version_of_three(words, name, option, number),
+        _ => None,
+    }
+}
+
+/// The number of a version, as it is written.
+fn word_of(version: Version) -> &'static str
+    ensures { result.now ≡ version_word version }
+{
+    match version {
+        Version::One => "1",
+        Version::Two => "2",
+        Version::Three => "3",
+    }
+}
+
+/// What a version holds.
+fn limits_of(version: Version) -> &'static str
+    ensures { result.now ≡ limits_of version }
+{
+    match version {
+        Version::One => "at most 255 opcodes and 255 type sets, and no second control",
+        Version::Two => "at most 255 opcodes and 255 type sets",
+        Version::Three => "all tables",
+    }
+}
+
+/// The line for tables that don't fit the version.
+fn unfit(alloc: Global, version: Version) -> Result<String, AllocError>
+    ensures { IfOk result (λ out. string_bytes out ≡ unfit_line version) }
+{
+    let (number, limits) = (word_of(version), limits_of(version));
+    format!(in alloc; "unfit: version {number} holds {limits}\n")
+}
+
+/// The text of the tables in the version where they fit it, and else that they don't.
+fn shown(alloc: Global, version: Version, tables: &Tables) -> Result<Answer, AllocError>
+    ensures { IfOk result (λ answer. AreShownIn version tables.now answer.is_rejection (string_bytes answer.text)) }
+{
+    if !fits(version, tables) {
+        return Ok(Answer {
+            text: unfit(alloc, version)?,
+            is_rejection: true,
+        });
+    }
+    Ok(Answer {
+        text: table_text(alloc, version, tables)?,
+        is_rejection: false,
+    })
+}
+
+/// Shows the tables of declarations in a version of their text.
+#[derive(Clone, Copy)]
+pub(crate) struct InVersion {
+    pub(crate) version: Version,
+}
+
+impl Answerer for InVersion {
+    ghost use Rattle.std.specs.Prelude.{false};
+    ghost use Rattle.meta_file.specs.TablesIn.{shown_in};
+
+    ghost reads = { λ _. false };
+
+    ghost texts = { λ a. shown_in a.version };
+
+    fn has_input(&self) -> bool {
+        false
+    }
+
+    fn answer(
+        &self,
+        alloc: Global,
+        built: &Built<'_>,
+        _input: &[u8],
+    ) -> Result<Answer, AllocError> {
+        let tables = tables_of(alloc, built)?;
+        shown(alloc, self.version, &tables)
+    }
+}

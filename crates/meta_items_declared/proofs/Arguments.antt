@@ -1,0 +1,51 @@
+-- Each name of a preset has its argument.
+use Rattle.std.proofs.Common.{◌≡◌, ◌∙◌, ℕ, ◌+◌, Bool, true, false, cond, List, [], ◌∷◌, Option, Some, None, map, take, refl, sym, ap}
+use Rattle.std.specs.Prelude.{is_none, option_map}
+use Rattle.std.specs.List.{slice_get, filter_map, position_from, cons_option}
+use Rattle.std.specs.Option.{option_and_then}
+use Rattle.std.proofs.lemmas.Iterator.Adapters.{position_from-zero}
+use Rattle.std.proofs.lemmas.Option.{slice_get_within}
+use Rattle.meta_items.specs.declared.name.Name.{Name}
+use Rattle.meta_items.specs.declared.items.PresetItem.{PresetItem}
+use Rattle.meta_items.specs.declared.items.Item.{Item}
+use Rattle.meta_items.specs.declared.items.Item.TheVariants as item
+use Rattle.meta_items.specs.Named.{name_bytes}
+use Rattle.meta_settings.specs.GroupDeclaration.{GroupDeclaration}
+use Rattle.meta_settings.specs.declared.index.PresetType.{PresetType}
+use Rattle.meta_items_declared.specs.declared.refused.Reason.TheVariants.{NoEntry}
+use Rattle.meta_items_declared.specs.Texts.{names_in}
+use Rattle.meta_items_declared.specs.Named.{Known, meant}
+use Rattle.meta_items_declared.specs.Wrong.{wrong_if, wrong_with, known_behind, wrong_at}
+use Rattle.meta_items_declared.specs.Said.{Says, preset_of}
+
+-- one name that stands for something, before others that do
+one_found : (known : Known) (k : ℕ) (n : Name) (later : Option ℕ) (meanings : List (Option PresetType)) (found : List PresetType)
+    (o : Option PresetType)
+    → meant known (name_bytes n) ≡ o → (later ≡ None → map (λ (a : PresetType). Some a) found ≡ meanings)
+    → cond (is_none o) (Some k) later ≡ None → map (λ (a : PresetType). Some a) (cons_option o found) ≡ meant known (name_bytes n) ∷ meanings
+one_found known k n later meanings found None e rest h = cc
+one_found known k n later meanings found (Some a) e rest h =
+    ap (λ (os : List (Option PresetType)). Some a ∷ os) (rest h) ∙ ap (λ (o : Option PresetType). o ∷ meanings) (sym e)
+
+found_from : (known : Known) (k : ℕ) (names : List Name) → position_from (λ (n : Name). is_none (meant known (name_bytes n))) k names ≡ None
+    → map (λ (a : PresetType). Some a) (filter_map (meant known) (names_in names)) ≡ map (meant known) (names_in names)
+found_from known k [] h = refl
+found_from known k (n ∷ ns) h =
+    one_found known k n (position_from (λ (m : Name). is_none (meant known (name_bytes m))) (k + 1) ns) (map (meant known) (names_in ns))
+    (filter_map (meant known) (names_in ns)) (meant known (name_bytes n)) refl (found_from known (k + 1) ns) h
+
+-- nothing is wrong with its names
+right_names : (b : Bool) (o : Option ℕ) → wrong_if b (option_map NoEntry o) ≡ None → o ≡ None
+right_names true None h = refl
+right_names true (Some k) h = cc
+right_names false o h = cc
+
+pub arguments_found : (items : List Item) (groups : List GroupDeclaration) (k : ℕ) (i : PresetItem) (known : Known) → Says items groups
+    → slice_get items k ≡ Some (item.Preset i) → known_behind (take k items) ≡ Some known
+    → map (λ (a : PresetType). Some a) (preset_of known i).args ≡ map (meant known) (names_in i.args)
+arguments_found items groups k i known s at knows =
+    let none : wrong_at items k ≡ None = s.right k (slice_get_within items k (item.Preset i) at) in
+    let here : wrong_with (Some known) (item.Preset i) ≡ None =
+    sym (ap (option_and_then (wrong_with (Some known))) at)
+    ∙ ap (λ (o : Option Known). option_and_then (wrong_with o) (slice_get items k)) (sym knows) ∙ none in
+    found_from known 0 i.args (sym (position_from-zero (λ (n : Name). is_none (meant known (name_bytes n))) i.args) ∙ right_names _ _ here)

@@ -1,0 +1,90 @@
+-- Which item a fault of declarations is about.
+--     place_of_fault items fault      the place of the item that declares what the fault names
+use Rattle.std.specs.Prelude.{ℕ, ◌+◌, Bool, true, false, List, [], ◌∷◌, ◌++◌, Option, None, option_map, option_and_then, drop}
+use Rattle.std.specs.Prelude.{slice_get, if◌then◌else◌}
+use Rattle.std.specs.List.{before_first}
+use Rattle.meta_types.specs.declared.fault.Place.{Place}
+use Rattle.meta_types.specs.declared.fault.Place.TheVariants.{Instruction, Format, Group, Entry}
+use Rattle.meta_types.specs.declared.fault.DefinitionError.{DefinitionError}
+use Rattle.meta_types.specs.declared.fault.DefinitionError.TheVariants.{BadName, DuplicateName, TooManyOpcodes, BadOutput, FormatMismatch}
+use Rattle.meta_types.specs.declared.fault.DefinitionError.TheVariants.{NoControl, BadSecond, BadDerivation, TooManyOperands, BadImmMethod}
+use Rattle.meta_types.specs.declared.fault.DefinitionError.TheVariants.{BadFormat, FormatClash, TooManyTypeSets, BadEnum, BadPreset}
+use Rattle.meta_types.specs.declared.fault.DefinitionError.TheVariants.{TooManySettings, OutOfMemory}
+use Rattle.meta_items.specs.declared.items.Item.{Item}
+use Rattle.meta_items.specs.declared.items.Item.TheVariants as item
+
+-- whether an item opens a group, declares a setting, declares a preset
+abbrev pub is_group : Item → Bool
+is_group (item.Group n) = true
+is_group (item.Bool i) = false
+is_group (item.Num i) = false
+is_group (item.Enum i) = false
+is_group (item.Preset i) = false
+
+abbrev pub is_setting : Item → Bool
+is_setting (item.Group n) = false
+is_setting (item.Bool i) = true
+is_setting (item.Num i) = true
+is_setting (item.Enum i) = true
+is_setting (item.Preset i) = false
+
+abbrev pub is_preset : Item → Bool
+is_preset (item.Group n) = false
+is_preset (item.Bool i) = false
+is_preset (item.Num i) = false
+is_preset (item.Enum i) = false
+is_preset (item.Preset i) = true
+
+-- the places of the items that are so, where the first item stands at place n
+abbrev pub places_from : (Item → Bool) → ℕ → List Item → List ℕ
+places_from is n [] = []
+places_from is n (i ∷ items) = if is i then n ∷ places_from is (n + 1) items else places_from is (n + 1) items
+
+abbrev pub places_of : (Item → Bool) → List Item → List ℕ
+places_of is items = places_from is 0 items
+
+-- the items before the first group
+abbrev pub before_group : List Item → List Item
+before_group items = before_first is_group items
+
+-- the place of the item that opens this group
+abbrev pub place_of_group : List Item → ℕ → Option ℕ
+place_of_group items g = slice_get (places_of is_group items) g
+
+-- the places of the entries among the items of one group, in the order of the entries: the settings, and then the presets
+abbrev pub entry_places : List Item → List ℕ
+entry_places items = places_of is_setting items ++ places_of is_preset items
+
+-- the place of an entry of the group that is opened at a place: the items of the group stand behind it
+abbrev pub entry_behind : List Item → ℕ → ℕ → Option ℕ
+entry_behind items e p = option_map (λ k. p + 1 + k) (slice_get (entry_places (before_group (drop (p + 1) items))) e)
+
+-- the place of the item that declares this entry of this group
+abbrev pub place_of_entry : List Item → ℕ → ℕ → Option ℕ
+place_of_entry items g e = option_and_then (entry_behind items e) (place_of_group items g)
+
+abbrev pub item_of_place : List Item → Place → Option ℕ
+item_of_place items (Instruction i) = None
+item_of_place items (Format f) = None
+item_of_place items (Group g) = place_of_group items g
+item_of_place items (Entry g e) = place_of_entry items g e
+
+-- the place of the item that declares the group or the entry that the fault names; no item declares an instruction or a format
+abbrev pub place_of_fault : List Item → DefinitionError → Option ℕ
+place_of_fault items (BadName p) = item_of_place items p
+place_of_fault items (DuplicateName p earlier) = item_of_place items p
+place_of_fault items (TooManyOpcodes count) = None
+place_of_fault items (BadOutput i place) = None
+place_of_fault items (FormatMismatch i) = None
+place_of_fault items (NoControl i) = None
+place_of_fault items (BadSecond i) = None
+place_of_fault items (BadDerivation i place) = None
+place_of_fault items (TooManyOperands i count) = None
+place_of_fault items (BadImmMethod i) = None
+place_of_fault items (BadFormat f) = None
+place_of_fault items (FormatClash f earlier) = None
+place_of_fault items (TooManyTypeSets count) = None
+place_of_fault items (BadEnum g e) = place_of_entry items g e
+place_of_fault items (BadPreset g e) = place_of_entry items g e
+place_of_fault items (TooManySettings g bools bytes entries) = place_of_group items g
+place_of_fault items OutOfMemory = None

@@ -1,0 +1,12 @@
+-- What an item is to a group.
+use Rattle.std.specs.Prelude.{Bool}
+use Rattle.meta_items.specs.declared.items.Item.{Item}
+use Rattle.meta_items_declared.specs.declared.places.Sort.{Sort}
+use Rattle.meta_items_declared.specs.declared.places.Sort.TheVariants as sorts
+use Rattle.meta_items_declared.specs.Places.{is_group, is_setting, is_preset}
+
+-- whether an item is of a sort
+abbrev pub is_of : Sort → Item → Bool
+is_of sorts.Group i = is_group i
+is_of sorts.Setting i = is_setting i
+is_of sorts.Preset i = is_preset i

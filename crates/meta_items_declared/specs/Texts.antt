@@ -1,0 +1,29 @@
+-- The texts that an item holds.
+use Rattle.std.specs.Prelude.{ℕ, Bool, List, [], ◌∷◌, ◌++◌, Option, Some, None, map}
+use Rattle.std.specs.List.{list_all}
+use Rattle.std.specs.Str.{is_utf8}
+use Rattle.meta_items.specs.declared.name.Name.{Name}
+use Rattle.meta_items.specs.declared.items.Item.{Item}
+use Rattle.meta_items.specs.declared.items.Item.TheVariants as item
+use Rattle.meta_items.specs.Named.{name_bytes}
+
+-- a text that may be left out: then it is empty
+abbrev pub text_of : Option (List ℕ) → List ℕ
+text_of None = []
+text_of (Some t) = t
+
+-- names as bytes
+abbrev pub names_in : List Name → List (List ℕ)
+names_in names = map name_bytes names
+
+-- the texts that an item holds: its name, its comment, the lines of its documentation, and the names that it lists
+abbrev pub item_texts : Item → List (List ℕ)
+item_texts (item.Group n) = name_bytes n ∷ []
+item_texts (item.Bool i) = name_bytes i.name ∷ (text_of i.comment ∷ i.docs)
+item_texts (item.Num i) = name_bytes i.name ∷ (text_of i.comment ∷ i.docs)
+item_texts (item.Enum i) = name_bytes i.name ∷ (text_of i.comment ∷ (i.docs ++ names_in i.values))
+item_texts (item.Preset i) = name_bytes i.name ∷ (i.docs ++ names_in i.args)
+
+-- whether all of these are UTF-8
+abbrev pub are_texts : List (List ℕ) → Bool
+are_texts texts = list_all is_utf8 texts

@@ -1,0 +1,19 @@
+//! What the items of a file declare: groups of settings, with their settings and presets.
+//!
+//! `declare` makes declarations of items, or says which item is the first that is wrong, and why. `place_of_fault` says which item
+//! a fault of those declarations is about.
+#![tactic(auto)]
+
+mod declaring;
+mod first_numbers;
+mod laws;
+mod open_group;
+mod places;
+mod refused;
+mod texts;
+mod wrong;
+
+pub use declaring::declare;
+pub use laws::{each_name_has_its_argument, items_say_one_thing};
+pub use places::place_of_fault;
+pub use refused::{DeclareError, Reason};

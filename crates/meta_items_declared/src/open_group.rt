@@ -1,0 +1,164 @@
+ghost use Rattle.std.specs.Prelude.{◌≡◌, IfOk, OnOk};
+ghost use Rattle.std.specs.List.{filter_map};
+ghost use Rattle.meta_settings.specs.Declaring.{with_setting, with_preset};
+ghost use Rattle.meta_items_declared.specs.Named.{meant};
+ghost use Rattle.meta_items_declared.specs.Wrong.{missing_in};
+ghost use Rattle.meta_items_declared.specs.OpenGroup.{IsKept, known_of, empty_group, with_item};
+ghost use Rattle.meta_items_declared.specs.Texts.{names_in};
+ghost use Rattle.meta_items_declared.specs.Said.{bool_setting, num_setting, enum_setting, preset_of};
+
+use super::first_numbers::{add_first, number_of};
+use super::texts::{comment_text, description, name_texts, text_in};
+use meta_items::{BoolItem, EnumItem, Item, Name, NumItem, PresetItem};
+use meta_settings::{BoolSettingIndex, PresetIndex, PresetType, SettingGroupBuilder};
+use meta_types::Text;
+use std::alloc::{AllocError, Global};
+use std::collections::BTreeMap;
+
+/// The group that is open: what is declared of it so far, and what names stand for in its presets.
+#[derive(Drop)]
+pub(crate) struct OpenGroup {
+    /// What is declared.
+    pub(crate) builder: SettingGroupBuilder,
+    /// The number of the first of its booleans that has a name, and of the first of its presets.
+    booleans: BTreeMap<Vec<u8>, BoolSettingIndex>,
+    presets: BTreeMap<Vec<u8>, PresetIndex>,
+}
+
+impl OpenGroup {
+    /// A group of this name without settings and presets.
+    pub(crate) fn new(alloc: Global, name: Text) -> OpenGroup
+        ensures group { result.builder ≡ empty_group name }
+        ensures kept { IsKept result }
+    {
+        OpenGroup {
+            builder: SettingGroupBuilder::new(alloc, name),
+            booleans: BTreeMap::new(alloc),
+            presets: BTreeMap::new(alloc),
+        }
+    }
+
+    /// What a name stands for in a preset of the group.
+    fn meant(&self, name: &[u8]) -> Option<PresetType>
+        requires { IsKept self.now }
+        ensures { result ≡ meant (known_of self.now.builder) name.now }
+    {
+        if let Some(index) = number_of(&self.booleans, name) {
+            return Some(PresetType::from(index));
+        }
+        let index = number_of(&self.presets, name)?;
+        Some(PresetType::from(index))
+    }
+
+    /// The first of the names that stands for nothing.
+    pub(crate) fn missing_in(&self, names: &[Name]) -> Option<usize>
+        requires { IsKept self.now }
+        ensures { result ≡ missing_in (known_of self.now.builder) names.now }
+    {
+        for (place, name) in names.iter().enumerate() {
+            if self.meant(name.as_slice()).is_none() {
+                return Some(place);
+            }
+        }
+        None
+    }
+
+    /// What the names stand for.
+    fn all_meant(&self, alloc: Global, names: &[Name]) -> Result<Vec<PresetType>, AllocError>
+        requires { IsKept self.now }
+        ensures { IfOk result (λ v. v.items ≡ filter_map (meant (known_of self.now.builder)) (names_in names.now)) }
+    {
+        let mut meant = Vec::new(alloc);
+        for name in names {
+            if let Some(named) = self.meant(name.as_slice()) {
+                meant.push(named)?;
+            }
+        }
+        Ok(meant)
+    }
+
+    /// Adds a boolean.
+    fn add_bool(&mut self, alloc: Global, item: &BoolItem) -> Result<(), AllocError>
+        requires { IsKept self.old }
+        ensures added { OnOk result (self.new.builder ≡ with_setting self.old.builder (bool_setting item.now)) }
+        ensures kept { OnOk result (IsKept self.new) }
+    {
+        if !self.builder.has_room() {
+            return Err(AllocError);
+        }
+        let name = text_in(alloc, item.name.as_slice())?;
+        let description = description(alloc, &item.docs)?;
+        let comment = comment_text(alloc, &item.comment)?;
+        let index = self
+            .builder
+            .add_bool(name, description, comment, item.default)?;
+        add_first(alloc, &mut self.booleans, item.name.as_slice(), index)?;
+        Ok(())
+    }
+
+    /// Adds a number.
+    fn add_num(&mut self, alloc: Global, item: &NumItem) -> Result<(), AllocError>
+        requires { IsKept self.old }
+        ensures added { OnOk result (self.new.builder ≡ with_setting self.old.builder (num_setting item.now)) }
+        ensures kept { OnOk result (IsKept self.new) }
+    {
+        if !self.builder.has_room() {
+            return Err(AllocError);
+        }
+        let name = text_in(alloc, item.name.as_slice())?;
+        let description = description(alloc, &item.docs)?;
+        let comment = comment_text(alloc, &item.comment)?;
+        self.builder
+            .add_num(name, description, comment, item.default)
+    }
+
+    /// Adds an enum.
+    fn add_enum(&mut self, alloc: Global, item: &EnumItem) -> Result<(), AllocError>
+        requires { IsKept self.old }
+        ensures added { OnOk result (self.new.builder ≡ with_setting self.old.builder (enum_setting item.now)) }
+        ensures kept { OnOk result (IsKept self.new) }
+    {
+        if !self.builder.has_room() {
+            return Err(AllocError);
+        }
+        let name = text_in(alloc, item.name.as_slice())?;
+        let description = description(alloc, &item.docs)?;
+        let comment = comment_text(alloc, &item.comment)?;
+        let values = name_texts(alloc, item.values.as_slice())?;
+        self.builder.add_enum(name, description, comment, values)
+    }
+
+    /// Adds a preset, which turns on what its names stand for.
+    fn add_preset(&mut self, alloc: Global, item: &PresetItem) -> Result<(), AllocError>
+        requires { IsKept self.old }
+        ensures added { OnOk result (self.new.builder ≡ with_preset self.old.builder (preset_of (known_of self.old.builder) item.now)) }
+        ensures kept { OnOk result (IsKept self.new) }
+    {
+        if !self.builder.has_room() {
+            return Err(AllocError);
+        }
+        let name = text_in(alloc, item.name.as_slice())?;
+        let description = description(alloc, &item.docs)?;
+        let meant = self.all_meant(alloc, item.args.as_slice())?;
+        let index = self.builder.add_preset(name, description, meant)?;
+        add_first(alloc, &mut self.presets, item.name.as_slice(), index)?;
+        Ok(())
+    }
+}
+
+impl OpenGroup {
+    /// Adds the setting or the preset that an item declares; `group` adds nothing.
+    pub(crate) fn add(&mut self, alloc: Global, item: &Item) -> Result<(), AllocError>
+        requires { IsKept self.old }
+        ensures added { OnOk result (self.new.builder ≡ with_item self.old.builder item.now) }
+        ensures kept { OnOk result (IsKept self.new) }
+    {
+        match item {
+            Item::Group(_) => Ok(()),
+            Item::Bool(item) => self.add_bool(alloc, item),
+            Item::Num(item) => self.add_num(alloc, item),
+            Item::Enum(item) => self.add_enum(alloc, item),
+            Item::Preset(item) => self.add_preset(alloc, item),
+        }
+    }
+}

@@ -1,0 +1,143 @@
+ghost use Rattle.std.specs.Prelude.{◌≡◌, ◌<◌, ◌≤◌, IfSome, slice_get, length};
+ghost use Rattle.std.specs.List.{position};
+ghost use Rattle.meta_items_declared.specs.Places.{is_group, places_of, before_group, entry_places, place_of_entry, item_of_place};
+ghost use Rattle.meta_items_declared.specs.Places.{place_of_fault};
+ghost use Rattle.meta_items_declared.specs.Sorts.{is_of};
+
+use meta_items::Item;
+use meta_types::{DefinitionError, Place};
+
+/// What an item is to a group.
+#[derive(Clone, Copy)]
+enum Sort {
+    /// It opens one.
+    Group,
+    /// It declares a setting.
+    Setting,
+    /// It declares a preset.
+    Preset,
+}
+
+/// Whether the item is of the sort.
+fn is_of(sort: Sort, item: &Item) -> bool
+    ensures { result ≡ is_of sort item.now }
+{
+    match (sort, item) {
+        (Sort::Group, Item::Group(_)) => true,
+        (Sort::Setting, Item::Bool(_) | Item::Num(_) | Item::Enum(_)) => true,
+        (Sort::Preset, Item::Preset(_)) => true,
+        _ => false,
+    }
+}
+
+/// How many of the items are of the sort.
+fn count_of(sort: Sort, items: &[Item]) -> u64
+    ensures { result ≡ length (places_of (is_of sort) items.now) }
+{
+    let mut count = 0;
+    for item in items {
+        if is_of(sort, item) {
+            count += 1;
+        }
+    }
+    count
+}
+
+/// The place of the n-th item of the sort, from 0.
+fn nth(sort: Sort, items: &[Item], n: u64) -> Option<usize>
+    ensures place { result ≡ slice_get (places_of (is_of sort) items.now) n }
+    ensures within { IfSome result (λ place. place < length items.now) }
+{
+    let mut left = n;
+    for (place, item) in items.iter().enumerate() {
+        if is_of(sort, item) {
+            if left == 0 {
+                return Some(place);
+            }
+            left -= 1;
+        }
+    }
+    None
+}
+
+/// The place of the first group among the items.
+fn group_place(items: &[Item]) -> Option<usize>
+    ensures place { result ≡ position is_group items.now }
+    ensures within { IfSome result (λ place. place < length items.now) }
+{
+    items.iter().position(|item| is_of(Sort::Group, item))
+}
+
+/// The items before the first group.
+#[tactic(auto, using(crate::proofs::BeforeGroup::before_found, crate::proofs::BeforeGroup::before_none))]
+fn before_group(items: &[Item]) -> &[Item]
+    ensures items { result.now ≡ before_group items.now }
+    ensures shorter { length result.now ≤ length items.now }
+{
+    match group_place(items) {
+        Some(place) => items.split_at(place).0,
+        None => items,
+    }
+}
+
+/// The place of an entry among the items of its group.
+fn entry_in(items: &[Item], entry: u64) -> Option<usize>
+    ensures place { result ≡ slice_get (entry_places items.now) entry }
+    ensures within { IfSome result (λ place. place < length items.now) }
+{
+    let settings = count_of(Sort::Setting, items);
+    if entry < settings {
+        return nth(Sort::Setting, items, entry);
+    }
+    nth(Sort::Preset, items, entry - settings)
+}
+
+/// The place of the item that declares an entry of a group.
+fn place_of_entry(items: &[Item], group: u64, entry: u64) -> Option<usize>
+    ensures { result ≡ place_of_entry items.now group entry }
+{
+    let place = nth(Sort::Group, items, group)?;
+    let (_, behind) = items.split_at(place + 1);
+    let within = entry_in(before_group(behind), entry)?;
+    Some(place + 1 + within)
+}
+
+/// The place of the item that declares what stands at this place of declarations.
+fn item_of_place(items: &[Item], place: &Place) -> Option<usize>
+    ensures { result ≡ item_of_place items.now place.now }
+{
+    match place {
+        Place::Instruction(_) | Place::Format(_) => None,
+        Place::Group(group) => nth(Sort::Group, items, *group),
+        Place::Entry(group, entry) => place_of_entry(items, *group, *entry),
+    }
+}
+
+/// The place of the item, from 0, that declares the group, the setting or the preset which a fault of declarations names: of the
+/// declarations that these items make. `None` where it names an instruction, a format or nothing, which no item declares, or what
+/// the items don't have.
+pub fn place_of_fault(items: &[Item], fault: &DefinitionError) -> Option<usize>
+    ensures { result ≡ place_of_fault items.now fault.now }
+{
+    match fault {
+        DefinitionError::BadName(place) | DefinitionError::DuplicateName(place, _) => {
+            item_of_place(items, place)
+        }
+        DefinitionError::BadEnum(group, entry) | DefinitionError::BadPreset(group, entry) => {
+            place_of_entry(items, *group, *entry)
+        }
+        DefinitionError::TooManySettings(group, _, _, _) => nth(Sort::Group, items, *group),
+        DefinitionError::TooManyOpcodes(_)
+        | DefinitionError::BadOutput(_, _)
+        | DefinitionError::FormatMismatch(_)
+        | DefinitionError::NoControl(_)
+        | DefinitionError::BadSecond(_)
+        | DefinitionError::BadDerivation(_, _)
+        | DefinitionError::TooManyOperands(_, _)
+        | DefinitionError::BadImmMethod(_)
+        | DefinitionError::BadFormat(_)
+        | DefinitionError::FormatClash(_, _)
+        | DefinitionError::TooManyTypeSets(_)
+        | DefinitionError::OutOfMemory => None,
+    }
+}

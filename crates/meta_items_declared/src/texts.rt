@@ -1,0 +1,119 @@
+ghost use Rattle.std.specs.Prelude.{◌≡◌, ◌∷◌, IfOk};
+ghost use Rattle.std.specs.List.{list_all};
+ghost use Rattle.std.specs.Str.{is_utf8};
+ghost use Rattle.meta_items.specs.Named.{name_bytes, doc_text};
+ghost use Rattle.meta_items_declared.specs.Texts.{text_of, names_in, item_texts, are_texts};
+
+use meta_items::{Docs, Item, Name};
+use meta_tokens::Bytes;
+use meta_types::Text;
+use std::alloc::{AllocError, Global};
+use std::str;
+
+/// Whether the bytes are UTF-8.
+#[tactic(auto, using(crate::proofs::Utf8::is_text, crate::proofs::Utf8::no_text))]
+fn is_text(bytes: &[u8]) -> bool
+    ensures { result ≡ is_utf8 bytes.now }
+{
+    match str::from_utf8(bytes) {
+        Ok(_) => true,
+        Err(_) => false,
+    }
+}
+
+/// Whether each of the lines is UTF-8.
+fn are_lines(lines: &[Bytes]) -> bool
+    ensures { result ≡ list_all is_utf8 lines.now }
+{
+    for line in lines {
+        if !is_text(line.as_slice()) {
+            return false;
+        }
+    }
+    true
+}
+
+/// Whether each of the names is UTF-8.
+fn are_names(names: &[Name]) -> bool
+    ensures { result ≡ are_texts (names_in names.now) }
+{
+    for name in names {
+        if !is_text(name.as_slice()) {
+            return false;
+        }
+    }
+    true
+}
+
+/// The bytes of a text that may be left out.
+fn bytes_or_none(text: &Option<Bytes>) -> &[u8]
+    ensures { result.now ≡ text_of text.now }
+{
+    match text {
+        Some(bytes) => bytes.as_slice(),
+        None => &[],
+    }
+}
+
+/// Whether the name, the comment and the documentation of a setting are UTF-8.
+fn is_setting_text(name: &Name, comment: &Option<Bytes>, docs: &Docs) -> bool
+    ensures { result ≡ are_texts (name_bytes name.now ∷ (text_of comment.now ∷ docs.now)) }
+{
+    is_text(name.as_slice()) && is_text(bytes_or_none(comment)) && are_lines(docs.as_slice())
+}
+
+/// Whether all texts of an item are UTF-8.
+pub(crate) fn is_text_item(item: &Item) -> bool
+    ensures { result ≡ are_texts (item_texts item.now) }
+{
+    match item {
+        Item::Group(name) => is_text(name.as_slice()),
+        Item::Bool(item) => is_setting_text(&item.name, &item.comment, &item.docs),
+        Item::Num(item) => is_setting_text(&item.name, &item.comment, &item.docs),
+        Item::Enum(item) => {
+            is_setting_text(&item.name, &item.comment, &item.docs)
+                && are_names(item.values.as_slice())
+        }
+        Item::Preset(item) => {
+            is_text(item.name.as_slice())
+                && are_lines(item.docs.as_slice())
+                && are_names(item.args.as_slice())
+        }
+    }
+}
+
+/// The text that these bytes are. Bytes that are no UTF-8 are handled as want of memory: `is_text_item` tells before.
+pub(crate) fn text_in(alloc: Global, bytes: &[u8]) -> Result<Text, AllocError>
+    ensures { IfOk result (λ t. t ≡ bytes.now) }
+{
+    match str::from_utf8(bytes) {
+        Ok(text) => Text::new(alloc, text),
+        Err(_) => Err(AllocError),
+    }
+}
+
+/// The comment of a setting.
+pub(crate) fn comment_text(alloc: Global, comment: &Option<Bytes>) -> Result<Text, AllocError>
+    ensures { IfOk result (λ t. t ≡ text_of comment.now) }
+{
+    text_in(alloc, bytes_or_none(comment))
+}
+
+/// The documentation of an entry.
+pub(crate) fn description(alloc: Global, docs: &Docs) -> Result<Text, AllocError>
+    ensures { IfOk result (λ t. t ≡ doc_text docs.now) }
+{
+    let text = docs.text(alloc)?;
+    text_in(alloc, &text)
+}
+
+/// The names as texts.
+pub(crate) fn name_texts(alloc: Global, names: &[Name]) -> Result<Vec<Text>, AllocError>
+    ensures { IfOk result (λ v. v.items ≡ names_in names.now) }
+{
+    let mut texts = Vec::new(alloc);
+    for name in names {
+        texts.push(text_in(alloc, name.as_slice())?)?;
+    }
+    Ok(texts)
+}

@@ -1,0 +1,9 @@
+mod AllItems
+mod Clean
+mod KeyCount
+mod Loop
+mod NameLaws
+mod PartLaws
+mod Refusals
+mod SettingLaws
+mod Written

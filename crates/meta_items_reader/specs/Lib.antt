@@ -1,0 +1,4 @@
+pub mod ItemLines
+pub mod Reading
+pub mod Reason
+pub mod Refused

@@ -1,0 +1,130 @@
+ghost use Rattle.std.specs.Prelude.{◌≡◌, ◌++◌, ◌≤◌, List, length, slice_get, IfOk, OnOk, Ok, Err};
+ghost use Rattle.std.specs.Str.{IsUtf8};
+ghost use Rattle.meta_tokens.specs.Squeezed.{read_in, read_lines};
+ghost use Rattle.meta_items.specs.Spelling.{spelled_all};
+ghost use Rattle.meta_items.specs.declared.items.Item.{Item};
+ghost use Rattle.meta_items_reader.specs.declared.fault.Refusal.{Refusal};
+ghost use Rattle.meta_items_reader.specs.declared.fault.ReadError.TheVariants.{Refused};
+ghost use Rattle.meta_items_reader.specs.ItemLines.{key_line, key_lines};
+ghost use Rattle.meta_items_reader.specs.Reading.{Gives, items_at};
+ghost use Rattle.meta_items_reader.specs.Refused.{AllFit, IsRefusalOf, IsRefused, GivesItems, items_in};
+
+use super::fault::{Fault, PartError, ReadError, Refusal};
+use super::items::items;
+use meta_items::Item;
+use meta_tokens::{Token, Tokens, tokens_of};
+use std::alloc::{AllocError, Global};
+
+/// The items of a text, and their lines.
+#[derive(Drop)]
+pub struct ReadItems {
+    /// The items in order.
+    pub items: Vec<Item>,
+    /// The line of each item: that of its keyword.
+    pub lines: Vec<usize>,
+}
+
+/// Adds the line of a token, if it is a keyword.
+fn add_key_line(found: &mut Vec<usize>, token: &Token, line: usize) -> Result<(), AllocError>
+    ensures { OnOk result (found.new.items ≡ found.old.items ++ key_line token.now line) }
+{
+    match token {
+        Token::Key(_) => {
+            found.push(line)?;
+            Ok(())
+        }
+        _ => Ok(()),
+    }
+}
+
+/// The lines of the keywords.
+fn key_lines(alloc: Global, tokens: &[Token], lines: &[usize]) -> Result<Vec<usize>, AllocError>
+    requires { length lines.now ≡ length tokens.now }
+    ensures { IfOk result (λ v. v.items ≡ key_lines tokens.now lines.now) }
+{
+    let mut found = Vec::new(alloc);
+    for (place, token) in tokens.iter().enumerate() {
+        add_key_line(&mut found, token, lines[place])?;
+    }
+    Ok(found)
+}
+
+/// An equal token to that at a place, if one is there.
+fn token_at(alloc: Global, tokens: &[Token], place: usize) -> Result<Option<Token>, AllocError>
+    ensures { IfOk result (λ found. found ≡ slice_get tokens.now place) }
+{
+    match tokens.get(place) {
+        Some(token) => Ok(Some(token.copy(alloc)?)),
+        None => Ok(None),
+    }
+}
+
+/// The refusal that a fault is.
+fn refusal_of(alloc: Global, read: &Tokens, fault: Fault) -> Result<Refusal, AllocError>
+    requires { fault.left ≤ length read.now.tokens.items }
+    ensures { IfOk result (λ r. IsRefusalOf read.now.tokens.items read.now.lines.items read.now.last_line fault r) }
+{
+    let place = read.tokens.len() - fault.left;
+    let found = token_at(alloc, &read.tokens, place)?;
+    Ok(Refusal {
+        line: read.line_at(place),
+        wanted: fault.wanted,
+        found,
+    })
+}
+
+/// The items of these tokens, and their lines.
+#[tactic(auto, using(crate::proofs::Refusals::a_line_of_each))]
+fn items_of(alloc: Global, read: &Tokens) -> Result<ReadItems, PartError>
+    requires { length read.now.lines.items ≡ length read.now.tokens.items }
+    ensures items { Gives (λ v. v.items.items) result (items_at (length read.now.tokens.items) read.now.tokens.items) }
+    ensures lines { IfOk result (λ v. v.lines.items ≡ key_lines read.now.tokens.items read.now.lines.items) }
+    ensures each { IfOk result (λ v. length v.lines.items ≡ length v.items.items) }
+{
+    let found = items(alloc, &read.tokens)?;
+    let lines = key_lines(alloc, &read.tokens, &read.lines)?;
+    Ok(ReadItems {
+        items: found,
+        lines,
+    })
+}
+
+/// The items that the text is, or the refusal that its first fault is.
+#[tactic(auto, using(crate::proofs::AllItems::left_fits, crate::proofs::Refusals::gives_refusal))]
+fn read_text(alloc: Global, text: &[u8]) -> Result<ReadItems, ReadError>
+    ensures lines { IfOk result (λ v. v.lines.items ≡ key_lines (read_in text.now) (read_lines text.now)) }
+    ensures each { IfOk result (λ v. length v.lines.items ≡ length v.items.items) }
+    ensures exact { GivesItems (λ v. v.items.items) text.now result (items_in text.now) }
+{
+    let read = tokens_of(alloc, text)?;
+    match items_of(alloc, &read) {
+        Ok(items) => Ok(items),
+        Err(PartError::Fault(fault)) => {
+            let refusal = refusal_of(alloc, &read, fault)?;
+            Err(ReadError::Refused(refusal))
+        }
+        Err(PartError::Memory) => Err(ReadError::Memory),
+    }
+}
+
+/// The items that the text is.
+pub fn read_items(alloc: Global, text: &[u8]) -> Result<ReadItems, ReadError>
+    // What is read is spelled so.
+    ensures found { IfOk result (λ v. read_in text.now ≡ spelled_all v.items.items) }
+    // Each number is one of a byte.
+    ensures fit { IfOk result (λ v. AllFit v.items.items) }
+    // A text that isn't UTF-8 is no items.
+    ensures utf8 { IfOk result (λ _. IsUtf8 text.now) }
+    // Each item has the line of its keyword.
+    ensures lines { IfOk result (λ v. v.lines.items ≡ key_lines (read_in text.now) (read_lines text.now)) }
+    ensures each { IfOk result (λ v. length v.lines.items ≡ length v.items.items) }
+    // What is spelled so is read, unless memory runs out.
+    ensures only { (is : List Item) → AllFit is → read_in text.now ≡ spelled_all is
+        → GivesItems (λ v. v.items.items) text.now result (Ok is) }
+    // What is refused is some items, and then what no item begins; the refusal stands there.
+    ensures refused { (r : Refusal) → result ≡ Err (Refused r) → IsRefused text.now r }
+    // Which refusal it is.
+    ensures exact { GivesItems (λ v. v.items.items) text.now result (items_in text.now) }
+{
+    read_text(alloc, text)
+}

@@ -1,0 +1,113 @@
+ghost use Rattle.std.specs.Prelude.{◌≡◌, ◌<◌, ◌^◌, ◌++◌, ◌∷◌, [], OnOk, IfOk};
+ghost use Rattle.meta_items_reader.specs.Reason.{back_quoted, wanted_text, hex_digit, flaw_text, wanted_found, reason_by, reason_of};
+
+use super::fault::{Refusal, Wanted};
+use meta_tokens::{Flaw, Token};
+use std::alloc::{AllocError, Global};
+
+/// Adds bytes between two back quotes.
+pub fn write_back_quoted(text: &mut Vec<u8>, bytes: &[u8]) -> Result<(), AllocError>
+    ensures { OnOk result (text.new.items ≡ text.old.items ++ back_quoted bytes.now) }
+{
+    text.extend_from_slice(b"`")?;
+    text.extend_from_slice(bytes)?;
+    text.extend_from_slice(b"`")
+}
+
+/// Adds what was wanted.
+fn write_wanted(text: &mut Vec<u8>, wanted: Wanted) -> Result<(), AllocError>
+    ensures { OnOk result (text.new.items ≡ text.old.items ++ wanted_text wanted) }
+{
+    match wanted {
+        Wanted::Item => text.extend_from_slice(b"group, bool, num, enum or preset"),
+        Wanted::Documented => {
+            text.extend_from_slice(b"behind documentation bool, num, enum or preset")
+        }
+        Wanted::GroupName => text.extend_from_slice(b"the name of the group"),
+        Wanted::SettingName => text.extend_from_slice(b"the name of the setting"),
+        Wanted::PresetName => text.extend_from_slice(b"the name of the preset"),
+        Wanted::Value => text.extend_from_slice(b"a value"),
+        Wanted::Argument => text.extend_from_slice(b"a boolean or a preset"),
+        Wanted::Sign(sign) => write_back_quoted(text, &[sign]),
+        Wanted::CommaOrClose => text.extend_from_slice(b"`,` or `)`"),
+        Wanted::Truth => text.extend_from_slice(b"true or false"),
+        Wanted::Byte => text.extend_from_slice(b"a number from 0 to 255"),
+    }
+}
+
+/// A digit of a number to the base 16.
+fn hex_digit(digit: u8) -> u8
+    requires { digit < 16 }
+    ensures { result ≡ hex_digit digit }
+{
+    if digit < 10 { b'0' + digit } else { 87 + digit }
+}
+
+/// Adds what is wrong with what is no token.
+fn write_flaw(text: &mut Vec<u8>, flaw: Flaw) -> Result<(), AllocError>
+    ensures { OnOk result (text.new.items ≡ text.old.items ++ flaw_text flaw) }
+{
+    match flaw {
+        Flaw::NoClosingQuote => text.extend_from_slice(b"a text without its closing quote"),
+        Flaw::BadEscape => {
+            text.extend_from_slice(b"behind a backslash stands a quote, a backslash or n")
+        }
+        Flaw::LoneSlash => text.extend_from_slice(b"a comment begins with two slashes"),
+        Flaw::NotUtf8 => text.extend_from_slice(b"the line is not UTF-8"),
+        Flaw::StrayByte(byte) => {
+            if matches!(byte, b' '..=b'~') {
+                text.extend_from_slice(b"a sign that no item has: ")?;
+                return text.extend_from_slice(&[byte]);
+            }
+            text.extend_from_slice(b"a byte that no item has: 0x")?;
+            text.extend_from_slice(&[hex_digit(byte / 16), hex_digit(byte % 16)])
+        }
+    }
+}
+
+/// Adds what was found, which is a token of an item here.
+fn write_found(text: &mut Vec<u8>, wanted: Wanted, found: &[u8]) -> Result<(), AllocError>
+    ensures { OnOk result (text.new.items ≡ text.old.items ++ wanted_found wanted found.now) }
+{
+    text.extend_from_slice(b"wanted ")?;
+    write_wanted(text, wanted)?;
+    text.extend_from_slice(b", found ")?;
+    text.extend_from_slice(found)
+}
+
+/// Adds what was wanted, and what was found between back quotes.
+fn write_found_word(text: &mut Vec<u8>, wanted: Wanted, found: &[u8]) -> Result<(), AllocError>
+    ensures { OnOk result (text.new.items ≡ text.old.items ++ wanted_found wanted (back_quoted found.now)) }
+{
+    text.extend_from_slice(b"wanted ")?;
+    write_wanted(text, wanted)?;
+    text.extend_from_slice(b", found ")?;
+    write_back_quoted(text, found)
+}
+
+/// Adds the reason.
+fn write_reason(text: &mut Vec<u8>, wanted: Wanted, found: &Option<Token>) -> Result<(), AllocError>
+    ensures { OnOk result (text.new.items ≡ text.old.items ++ reason_by wanted found.now) }
+{
+    match found {
+        None => write_found(text, wanted, b"the end"),
+        Some(Token::Key(keyword)) => write_found_word(text, wanted, keyword.as_slice()),
+        Some(Token::Word(word)) => write_found_word(text, wanted, word.as_slice()),
+        Some(Token::Quoted(_)) => write_found(text, wanted, b"a text"),
+        Some(Token::Sign(sign)) => write_found_word(text, wanted, &[*sign]),
+        Some(Token::Doc(_)) => write_found(text, wanted, b"documentation"),
+        Some(Token::Stray(flaw)) => write_flaw(text, *flaw),
+    }
+}
+
+impl Refusal {
+    /// Why the text is refused, in words: what was wanted and what was found, or what is wrong with what is no token.
+    #[tactic(auto, unfolding(crate::specs::Reason::reason_of))]
+    pub fn reason(&self, alloc: Global) -> Result<Vec<u8>, AllocError>
+        ensures { IfOk result (λ v. v.items ≡ reason_of self.now) }
+    {
+        let mut text = Vec::new(alloc);
+        write_reason(&mut text, self.wanted, &self.found)?;
+        Ok(text)
+    }
+}

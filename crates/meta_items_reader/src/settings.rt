@@ -1,0 +1,90 @@
+ghost use Rattle.meta_items_reader.specs.Reading.{Gives, bool_item_at, num_item_at, enum_item_at, preset_item_at};
+
+use super::fault::{PartError, Wanted};
+use super::names::names_of;
+use super::parts::{behind_sign, byte, comment, name_of, truth};
+use meta_items::{BoolItem, Docs, EnumItem, NumItem, PresetItem};
+use meta_tokens::Token;
+use std::alloc::Global;
+
+/// Reads a boolean behind its keyword.
+#[tactic(auto, unfolding(crate::specs::Reading::bool_item_at))]
+pub(crate) fn bool_item(
+    alloc: Global,
+    docs: Docs,
+    tokens: &[Token],
+) -> Result<(BoolItem, &[Token]), PartError>
+    ensures { Gives (λ x. (x.0, x.1.now)) result (bool_item_at docs tokens.now) }
+{
+    let (name, rest) = name_of(alloc, tokens, Wanted::SettingName)?;
+    let rest = behind_sign(rest, b'=')?;
+    let (default, rest) = truth(rest)?;
+    let (comment, rest) = comment(alloc, rest)?;
+    let item = BoolItem {
+        docs,
+        name,
+        default,
+        comment,
+    };
+    Ok((item, rest))
+}
+
+/// Reads a number behind its keyword.
+#[tactic(auto, unfolding(crate::specs::Reading::num_item_at))]
+pub(crate) fn num_item(
+    alloc: Global,
+    docs: Docs,
+    tokens: &[Token],
+) -> Result<(NumItem, &[Token]), PartError>
+    ensures { Gives (λ x. (x.0, x.1.now)) result (num_item_at docs tokens.now) }
+{
+    let (name, rest) = name_of(alloc, tokens, Wanted::SettingName)?;
+    let rest = behind_sign(rest, b'=')?;
+    let (default, rest) = byte(rest)?;
+    let (comment, rest) = comment(alloc, rest)?;
+    let item = NumItem {
+        docs,
+        name,
+        default,
+        comment,
+    };
+    Ok((item, rest))
+}
+
+/// Reads an enum behind its keyword.
+#[tactic(auto, unfolding(crate::specs::Reading::enum_item_at))]
+pub(crate) fn enum_item(
+    alloc: Global,
+    docs: Docs,
+    tokens: &[Token],
+) -> Result<(EnumItem, &[Token]), PartError>
+    ensures { Gives (λ x. (x.0, x.1.now)) result (enum_item_at docs tokens.now) }
+{
+    let (name, rest) = name_of(alloc, tokens, Wanted::SettingName)?;
+    let rest = behind_sign(rest, b'(')?;
+    let (values, rest) = names_of(alloc, rest, Wanted::Value)?;
+    let (comment, rest) = comment(alloc, rest)?;
+    let item = EnumItem {
+        docs,
+        name,
+        values,
+        comment,
+    };
+    Ok((item, rest))
+}
+
+/// Reads a preset behind its keyword.
+#[tactic(auto, unfolding(crate::specs::Reading::preset_item_at))]
+pub(crate) fn preset_item(
+    alloc: Global,
+    docs: Docs,
+    tokens: &[Token],
+) -> Result<(PresetItem, &[Token]), PartError>
+    ensures { Gives (λ x. (x.0, x.1.now)) result (preset_item_at docs tokens.now) }
+{
+    let (name, rest) = name_of(alloc, tokens, Wanted::PresetName)?;
+    let rest = behind_sign(rest, b'(')?;
+    let (args, rest) = names_of(alloc, rest, Wanted::Argument)?;
+    let item = PresetItem { docs, name, args };
+    Ok((item, rest))
+}

@@ -1,0 +1,429 @@
+ghost use Rattle.std.specs.Prelude.{◌≡◌, ◌==◌, ◌+◌, ◌^◌, ◌<◌, ◌≤◌, ◌-◌, ◌++◌, ◌∷◌, [], length, replicate, IfOk, OnOk};
+ghost use Rattle.std.specs.Str.Lines.{strip_carriage_return};
+ghost use Rattle.meta_tokens.specs.declared.token.Token.TheVariants.{Word, Quoted, Sign, Doc, Stray};
+ghost use Rattle.meta_tokens.specs.declared.scanner.Mode.{Mode};
+ghost use Rattle.meta_tokens.specs.Scan.{in_mode, word_token, is_word_byte, is_blank, is_sign, class_of, begun, told, next, ended_by};
+ghost use Rattle.meta_tokens.specs.Scan.{ended, after, given, tokens_in};
+ghost use Rattle.meta_tokens.specs.TokenLines.{line_behind, lines_in, last_line_in};
+
+use super::bytes::Bytes;
+use super::flaw::Flaw;
+use super::keyword::Keyword;
+use super::token::Token;
+use super::tokens::Tokens;
+use std::alloc::{AllocError, Global};
+use std::mem;
+
+/// What is being read.
+#[derive(Clone, Copy)]
+enum Mode {
+    /// Nothing, at the front of a line.
+    Start,
+    /// Nothing, behind something else of the line.
+    Between,
+    /// A word.
+    InWord,
+    /// A text between quotes.
+    InText,
+    /// Such a text, behind a backslash.
+    Escape,
+    /// Behind one slash.
+    Slash,
+    /// Behind one slash at the front of a line.
+    StartSlash,
+    /// Behind two of them.
+    TwoSlashes,
+    /// Behind three of them.
+    ThreeSlashes,
+    /// A line of documentation.
+    InDoc,
+    /// A comment.
+    Comment,
+    /// The rest of a line, behind what no item has.
+    Lost,
+}
+
+/// What a byte is, where nothing began.
+#[derive(Clone, Copy)]
+enum Class {
+    WordByte,
+    Blank,
+    Quote,
+    SlashByte,
+    SignByte,
+    NoClass,
+}
+
+/// Reads a text byte after byte.
+#[derive(Drop)]
+struct Scanner {
+    alloc: Global,
+    mode: Mode,
+    bytes: Vec<u8>,
+    tokens: Vec<Token>,
+}
+
+/// Whether it is a letter, a digit or `_`.
+fn is_word_byte(byte: u8) -> bool
+    ensures { result ≡ is_word_byte byte }
+{
+    matches!(byte, b'a'..=b'z' | b'A'..=b'Z' | b'0'..=b'9' | b'_')
+}
+
+/// Whether it is a blank.
+fn is_blank(byte: u8) -> bool
+    ensures { result ≡ is_blank byte }
+{
+    matches!(byte, b' ' | b'\t' | b'\r')
+}
+
+/// Whether it is a sign.
+fn is_sign(byte: u8) -> bool
+    ensures { result ≡ is_sign byte }
+{
+    matches!(
+        byte,
+        b'=' | b':' | b',' | b'(' | b')' | b'[' | b']' | b'-' | b'>' | b'.'
+    )
+}
+
+/// The token that a whole word is.
+fn word_token(bytes: Vec<u8>) -> Token
+    ensures { result ≡ word_token bytes.items }
+{
+    match Keyword::of(&bytes) {
+        Some(keyword) => Token::Key(keyword),
+        None => Token::Word(Bytes::of(bytes)),
+    }
+}
+
+/// The line without the one CR at its end, if it has one.
+fn without_cr(mut line: Vec<u8>) -> Vec<u8>
+    ensures { result.items ≡ strip_carriage_return line.items }
+{
+    if line.last() == Some(&b'\r') {
+        line.pop();
+    }
+    line
+}
+
+impl Scanner {
+    /// Takes the bytes so far, and leaves none.
+    fn taken(&mut self) -> Vec<u8>
+        ensures bytes { result.items ≡ self.old.bytes.items }
+        ensures left { self.new.bytes.items ≡ [] }
+        ensures tokens { self.new.tokens.items ≡ self.old.tokens.items }
+        ensures mode { self.new.mode ≡ self.old.mode }
+    {
+        mem::replace(&mut self.bytes, Vec::new(self.alloc))
+    }
+
+    /// Goes on in a mode, without bytes.
+    fn enter(&mut self, mode: Mode)
+        ensures mode { self.new.mode ≡ mode }
+        ensures bytes { self.new.bytes.items ≡ [] }
+        ensures tokens { self.new.tokens.items ≡ self.old.tokens.items }
+    {
+        self.mode = mode;
+        self.bytes.clear();
+    }
+
+    /// Adds a token.
+    fn add(&mut self, token: Token) -> Result<(), AllocError>
+        ensures tokens { OnOk result (self.new.tokens.items ≡ self.old.tokens.items ++ token ∷ []) }
+        ensures mode { self.new.mode ≡ self.old.mode }
+        ensures bytes { self.new.bytes.items ≡ self.old.bytes.items }
+    {
+        self.tokens.push(token)?;
+        Ok(())
+    }
+
+    /// Adds a byte to what is being read, and goes on in a mode.
+    fn keep(&mut self, mode: Mode, byte: u8) -> Result<(), AllocError>
+        ensures tokens { self.new.tokens.items ≡ self.old.tokens.items }
+        ensures mode { self.new.mode ≡ mode }
+        ensures bytes { OnOk result (self.new.bytes.items ≡ self.old.bytes.items ++ byte ∷ []) }
+    {
+        self.mode = mode;
+        self.bytes.push(byte)?;
+        Ok(())
+    }
+
+    /// Reads a byte where nothing began, at the front of a line or behind it.
+    fn begin(&mut self, front: bool, byte: u8) -> Result<(), AllocError>
+        ensures state { OnOk result (in_mode self.new.mode self.new.bytes.items ≡ begun front (class_of byte) byte) }
+        ensures tokens { OnOk result (self.new.tokens.items ≡ self.old.tokens.items ++ told (class_of byte) byte) }
+    {
+        match class_of(byte) {
+            Class::WordByte => {
+                self.enter(Mode::InWord);
+                self.keep(Mode::InWord, byte)
+            }
+            Class::Blank => {
+                self.enter(if front { Mode::Start } else { Mode::Between });
+                Ok(())
+            }
+            Class::Quote => {
+                self.enter(Mode::InText);
+                Ok(())
+            }
+            Class::SlashByte => {
+                self.enter(if front { Mode::StartSlash } else { Mode::Slash });
+                Ok(())
+            }
+            Class::SignByte => {
+                self.enter(Mode::Between);
+                self.add(Token::Sign(byte))
+            }
+            Class::NoClass => {
+                self.enter(Mode::Lost);
+                self.add(Token::Stray(Flaw::StrayByte(byte)))
+            }
+        }
+    }
+
+    /// Reads a byte in a word, or behind it.
+    #[tactic(auto, unfolding(crate::specs::Scan::next, crate::specs::Scan::ended_by))]
+    fn go_on_in_word(&mut self, byte: u8) -> Result<(), AllocError>
+        ensures state { OnOk result (in_mode self.new.mode self.new.bytes.items ≡ next Mode.InWord self.old.bytes.items byte) }
+        ensures tokens { OnOk result (self.new.tokens.items ≡ self.old.tokens.items ++ ended_by Mode.InWord self.old.bytes.items byte) }
+    {
+        if is_word_byte(byte) {
+            return self.keep(Mode::InWord, byte);
+        }
+        let word = self.taken();
+        self.add(word_token(word))?;
+        self.begin(false, byte)
+    }
+
+    /// Reads a byte in a text.
+    #[tactic(auto, unfolding(crate::specs::Scan::next, crate::specs::Scan::ended_by))]
+    fn go_on_in_text(&mut self, byte: u8) -> Result<(), AllocError>
+        ensures state { OnOk result (in_mode self.new.mode self.new.bytes.items ≡ next Mode.InText self.old.bytes.items byte) }
+        ensures tokens { OnOk result (self.new.tokens.items ≡ self.old.tokens.items ++ ended_by Mode.InText self.old.bytes.items byte) }
+    {
+        match byte {
+            b'"' => {
+                let text = self.taken();
+                self.enter(Mode::Between);
+                self.add(Token::Quoted(Bytes::of(text)))
+            }
+            b'\\' => {
+                self.mode = Mode::Escape;
+                Ok(())
+            }
+            _ => self.keep(Mode::InText, byte),
+        }
+    }
+
+    /// Reads a byte behind a backslash.
+    #[tactic(auto, unfolding(crate::specs::Scan::next, crate::specs::Scan::ended_by))]
+    fn escape(&mut self, byte: u8) -> Result<(), AllocError>
+        ensures state { OnOk result (in_mode self.new.mode self.new.bytes.items ≡ next Mode.Escape self.old.bytes.items byte) }
+        ensures tokens { OnOk result (self.new.tokens.items ≡ self.old.tokens.items ++ ended_by Mode.Escape self.old.bytes.items byte) }
+    {
+        match byte {
+            b'n' => self.keep(Mode::InText, b'\n'),
+            b'"' | b'\\' => self.keep(Mode::InText, byte),
+            _ => {
+                self.enter(Mode::Lost);
+                self.add(Token::Stray(Flaw::BadEscape))
+            }
+        }
+    }
+
+    /// Reads a byte behind a slash.
+    #[tactic(auto, unfolding(crate::specs::Scan::next, crate::specs::Scan::ended_by))]
+    fn go_on_behind_slash(&mut self, byte: u8) -> Result<(), AllocError>
+        ensures state { OnOk result (in_mode self.new.mode self.new.bytes.items ≡ next Mode.Slash self.old.bytes.items byte) }
+        ensures tokens { OnOk result (self.new.tokens.items ≡ self.old.tokens.items ++ ended_by Mode.Slash self.old.bytes.items byte) }
+    {
+        if byte == b'/' {
+            self.enter(Mode::Comment);
+            return Ok(());
+        }
+        self.enter(Mode::Lost);
+        self.add(Token::Stray(Flaw::LoneSlash))
+    }
+
+    /// Reads a byte behind a slash at the front of a line.
+    #[tactic(auto, unfolding(crate::specs::Scan::next, crate::specs::Scan::ended_by))]
+    fn go_on_behind_first_slash(&mut self, byte: u8) -> Result<(), AllocError>
+        ensures state { OnOk result (in_mode self.new.mode self.new.bytes.items ≡ next Mode.StartSlash self.old.bytes.items byte) }
+        ensures tokens { OnOk result (self.new.tokens.items ≡ self.old.tokens.items ++ ended_by Mode.StartSlash self.old.bytes.items byte) }
+    {
+        if byte == b'/' {
+            self.enter(Mode::TwoSlashes);
+            return Ok(());
+        }
+        self.enter(Mode::Lost);
+        self.add(Token::Stray(Flaw::LoneSlash))
+    }
+
+    /// Reads a byte behind two slashes at the front of a line.
+    #[tactic(auto, unfolding(crate::specs::Scan::next, crate::specs::Scan::ended_by))]
+    fn go_on_behind_two_slashes(&mut self, byte: u8) -> Result<(), AllocError>
+        ensures state { OnOk result (in_mode self.new.mode self.new.bytes.items ≡ next Mode.TwoSlashes self.old.bytes.items byte) }
+        ensures tokens { OnOk result (self.new.tokens.items ≡ self.old.tokens.items ++ ended_by Mode.TwoSlashes self.old.bytes.items byte) }
+    {
+        if byte == b'/' {
+            self.enter(Mode::ThreeSlashes);
+            return Ok(());
+        }
+        self.enter(Mode::Comment);
+        Ok(())
+    }
+
+    /// Reads a byte behind three slashes at the front of a line.
+    #[tactic(auto, unfolding(crate::specs::Scan::next, crate::specs::Scan::ended_by))]
+    fn go_on_behind_three_slashes(&mut self, byte: u8) -> Result<(), AllocError>
+        ensures state { OnOk result (in_mode self.new.mode self.new.bytes.items ≡ next Mode.ThreeSlashes self.old.bytes.items byte) }
+        ensures tokens { OnOk result (self.new.tokens.items ≡ self.old.tokens.items
+            ++ ended_by Mode.ThreeSlashes self.old.bytes.items byte) }
+    {
+        match byte {
+            b'/' => {
+                self.enter(Mode::Comment);
+                Ok(())
+            }
+            b' ' => {
+                self.enter(Mode::InDoc);
+                Ok(())
+            }
+            _ => {
+                self.enter(Mode::InDoc);
+                self.keep(Mode::InDoc, byte)
+            }
+        }
+    }
+
+    /// Reads a byte that isn't LF.
+    #[tactic(auto, unfolding(crate::specs::Scan::next, crate::specs::Scan::ended_by))]
+    fn step(&mut self, byte: u8) -> Result<(), AllocError>
+        ensures state { OnOk result (in_mode self.new.mode self.new.bytes.items ≡ next self.old.mode self.old.bytes.items byte) }
+        ensures tokens { OnOk result (self.new.tokens.items ≡ self.old.tokens.items ++ ended_by self.old.mode self.old.bytes.items byte) }
+    {
+        match self.mode {
+            Mode::Start => self.begin(true, byte),
+            Mode::Between => self.begin(false, byte),
+            Mode::InWord => self.go_on_in_word(byte),
+            Mode::InText => self.go_on_in_text(byte),
+            Mode::Escape => self.escape(byte),
+            Mode::Slash => self.go_on_behind_slash(byte),
+            Mode::StartSlash => self.go_on_behind_first_slash(byte),
+            Mode::TwoSlashes => self.go_on_behind_two_slashes(byte),
+            Mode::ThreeSlashes => self.go_on_behind_three_slashes(byte),
+            Mode::InDoc => self.keep(Mode::InDoc, byte),
+            Mode::Comment => {
+                self.enter(Mode::Comment);
+                Ok(())
+            }
+            Mode::Lost => {
+                self.enter(Mode::Lost);
+                Ok(())
+            }
+        }
+    }
+
+    /// Ends a line.
+    #[tactic(auto, unfolding(crate::specs::Scan::ended))]
+    fn end_line(&mut self) -> Result<(), AllocError>
+        ensures state { OnOk result (in_mode self.new.mode self.new.bytes.items ≡ in_mode Mode.Start []) }
+        ensures tokens { OnOk result (self.new.tokens.items ≡ self.old.tokens.items ++ ended self.old.mode self.old.bytes.items) }
+    {
+        let (mode, bytes) = (self.mode, self.taken());
+        self.enter(Mode::Start);
+        match mode {
+            Mode::InWord => self.add(word_token(bytes)),
+            Mode::InText => self.add(Token::Stray(Flaw::NoClosingQuote)),
+            Mode::Escape => self.add(Token::Stray(Flaw::BadEscape)),
+            Mode::Slash | Mode::StartSlash => self.add(Token::Stray(Flaw::LoneSlash)),
+            Mode::ThreeSlashes => self.add(Token::Doc(Bytes::of(Vec::new(self.alloc)))),
+            Mode::InDoc => self.add(Token::Doc(Bytes::of(without_cr(bytes)))),
+            Mode::Start | Mode::Between | Mode::TwoSlashes | Mode::Comment | Mode::Lost => Ok(()),
+        }
+    }
+
+    /// Reads a byte.
+    fn take(&mut self, byte: u8) -> Result<(), AllocError>
+        ensures state { OnOk result (in_mode self.new.mode self.new.bytes.items ≡ after self.old.mode self.old.bytes.items byte) }
+        ensures tokens { OnOk result (self.new.tokens.items ≡ self.old.tokens.items ++ given self.old.mode self.old.bytes.items byte) }
+    {
+        if byte == b'\n' {
+            return self.end_line();
+        }
+        self.step(byte)
+    }
+}
+
+/// The class of a byte.
+#[tactic(auto, unfolding(crate::specs::Scan::class_of))]
+fn class_of(byte: u8) -> Class
+    ensures { result ≡ class_of byte }
+{
+    if is_word_byte(byte) {
+        return Class::WordByte;
+    }
+    if is_blank(byte) {
+        return Class::Blank;
+    }
+    if byte == b'"' {
+        return Class::Quote;
+    }
+    if byte == b'/' {
+        return Class::SlashByte;
+    }
+    if is_sign(byte) {
+        return Class::SignByte;
+    }
+    Class::NoClass
+}
+
+/// The line behind a byte.
+pub(crate) fn line_behind(line: usize, byte: u8) -> usize
+    requires { line + 1 < 2 ^ 64 }
+    ensures { result ≡ line_behind line byte }
+{
+    if byte == b'\n' { line + 1 } else { line }
+}
+
+/// Gives a line to each token that has none yet.
+#[tactic(auto, using(std::proofs::lemmas::List::take_all))]
+fn number(lines: &mut Vec<usize>, tokens: &[Token], line: usize) -> Result<(), AllocError>
+    requires { length lines.old.items ≤ length tokens.now }
+    ensures { OnOk result (lines.new.items ≡ lines.old.items ++ replicate (length tokens.now - length lines.old.items) line) }
+{
+    lines.resize(tokens.len(), line)
+}
+
+/// The tokens of a text, with their lines.
+pub(crate) fn scan(alloc: Global, text: &[u8]) -> Result<Tokens, AllocError>
+    ensures tokens { IfOk result (λ v. v.tokens.items ≡ tokens_in text.now) }
+    ensures lines { IfOk result (λ v. v.lines.items ≡ lines_in text.now) }
+    ensures last { IfOk result (λ v. v.last_line ≡ last_line_in text.now) }
+    // Each token has a line.
+    ensures each { IfOk result (λ v. length v.lines.items ≡ length v.tokens.items) }
+{
+    let mut scanner = Scanner {
+        alloc,
+        mode: Mode::Start,
+        bytes: Vec::new(alloc),
+        tokens: Vec::new(alloc),
+    };
+    let mut lines = Vec::new(alloc);
+    let mut line = 1;
+    let mut last_line = 1;
+    for byte in text {
+        scanner.take(*byte)?;
+        number(&mut lines, &scanner.tokens, line)?;
+        last_line = line;
+        line = line_behind(line, *byte);
+    }
+    scanner.end_line()?;
+    number(&mut lines, &scanner.tokens, line)?;
+    Ok(Tokens {
+        tokens: scanner.tokens,
+        lines,
+        last_line,
+    })
+}

@@ -1,0 +1,99 @@
+use meta_file::{FileEnding, Over, run_file};
+use meta_text::MemorySink;
+use meta_types::Text;
+use rows_outside::Outside;
+use rows_words::Trouble;
+use std::alloc::{AllocError, Global};
+use std::io::{self, Write};
+
+/// What the path of a file is in messages.
+pub(crate) const PATH: &[u8] = b"FILE";
+
+/// Words, a text each. No words are an empty text.
+fn texts_of(alloc: Global, words: &str) -> Result<Vec<Text>, AllocError> {
+    let mut texts = Vec::new(alloc);
+    for word in words.split(' ') {
+        if !word.is_empty() {
+            texts.push(Text::new(alloc, word)?)?;
+        }
+    }
+    Ok(texts)
+}
+
+/// How a run over a file ended, and what its sink took.
+#[derive(Drop)]
+pub(crate) struct Ran {
+    ending: FileEnding,
+    sink: MemorySink,
+}
+
+impl Ran {
+    /// Runs the words over a file of this text.
+    pub(crate) fn of(
+        alloc: Global,
+        words: &str,
+        (file, text): (Outside, &[u8]),
+        (outside, input): (Outside, &[u8]),
+    ) -> Result<Ran, Trouble> {
+        let words = texts_of(alloc, words)?;
+        let mut file = file.source(alloc, text)?;
+        let mut source = outside.source(alloc, input)?;
+        let mut sink = outside.sink(alloc)?;
+        let ending = run_file(alloc, &words, PATH, &mut file, &mut source, &mut sink);
+        Ok(Ran { ending, sink })
+    }
+
+    /// Writes what the sink took, why the file was refused, if it was, and the status.
+    pub(crate) fn write(&self, rt: &HostRuntime) -> io::Result<()> {
+        io::writer(rt).write_all(self.sink.bytes())?;
+        self.write_ending(rt)
+    }
+
+    /// Writes how what the sink took stands to what it has to be, and the rest as `write` does.
+    pub(crate) fn write_against(&self, rt: &HostRuntime, wanted: &[u8]) -> io::Result<()> {
+        let bytes = self.sink.bytes();
+        if bytes == wanted {
+            println!(rt; "same")?;
+        } else if bytes.ends_with(wanted) {
+            println!(rt; "ends so")?;
+        } else {
+            println!(rt; "other")?;
+        }
+        self.write_ending(rt)
+    }
+
+    /// Writes why the file was refused, if it was, and the status.
+    fn write_ending(&self, rt: &HostRuntime) -> io::Result<()> {
+        if let FileEnding::Refused(message) = &self.ending {
+            io::writer(rt).write_all(message.as_slice())?;
+            println!(rt; "")?;
+        }
+        println!(rt; "status {}", self.ending.code())
+    }
+}
+
+/// Writes words between brackets, a comma between each two.
+fn write_words(rt: &HostRuntime, words: &[Text]) -> io::Result<()> {
+    for (place, word) in words.iter().enumerate() {
+        let before = if place == 0 { "" } else { "," };
+        print!(rt; "{before}{}", word.as_str())?;
+    }
+    println!(rt; "]")
+}
+
+/// Writes what these words are asked over, and which of them are asked.
+pub(crate) fn write_over(rt: &HostRuntime, words: &str) -> io::Result<()> {
+    let Ok(words) = texts_of(rt.alloc(), words) else {
+        return println!(rt; "no case");
+    };
+    match Over::of(&words) {
+        Over::Shared(words) => {
+            print!(rt; "shared [")?;
+            write_words(rt, words)
+        }
+        Over::File(path, words) => {
+            print!(rt; "file {} [", path.as_str())?;
+            write_words(rt, words)
+        }
+    }
+}
