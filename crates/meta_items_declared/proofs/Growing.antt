@@ -25,6 +25,11 @@ use Rattle.meta_items_declared.proofs.Kept.{name_of_boolean, name_of_other, name
 -- those behind one item more
 abbrev pub more_entries : Option (List Item) → Item → Option (List Item)
 more_entries above (item.Group n) = Some []
+more_entries above (item.Type i) = option_map (λ es. es ++ item.Type i ∷ []) above
+more_entries above (item.Alias i) = option_map (λ es. es ++ item.Alias i ∷ []) above
+more_entries above (item.Kind i) = option_map (λ es. es ++ item.Kind i ∷ []) above
+more_entries above (item.Format i) = option_map (λ es. es ++ item.Format i ∷ []) above
+more_entries above (item.Inst i) = option_map (λ es. es ++ item.Inst i ∷ []) above
 more_entries above (item.Bool i) = option_map (λ es. es ++ item.Bool i ∷ []) above
 more_entries above (item.Num i) = option_map (λ es. es ++ item.Num i ∷ []) above
 more_entries above (item.Enum i) = option_map (λ es. es ++ item.Enum i ∷ []) above
@@ -33,16 +38,31 @@ more_entries above (item.Preset i) = option_map (λ es. es ++ item.Preset i ∷ 
 by_last : (o : Option (List Item)) (b : Bool) (is : List Item) (i : Item)
     → option_or (more_entries o i) (if b then Some (is ++ i ∷ []) else None) ≡ more_entries (option_or o (if b then Some is else None)) i
 by_last None true is (item.Group n) = refl
+by_last None true is (item.Type i) = refl
+by_last None true is (item.Alias i) = refl
+by_last None true is (item.Kind i) = refl
+by_last None true is (item.Format i) = refl
+by_last None true is (item.Inst i) = refl
 by_last None true is (item.Bool i) = refl
 by_last None true is (item.Num i) = refl
 by_last None true is (item.Enum i) = refl
 by_last None true is (item.Preset i) = refl
 by_last None false is (item.Group n) = refl
+by_last None false is (item.Type i) = refl
+by_last None false is (item.Alias i) = refl
+by_last None false is (item.Kind i) = refl
+by_last None false is (item.Format i) = refl
+by_last None false is (item.Inst i) = refl
 by_last None false is (item.Bool i) = refl
 by_last None false is (item.Num i) = refl
 by_last None false is (item.Enum i) = refl
 by_last None false is (item.Preset i) = refl
 by_last (Some es) b is (item.Group n) = refl
+by_last (Some es) b is (item.Type i) = refl
+by_last (Some es) b is (item.Alias i) = refl
+by_last (Some es) b is (item.Kind i) = refl
+by_last (Some es) b is (item.Format i) = refl
+by_last (Some es) b is (item.Inst i) = refl
 by_last (Some es) b is (item.Bool i) = refl
 by_last (Some es) b is (item.Num i) = refl
 by_last (Some es) b is (item.Enum i) = refl
@@ -50,6 +70,11 @@ by_last (Some es) b is (item.Preset i) = refl
 
 pub last_more : (is : List Item) (i : Item) → last_entries (is ++ i ∷ []) ≡ more_entries (last_entries is) i
 last_more [] (item.Group n) = refl
+last_more [] (item.Type i) = refl
+last_more [] (item.Alias i) = refl
+last_more [] (item.Kind i) = refl
+last_more [] (item.Format i) = refl
+last_more [] (item.Inst i) = refl
 last_more [] (item.Bool i) = refl
 last_more [] (item.Num i) = refl
 last_more [] (item.Enum i) = refl
@@ -68,6 +93,21 @@ known_is a b h g =
 known_with : (g : GroupDeclaration) (es : List Item) (i : Item) → is_group i ≡ false → known_of g ≡ known_below es
     → known_of (with_item g i) ≡ known_below (es ++ i ∷ [])
 known_with g es (item.Group n) e h = cc
+known_with g es (item.Type i) e h = known_is _ _
+    (ap (λ (k : Known). k.booleans) h ∙ sym (append-nil _) ∙ sym (filter_map-append boolean_declared es (item.Type i ∷ [])))
+    (ap (λ (k : Known). k.presets) h ∙ sym (append-nil _) ∙ sym (filter_map-append preset_declared es (item.Type i ∷ [])))
+known_with g es (item.Alias i) e h = known_is _ _
+    (ap (λ (k : Known). k.booleans) h ∙ sym (append-nil _) ∙ sym (filter_map-append boolean_declared es (item.Alias i ∷ [])))
+    (ap (λ (k : Known). k.presets) h ∙ sym (append-nil _) ∙ sym (filter_map-append preset_declared es (item.Alias i ∷ [])))
+known_with g es (item.Kind i) e h = known_is _ _
+    (ap (λ (k : Known). k.booleans) h ∙ sym (append-nil _) ∙ sym (filter_map-append boolean_declared es (item.Kind i ∷ [])))
+    (ap (λ (k : Known). k.presets) h ∙ sym (append-nil _) ∙ sym (filter_map-append preset_declared es (item.Kind i ∷ [])))
+known_with g es (item.Format i) e h = known_is _ _
+    (ap (λ (k : Known). k.booleans) h ∙ sym (append-nil _) ∙ sym (filter_map-append boolean_declared es (item.Format i ∷ [])))
+    (ap (λ (k : Known). k.presets) h ∙ sym (append-nil _) ∙ sym (filter_map-append preset_declared es (item.Format i ∷ [])))
+known_with g es (item.Inst i) e h = known_is _ _
+    (ap (λ (k : Known). k.booleans) h ∙ sym (append-nil _) ∙ sym (filter_map-append boolean_declared es (item.Inst i ∷ [])))
+    (ap (λ (k : Known). k.presets) h ∙ sym (append-nil _) ∙ sym (filter_map-append preset_declared es (item.Inst i ∷ [])))
 known_with g es (item.Bool i) e h = known_is _ _
     (name_of_boolean g (bool_setting i) refl ∙ ap (λ (k : Known). k.booleans ++ (bool_setting i).name ∷ []) h
     ∙ sym (filter_map-append boolean_declared es (item.Bool i ∷ [])))
@@ -100,6 +140,11 @@ known_entry (Some g) (Some es) i e h = ap (λ (k : Known). Some k) (known_with g
 pub known_more : (done : List GroupDeclaration) (g : Option GroupDeclaration) (above : Option (List Item)) (i : Item) → AreKnown g above
     → AreKnown (groups_after (groups_so_far done g) i).open_group (more_entries above i)
 known_more done g above (item.Group n) h = refl
+known_more done g above (item.Type i) h = known_entry g above (item.Type i) refl h
+known_more done g above (item.Alias i) h = known_entry g above (item.Alias i) refl h
+known_more done g above (item.Kind i) h = known_entry g above (item.Kind i) refl h
+known_more done g above (item.Format i) h = known_entry g above (item.Format i) refl h
+known_more done g above (item.Inst i) h = known_entry g above (item.Inst i) refl h
 known_more done g above (item.Bool i) h = known_entry g above (item.Bool i) refl h
 known_more done g above (item.Num i) h = known_entry g above (item.Num i) refl h
 known_more done g above (item.Enum i) h = known_entry g above (item.Enum i) refl h
@@ -137,6 +182,11 @@ continued_more : (g : GroupDeclaration) (above : List Item) (i : Item) (more : L
     → known_of g ≡ known_below above
     → continued (with_item g i) (above ++ i ∷ []) more ≡ continued g above (i ∷ more)
 continued_more g above (item.Group n) more e h = cc
+continued_more g above (item.Type i) more e h = refl
+continued_more g above (item.Alias i) more e h = refl
+continued_more g above (item.Kind i) more e h = refl
+continued_more g above (item.Format i) more e h = refl
+continued_more g above (item.Inst i) more e h = refl
 continued_more g above (item.Bool i) more e h =
     group_is (continued g above (item.Bool i ∷ more)) _ _ (append_assoc g.settings (bool_setting i ∷ []) (filter_map setting_of more)) refl
 continued_more g above (item.Num i) more e h =
@@ -154,6 +204,11 @@ one_taken n i is = let e : 1 + n ≡ suc n = omega arith in rw e
 
 behind_entry : (i : Item) (is : List Item) → is_group i ≡ false → before_group (i ∷ is) ≡ i ∷ before_group is
 behind_entry (item.Group n) is e = cc
+behind_entry (item.Type i) is e = one_taken (position_or_len is_group is) (item.Type i) is
+behind_entry (item.Alias i) is e = one_taken (position_or_len is_group is) (item.Alias i) is
+behind_entry (item.Kind i) is e = one_taken (position_or_len is_group is) (item.Kind i) is
+behind_entry (item.Format i) is e = one_taken (position_or_len is_group is) (item.Format i) is
+behind_entry (item.Inst i) is e = one_taken (position_or_len is_group is) (item.Inst i) is
 behind_entry (item.Bool i) is e = one_taken (position_or_len is_group is) (item.Bool i) is
 behind_entry (item.Num i) is e = one_taken (position_or_len is_group is) (item.Num i) is
 behind_entry (item.Enum i) is e = one_taken (position_or_len is_group is) (item.Enum i) is
@@ -161,6 +216,11 @@ behind_entry (item.Preset i) is e = one_taken (position_or_len is_group is) (ite
 
 groups_behind : (i : Item) (is : List Item) → is_group i ≡ false → groups_of (i ∷ is) ≡ groups_of is
 groups_behind (item.Group n) is e = cc
+groups_behind (item.Type i) is e = refl
+groups_behind (item.Alias i) is e = refl
+groups_behind (item.Kind i) is e = refl
+groups_behind (item.Format i) is e = refl
+groups_behind (item.Inst i) is e = refl
 groups_behind (item.Bool i) is e = refl
 groups_behind (item.Num i) is e = refl
 groups_behind (item.Enum i) is e = refl
@@ -195,6 +255,11 @@ pub step : (done : List GroupDeclaration) (g : Option GroupDeclaration) (above :
     → resumed (groups_after (groups_so_far done g) i).done (groups_after (groups_so_far done g) i).open_group (more_entries above i) rest
     ≡ resumed done g above (i ∷ rest)
 step done g above (item.Group n) rest h = group_step done g above n rest h
+step done g above (item.Type i) rest h = entry_step done g above (item.Type i) rest refl h
+step done g above (item.Alias i) rest h = entry_step done g above (item.Alias i) rest refl h
+step done g above (item.Kind i) rest h = entry_step done g above (item.Kind i) rest refl h
+step done g above (item.Format i) rest h = entry_step done g above (item.Format i) rest refl h
+step done g above (item.Inst i) rest h = entry_step done g above (item.Inst i) rest refl h
 step done g above (item.Bool i) rest h = entry_step done g above (item.Bool i) rest refl h
 step done g above (item.Num i) rest h = entry_step done g above (item.Num i) rest refl h
 step done g above (item.Enum i) rest h = entry_step done g above (item.Enum i) rest refl h

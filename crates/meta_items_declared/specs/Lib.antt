@@ -7,3 +7,5 @@ pub mod Refused
 pub mod Said
 pub mod OpenGroup
 pub mod Sorts
+pub mod Errors
+pub mod AllItems

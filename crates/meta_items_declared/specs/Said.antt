@@ -38,6 +38,11 @@ enum_setting i = record {
 -- the setting that an item declares, if it declares one
 abbrev pub setting_of : Item → Option SettingDeclaration
 setting_of (item.Group n) = None
+setting_of (item.Type i) = None
+setting_of (item.Alias i) = None
+setting_of (item.Kind i) = None
+setting_of (item.Format i) = None
+setting_of (item.Inst i) = None
 setting_of (item.Bool i) = Some (bool_setting i)
 setting_of (item.Num i) = Some (num_setting i)
 setting_of (item.Enum i) = Some (enum_setting i)
@@ -51,6 +56,11 @@ preset_of known i = record { name = name_bytes i.name; description = doc_text i.
 -- the preset that an item declares by the names that are known, if it declares one
 abbrev pub preset_by : Known → Item → List PresetDeclaration
 preset_by known (item.Group n) = []
+preset_by known (item.Type i) = []
+preset_by known (item.Alias i) = []
+preset_by known (item.Kind i) = []
+preset_by known (item.Format i) = []
+preset_by known (item.Inst i) = []
 preset_by known (item.Bool i) = []
 preset_by known (item.Num i) = []
 preset_by known (item.Enum i) = []
@@ -71,6 +81,11 @@ group_with n entries = record { name = name_bytes n; settings = filter_map setti
 abbrev pub groups_of : List Item → List GroupDeclaration
 groups_of [] = []
 groups_of (item.Group n ∷ is) = group_with n (before_group is) ∷ groups_of is
+groups_of (item.Type i ∷ is) = groups_of is
+groups_of (item.Alias i ∷ is) = groups_of is
+groups_of (item.Kind i ∷ is) = groups_of is
+groups_of (item.Format i ∷ is) = groups_of is
+groups_of (item.Inst i ∷ is) = groups_of is
 groups_of (item.Bool i ∷ is) = groups_of is
 groups_of (item.Num i ∷ is) = groups_of is
 groups_of (item.Enum i ∷ is) = groups_of is

@@ -16,9 +16,15 @@ text_of (Some t) = t
 abbrev pub names_in : List Name → List (List ℕ)
 names_in names = map name_bytes names
 
--- the texts that an item holds: its name, its comment, the lines of its documentation, and the names that it lists
+-- the texts that a group or an entry holds: its name, its comment, the lines of its documentation, and the names that it lists. Those of other
+-- items are told of where these are declared
 abbrev pub item_texts : Item → List (List ℕ)
 item_texts (item.Group n) = name_bytes n ∷ []
+item_texts (item.Type i) = []
+item_texts (item.Alias i) = []
+item_texts (item.Kind i) = []
+item_texts (item.Format i) = []
+item_texts (item.Inst i) = []
 item_texts (item.Bool i) = name_bytes i.name ∷ (text_of i.comment ∷ i.docs)
 item_texts (item.Num i) = name_bytes i.name ∷ (text_of i.comment ∷ i.docs)
 item_texts (item.Enum i) = name_bytes i.name ∷ (text_of i.comment ∷ (i.docs ++ names_in i.values))

@@ -23,6 +23,11 @@ missing_in known names = position (λ n. is_none (meant known (name_bytes n))) n
 -- without a group, or a preset with a name that stands for nothing
 abbrev pub misplaced : Option Known → Item → Option Reason
 misplaced known (item.Group n) = None
+misplaced known (item.Type i) = None
+misplaced known (item.Alias i) = None
+misplaced known (item.Kind i) = None
+misplaced known (item.Format i) = None
+misplaced known (item.Inst i) = None
 misplaced None (item.Bool i) = Some NoGroup
 misplaced None (item.Num i) = Some NoGroup
 misplaced None (item.Enum i) = Some NoGroup

@@ -1,4 +1,4 @@
-//! What the items of a file declare: groups of settings, with their settings and presets.
+//! What the items of a file declare: types and kinds, formats and instructions, and groups of settings.
 //!
 //! `declare` makes declarations of items, or says which item is the first that is wrong, and why. `place_of_fault` says which item
 //! a fault of those declarations is about.
@@ -6,6 +6,7 @@
 
 mod declaring;
 mod first_numbers;
+mod groups;
 mod laws;
 mod open_group;
 mod places;

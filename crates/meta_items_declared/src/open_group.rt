@@ -147,14 +147,19 @@ impl OpenGroup {
 }
 
 impl OpenGroup {
-    /// Adds the setting or the preset that an item declares; `group` adds nothing.
+    /// Adds the setting or the preset that an item declares; any other item adds nothing.
     pub(crate) fn add(&mut self, alloc: Global, item: &Item) -> Result<(), AllocError>
         requires { IsKept self.old }
         ensures added { OnOk result (self.new.builder ≡ with_item self.old.builder item.now) }
         ensures kept { OnOk result (IsKept self.new) }
     {
         match item {
-            Item::Group(_) => Ok(()),
+            Item::Type(_)
+            | Item::Alias(_)
+            | Item::Kind(_)
+            | Item::Format(_)
+            | Item::Inst(_)
+            | Item::Group(_) => Ok(()),
             Item::Bool(item) => self.add_bool(alloc, item),
             Item::Num(item) => self.add_num(alloc, item),
             Item::Enum(item) => self.add_enum(alloc, item),

@@ -62,11 +62,12 @@ fn is_setting_text(name: &Name, comment: &Option<Bytes>, docs: &Docs) -> bool
     is_text(name.as_slice()) && is_text(bytes_or_none(comment)) && are_lines(docs.as_slice())
 }
 
-/// Whether all texts of an item are UTF-8.
+/// Whether all texts of a group or of an entry are UTF-8; those of other items are tested where they are declared.
 pub(crate) fn is_text_item(item: &Item) -> bool
     ensures { result ≡ are_texts (item_texts item.now) }
 {
     match item {
+        Item::Type(_) | Item::Alias(_) | Item::Kind(_) | Item::Format(_) | Item::Inst(_) => true,
         Item::Group(name) => is_text(name.as_slice()),
         Item::Bool(item) => is_setting_text(&item.name, &item.comment, &item.docs),
         Item::Num(item) => is_setting_text(&item.name, &item.comment, &item.docs),

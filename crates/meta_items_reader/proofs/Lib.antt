@@ -1,9 +1,16 @@
 mod AllItems
+mod Bodies
 mod Clean
+mod ClosedLoop
+mod Ends
+mod InstLaws
 mod KeyCount
+mod KindLaws
+mod ListLaws
 mod Loop
-mod NameLaws
 mod PartLaws
 mod Refusals
+mod SetLaws
 mod SettingLaws
+mod TypeLaws
 mod Written

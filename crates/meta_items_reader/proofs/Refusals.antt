@@ -1,5 +1,5 @@
 -- What reading tokens gives, told of the text that they are of.
-use Rattle.std.proofs.Common.{◌≡◌, ◌∙◌, ℕ, ◌+◌, ◌-◌, ◌≤◌, List, [], ◌∷◌, ◌++◌, length, Result, Ok, Err, refl, sym, ap, subst, length-append}
+use Rattle.std.proofs.Common.{◌≡◌, ◌∙◌, ℕ, ◌+◌, ◌-◌, ◌≤◌, List, length, Result, Ok, Err, sym, ap, subst, length-append}
 use Rattle.std.proofs.Common.{arith}
 use Rattle.std.specs.Prelude.{IfOk}
 use Rattle.std.specs.Str.{IsUtf8}
@@ -14,9 +14,10 @@ use Rattle.meta_items_reader.specs.declared.fault.ReadError.{ReadError}
 use Rattle.meta_items_reader.specs.declared.fault.ReadError.TheVariants as reads
 use Rattle.meta_items_reader.specs.ItemLines.{key_lines}
 use Rattle.meta_items_reader.specs.Reading.{items_at}
-use Rattle.meta_items_reader.specs.Refused.{AllFit, IsRefusalOf, IsRefused, GivesItems, items_in}
+use Rattle.meta_items_reader.specs.Fits.{AllFit}
+use Rattle.meta_items_reader.specs.Refused.{IsRefusalOf, IsRefused, GivesItems, items_in}
 use Rattle.meta_items_reader.proofs.PartLaws.{ok_is}
-use Rattle.meta_items_reader.proofs.AllItems.{all_takes, all_fit, all_again, all_refused}
+use Rattle.meta_items_reader.proofs.AllItems.{all_takes, all_again, all_refused}
 use Rattle.meta_items_reader.proofs.KeyCount.{a_line_each}
 use Rattle.meta_items_reader.proofs.Clean.{spelled_is_utf8}
 
@@ -47,7 +48,6 @@ refused_at text f r e is =
     record {
       front = all.front;
       rest = all.rest;
-      fit = all.fit;
       are = all.are;
       longest = all.longest;
       some = all.some;
@@ -74,11 +74,6 @@ pub is_found : {X : Type 0} (view : X → List Item) (text : List ℕ) (answer :
     → GivesItems view text answer (items_in text) → IfOk answer (λ x. read_in text ≡ spelled_all (view x))
 is_found view text (Ok x) given = all_takes (length (read_in text)) (read_in text) (view x) given
 is_found view text (Err e) given = tt
-
-pub is_fitting : {X : Type 0} (view : X → List Item) (text : List ℕ) (answer : Result X ReadError)
-    → GivesItems view text answer (items_in text) → IfOk answer (λ x. AllFit (view x))
-is_fitting view text (Ok x) given = all_fit (length (read_in text)) (read_in text) (view x) given
-is_fitting view text (Err e) given = tt
 
 pub is_utf8_text : {X : Type 0} (view : X → List Item) (text : List ℕ) (answer : Result X ReadError)
     → GivesItems view text answer (items_in text) → IfOk answer (λ x. IsUtf8 text)

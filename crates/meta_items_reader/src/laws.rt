@@ -3,7 +3,8 @@ ghost use Rattle.meta_tokens.specs.Laid.{laid, CanWriteAll};
 ghost use Rattle.meta_tokens.specs.Squeezed.{read_in};
 ghost use Rattle.meta_items.specs.Spelling.{spelled_all};
 ghost use Rattle.meta_items.specs.declared.items.Item.{Item};
-ghost use Rattle.meta_items_reader.specs.Refused.{AllFit, items_in};
+ghost use Rattle.meta_items_reader.specs.Fits.{AllFit};
+ghost use Rattle.meta_items_reader.specs.Refused.{items_in};
 
 use meta_tokens::what_is_laid_is_read;
 

@@ -1,0 +1,12 @@
+pub mod AddedItems
+pub mod AddedSlots
+pub mod Each
+pub mod Items
+pub mod MadeOperands
+pub mod Naming
+pub mod Saying
+pub mod Seconds
+pub mod Staying
+pub mod Stores
+pub mod Told
+pub mod Utf8

@@ -1,0 +1,7 @@
+pub mod Telling
+pub mod Texts
+pub mod Formats
+pub mod Insts
+pub mod Said
+pub mod Registered
+pub mod Held

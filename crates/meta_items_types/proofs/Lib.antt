@@ -1,0 +1,11 @@
+pub mod Checked
+pub mod Deriving
+pub mod Fresh
+pub mod Inserted
+pub mod Kinding
+pub mod Naming
+pub mod OneSet
+pub mod Staying
+pub mod Steps
+pub mod Told
+pub mod Utf8

@@ -1,0 +1,8 @@
+use Rattle.meta_items_types.proofs.types.Types.add_alias.Given as goal
+
+-- the same items
+abbrev pub ghost-type_var : goal.ghost-type_var
+ghost-type_var g a = g.said
+
+abbrev pub ghost-wrong_word : goal.ghost-wrong_word
+ghost-wrong_word g a = g.said

@@ -1,0 +1,10 @@
+pub mod Texts
+pub mod Plain
+pub mod Meant
+pub mod Sets
+pub mod Words
+pub mod Said
+pub mod Registered
+pub mod Held
+pub mod Operands
+pub mod Telling
