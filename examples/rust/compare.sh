@@ -20,7 +20,7 @@ fail() {
 
 # The lines of stored runs and of the examples that ask something, whatever they are answered with there.
 stored_lines() {
-    cat "$top"/crates/meta_query_cli/stdin "$top"/crates/meta_example/stdin "$top"/examples/*.txt
+    cat "$top"/crates/meta_query_cli/stdin "$top"/crates/rows_language/data/toy.in "$top"/examples/*.txt
     awk '{ gsub(/\\r|\\n/, "\n"); print }' "$top"/crates/rows/stdin | grep -E '^(accept|infer|setting) '
 }
 

@@ -25,8 +25,9 @@ Commands:
   audit           whether the tables in standard input mean what is declared
   check           ok, and how many instructions, formats, type sets, constraints, and settings and presets there are
 
-A file declares groups of settings: `group NAME`, and below it `bool NAME = true`, `num NAME = 16`, `enum NAME(VALUE, VALUE)` and
-`preset NAME(NAME, NAME)`. Lines that begin with `///` document what stands below them.
+A file declares an instruction set: `type Int: ints 8..64`, `kind number: imm \"i64\"`, `format Binary: value, value`,
+`inst add: Binary(x: Int, y: Int) -> a: Int`; and groups of settings: `group NAME`, and below it `bool NAME = true`, `num NAME = 16`,
+`enum NAME(VALUE, VALUE)` and `preset NAME(NAME, NAME)`. Lines that begin with `///` document what stands below them.
 
 Options:
   -d, --declarations FILE  the declarations of this file, in place of the shared ones; before the command

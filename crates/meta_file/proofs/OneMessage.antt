@@ -8,12 +8,11 @@ use Rattle.meta_items.specs.declared.items.Item.{Item}
 use Rattle.meta_items_reader.specs.declared.fault.Refusal.{Refusal}
 use Rattle.meta_items_reader.specs.Reason.{reason_of}
 use Rattle.meta_items_reader.specs.Refused.{IsRefusalOf}
-use Rattle.meta_items_declared.specs.Said.{SaysAll}
-use Rattle.meta_items_declared.specs.Refused.{IsWrongAt}
+use Rattle.meta_items_declared.specs.AllItems.{Declares as DeclaresItems, IsFirstWrong}
 use Rattle.meta_items_declared.specs.declared.refused.Reason.{Reason}
-use Rattle.meta_file.specs.Why.{declare_why, fault_why, located}
+use Rattle.meta_refusals.specs.Why.{declare_why, fault_why, located}
 use Rattle.meta_file.specs.File.{AreReadOf, IsMessageOf, IsWrongMessage, IsFaultMessageOf, IsUnread, IsUndeclared, IsFaulty, IsRefusal}
-use Rattle.meta_file.proofs.Texts.{SaysOne, SaysNoneWhereWrong, one_reading, one_said}
+use Rattle.meta_file.proofs.Texts.{DeclareOne, DeclareNoneWhereWrong, one_reading}
 
 some_is : {A : Type 0} (o : Option A) (x y : A) → o ≡ Some x → o ≡ Some y → x ≡ y
 some_is o x y h g = let same = sym h ∙ g in cc
@@ -39,13 +38,13 @@ message_one : (path : List ℕ) (items : List Item) (lines : List ℕ) (place : 
 message_one path items lines place reason m n h g =
     let item : h.item ≡ g.item = some_is _ h.item g.item h.at g.at in
     let line : h.line ≡ g.line = some_is _ h.line g.line h.stands g.stands in
-    h.is ∙ ap (λ (i : Item). located path h.line (declare_why i reason)) item
-    ∙ ap (λ (l : ℕ). located path l (declare_why g.item reason)) line
+    h.is ∙ ap (λ (i : Item). located path h.line (declare_why lines i reason)) item
+    ∙ ap (λ (l : ℕ). located path l (declare_why lines g.item reason)) line
     ∙ sym g.is
 
 -- which item is the first that is wrong, and why
 abbrev pub OneIsWrong : Type 0
-OneIsWrong = (items : List Item) (p q : ℕ) (r s : Reason) → IsWrongAt items p r → IsWrongAt items q s → (p ≡ q) × (r ≡ s)
+OneIsWrong = (items : List Item) (p q : ℕ) (r s : Reason) → IsFirstWrong items p r → IsFirstWrong items q s → (p ≡ q) × (r ≡ s)
 
 wrong_one : OneIsWrong → (path : List ℕ) (items : List Item) (lines m n : List ℕ) → IsWrongMessage path items lines m
     → IsWrongMessage path items lines n → m ≡ n
@@ -78,12 +77,12 @@ fault_one path items lines fault m n h g =
     let line : h.line ≡ g.line = some_is _ h.line g.line h.stands (ap (λ (p : ℕ). slice_get lines p) place ∙ g.stands) in
     h.is ∙ ap (λ (l : ℕ). located path l (fault_why fault)) line ∙ sym g.is
 
-faulty_one : SaysOne → ((d : Declared) (e f : DefinitionError) → ShowsFirst d e → ShowsFirst d f → e ≡ f) → (path text m n : List ℕ)
+faulty_one : DeclareOne → ((d : Declared) (e f : DefinitionError) → ShowsFirst d e → ShowsFirst d f → e ≡ f) → (path text m n : List ℕ)
     → IsFaulty path text m → IsFaulty path text n → m ≡ n
-faulty_one says_one one_fault path text m n h g =
+faulty_one declare_one one_fault path text m n h g =
     let items = same_items text h.read g.read in
-    let declared : h.declared ≡ g.declared = one_said says_one g.items h.declared g.declared
-    (subst (λ (is : List Item). SaysAll is h.declared) items h.says) g.says in
+    let declared : h.declared ≡ g.declared = declare_one g.items h.declared g.declared
+    (subst (λ (is : List Item). DeclaresItems is h.declared) items h.declares) g.declares in
     let fault : h.fault ≡ g.fault = one_fault g.declared h.fault g.fault (subst (λ (d : Declared). ShowsFirst d h.fault) declared h.first) g.first
     in
     let at = subst (λ (is : List Item). IsFaultMessageOf path is h.lines h.fault m) items h.tells in
@@ -93,7 +92,7 @@ faulty_one says_one one_fault path text m n h g =
 
 -- ---- each of these excludes the others
 
-module _ (says_one : SaysOne) (says_right : SaysNoneWhereWrong) (first : OneIsWrong)
+module _ (declare_one : DeclareOne) (right : DeclareNoneWhereWrong) (first : OneIsWrong)
     (one_fault : (d : Declared) (e f : DefinitionError) → ShowsFirst d e → ShowsFirst d f → e ≡ f) (path text : List ℕ) where
   unread_never : {m : List ℕ} {is : List Item} {ls : List ℕ} → IsUnread path text m → AreReadOf text is ls → ⊥
   unread_never h g = let never = sym h.gives.1 ∙ g.reads.is in cc
@@ -101,8 +100,8 @@ module _ (says_one : SaysOne) (says_right : SaysNoneWhereWrong) (first : OneIsWr
   wrong_never : {m n : List ℕ} → IsUndeclared path text m → IsFaulty path text n → ⊥
   wrong_never h g =
       let items = same_items text g.read h.read in
-      let says : SaysAll h.items g.declared = subst (λ (is : List Item). SaysAll is g.declared) items g.says in
-      says_right h.items g.declared.groups h.tells.place h.tells.reason says.groups h.tells.wrong
+      let declares : DeclaresItems h.items g.declared = subst (λ (is : List Item). DeclaresItems is g.declared) items g.declares in
+      right h.items g.declared h.tells.place h.tells.reason declares h.tells.wrong
 
   pub one_message : (m n : List ℕ) → IsRefusal path text m → IsRefusal path text n → m ≡ n
   one_message m n (inl h) (inl g) = unread_one path text m n h g
@@ -113,4 +112,4 @@ module _ (says_one : SaysOne) (says_right : SaysNoneWhereWrong) (first : OneIsWr
   one_message m n (inr (inl h)) (inr (inr g)) = absurd (wrong_never h g)
   one_message m n (inr (inr h)) (inl g) = absurd (unread_never g h.read)
   one_message m n (inr (inr h)) (inr (inl g)) = absurd (wrong_never g h)
-  one_message m n (inr (inr h)) (inr (inr g)) = faulty_one says_one one_fault path text m n h g
+  one_message m n (inr (inr h)) (inr (inr g)) = faulty_one declare_one one_fault path text m n h g

@@ -12,11 +12,10 @@ use Rattle.meta_items_reader.specs.declared.fault.Refusal.{Refusal}
 use Rattle.meta_items_reader.specs.ItemLines.{key_lines}
 use Rattle.meta_items_reader.specs.Reason.{reason_of}
 use Rattle.meta_items_reader.specs.Refused.{IsRefused, GivesItems, items_in}
-use Rattle.meta_items_declared.specs.Said.{SaysAll}
-use Rattle.meta_items_declared.specs.Refused.{IsWrongAt}
+use Rattle.meta_items_declared.specs.AllItems.{Declares as DeclaresItems, IsFirstWrong}
 use Rattle.meta_items_declared.specs.Places.{place_of_fault}
 use Rattle.meta_items_declared.specs.declared.refused.Reason.{Reason}
-use Rattle.meta_file.specs.Why.{declare_why, fault_why, located}
+use Rattle.meta_refusals.specs.Why.{declare_why, fault_why, located}
 
 -- the text reads as these items: its tokens are those that spell them
 pub record Reads (text : List ℕ) (items : List Item) : Type 0 where
@@ -27,7 +26,7 @@ pub record Reads (text : List ℕ) (items : List Item) : Type 0 where
 pub record Declares (text : List ℕ) (d : Declared) : Type 0 where
   pub items : List Item
   pub reads : Reads text items
-  pub says : SaysAll items d
+  pub declared : DeclaresItems items d
 
 -- the text reads as these items, each of which stands in its line: that of its keyword
 pub record AreReadOf (text : List ℕ) (items : List Item) (lines : List ℕ) : Type 0 where
@@ -42,13 +41,13 @@ pub record IsMessageOf (path : List ℕ) (items : List Item) (lines : List ℕ) 
   pub at : slice_get items place ≡ Some item
   pub line : ℕ
   pub stands : slice_get lines place ≡ Some line
-  pub is : message ≡ located path line (declare_why item reason)
+  pub is : message ≡ located path line (declare_why lines item reason)
 
 -- the message tells the first item that is wrong, and why
 pub record IsWrongMessage (path : List ℕ) (items : List Item) (lines : List ℕ) (message : List ℕ) : Type 0 where
   pub place : ℕ
   pub reason : Reason
-  pub wrong : IsWrongAt items place reason
+  pub wrong : IsFirstWrong items place reason
   pub tells : IsMessageOf path items lines place reason message
 
 -- the message tells the fault, in the line of the item that declares what it names
@@ -81,7 +80,7 @@ pub record IsFaulty (path text message : List ℕ) : Type 0 where
   pub lines : List ℕ
   pub read : AreReadOf text items lines
   pub declared : Declared
-  pub says : SaysAll items declared
+  pub declares : DeclaresItems items declared
   pub fault : DefinitionError
   pub first : ShowsFirst declared fault
   pub tells : IsFaultMessageOf path items lines fault message

@@ -2,6 +2,5 @@ pub mod TablesIn
 pub mod Counts
 pub mod Tool
 pub mod Over
-pub mod Why
 pub mod File
 pub mod FileRun

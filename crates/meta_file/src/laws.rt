@@ -9,7 +9,7 @@ ghost use Rattle.meta_file.specs.declared.tool.Tool.{Tool as spec_Tool};
 use meta_asm::one_form;
 use meta_declared::one_first_fault;
 use meta_gen::one_table_of_declarations;
-use meta_items_declared::items_say_one_thing;
+use meta_items_declared::{items_say_one_thing, one_declaration};
 use meta_query::one_command;
 
 /// Words ask one thing at most.
@@ -27,6 +27,7 @@ pub fn a_text_declares_one_thing()
     ensures message { (path text m n : List ℕ) → IsRefusal path text m → IsRefusal path text n → m ≡ n }
 {
     items_say_one_thing();
+    one_declaration();
     one_first_fault();
 }
 

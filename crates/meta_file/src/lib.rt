@@ -13,7 +13,6 @@ mod over;
 mod running;
 mod tables_in;
 mod tool;
-mod why;
 
 pub use file_ending::FileEnding;
 pub use file_run::run_file;

@@ -1,17 +1,17 @@
 ghost use Rattle.std.specs.Prelude.{◌≡◌, ◌↔◌, ℕ, List, Err, IfOk, IfSome, IfNone, IsTrue};
 ghost use Rattle.meta_types.specs.declared.fault.DefinitionError.{DefinitionError};
 ghost use Rattle.meta_declared.specs.AllDeclared.{Declared, ShowsFirst, AreValid};
-ghost use Rattle.meta_items_declared.specs.Said.{SaysAll};
+ghost use Rattle.meta_items_declared.specs.AllItems.{Declares as DeclaresItems};
 ghost use Rattle.meta_items_reader.specs.Reason.{reason_of};
-ghost use Rattle.meta_file.specs.Why.{located};
+ghost use Rattle.meta_refusals.specs.Why.{located};
 ghost use Rattle.meta_file.specs.File.{AreReadOf, IsMessageOf, IsWrongMessage, IsFaultMessageOf, Declares, IsUnread, IsRefusal};
 ghost use Rattle.meta_file.specs.declared.loading.LoadError.TheVariants as errors;
 
 use super::laws::a_text_declares_one_thing;
-use super::why::{declare_why, fault_why, located};
 use meta_declared::{Declarations, build_all};
 use meta_items_declared::{DeclareError, Reason, declare, place_of_fault};
 use meta_items_reader::{ReadError, ReadItems, Refusal, read_items};
+use meta_refusals::{declare_why, fault_why, located};
 use meta_tokens::Bytes;
 use meta_types::DefinitionError;
 use std::alloc::{AllocError, Global};
@@ -54,7 +54,7 @@ fn undeclared(
     let (Some(item), Some(line)) = (items.items.get(place), items.lines.get(place)) else {
         return Err(AllocError);
     };
-    let why = declare_why(alloc, item, reason)?;
+    let why = declare_why(alloc, &items.lines, item, reason)?;
     located(alloc, path, *line, &why)
 }
 
@@ -95,7 +95,7 @@ fn items_in(alloc: Global, path: &[u8], text: &[u8]) -> Result<ReadItems, LoadEr
 
 /// The declarations that the items make.
 fn declared_by(alloc: Global, path: &[u8], items: &ReadItems) -> Result<Declarations, LoadError>
-    ensures said { IfOk result (SaysAll items.now.items.items) }
+    ensures said { IfOk result (DeclaresItems items.now.items.items) }
     ensures refused { (message : List ℕ) → result ≡ Err (errors.Refused message)
         → IsWrongMessage path.now items.now.items.items items.now.lines.items message }
 {

@@ -1,5 +1,10 @@
 use super::docs::Docs;
-use super::name::{Name, Names};
+use super::formats::FormatItem;
+use super::insts::InstItem;
+use super::kinds::KindItem;
+use super::listed::Listed;
+use super::name::Name;
+use super::types::{AliasItem, TypeItem};
 use meta_tokens::Bytes;
 
 /// A boolean of a group: `bool NAME = true`, and a comment.
@@ -36,7 +41,7 @@ pub struct EnumItem {
     /// Its name.
     pub name: Name,
     /// Its values in order.
-    pub values: Names,
+    pub values: Listed<Name>,
     /// The text behind it, if one is there.
     pub comment: Option<Bytes>,
 }
@@ -49,12 +54,22 @@ pub struct PresetItem {
     /// Its name.
     pub name: Name,
     /// The names that it lists, in order.
-    pub args: Names,
+    pub args: Listed<Name>,
 }
 
 /// An item of a file.
 #[derive(Drop)]
 pub enum Item {
+    /// A type variable.
+    Type(TypeItem),
+    /// Another word for a type.
+    Alias(AliasItem),
+    /// A kind of operand.
+    Kind(KindItem),
+    /// A format.
+    Format(FormatItem),
+    /// An instruction.
+    Inst(InstItem),
     /// `group NAME`: the settings below belong to it, up to the next group.
     Group(Name),
     /// A boolean.

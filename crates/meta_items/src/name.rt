@@ -1,5 +1,4 @@
 use meta_tokens::Bytes;
-use std::marker::Model;
 
 /// A name: a word, or a text in quotes.
 #[derive(Drop)]
@@ -22,36 +21,5 @@ impl Name {
             Name::Plain(word) => word.as_slice(),
             Name::Quoted(text) => text.as_slice(),
         }
-    }
-}
-
-/// Names in order. A contract sees the list.
-#[derive(Drop)]
-pub struct Names {
-    names: Vec<Name>,
-}
-
-impl Model for Names {
-    ghost use Rattle.std.specs.Prelude.{List};
-    ghost use Rattle.meta_items.specs.declared.name.Name.{Name};
-
-    ghost Value = { List Name };
-
-    ghost view = { λ n. n.names.items };
-}
-
-impl Names {
-    /// These names.
-    pub fn of(names: Vec<Name>) -> Names
-        ensures { result ≡ names.items }
-    {
-        Names { names }
-    }
-
-    /// The names in order.
-    pub fn as_slice(&self) -> &[Name]
-        ensures { result.now ≡ self.now }
-    {
-        self.names.as_slice()
     }
 }

@@ -2,7 +2,6 @@
 use Rattle.std.proofs.Common.{◌≡◌, ◌∙◌, ℕ, ◌+◌, Bool, true, false, cond, List, [], ◌∷◌, Option, Some, None, map, take, refl, sym, ap}
 use Rattle.std.specs.Prelude.{is_none, option_map}
 use Rattle.std.specs.List.{slice_get, filter_map, position_from, cons_option}
-use Rattle.std.specs.Option.{option_and_then}
 use Rattle.std.proofs.lemmas.Iterator.Adapters.{position_from-zero}
 use Rattle.std.proofs.lemmas.Option.{slice_get_within}
 use Rattle.meta_items.specs.declared.name.Name.{Name}
@@ -10,13 +9,15 @@ use Rattle.meta_items.specs.declared.items.PresetItem.{PresetItem}
 use Rattle.meta_items.specs.declared.items.Item.{Item}
 use Rattle.meta_items.specs.declared.items.Item.TheVariants as item
 use Rattle.meta_items.specs.Named.{name_bytes}
-use Rattle.meta_settings.specs.GroupDeclaration.{GroupDeclaration}
 use Rattle.meta_settings.specs.declared.index.PresetType.{PresetType}
+use Rattle.meta_declared.specs.AllDeclared.{Declared}
 use Rattle.meta_items_declared.specs.declared.refused.Reason.TheVariants.{NoEntry}
 use Rattle.meta_items_declared.specs.Texts.{names_in}
 use Rattle.meta_items_declared.specs.Named.{Known, meant}
-use Rattle.meta_items_declared.specs.Wrong.{wrong_if, wrong_with, known_behind, wrong_at}
-use Rattle.meta_items_declared.specs.Said.{Says, preset_of}
+use Rattle.meta_items_declared.specs.Wrong.{wrong_if, wrong_with, known_behind}
+use Rattle.meta_items_declared.specs.Said.{preset_of}
+use Rattle.meta_items_declared.specs.AllItems.{Declares}
+use Rattle.meta_items_declared.proofs.Folding.{groups_right}
 
 -- one name that stands for something, before others that do
 one_found : (known : Known) (k : ℕ) (n : Name) (later : Option ℕ) (meanings : List (Option PresetType)) (found : List PresetType)
@@ -40,12 +41,10 @@ right_names true None h = refl
 right_names true (Some k) h = cc
 right_names false o h = cc
 
-pub arguments_found : (items : List Item) (groups : List GroupDeclaration) (k : ℕ) (i : PresetItem) (known : Known) → Says items groups
+pub arguments_found : (items : List Item) (d : Declared) (k : ℕ) (i : PresetItem) (known : Known) → Declares items d
     → slice_get items k ≡ Some (item.Preset i) → known_behind (take k items) ≡ Some known
     → map (λ (a : PresetType). Some a) (preset_of known i).args ≡ map (meant known) (names_in i.args)
-arguments_found items groups k i known s at knows =
-    let none : wrong_at items k ≡ None = s.right k (slice_get_within items k (item.Preset i) at) in
-    let here : wrong_with (Some known) (item.Preset i) ≡ None =
-    sym (ap (option_and_then (wrong_with (Some known))) at)
-    ∙ ap (λ (o : Option Known). option_and_then (wrong_with o) (slice_get items k)) (sym knows) ∙ none in
+arguments_found items d k i known s at knows =
+    let none = groups_right items k (item.Preset i) at (s.right k (slice_get_within items k (item.Preset i) at)) in
+    let here : wrong_with (Some known) (item.Preset i) ≡ None = ap (λ (o : Option Known). wrong_with o (item.Preset i)) (sym knows) ∙ none in
     found_from known 0 i.args (sym (position_from-zero (λ (n : Name). is_none (meant known (name_bytes n))) i.args) ∙ right_names _ _ here)

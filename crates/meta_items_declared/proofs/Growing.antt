@@ -1,22 +1,20 @@
 -- What one item more declares.
-use Rattle.std.proofs.Common.{◌≡◌, ℕ, suc, ◌+◌, ◌<◌, List, [], ◌∷◌, ◌++◌, Bool, true, false, Option, Some, None, length, get_or, take, drop}
-use Rattle.std.proofs.Common.{refl, sym, ap, ◌∙◌, subst, arith, below_more}
+use Rattle.std.proofs.Common.{◌≡◌, ℕ, suc, ◌+◌, ◌≤◌, List, [], ◌∷◌, ◌++◌, Bool, true, false, Option, Some, None, length, take, drop}
+use Rattle.std.proofs.Common.{slice_get, refl, sym, ap, ◌∙◌, subst, arith}
 use Rattle.std.specs.Prelude.{option_map, if◌then◌else◌}
 use Rattle.std.specs.List.{filter_map, position_or_len}
-use Rattle.std.specs.Option.{option_or, option_and_then}
-use Rattle.std.proofs.lemmas.List.{append-nil, append_assoc, take_more, drop_more, drop_all}
+use Rattle.std.specs.Option.{option_or}
+use Rattle.std.proofs.lemmas.List.{append-nil, append_assoc, drop_all}
 use Rattle.std.proofs.lemmas.List.Elements.{filter_map-append}
-use Rattle.std.proofs.lemmas.Option.{slice_get_read}
+use Rattle.meta_lists.proofs.Places.{take_next, drop_next}
 use Rattle.meta_items.specs.declared.name.Name.{Name}
 use Rattle.meta_items.specs.declared.items.Item.{Item}
 use Rattle.meta_items.specs.declared.items.Item.TheVariants as item
 use Rattle.meta_settings.specs.GroupDeclaration.{SettingDeclaration, PresetDeclaration, GroupDeclaration}
-use Rattle.meta_items_declared.specs.declared.refused.Reason.{Reason}
 use Rattle.meta_items_declared.specs.Named.{Known, boolean_declared, preset_declared, known_below}
 use Rattle.meta_items_declared.specs.Places.{is_group, before_group}
-use Rattle.meta_items_declared.specs.Wrong.{wrong_with, last_entries, known_behind, wrong_at, AreRight}
-use Rattle.meta_items_declared.specs.Refused.{IsWrongAt}
-use Rattle.meta_items_declared.specs.Said.{setting_of, presets_below, groups_of, bool_setting, num_setting, enum_setting, preset_of, Says}
+use Rattle.meta_items_declared.specs.Wrong.{last_entries}
+use Rattle.meta_items_declared.specs.Said.{setting_of, presets_below, groups_of, bool_setting, num_setting, enum_setting, preset_of}
 use Rattle.meta_items_declared.specs.OpenGroup.{known_of, GroupsSoFar, groups_so_far, closed_by, with_item, groups_after}
 use Rattle.meta_items_declared.proofs.Kept.{name_of_boolean, name_of_other, name_of_preset}
 
@@ -25,6 +23,11 @@ use Rattle.meta_items_declared.proofs.Kept.{name_of_boolean, name_of_other, name
 -- those behind one item more
 abbrev pub more_entries : Option (List Item) → Item → Option (List Item)
 more_entries above (item.Group n) = Some []
+more_entries above (item.Type i) = option_map (λ es. es ++ item.Type i ∷ []) above
+more_entries above (item.Alias i) = option_map (λ es. es ++ item.Alias i ∷ []) above
+more_entries above (item.Kind i) = option_map (λ es. es ++ item.Kind i ∷ []) above
+more_entries above (item.Format i) = option_map (λ es. es ++ item.Format i ∷ []) above
+more_entries above (item.Inst i) = option_map (λ es. es ++ item.Inst i ∷ []) above
 more_entries above (item.Bool i) = option_map (λ es. es ++ item.Bool i ∷ []) above
 more_entries above (item.Num i) = option_map (λ es. es ++ item.Num i ∷ []) above
 more_entries above (item.Enum i) = option_map (λ es. es ++ item.Enum i ∷ []) above
@@ -33,16 +36,31 @@ more_entries above (item.Preset i) = option_map (λ es. es ++ item.Preset i ∷ 
 by_last : (o : Option (List Item)) (b : Bool) (is : List Item) (i : Item)
     → option_or (more_entries o i) (if b then Some (is ++ i ∷ []) else None) ≡ more_entries (option_or o (if b then Some is else None)) i
 by_last None true is (item.Group n) = refl
+by_last None true is (item.Type i) = refl
+by_last None true is (item.Alias i) = refl
+by_last None true is (item.Kind i) = refl
+by_last None true is (item.Format i) = refl
+by_last None true is (item.Inst i) = refl
 by_last None true is (item.Bool i) = refl
 by_last None true is (item.Num i) = refl
 by_last None true is (item.Enum i) = refl
 by_last None true is (item.Preset i) = refl
 by_last None false is (item.Group n) = refl
+by_last None false is (item.Type i) = refl
+by_last None false is (item.Alias i) = refl
+by_last None false is (item.Kind i) = refl
+by_last None false is (item.Format i) = refl
+by_last None false is (item.Inst i) = refl
 by_last None false is (item.Bool i) = refl
 by_last None false is (item.Num i) = refl
 by_last None false is (item.Enum i) = refl
 by_last None false is (item.Preset i) = refl
 by_last (Some es) b is (item.Group n) = refl
+by_last (Some es) b is (item.Type i) = refl
+by_last (Some es) b is (item.Alias i) = refl
+by_last (Some es) b is (item.Kind i) = refl
+by_last (Some es) b is (item.Format i) = refl
+by_last (Some es) b is (item.Inst i) = refl
 by_last (Some es) b is (item.Bool i) = refl
 by_last (Some es) b is (item.Num i) = refl
 by_last (Some es) b is (item.Enum i) = refl
@@ -50,6 +68,11 @@ by_last (Some es) b is (item.Preset i) = refl
 
 pub last_more : (is : List Item) (i : Item) → last_entries (is ++ i ∷ []) ≡ more_entries (last_entries is) i
 last_more [] (item.Group n) = refl
+last_more [] (item.Type i) = refl
+last_more [] (item.Alias i) = refl
+last_more [] (item.Kind i) = refl
+last_more [] (item.Format i) = refl
+last_more [] (item.Inst i) = refl
 last_more [] (item.Bool i) = refl
 last_more [] (item.Num i) = refl
 last_more [] (item.Enum i) = refl
@@ -68,6 +91,21 @@ known_is a b h g =
 known_with : (g : GroupDeclaration) (es : List Item) (i : Item) → is_group i ≡ false → known_of g ≡ known_below es
     → known_of (with_item g i) ≡ known_below (es ++ i ∷ [])
 known_with g es (item.Group n) e h = cc
+known_with g es (item.Type i) e h = known_is _ _
+    (ap (λ (k : Known). k.booleans) h ∙ sym (append-nil _) ∙ sym (filter_map-append boolean_declared es (item.Type i ∷ [])))
+    (ap (λ (k : Known). k.presets) h ∙ sym (append-nil _) ∙ sym (filter_map-append preset_declared es (item.Type i ∷ [])))
+known_with g es (item.Alias i) e h = known_is _ _
+    (ap (λ (k : Known). k.booleans) h ∙ sym (append-nil _) ∙ sym (filter_map-append boolean_declared es (item.Alias i ∷ [])))
+    (ap (λ (k : Known). k.presets) h ∙ sym (append-nil _) ∙ sym (filter_map-append preset_declared es (item.Alias i ∷ [])))
+known_with g es (item.Kind i) e h = known_is _ _
+    (ap (λ (k : Known). k.booleans) h ∙ sym (append-nil _) ∙ sym (filter_map-append boolean_declared es (item.Kind i ∷ [])))
+    (ap (λ (k : Known). k.presets) h ∙ sym (append-nil _) ∙ sym (filter_map-append preset_declared es (item.Kind i ∷ [])))
+known_with g es (item.Format i) e h = known_is _ _
+    (ap (λ (k : Known). k.booleans) h ∙ sym (append-nil _) ∙ sym (filter_map-append boolean_declared es (item.Format i ∷ [])))
+    (ap (λ (k : Known). k.presets) h ∙ sym (append-nil _) ∙ sym (filter_map-append preset_declared es (item.Format i ∷ [])))
+known_with g es (item.Inst i) e h = known_is _ _
+    (ap (λ (k : Known). k.booleans) h ∙ sym (append-nil _) ∙ sym (filter_map-append boolean_declared es (item.Inst i ∷ [])))
+    (ap (λ (k : Known). k.presets) h ∙ sym (append-nil _) ∙ sym (filter_map-append preset_declared es (item.Inst i ∷ [])))
 known_with g es (item.Bool i) e h = known_is _ _
     (name_of_boolean g (bool_setting i) refl ∙ ap (λ (k : Known). k.booleans ++ (bool_setting i).name ∷ []) h
     ∙ sym (filter_map-append boolean_declared es (item.Bool i ∷ [])))
@@ -100,6 +138,11 @@ known_entry (Some g) (Some es) i e h = ap (λ (k : Known). Some k) (known_with g
 pub known_more : (done : List GroupDeclaration) (g : Option GroupDeclaration) (above : Option (List Item)) (i : Item) → AreKnown g above
     → AreKnown (groups_after (groups_so_far done g) i).open_group (more_entries above i)
 known_more done g above (item.Group n) h = refl
+known_more done g above (item.Type i) h = known_entry g above (item.Type i) refl h
+known_more done g above (item.Alias i) h = known_entry g above (item.Alias i) refl h
+known_more done g above (item.Kind i) h = known_entry g above (item.Kind i) refl h
+known_more done g above (item.Format i) h = known_entry g above (item.Format i) refl h
+known_more done g above (item.Inst i) h = known_entry g above (item.Inst i) refl h
 known_more done g above (item.Bool i) h = known_entry g above (item.Bool i) refl h
 known_more done g above (item.Num i) h = known_entry g above (item.Num i) refl h
 known_more done g above (item.Enum i) h = known_entry g above (item.Enum i) refl h
@@ -137,6 +180,11 @@ continued_more : (g : GroupDeclaration) (above : List Item) (i : Item) (more : L
     → known_of g ≡ known_below above
     → continued (with_item g i) (above ++ i ∷ []) more ≡ continued g above (i ∷ more)
 continued_more g above (item.Group n) more e h = cc
+continued_more g above (item.Type i) more e h = refl
+continued_more g above (item.Alias i) more e h = refl
+continued_more g above (item.Kind i) more e h = refl
+continued_more g above (item.Format i) more e h = refl
+continued_more g above (item.Inst i) more e h = refl
 continued_more g above (item.Bool i) more e h =
     group_is (continued g above (item.Bool i ∷ more)) _ _ (append_assoc g.settings (bool_setting i ∷ []) (filter_map setting_of more)) refl
 continued_more g above (item.Num i) more e h =
@@ -154,13 +202,23 @@ one_taken n i is = let e : 1 + n ≡ suc n = omega arith in rw e
 
 behind_entry : (i : Item) (is : List Item) → is_group i ≡ false → before_group (i ∷ is) ≡ i ∷ before_group is
 behind_entry (item.Group n) is e = cc
+behind_entry (item.Type i) is e = one_taken (position_or_len is_group is) (item.Type i) is
+behind_entry (item.Alias i) is e = one_taken (position_or_len is_group is) (item.Alias i) is
+behind_entry (item.Kind i) is e = one_taken (position_or_len is_group is) (item.Kind i) is
+behind_entry (item.Format i) is e = one_taken (position_or_len is_group is) (item.Format i) is
+behind_entry (item.Inst i) is e = one_taken (position_or_len is_group is) (item.Inst i) is
 behind_entry (item.Bool i) is e = one_taken (position_or_len is_group is) (item.Bool i) is
 behind_entry (item.Num i) is e = one_taken (position_or_len is_group is) (item.Num i) is
 behind_entry (item.Enum i) is e = one_taken (position_or_len is_group is) (item.Enum i) is
 behind_entry (item.Preset i) is e = one_taken (position_or_len is_group is) (item.Preset i) is
 
-groups_behind : (i : Item) (is : List Item) → is_group i ≡ false → groups_of (i ∷ is) ≡ groups_of is
+pub groups_behind : (i : Item) (is : List Item) → is_group i ≡ false → groups_of (i ∷ is) ≡ groups_of is
 groups_behind (item.Group n) is e = cc
+groups_behind (item.Type i) is e = refl
+groups_behind (item.Alias i) is e = refl
+groups_behind (item.Kind i) is e = refl
+groups_behind (item.Format i) is e = refl
+groups_behind (item.Inst i) is e = refl
 groups_behind (item.Bool i) is e = refl
 groups_behind (item.Num i) is e = refl
 groups_behind (item.Enum i) is e = refl
@@ -195,6 +253,11 @@ pub step : (done : List GroupDeclaration) (g : Option GroupDeclaration) (above :
     → resumed (groups_after (groups_so_far done g) i).done (groups_after (groups_so_far done g) i).open_group (more_entries above i) rest
     ≡ resumed done g above (i ∷ rest)
 step done g above (item.Group n) rest h = group_step done g above n rest h
+step done g above (item.Type i) rest h = entry_step done g above (item.Type i) rest refl h
+step done g above (item.Alias i) rest h = entry_step done g above (item.Alias i) rest refl h
+step done g above (item.Kind i) rest h = entry_step done g above (item.Kind i) rest refl h
+step done g above (item.Format i) rest h = entry_step done g above (item.Format i) rest refl h
+step done g above (item.Inst i) rest h = entry_step done g above (item.Inst i) rest refl h
 step done g above (item.Bool i) rest h = entry_step done g above (item.Bool i) rest refl h
 step done g above (item.Num i) rest h = entry_step done g above (item.Num i) rest refl h
 step done g above (item.Enum i) rest h = entry_step done g above (item.Enum i) rest refl h
@@ -202,41 +265,23 @@ step done g above (item.Preset i) rest h = entry_step done g above (item.Preset 
 
 -- ---- the items so far
 
--- the items so far are right, and the groups so far with the items that are left are those that all items declare
-pub record AreSoFar (items : List Item) (place : ℕ) (done : List GroupDeclaration) (g : Option GroupDeclaration) : Type 0 where
-  pub right : AreRight items place
+-- the groups so far with the items that are left are those that all items declare
+pub record AreGroupsSoFar (items : List Item) (place : ℕ) (done : List GroupDeclaration) (g : Option GroupDeclaration) : Type 0 where
   pub known : AreKnown g (last_entries (take place items))
   pub groups : resumed done g (last_entries (take place items)) (drop place items) ≡ groups_of items
 
--- what is wrong with the item at the place
-wrong_is : (items : List Item) (place : ℕ) (done : List GroupDeclaration) (g : Option GroupDeclaration) (i : Item)
-    → AreSoFar items place done g → place < length items
-    → i ≡ get_or items place i → wrong_at items place ≡ wrong_with (option_map known_of g) i
-wrong_is items place done g i h l at =
-    ap (option_and_then (wrong_with (known_behind (take place items)))) (slice_get_read items (length items) place i refl l at)
-    ∙ ap (λ (known : Option Known). wrong_with known i) (sym h.known)
-
-pub wrong_here : (items : List Item) (place : ℕ) (done : List GroupDeclaration) (g : Option GroupDeclaration) (i : Item) (reason : Reason)
-    → AreSoFar items place done g
-    → place < length items → i ≡ get_or items place i → wrong_with (option_map known_of g) i ≡ Some reason → IsWrongAt items place reason
-wrong_here items place done g i reason h l at w = record { before = h.right; wrong = wrong_is items place done g i h l at ∙ w }
-
--- an item more with which nothing is wrong
+-- an item more
 pub one_more : (items : List Item) (place : ℕ) (done : List GroupDeclaration) (g : Option GroupDeclaration) (i : Item) (new : GroupsSoFar)
-    → AreSoFar items place done g
-    → place < length items → i ≡ get_or items place i → wrong_with (option_map known_of g) i ≡ None → new ≡ groups_after (groups_so_far done g) i
-    → AreSoFar items (place + 1) new.done new.open_group
-one_more items place done g i new h l at w e =
+    → AreGroupsSoFar items place done g → slice_get items place ≡ Some i → new ≡ groups_after (groups_so_far done g) i
+    → AreGroupsSoFar items (place + 1) new.done new.open_group
+one_more items place done g i new h at e =
     let above = last_entries (take place items) in
-    let taken : take (place + 1) items ≡ take place items ++ i ∷ [] = take_more items place i l
-    ∙ ap (λ (x : Item). take place items ++ x ∷ []) (sym at) in
-    let dropped : drop place items ≡ i ∷ drop (place + 1) items = drop_more items place i l
-    ∙ ap (λ (x : Item). x ∷ drop (place + 1) items) (sym at) in
-    let last : last_entries (take (place + 1) items) ≡ more_entries above i = ap last_entries taken ∙ last_more (take place items) i in
+    let last : last_entries (take (place + 1) items) ≡ more_entries above i =
+    ap last_entries (take_next items place i at) ∙ last_more (take place items) i in
     let known : AreKnown (groups_after (groups_so_far done g) i).open_group (more_entries above i) = known_more done g above i h.known in
-    let groups = step done g above i (drop (place + 1) items) h.known ∙ ap (resumed done g above) (sym dropped) ∙ h.groups in
+    let groups = step done g above i (drop (place + 1) items) h.known ∙ ap (resumed done g above) (sym (drop_next items place i at))
+    ∙ h.groups in
     record {
-      right = below_more (λ (k : ℕ). wrong_at items k ≡ None) place h.right (wrong_is items place done g i h l at ∙ w);
       known = subst (λ (s : GroupsSoFar). AreKnown s.open_group (last_entries (take (place + 1) items))) (sym e)
           (subst (AreKnown (groups_after (groups_so_far done g) i).open_group) (sym last) known);
       groups = subst (λ (s : GroupsSoFar). resumed s.done s.open_group (last_entries (take (place + 1) items)) (drop (place + 1) items)
@@ -252,15 +297,11 @@ all_closed done None above h = append-nil done
 all_closed done (Some g) None h = cc
 all_closed done (Some g) (Some es) h = ap (λ (o : GroupDeclaration). done ++ o ∷ []) (ended g es)
 
-pub said_all : (items : List Item) (place : ℕ) (done : List GroupDeclaration) (g : Option GroupDeclaration) → place ≡ length items
-    → AreSoFar items place done g
-    → Says items (closed_by done g)
-said_all items place done g e h =
+pub groups_said : (items : List Item) (place : ℕ) (done : List GroupDeclaration) (g : Option GroupDeclaration) → length items ≤ place
+    → AreGroupsSoFar items place done g → closed_by done g ≡ groups_of items
+groups_said items place done g l h =
     let above = last_entries (take place items) in
-    record {
-      right = λ k l. h.right k (omega arith);
-      are = sym (all_closed done g above h.known) ∙ sym (ap (resumed done g above) (drop_all place items (omega arith))) ∙ h.groups;
-    }
+    sym (all_closed done g above h.known) ∙ sym (ap (resumed done g above) (drop_all place items l)) ∙ h.groups
 
-pub at_first : (items : List Item) → AreSoFar items 0 [] None
-at_first items = record { right = λ k l. absurd (omega arith); known = refl; groups = refl }
+pub no_groups : (items : List Item) → AreGroupsSoFar items 0 [] None
+no_groups items = record { known = refl; groups = refl }

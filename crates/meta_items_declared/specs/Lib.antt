@@ -3,7 +3,11 @@ pub mod Named
 pub mod FirstNumbers
 pub mod Places
 pub mod Wrong
-pub mod Refused
 pub mod Said
 pub mod OpenGroup
 pub mod Sorts
+pub mod Errors
+pub mod SoFar
+pub mod AllItems
+pub mod Entries
+pub mod Faults

@@ -16,6 +16,11 @@ pub record Known : Type 0 where
 -- the name of the boolean that an item declares, if it declares one, and that of the preset
 abbrev pub boolean_declared : Item → Option (List ℕ)
 boolean_declared (item.Group n) = None
+boolean_declared (item.Type i) = None
+boolean_declared (item.Alias i) = None
+boolean_declared (item.Kind i) = None
+boolean_declared (item.Format i) = None
+boolean_declared (item.Inst i) = None
 boolean_declared (item.Bool i) = Some (name_bytes i.name)
 boolean_declared (item.Num i) = None
 boolean_declared (item.Enum i) = None
@@ -23,6 +28,11 @@ boolean_declared (item.Preset i) = None
 
 abbrev pub preset_declared : Item → Option (List ℕ)
 preset_declared (item.Group n) = None
+preset_declared (item.Type i) = None
+preset_declared (item.Alias i) = None
+preset_declared (item.Kind i) = None
+preset_declared (item.Format i) = None
+preset_declared (item.Inst i) = None
 preset_declared (item.Bool i) = None
 preset_declared (item.Num i) = None
 preset_declared (item.Enum i) = None

@@ -50,6 +50,10 @@ pub record GroupsSoFar : Type 0 where
 abbrev pub groups_so_far : List GroupDeclaration → Option GroupDeclaration → GroupsSoFar
 groups_so_far done open_group = record { done = done; open_group = open_group }
 
+-- none
+abbrev pub no_groups : GroupsSoFar
+no_groups = groups_so_far [] None
+
 -- all of them, in order
 abbrev pub closed_by : List GroupDeclaration → Option GroupDeclaration → List GroupDeclaration
 closed_by done None = done
@@ -62,6 +66,11 @@ empty_group name = record { name = name; settings = []; presets = [] }
 -- the group with the setting or the preset that an item declares; `group` adds nothing to it
 abbrev pub with_item : GroupDeclaration → Item → GroupDeclaration
 with_item g (item.Group n) = g
+with_item g (item.Type i) = g
+with_item g (item.Alias i) = g
+with_item g (item.Kind i) = g
+with_item g (item.Format i) = g
+with_item g (item.Inst i) = g
 with_item g (item.Bool i) = with_setting g (bool_setting i)
 with_item g (item.Num i) = with_setting g (num_setting i)
 with_item g (item.Enum i) = with_setting g (enum_setting i)
@@ -73,6 +82,11 @@ adding s i = record { done = s.done; open_group = option_map (λ g. with_item g 
 -- `group` closes the one that is open, and opens another; the others add to the one that is open
 abbrev pub groups_after : GroupsSoFar → Item → GroupsSoFar
 groups_after s (item.Group n) = record { done = closed_by s.done s.open_group; open_group = Some (empty_group (name_bytes n)) }
+groups_after s (item.Type i) = adding s (item.Type i)
+groups_after s (item.Alias i) = adding s (item.Alias i)
+groups_after s (item.Kind i) = adding s (item.Kind i)
+groups_after s (item.Format i) = adding s (item.Format i)
+groups_after s (item.Inst i) = adding s (item.Inst i)
 groups_after s (item.Bool i) = adding s (item.Bool i)
 groups_after s (item.Num i) = adding s (item.Num i)
 groups_after s (item.Enum i) = adding s (item.Enum i)

@@ -1,7 +1,6 @@
--- What items declare, where nothing is wrong with them.
+-- What groups and entries declare, where nothing is wrong with them.
 --     groups_of items          the groups that the items declare
---     Says items groups        nothing is wrong with the items, and they declare these groups
-use Rattle.std.specs.Prelude.{◌≡◌, List, [], ◌∷◌, ◌++◌, Option, Some, None, length}
+use Rattle.std.specs.Prelude.{List, [], ◌∷◌, ◌++◌, Option, Some, None}
 use Rattle.std.specs.List.{filter_map}
 use Rattle.meta_items.specs.declared.name.Name.{Name}
 use Rattle.meta_items.specs.declared.items.BoolItem.{BoolItem}
@@ -13,11 +12,9 @@ use Rattle.meta_items.specs.declared.items.Item.TheVariants as item
 use Rattle.meta_items.specs.Named.{name_bytes, doc_text}
 use Rattle.meta_settings.specs.GroupDeclaration.{SettingDeclaration, PresetDeclaration, GroupDeclaration}
 use Rattle.meta_settings.specs.declared.proto.ProtoSpecificSetting.TheVariants.{Bool as ABool, Enum as AnEnum, Num as ANum}
-use Rattle.meta_declared.specs.AllDeclared.{Declared}
 use Rattle.meta_items_declared.specs.Texts.{text_of, names_in}
 use Rattle.meta_items_declared.specs.Named.{Known, known_below, meant}
 use Rattle.meta_items_declared.specs.Places.{before_group}
-use Rattle.meta_items_declared.specs.Wrong.{AreRight}
 
 -- ---- settings: the documentation is the description
 
@@ -38,6 +35,11 @@ enum_setting i = record {
 -- the setting that an item declares, if it declares one
 abbrev pub setting_of : Item → Option SettingDeclaration
 setting_of (item.Group n) = None
+setting_of (item.Type i) = None
+setting_of (item.Alias i) = None
+setting_of (item.Kind i) = None
+setting_of (item.Format i) = None
+setting_of (item.Inst i) = None
 setting_of (item.Bool i) = Some (bool_setting i)
 setting_of (item.Num i) = Some (num_setting i)
 setting_of (item.Enum i) = Some (enum_setting i)
@@ -51,6 +53,11 @@ preset_of known i = record { name = name_bytes i.name; description = doc_text i.
 -- the preset that an item declares by the names that are known, if it declares one
 abbrev pub preset_by : Known → Item → List PresetDeclaration
 preset_by known (item.Group n) = []
+preset_by known (item.Type i) = []
+preset_by known (item.Alias i) = []
+preset_by known (item.Kind i) = []
+preset_by known (item.Format i) = []
+preset_by known (item.Inst i) = []
 preset_by known (item.Bool i) = []
 preset_by known (item.Num i) = []
 preset_by known (item.Enum i) = []
@@ -71,17 +78,12 @@ group_with n entries = record { name = name_bytes n; settings = filter_map setti
 abbrev pub groups_of : List Item → List GroupDeclaration
 groups_of [] = []
 groups_of (item.Group n ∷ is) = group_with n (before_group is) ∷ groups_of is
+groups_of (item.Type i ∷ is) = groups_of is
+groups_of (item.Alias i ∷ is) = groups_of is
+groups_of (item.Kind i ∷ is) = groups_of is
+groups_of (item.Format i ∷ is) = groups_of is
+groups_of (item.Inst i ∷ is) = groups_of is
 groups_of (item.Bool i ∷ is) = groups_of is
 groups_of (item.Num i ∷ is) = groups_of is
 groups_of (item.Enum i ∷ is) = groups_of is
 groups_of (item.Preset i ∷ is) = groups_of is
-
--- nothing is wrong with any of the items, and they declare these groups
-pub record Says (items : List Item) (groups : List GroupDeclaration) : Type 0 where
-  pub right : AreRight items (length items)
-  pub are : groups ≡ groups_of items
-
--- the items declare an instruction set without type variables, formats and instructions, and these groups
-pub record SaysAll (items : List Item) (d : Declared) : Type 0 where
-  pub set : d.set ≡ record { vars = []; formats = []; instructions = [] }
-  pub groups : Says items d.groups

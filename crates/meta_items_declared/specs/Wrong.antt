@@ -1,8 +1,7 @@
--- What is wrong with an item, if anything is.
---     wrong_at items k         what is wrong with the item at place k, behind the items above it
---     AreRight items n         nothing is wrong with any of the first n items
-use Rattle.std.specs.Prelude.{◌≡◌, ◌<◌, ℕ, Bool, true, false, List, [], ◌∷◌, Option, Some, None, option_map, option_and_then, is_none, take}
-use Rattle.std.specs.Prelude.{slice_get, if◌then◌else◌}
+-- What is wrong with a group or an entry, if anything is.
+--     wrong_with known i        what is wrong with the item, by the names that are known of its group
+--     known_behind items        the names that stand for something below these items
+use Rattle.std.specs.Prelude.{ℕ, Bool, true, false, List, [], ◌∷◌, Option, Some, None, option_map, is_none, if◌then◌else◌}
 use Rattle.std.specs.List.{position}
 use Rattle.std.specs.Option.{option_or}
 use Rattle.meta_items.specs.declared.name.Name.{Name}
@@ -11,7 +10,8 @@ use Rattle.meta_items.specs.declared.items.Item.TheVariants as item
 use Rattle.meta_items.specs.Named.{name_bytes}
 use Rattle.meta_items_declared.specs.declared.refused.Reason.{Reason}
 use Rattle.meta_items_declared.specs.declared.refused.Reason.TheVariants.{NotText, NoGroup, NoEntry}
-use Rattle.meta_items_declared.specs.Texts.{item_texts, are_texts}
+use Rattle.meta_items_types.specs.Texts.{are_texts}
+use Rattle.meta_items_declared.specs.Texts.{item_texts}
 use Rattle.meta_items_declared.specs.Named.{Known, known_below, meant}
 use Rattle.meta_items_declared.specs.Places.{is_group}
 
@@ -23,6 +23,11 @@ missing_in known names = position (λ n. is_none (meant known (name_bytes n))) n
 -- without a group, or a preset with a name that stands for nothing
 abbrev pub misplaced : Option Known → Item → Option Reason
 misplaced known (item.Group n) = None
+misplaced known (item.Type i) = None
+misplaced known (item.Alias i) = None
+misplaced known (item.Kind i) = None
+misplaced known (item.Format i) = None
+misplaced known (item.Inst i) = None
 misplaced None (item.Bool i) = Some NoGroup
 misplaced None (item.Num i) = Some NoGroup
 misplaced None (item.Enum i) = Some NoGroup
@@ -48,11 +53,3 @@ last_entries (i ∷ is) = option_or (last_entries is) (if is_group i then Some i
 -- the names that stand for something below these items, if a group stands among them
 abbrev pub known_behind : List Item → Option Known
 known_behind items = option_map known_below (last_entries items)
-
--- what is wrong with the item at a place, if anything is
-abbrev pub wrong_at : List Item → ℕ → Option Reason
-wrong_at items k = option_and_then (wrong_with (known_behind (take k items))) (slice_get items k)
-
--- nothing is wrong with any of the first n items
-abbrev pub AreRight : List Item → ℕ → Type 0
-AreRight items n = (k : ℕ) → k < n → wrong_at items k ≡ None

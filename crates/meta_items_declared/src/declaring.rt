@@ -1,113 +1,133 @@
-ghost use Rattle.std.specs.Prelude.{◌≡◌, ℕ, List, None, Some, Err, IfOk, OnOk};
-ghost use Rattle.meta_settings.specs.GroupDeclaration.{GroupDeclaration};
-ghost use Rattle.meta_items_declared.specs.OpenGroup.{group_in, IsKeptOpen, groups_so_far, closed_by, empty_group, groups_after};
-ghost use Rattle.meta_items_declared.specs.Said.{Says, SaysAll};
-ghost use Rattle.meta_items_declared.specs.Refused.{IsWrongAt};
+ghost use Rattle.std.specs.Prelude.{◌≡◌, ◌<◌, ◌+◌, ℕ, List, length, take, slice_get, None, Some, Err, IfOk, OnOk};
+ghost use Rattle.meta_declared.specs.AllDeclared.{Declared};
+ghost use Rattle.meta_items.specs.declared.items.Item.{Item as spec_Item};
+ghost use Rattle.meta_items_types.specs.Held.{vars_in};
+ghost use Rattle.meta_items_insts.specs.Held.{formats_in, insts_in};
+ghost use Rattle.meta_items_insts.specs.Said.{Above, nothing_said, after, said};
+ghost use Rattle.meta_items_declared.specs.Wrong.{known_behind};
+ghost use Rattle.meta_items_declared.specs.OpenGroup.{group_in, known_in, IsKeptOpen, groups_so_far, closed_by, groups_after, no_groups};
+ghost use Rattle.meta_items_declared.specs.AllItems.{wrong_of_set, wrong_in, IsFirstWrong, Declares};
+ghost use Rattle.meta_items_declared.specs.SoFar.{HoldsSet};
 ghost use Rattle.meta_items_declared.specs.declared.refused.Reason.{Reason as spec_Reason};
 ghost use Rattle.meta_items_declared.specs.declared.refused.DeclareError.TheVariants.{Refused};
-ghost use Rattle.meta_items.specs.Named.{name_bytes};
 
+use super::groups::Groups;
 use super::laws::items_say_one_thing;
-use super::open_group::OpenGroup;
-use super::refused::DeclareError;
-use super::texts::text_in;
+use super::refused::{DeclareError, inst_error, type_error};
 use super::wrong::wrong_with;
 use meta_declared::Declarations;
-use meta_inst::AllInstructions;
-use meta_items::{Item, Name};
-use meta_operands::FormatTable;
-use meta_settings::SettingGroupBuilder;
-use meta_typevar::TypeVars;
+use meta_items::Item;
+use meta_items_insts::Insts;
+use meta_items_types::Types;
 use std::alloc::{AllocError, Global};
 
-/// The groups so far: those that are closed, and the one that is open.
+/// What the items so far declare.
 #[derive(Drop)]
-struct Groups {
-    done: Vec<SettingGroupBuilder>,
-    current: Option<OpenGroup>,
+struct Declaring {
+    types: Types,
+    insts: Insts,
+    groups: Groups,
 }
 
-impl Groups {
-    /// Closes the group that is open.
-    fn close(&mut self) -> Result<(), AllocError>
-        ensures done { OnOk result (self.new.done.items ≡ closed_by self.old.done.items (group_in self.old.current)) }
-        ensures none_open { self.new.current ≡ None }
-    {
-        if let Some(group) = self.current.take() {
-            self.done.push(group.builder)?;
-        }
-        Ok(())
-    }
-
-    /// Opens a group.
-    fn open_group(&mut self, alloc: Global, name: &Name) -> Result<(), AllocError>
-        ensures done { OnOk result (self.new.done.items ≡ closed_by self.old.done.items (group_in self.old.current)) }
-        ensures opened { OnOk result (group_in self.new.current ≡ Some (empty_group (name_bytes name.now))) }
-        ensures kept { OnOk result (IsKeptOpen self.new.current) }
-    {
-        self.close()?;
-        let name = text_in(alloc, name.as_slice())?;
-        self.current = Some(OpenGroup::new(alloc, name));
-        Ok(())
-    }
-
-    /// Adds what an item declares, with which nothing is wrong.
-    fn add(&mut self, alloc: Global, item: &Item) -> Result<(), AllocError>
-        requires { IsKeptOpen self.old.current }
-        ensures kept { OnOk result (IsKeptOpen self.new.current) }
-        ensures added { OnOk result (groups_so_far self.new.done.items (group_in self.new.current)
-            ≡ groups_after (groups_so_far self.old.done.items (group_in self.old.current)) item.now) }
-    {
-        let Item::Group(name) = item else {
-            return match &mut self.current {
-                Some(group) => group.add(alloc, item),
-                None => Ok(()),
-            };
-        };
-        self.open_group(alloc, name)
-    }
-}
-
-/// The groups that the items declare.
-#[tactic(auto, using(crate::proofs::Growing::at_first, crate::proofs::Growing::wrong_here, crate::proofs::Growing::said_all))]
-fn declare_groups(alloc: Global, items: &[Item]) -> Result<Vec<SettingGroupBuilder>, DeclareError>
-    ensures said { IfOk result (λ groups. Says items.now groups.items) }
-    ensures refused { (place : ℕ) (reason : spec_Reason) → result ≡ Err (Refused place reason) → IsWrongAt items.now place reason }
+/// Adds what an item, which stands at a place among all items, declares of types, kinds, formats and instructions, or says what is wrong.
+fn add_to_set(
+    alloc: Global,
+    types: &mut Types,
+    insts: &mut Insts,
+    place: usize,
+    item: &Item,
+) -> Result<(), DeclareError>
+    ghost above: { Above }
+    requires { HoldsSet types.old insts.old above }
+    // Nothing is wrong with it, and what is declared up to this one is kept.
+    ensures right { OnOk result (wrong_of_set above item.now ≡ None) }
+    ensures kept { OnOk result (HoldsSet types.new insts.new (after above place item.now)) }
+    // What is wrong with it.
+    ensures refused { (k : ℕ) (reason : spec_Reason) → result ≡ Err (Refused k reason)
+        → (k ≡ place) × (wrong_of_set above item.now ≡ Some reason) }
 {
-    let mut groups = Groups {
-        done: Vec::new(alloc),
-        current: None,
-    };
-    for (place, item) in items.iter().enumerate() {
-        match wrong_with(&groups.current, item) {
-            Some(reason) => return Err(DeclareError::Refused(place, reason)),
-            None => groups.add(alloc, item)?,
-        }
+    if let Err(error) = types.add(alloc, place, item) {
+        return Err(type_error(place, error));
     }
-    groups.close()?;
-    Ok(groups.done)
+    match insts.add(alloc, types, place, item) {
+        Ok(()) => Ok(()),
+        Err(error) => Err(inst_error(place, error)),
+    }
 }
 
-/// The declarations that items make, without an instruction set (this project's own). Items are refused exactly where something is
-/// wrong with one of them, by the first such one and by what is wrong with it: a text isn't UTF-8, no group stands above, or a
-/// preset names what its group doesn't have above. `Memory` may come in any case.
+impl Declaring {
+    /// What no items declare.
+    fn new(alloc: Global) -> Declaring
+        ensures set { HoldsSet result.types result.insts nothing_said }
+        ensures groups { groups_so_far result.groups.done.items (group_in result.groups.current) ≡ no_groups }
+        ensures kept { IsKeptOpen result.groups.current }
+    {
+        Declaring {
+            types: Types::new(alloc),
+            insts: Insts::new(alloc),
+            groups: Groups::new(alloc),
+        }
+    }
+
+    /// Adds what the item at a place declares, or says what is wrong with it.
+    fn add(&mut self, alloc: Global, items: &[Item], place: usize) -> Result<(), DeclareError>
+        ghost above: { Above }
+        requires above { above ≡ said (take place items.now) }
+        requires within { place < length items.now }
+        requires set { HoldsSet self.old.types self.old.insts above }
+        requires kept { IsKeptOpen self.old.groups.current }
+        requires known { known_in self.old.groups.current ≡ known_behind (take place items.now) }
+        // What the items declare up to this one, with which nothing is wrong.
+        ensures set { OnOk result (HoldsSet self.new.types self.new.insts (said (take (place + 1) items.now))) }
+        ensures kept { OnOk result (IsKeptOpen self.new.groups.current) }
+        ensures groups { (item : spec_Item) → slice_get items.now place ≡ Some item
+            → OnOk result (groups_so_far self.new.groups.done.items (group_in self.new.groups.current)
+            ≡ groups_after (groups_so_far self.old.groups.done.items (group_in self.old.groups.current)) item) }
+        ensures right { OnOk result (wrong_in items.now place ≡ None) }
+        // What is wrong with this one.
+        ensures refused { (k : ℕ) (reason : spec_Reason) → result ≡ Err (Refused k reason)
+            → (k ≡ place) × (wrong_in items.now place ≡ Some reason) }
+    {
+        let item = &items[place];
+        add_to_set(alloc, &mut self.types, &mut self.insts, place, item)?;
+        match wrong_with(&self.groups.current, item) {
+            Some(reason) => Err(DeclareError::Refused(place, reason)),
+            None => Ok(self.groups.add(alloc, item)?),
+        }
+    }
+
+    /// The declarations. Instructions that aren't of the types and formats are handled as want of memory: these are.
+    fn close(self) -> Result<Declarations, AllocError>
+        ensures vars { IfOk result (λ d. d.set.vars ≡ vars_in self.types) }
+        ensures formats { IfOk result (λ d. d.set.formats ≡ formats_in self.insts) }
+        ensures instructions { IfOk result (λ d. d.set.instructions ≡ insts_in self.insts) }
+        ensures groups { IfOk result (λ d. d.groups ≡ closed_by self.groups.done.items (group_in self.groups.current)) }
+    {
+        let mut groups = self.groups;
+        groups.close()?;
+        let (formats, instructions) = self.insts.into_parts();
+        let vars = self.types.into_vars();
+        if !Declarations::fits(&vars, &formats, &instructions) {
+            return Err(AllocError);
+        }
+        Ok(Declarations::new(vars, formats, instructions, groups.done))
+    }
+}
+
+/// The declarations that items make (this project's own). Items are refused exactly where something is wrong with one of them, by the first
+/// such one and by what is wrong with it. `Memory` may come in any case.
 pub fn declare(alloc: Global, items: &[Item]) -> Result<Declarations, DeclareError>
     // Item by item what the declarations are.
-    ensures said { IfOk result (λ d. SaysAll items.now d) }
+    ensures said { IfOk result (Declares items.now) }
     // The first item that is wrong, and why.
-    ensures refused { (place : ℕ) (reason : spec_Reason) → result ≡ Err (Refused place reason) → IsWrongAt items.now place reason }
-    // What says something isn't refused.
-    ensures only { (groups : List GroupDeclaration) → Says items.now groups → (place : ℕ) (reason : spec_Reason)
-        → ¬ (result ≡ Err (Refused place reason)) }
+    ensures refused { (place : ℕ) (reason : spec_Reason) → result ≡ Err (Refused place reason) → IsFirstWrong items.now place reason }
+    // Items of which none is wrong aren't refused.
+    ensures only { (d : Declared) → Declares items.now d → (place : ℕ) (reason : spec_Reason) → ¬ (result ≡ Err (Refused place reason)) }
 {
     items_say_one_thing();
-    match declare_groups(alloc, items) {
-        Ok(groups) => Ok(Declarations::new(
-            TypeVars::new(alloc),
-            FormatTable::new(alloc),
-            AllInstructions::new(alloc),
-            groups,
-        )),
-        Err(error) => Err(error),
+    let mut declaring = Declaring::new(alloc);
+    for place in 0..items.len() {
+        declaring.add(alloc, items, place)?;
     }
+    Ok(declaring.close()?)
 }

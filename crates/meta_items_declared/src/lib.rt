@@ -1,4 +1,4 @@
-//! What the items of a file declare: groups of settings, with their settings and presets.
+//! What the items of a file declare: types and kinds, formats and instructions, and groups of settings.
 //!
 //! `declare` makes declarations of items, or says which item is the first that is wrong, and why. `place_of_fault` says which item
 //! a fault of those declarations is about.
@@ -6,6 +6,7 @@
 
 mod declaring;
 mod first_numbers;
+mod groups;
 mod laws;
 mod open_group;
 mod places;
@@ -14,6 +15,9 @@ mod texts;
 mod wrong;
 
 pub use declaring::declare;
-pub use laws::{each_name_has_its_argument, items_say_one_thing};
+pub use laws::{
+    each_name_has_its_argument, faults_have_their_items, items_say_one_thing, one_declaration,
+    settings_stand_alone,
+};
 pub use places::place_of_fault;
 pub use refused::{DeclareError, Reason};

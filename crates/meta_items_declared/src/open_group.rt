@@ -8,8 +8,9 @@ ghost use Rattle.meta_items_declared.specs.Texts.{names_in};
 ghost use Rattle.meta_items_declared.specs.Said.{bool_setting, num_setting, enum_setting, preset_of};
 
 use super::first_numbers::{add_first, number_of};
-use super::texts::{comment_text, description, name_texts, text_in};
+use super::texts::{comment_text, name_texts};
 use meta_items::{BoolItem, EnumItem, Item, Name, NumItem, PresetItem};
+use meta_items_types::{doc_text, text_in};
 use meta_settings::{BoolSettingIndex, PresetIndex, PresetType, SettingGroupBuilder};
 use meta_types::Text;
 use std::alloc::{AllocError, Global};
@@ -87,7 +88,7 @@ impl OpenGroup {
             return Err(AllocError);
         }
         let name = text_in(alloc, item.name.as_slice())?;
-        let description = description(alloc, &item.docs)?;
+        let description = doc_text(alloc, &item.docs)?;
         let comment = comment_text(alloc, &item.comment)?;
         let index = self
             .builder
@@ -106,7 +107,7 @@ impl OpenGroup {
             return Err(AllocError);
         }
         let name = text_in(alloc, item.name.as_slice())?;
-        let description = description(alloc, &item.docs)?;
+        let description = doc_text(alloc, &item.docs)?;
         let comment = comment_text(alloc, &item.comment)?;
         self.builder
             .add_num(name, description, comment, item.default)
@@ -122,7 +123,7 @@ impl OpenGroup {
             return Err(AllocError);
         }
         let name = text_in(alloc, item.name.as_slice())?;
-        let description = description(alloc, &item.docs)?;
+        let description = doc_text(alloc, &item.docs)?;
         let comment = comment_text(alloc, &item.comment)?;
         let values = name_texts(alloc, item.values.as_slice())?;
         self.builder.add_enum(name, description, comment, values)
@@ -138,7 +139,7 @@ impl OpenGroup {
             return Err(AllocError);
         }
         let name = text_in(alloc, item.name.as_slice())?;
-        let description = description(alloc, &item.docs)?;
+        let description = doc_text(alloc, &item.docs)?;
         let meant = self.all_meant(alloc, item.args.as_slice())?;
         let index = self.builder.add_preset(name, description, meant)?;
         add_first(alloc, &mut self.presets, item.name.as_slice(), index)?;
@@ -147,14 +148,19 @@ impl OpenGroup {
 }
 
 impl OpenGroup {
-    /// Adds the setting or the preset that an item declares; `group` adds nothing.
+    /// Adds the setting or the preset that an item declares; any other item adds nothing.
     pub(crate) fn add(&mut self, alloc: Global, item: &Item) -> Result<(), AllocError>
         requires { IsKept self.old }
         ensures added { OnOk result (self.new.builder ≡ with_item self.old.builder item.now) }
         ensures kept { OnOk result (IsKept self.new) }
     {
         match item {
-            Item::Group(_) => Ok(()),
+            Item::Type(_)
+            | Item::Alias(_)
+            | Item::Kind(_)
+            | Item::Format(_)
+            | Item::Inst(_)
+            | Item::Group(_) => Ok(()),
             Item::Bool(item) => self.add_bool(alloc, item),
             Item::Num(item) => self.add_num(alloc, item),
             Item::Enum(item) => self.add_enum(alloc, item),

@@ -1,13 +1,13 @@
 ghost use Rattle.std.specs.Prelude.{◌≡◌, ◌<◌, ◌≤◌, IfSome, slice_get, length};
 ghost use Rattle.std.specs.List.{position};
-ghost use Rattle.meta_items_declared.specs.Places.{is_group, places_of, before_group, entry_places, place_of_entry, item_of_place};
+ghost use Rattle.meta_items_declared.specs.Places.{is_group, places_of, before_group, entry_places, place_of_entry, place_of_inst, item_of_place, named_by};
 ghost use Rattle.meta_items_declared.specs.Places.{place_of_fault};
 ghost use Rattle.meta_items_declared.specs.Sorts.{is_of};
 
 use meta_items::Item;
 use meta_types::{DefinitionError, Place};
 
-/// What an item is to a group.
+/// What an item declares.
 #[derive(Clone, Copy)]
 enum Sort {
     /// It opens one.
@@ -16,6 +16,10 @@ enum Sort {
     Setting,
     /// It declares a preset.
     Preset,
+    /// It declares a format.
+    Format,
+    /// It declares an instruction.
+    Inst,
 }
 
 /// Whether the item is of the sort.
@@ -26,6 +30,8 @@ fn is_of(sort: Sort, item: &Item) -> bool
         (Sort::Group, Item::Group(_)) => true,
         (Sort::Setting, Item::Bool(_) | Item::Num(_) | Item::Enum(_)) => true,
         (Sort::Preset, Item::Preset(_)) => true,
+        (Sort::Format, Item::Format(_)) => true,
+        (Sort::Inst, Item::Inst(_)) => true,
         _ => false,
     }
 }
@@ -102,42 +108,61 @@ fn place_of_entry(items: &[Item], group: u64, entry: u64) -> Option<usize>
     Some(place + 1 + within)
 }
 
+/// The place of the item that declares this instruction, which counts from 1.
+fn place_of_inst(items: &[Item], number: u64) -> Option<usize>
+    ensures { result ≡ place_of_inst items.now number }
+{
+    if number == 0 {
+        return None;
+    }
+    nth(Sort::Inst, items, number - 1)
+}
+
 /// The place of the item that declares what stands at this place of declarations.
 fn item_of_place(items: &[Item], place: &Place) -> Option<usize>
     ensures { result ≡ item_of_place items.now place.now }
 {
     match place {
-        Place::Instruction(_) | Place::Format(_) => None,
+        Place::Instruction(number) => place_of_inst(items, *number),
+        Place::Format(number) => nth(Sort::Format, items, *number),
         Place::Group(group) => nth(Sort::Group, items, *group),
         Place::Entry(group, entry) => place_of_entry(items, *group, *entry),
     }
 }
 
-/// The place of the item, from 0, that declares the group, the setting or the preset which a fault of declarations names: of the
-/// declarations that these items make. `None` where it names an instruction, a format or nothing, which no item declares, or what
-/// the items don't have.
+/// What a fault names, where this is how many instructions are declared.
+fn named_by(count: u64, fault: &DefinitionError) -> Option<Place>
+    ensures { result ≡ named_by count fault.now }
+{
+    match fault {
+        DefinitionError::BadName(place) | DefinitionError::DuplicateName(place, _) => Some(*place),
+        DefinitionError::BadEnum(group, entry) | DefinitionError::BadPreset(group, entry) => {
+            Some(Place::Entry(*group, *entry))
+        }
+        DefinitionError::TooManySettings(group, _, _, _) => Some(Place::Group(*group)),
+        DefinitionError::BadOutput(number, _)
+        | DefinitionError::FormatMismatch(number)
+        | DefinitionError::NoControl(number)
+        | DefinitionError::BadSecond(number)
+        | DefinitionError::BadDerivation(number, _)
+        | DefinitionError::TooManyOperands(number, _)
+        | DefinitionError::BadImmMethod(number) => Some(Place::Instruction(*number)),
+        DefinitionError::BadFormat(number) | DefinitionError::FormatClash(number, _) => {
+            Some(Place::Format(*number))
+        }
+        DefinitionError::TooManyOpcodes(_) => Some(Place::Instruction(4096)),
+        DefinitionError::TooManyTypeSets(_) => Some(Place::Instruction(count)),
+        DefinitionError::OutOfMemory => None,
+    }
+}
+
+/// The place of the item, from 0, that a fault of declarations is about, which these items make: the one that declares the instruction,
+/// the format, the group, the setting or the preset that it names; the first instruction that is one too many; the last one, where there
+/// are too many sets of types. `None` where it names what the items don't have, as want of memory does; the first fault that the
+/// declarations of these items show names what they have (`faults_have_their_items`).
 pub fn place_of_fault(items: &[Item], fault: &DefinitionError) -> Option<usize>
     ensures { result ≡ place_of_fault items.now fault.now }
 {
-    match fault {
-        DefinitionError::BadName(place) | DefinitionError::DuplicateName(place, _) => {
-            item_of_place(items, place)
-        }
-        DefinitionError::BadEnum(group, entry) | DefinitionError::BadPreset(group, entry) => {
-            place_of_entry(items, *group, *entry)
-        }
-        DefinitionError::TooManySettings(group, _, _, _) => nth(Sort::Group, items, *group),
-        DefinitionError::TooManyOpcodes(_)
-        | DefinitionError::BadOutput(_, _)
-        | DefinitionError::FormatMismatch(_)
-        | DefinitionError::NoControl(_)
-        | DefinitionError::BadSecond(_)
-        | DefinitionError::BadDerivation(_, _)
-        | DefinitionError::TooManyOperands(_, _)
-        | DefinitionError::BadImmMethod(_)
-        | DefinitionError::BadFormat(_)
-        | DefinitionError::FormatClash(_, _)
-        | DefinitionError::TooManyTypeSets(_)
-        | DefinitionError::OutOfMemory => None,
-    }
+    let place = named_by(count_of(Sort::Inst, items), fault)?;
+    item_of_place(items, &place)
 }

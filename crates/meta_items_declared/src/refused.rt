@@ -1,17 +1,24 @@
 ghost use Rattle.std.specs.Prelude.{◌≡◌};
 ghost use Rattle.meta_items_declared.specs.declared.refused.DeclareError.TheVariants.{Memory};
+ghost use Rattle.meta_items_declared.specs.Errors.{type_error_at, inst_error_at};
 
+use meta_items_insts::{InstError, InstReason};
+use meta_items_types::TypeError;
 use std::alloc::{AllocError, AllocFailed};
 
 /// What is wrong with an item (this project's own).
 #[derive(Clone, Copy, Debug, PartialEq, Eq)]
 pub enum Reason {
-    /// A name, a comment or a line of its documentation isn't UTF-8.
+    /// A name, a comment or a line of the documentation of a group or an entry isn't UTF-8.
     NotText,
     /// A setting or a preset stands before the first group.
     NoGroup,
     /// The preset's name at this place, from 0, is that of no boolean and of no preset that its group has above.
     NoEntry(usize),
+    /// This is wrong with a type or a kind.
+    OfType(meta_items_types::Reason),
+    /// This is wrong with a format or an instruction.
+    OfInst(InstReason),
 }
 
 /// Why items declare nothing (this project's own).
@@ -36,5 +43,25 @@ impl<T: Drop> From<AllocFailed<T>> for DeclareError {
 
     fn from(_e: AllocFailed<T>) -> DeclareError {
         DeclareError::Memory
+    }
+}
+
+/// Why there is no answer, where the item at a place declares no type or kind.
+pub(crate) fn type_error(place: usize, error: TypeError) -> DeclareError
+    ensures { result ≡ type_error_at place error }
+{
+    match error {
+        TypeError::Memory => DeclareError::Memory,
+        TypeError::Wrong(reason) => DeclareError::Refused(place, Reason::OfType(reason)),
+    }
+}
+
+/// The same, where it declares no format or instruction.
+pub(crate) fn inst_error(place: usize, error: InstError) -> DeclareError
+    ensures { result ≡ inst_error_at place error }
+{
+    match error {
+        InstError::Memory => DeclareError::Memory,
+        InstError::Wrong(reason) => DeclareError::Refused(place, Reason::OfInst(reason)),
     }
 }

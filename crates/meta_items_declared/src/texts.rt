@@ -1,37 +1,13 @@
 ghost use Rattle.std.specs.Prelude.{◌≡◌, ◌∷◌, IfOk};
-ghost use Rattle.std.specs.List.{list_all};
-ghost use Rattle.std.specs.Str.{is_utf8};
-ghost use Rattle.meta_items.specs.Named.{name_bytes, doc_text};
-ghost use Rattle.meta_items_declared.specs.Texts.{text_of, names_in, item_texts, are_texts};
+ghost use Rattle.meta_items.specs.Named.{name_bytes};
+ghost use Rattle.meta_items_types.specs.Texts.{are_texts};
+ghost use Rattle.meta_items_declared.specs.Texts.{text_of, names_in, item_texts};
 
 use meta_items::{Docs, Item, Name};
+use meta_items_types::{are_lines, is_text, text_in};
 use meta_tokens::Bytes;
 use meta_types::Text;
 use std::alloc::{AllocError, Global};
-use std::str;
-
-/// Whether the bytes are UTF-8.
-#[tactic(auto, using(crate::proofs::Utf8::is_text, crate::proofs::Utf8::no_text))]
-fn is_text(bytes: &[u8]) -> bool
-    ensures { result ≡ is_utf8 bytes.now }
-{
-    match str::from_utf8(bytes) {
-        Ok(_) => true,
-        Err(_) => false,
-    }
-}
-
-/// Whether each of the lines is UTF-8.
-fn are_lines(lines: &[Bytes]) -> bool
-    ensures { result ≡ list_all is_utf8 lines.now }
-{
-    for line in lines {
-        if !is_text(line.as_slice()) {
-            return false;
-        }
-    }
-    true
-}
 
 /// Whether each of the names is UTF-8.
 fn are_names(names: &[Name]) -> bool
@@ -62,11 +38,12 @@ fn is_setting_text(name: &Name, comment: &Option<Bytes>, docs: &Docs) -> bool
     is_text(name.as_slice()) && is_text(bytes_or_none(comment)) && are_lines(docs.as_slice())
 }
 
-/// Whether all texts of an item are UTF-8.
+/// Whether all texts of a group or of an entry are UTF-8; those of other items are tested where they are declared.
 pub(crate) fn is_text_item(item: &Item) -> bool
     ensures { result ≡ are_texts (item_texts item.now) }
 {
     match item {
+        Item::Type(_) | Item::Alias(_) | Item::Kind(_) | Item::Format(_) | Item::Inst(_) => true,
         Item::Group(name) => is_text(name.as_slice()),
         Item::Bool(item) => is_setting_text(&item.name, &item.comment, &item.docs),
         Item::Num(item) => is_setting_text(&item.name, &item.comment, &item.docs),
@@ -82,29 +59,11 @@ pub(crate) fn is_text_item(item: &Item) -> bool
     }
 }
 
-/// The text that these bytes are. Bytes that are no UTF-8 are handled as want of memory: `is_text_item` tells before.
-pub(crate) fn text_in(alloc: Global, bytes: &[u8]) -> Result<Text, AllocError>
-    ensures { IfOk result (λ t. t ≡ bytes.now) }
-{
-    match str::from_utf8(bytes) {
-        Ok(text) => Text::new(alloc, text),
-        Err(_) => Err(AllocError),
-    }
-}
-
 /// The comment of a setting.
 pub(crate) fn comment_text(alloc: Global, comment: &Option<Bytes>) -> Result<Text, AllocError>
     ensures { IfOk result (λ t. t ≡ text_of comment.now) }
 {
     text_in(alloc, bytes_or_none(comment))
-}
-
-/// The documentation of an entry.
-pub(crate) fn description(alloc: Global, docs: &Docs) -> Result<Text, AllocError>
-    ensures { IfOk result (λ t. t ≡ doc_text docs.now) }
-{
-    let text = docs.text(alloc)?;
-    text_in(alloc, &text)
 }
 
 /// The names as texts.

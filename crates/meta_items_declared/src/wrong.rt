@@ -13,7 +13,15 @@ fn misplaced(current: &Option<OpenGroup>, item: &Item) -> Option<Reason>
     ensures { result ≡ misplaced (known_in current.now) item.now }
 {
     match (item, current) {
-        (Item::Group(_), _) => None,
+        (
+            Item::Type(_)
+            | Item::Alias(_)
+            | Item::Kind(_)
+            | Item::Format(_)
+            | Item::Inst(_)
+            | Item::Group(_),
+            _,
+        ) => None,
         (_, None) => Some(Reason::NoGroup),
         (Item::Preset(item), Some(group)) => {
             let place = group.missing_in(item.args.as_slice())?;

@@ -9,25 +9,45 @@ use Rattle.meta_tokens.specs.declared.token.Token.TheVariants.{Key, Word, Quoted
 use Rattle.meta_tokens.specs.declared.keyword.Keyword.{Keyword}
 use Rattle.meta_tokens.specs.declared.keyword.Keyword.TheVariants as key
 use Rattle.meta_items.specs.declared.name.Name.{Name}
+use Rattle.meta_items.specs.declared.types.TypeItem.{TypeItem}
+use Rattle.meta_items.specs.declared.types.AliasItem.{AliasItem}
+use Rattle.meta_items.specs.declared.kinds.KindItem.{KindItem}
+use Rattle.meta_items.specs.declared.formats.FormatItem.{FormatItem}
+use Rattle.meta_items.specs.declared.insts.InstItem.{InstItem}
 use Rattle.meta_items.specs.declared.items.BoolItem.{BoolItem}
 use Rattle.meta_items.specs.declared.items.NumItem.{NumItem}
 use Rattle.meta_items.specs.declared.items.EnumItem.{EnumItem}
 use Rattle.meta_items.specs.declared.items.PresetItem.{PresetItem}
 use Rattle.meta_items.specs.declared.items.Item.{Item}
 use Rattle.meta_items.specs.declared.items.Item.TheVariants as item
-use Rattle.meta_items.specs.Spelling.{docs, name, bool_item, num_item, enum_item, preset_item, spelled, spelled_all}
+use Rattle.meta_items.specs.Spelling.{docs, name, type_item, alias_item, kind_item, format_item, inst_item, bool_item, num_item, enum_item}
+use Rattle.meta_items.specs.Spelling.{preset_item, spelled, spelled_all}
 use Rattle.meta_items_reader.specs.declared.fault.Fault.{Fault}
 use Rattle.meta_items_reader.specs.declared.fault.Wanted.TheVariants as wanted
 use Rattle.meta_items_reader.specs.declared.fault.PartError.{PartError}
 use Rattle.meta_items_reader.specs.declared.fault.PartError.TheVariants as errors
-use Rattle.meta_items_reader.specs.Reading.{◌>>=◌, Fails, name_at, docs_at, bool_item_at, num_item_at, enum_item_at, preset_item_at}
-use Rattle.meta_items_reader.specs.Reading.{item_by, item_behind, item_at, items_at, with_items}
-use Rattle.meta_items_reader.specs.Refused.{Fits, AllFit, AreRefused}
-use Rattle.meta_items_reader.proofs.PartLaws.{bind_ok, ok_is, Within, longer, within_bind, left_of, quoted_first, name_again, name_takes}
+use Rattle.meta_items_reader.specs.Parts.{◌>>=◌, Fails, name_at, docs_at}
+use Rattle.meta_items_reader.specs.SetReading.{kind_item_at, format_item_at, inst_item_at}
+use Rattle.meta_items_reader.specs.Reading.{bool_item_at, num_item_at, enum_item_at, preset_item_at, item_by, item_behind, item_at}
+use Rattle.meta_items_reader.specs.Reading.{items_at}
+use Rattle.meta_items_reader.specs.Reading.{with_items}
+use Rattle.meta_items_reader.specs.Fits.{SetFits, SlotsFit, Fits, AllFit}
+use Rattle.meta_items_reader.specs.Apart.{Apart, LastApart}
+use Rattle.meta_items_reader.specs.Refused.{AreRefused}
+use Rattle.meta_items_reader.proofs.PartLaws.{bind_ok, ok_is, Shorter, longer, shorter_bind, left_of, name_again, name_takes}
 use Rattle.meta_items_reader.proofs.PartLaws.{name_within, docs_again, docs_takes, docs_within}
-use Rattle.meta_items_reader.proofs.SettingLaws.{bool_again, bool_begins, bool_takes, bool_within, num_again, num_begins, num_takes, num_fits}
-use Rattle.meta_items_reader.proofs.SettingLaws.{num_within, enum_again, enum_begins, enum_takes, enum_within, preset_again, preset_takes}
-use Rattle.meta_items_reader.proofs.SettingLaws.{preset_within}
+use Rattle.meta_items_reader.proofs.ListLaws.{Keeps}
+use Rattle.meta_items_reader.proofs.Ends.{ends, ends_text, ends_apart}
+use Rattle.meta_items_reader.proofs.SettingLaws.{bool_again, bool_takes, bool_within, num_again, num_takes, num_within, enum_again}
+use Rattle.meta_items_reader.proofs.SettingLaws.{bool_begins, num_begins, enum_begins}
+use Rattle.meta_items_reader.proofs.SettingLaws.{enum_takes}
+use Rattle.meta_items_reader.proofs.SettingLaws.{enum_within, preset_again, preset_takes, preset_within}
+use Rattle.meta_items_reader.proofs.SetLaws.{type_item_takes, type_item_within, type_item_again, alias_again}
+use Rattle.meta_items_reader.proofs.KindLaws.{kind_takes, kind_within, kind_again, format_takes, format_within, format_again}
+use Rattle.meta_items_reader.proofs.InstLaws.{inst_takes, inst_within, inst_again}
+use Rattle.meta_items_reader.proofs.FitLaws.{item_fits}
+use Rattle.meta_items_reader.proofs.LeaveLaws.{item_leaves}
+use Rattle.meta_items_reader.proofs.Bodies.{docs_of, keyword_of_item, body_of, in_parts}
 
 -- ---- the loop
 
@@ -93,12 +113,26 @@ group_takes [] ts x true is e =
 group_takes (d ∷ ds) ts x true is e = let z : length (d ∷ ds) ≡ 0 = eqb-true (length (d ∷ ds)) 0 is in absurd (omega arith)
 group_takes ds ts x false is e = absurd cc
 
+format_is_taken : (ds : List (List ℕ)) (ts : List Token) (x : Item × List Token) (b : Bool) → (length ds == 0) ≡ b
+    → cond b (format_item_at ts >>= λ f. Ok (item.Format f.0, f.1))
+    (Err (record { left = length (Key key.Format ∷ ts); wanted = wanted.Documented })) ≡ Ok x → Taken (docs ds ++ Key key.Format ∷ ts) x
+format_is_taken [] ts x true is e =
+    let a = bind_ok (format_item_at ts) (λ f. Ok (item.Format f.0, f.1)) x e in
+    subst (Taken (Key key.Format ∷ ts)) (ok_is (item.Format a.0.0, a.0.1) x a.2)
+    (ap (λ (r : List Token). Key key.Format ∷ r) (format_takes ts a.0 a.1))
+format_is_taken (d ∷ ds) ts x true is e = let z : length (d ∷ ds) ≡ 0 = eqb-true (length (d ∷ ds)) 0 is in absurd (omega arith)
+format_is_taken ds ts x false is e = absurd cc
+
 by_takes : (ds : List (List ℕ)) (k : Keyword) (ts : List Token) (x : Item × List Token) → item_by ds k ts ≡ Ok x
     → Taken (docs ds ++ Key k ∷ ts) x
-by_takes ds key.Type ts x e = absurd cc
-by_takes ds key.Kind ts x e = absurd cc
-by_takes ds key.Format ts x e = absurd cc
-by_takes ds key.Inst ts x e = absurd cc
+by_takes ds key.Type ts x e = type_item_takes ds ts x e
+by_takes ds key.Kind ts x e =
+    let a = bind_ok (kind_item_at ds ts) (λ b. Ok (item.Kind b.0, b.1)) x e in
+    subst (Taken (docs ds ++ Key key.Kind ∷ ts)) (ok_is (item.Kind a.0.0, a.0.1) x a.2) (kind_takes ds ts a.0 a.1)
+by_takes ds key.Format ts x e = format_is_taken ds ts x (length ds == 0) refl e
+by_takes ds key.Inst ts x e =
+    let a = bind_ok (inst_item_at ds ts) (λ b. Ok (item.Inst b.0, b.1)) x e in
+    subst (Taken (docs ds ++ Key key.Inst ∷ ts)) (ok_is (item.Inst a.0.0, a.0.1) x a.2) (inst_takes ds ts a.0 a.1)
 by_takes ds key.Group ts x e = group_takes ds ts x (length ds == 0) refl e
 by_takes ds key.Bool ts x e =
     let a = bind_ok (bool_item_at ds ts) (λ b. Ok (item.Bool b.0, b.1)) x e in
@@ -126,51 +160,6 @@ pub item_takes : (ts : List Token) (x : Item × List Token) → item_at ts ≡ O
 unfolding item_at
 item_takes ts x e = docs_takes ts ∙ behind_takes (docs_at ts).0 (docs_at ts).1 x e
 
--- ---- its numbers are bytes
-
-abbrev FitsIn : Item × List Token → Type 0
-FitsIn x = Fits x.0
-
-group_fits : (ds : List (List ℕ)) (ts : List Token) (x : Item × List Token) (b : Bool)
-    → cond b (name_at wanted.GroupName ts >>= λ n. Ok (item.Group n.0, n.1))
-    (Err (record { left = length (Key key.Group ∷ ts); wanted = wanted.Documented })) ≡ Ok x → FitsIn x
-group_fits ds ts x true e =
-    let a = bind_ok (name_at wanted.GroupName ts) (λ n. Ok (item.Group n.0, n.1)) x e in
-    subst FitsIn (ok_is (item.Group a.0.0, a.0.1) x a.2) tt
-group_fits ds ts x false e = absurd cc
-
-by_fits : (ds : List (List ℕ)) (k : Keyword) (ts : List Token) (x : Item × List Token) → item_by ds k ts ≡ Ok x → FitsIn x
-by_fits ds key.Type ts x e = absurd cc
-by_fits ds key.Kind ts x e = absurd cc
-by_fits ds key.Format ts x e = absurd cc
-by_fits ds key.Inst ts x e = absurd cc
-by_fits ds key.Group ts x e = group_fits ds ts x (length ds == 0) e
-by_fits ds key.Bool ts x e =
-    let a = bind_ok (bool_item_at ds ts) (λ b. Ok (item.Bool b.0, b.1)) x e in
-    subst FitsIn (ok_is (item.Bool a.0.0, a.0.1) x a.2) tt
-by_fits ds key.Num ts x e =
-    let a = bind_ok (num_item_at ds ts) (λ b. Ok (item.Num b.0, b.1)) x e in
-    subst FitsIn (ok_is (item.Num a.0.0, a.0.1) x a.2) (num_fits ds ts a.0 a.1)
-by_fits ds key.Enum ts x e =
-    let a = bind_ok (enum_item_at ds ts) (λ b. Ok (item.Enum b.0, b.1)) x e in
-    subst FitsIn (ok_is (item.Enum a.0.0, a.0.1) x a.2) tt
-by_fits ds key.Preset ts x e =
-    let a = bind_ok (preset_item_at ds ts) (λ b. Ok (item.Preset b.0, b.1)) x e in
-    subst FitsIn (ok_is (item.Preset a.0.0, a.0.1) x a.2) tt
-
-behind_fits : (ds : List (List ℕ)) (ts : List Token) (x : Item × List Token) → item_behind ds ts ≡ Ok x → FitsIn x
-behind_fits ds [] x e = absurd cc
-behind_fits ds (Key k ∷ ts) x e = by_fits ds k ts x e
-behind_fits ds (Word w ∷ ts) x e = absurd cc
-behind_fits ds (Quoted t ∷ ts) x e = absurd cc
-behind_fits ds (Sign c ∷ ts) x e = absurd cc
-behind_fits ds (Doc d ∷ ts) x e = absurd cc
-behind_fits ds (Stray f ∷ ts) x e = absurd cc
-
-item_fits : (ts : List Token) (x : Item × List Token) → item_at ts ≡ Ok x → FitsIn x
-unfolding item_at
-item_fits ts x e = behind_fits (docs_at ts).0 (docs_at ts).1 x e
-
 -- ---- an item that is spelled so is read
 
 behind_docs : (ds : List (List ℕ)) (k : Keyword) (body more : List Token)
@@ -185,78 +174,110 @@ group_again n more =
     behind_docs [] key.Group (name n ∷ []) more
     ∙ ap (λ (r : Result (Name × List Token) Fault). r >>= λ n. Ok (item.Group n.0, n.1)) (name_again wanted.GroupName n more)
 
-pub item_again : (i : Item) (more : List Token) → Fits i → quoted_first more ≡ false → item_at (spelled i ++ more) ≡ Ok (i, more)
-item_again (item.Group n) more fit h = group_again n more
-item_again (item.Bool b) more fit h =
-    behind_docs b.docs key.Bool (bool_item b) more
-    ∙ ap (λ (r : Result (BoolItem × List Token) Fault). r >>= λ x. Ok (item.Bool x.0, x.1)) (bool_again b more h)
-item_again (item.Num b) more fit h =
-    behind_docs b.docs key.Num (num_item b) more
-    ∙ ap (λ (r : Result (NumItem × List Token) Fault). r >>= λ x. Ok (item.Num x.0, x.1)) (num_again b more fit h)
-item_again (item.Enum b) more fit h =
-    behind_docs b.docs key.Enum (enum_item b) more
-    ∙ ap (λ (r : Result (EnumItem × List Token) Fault). r >>= λ x. Ok (item.Enum x.0, x.1)) (enum_again b more h)
-item_again (item.Preset b) more fit h =
-    behind_docs b.docs key.Preset (preset_item b) more
-    ∙ ap (λ (r : Result (PresetItem × List Token) Fault). r >>= λ x. Ok (item.Preset x.0, x.1)) (preset_again b more)
+type_reads : (i : TypeItem) (more : List Token) → SetFits i.set → Apart (item.Type i) more
+    → item_at (spelled (item.Type i) ++ more) ≡ Ok (item.Type i, more)
+type_reads i more fit apart = behind_docs i.docs key.Type (type_item i) more ∙ type_item_again i more fit apart
 
--- whatever stands behind the tokens of an item, an item is read there
+alias_reads : (i : AliasItem) (more : List Token) → Apart (item.Alias i) more
+    → item_at (spelled (item.Alias i) ++ more) ≡ Ok (item.Alias i, more)
+alias_reads i more apart = behind_docs i.docs key.Type (alias_item i) more ∙ alias_again i more apart
+
+kind_reads : (i : KindItem) (more : List Token) → Apart (item.Kind i) more
+    → item_at (spelled (item.Kind i) ++ more) ≡ Ok (item.Kind i, more)
+kind_reads i more apart =
+    behind_docs i.docs key.Kind (kind_item i) more
+    ∙ ap (λ (r : Result (KindItem × List Token) Fault). r >>= λ x. Ok (item.Kind x.0, x.1)) (kind_again i more apart)
+
+format_reads : (i : FormatItem) (more : List Token) → SlotsFit i.slots → Apart (item.Format i) more
+    → item_at (spelled (item.Format i) ++ more) ≡ Ok (item.Format i, more)
+format_reads i more fit apart =
+    behind_docs [] key.Format (format_item i) more
+    ∙ ap (λ (r : Result (FormatItem × List Token) Fault). r >>= λ f. Ok (item.Format f.0, f.1)) (format_again i more fit apart)
+
+inst_reads : (i : InstItem) (more : List Token) → Apart (item.Inst i) more
+    → item_at (spelled (item.Inst i) ++ more) ≡ Ok (item.Inst i, more)
+inst_reads i more apart =
+    behind_docs i.docs key.Inst (inst_item i) more
+    ∙ ap (λ (r : Result (InstItem × List Token) Fault). r >>= λ x. Ok (item.Inst x.0, x.1)) (inst_again i more apart)
+
+preset_reads : (i : PresetItem) (more : List Token) → item_at (spelled (item.Preset i) ++ more) ≡ Ok (item.Preset i, more)
+preset_reads i more =
+    behind_docs i.docs key.Preset (preset_item i) more
+    ∙ ap (λ (r : Result (PresetItem × List Token) Fault). r >>= λ x. Ok (item.Preset x.0, x.1)) (preset_again i more)
+
+-- where items end
+pub item_again : (i : Item) (more : List Token) → Fits i → ends more ≡ true → item_at (spelled i ++ more) ≡ Ok (i, more)
+item_again (item.Type i) more fit end = type_reads i more fit (ends_apart (item.Type i) more end)
+item_again (item.Alias i) more fit end = alias_reads i more (ends_apart (item.Alias i) more end)
+item_again (item.Kind i) more fit end = kind_reads i more (ends_apart (item.Kind i) more end)
+item_again (item.Format i) more fit end = format_reads i more fit (ends_apart (item.Format i) more end)
+item_again (item.Inst i) more fit end = inst_reads i more (ends_apart (item.Inst i) more end)
+item_again (item.Group n) more fit end = group_again n more
+item_again (item.Bool b) more fit end =
+    behind_docs b.docs key.Bool (bool_item b) more
+    ∙ ap (λ (r : Result (BoolItem × List Token) Fault). r >>= λ x. Ok (item.Bool x.0, x.1)) (bool_again b more (ends_text more end))
+item_again (item.Num b) more fit end =
+    behind_docs b.docs key.Num (num_item b) more
+    ∙ ap (λ (r : Result (NumItem × List Token) Fault). r >>= λ x. Ok (item.Num x.0, x.1)) (num_again b more fit (ends_text more end))
+item_again (item.Enum b) more fit end =
+    behind_docs b.docs key.Enum (enum_item b) more
+    ∙ ap (λ (r : Result (EnumItem × List Token) Fault). r >>= λ x. Ok (item.Enum x.0, x.1)) (enum_again b more (ends_text more end))
+item_again (item.Preset b) more fit end = preset_reads b more
+
+-- where an item stands and nothing goes on with it, one is read
 abbrev Begins : Item → List Token → Type 0
 Begins i more = (x : Item × List Token) × (item_at (spelled i ++ more) ≡ Ok x) × (length x.1 ≤ length more)
 
-item_begins : (i : Item) (more : List Token) → Fits i → Begins i more
-item_begins (item.Group n) more fit = ((item.Group n, more), group_again n more, omega arith)
-item_begins (item.Bool b) more fit =
+item_begins : (i : Item) (more : List Token) → Fits i → Apart i more → Begins i more
+item_begins (item.Type i) more fit apart = ((item.Type i, more), type_reads i more fit apart, omega arith)
+item_begins (item.Alias i) more fit apart = ((item.Alias i, more), alias_reads i more apart, omega arith)
+item_begins (item.Kind i) more fit apart = ((item.Kind i, more), kind_reads i more apart, omega arith)
+item_begins (item.Format i) more fit apart = ((item.Format i, more), format_reads i more fit apart, omega arith)
+item_begins (item.Inst i) more fit apart = ((item.Inst i, more), inst_reads i more apart, omega arith)
+item_begins (item.Group n) more fit apart = ((item.Group n, more), group_again n more, omega arith)
+item_begins (item.Bool b) more fit apart =
     let a = bool_begins b more in
     let read : item_at (spelled (item.Bool b) ++ more) ≡ Ok (item.Bool a.0.0, a.0.1) = behind_docs b.docs key.Bool (bool_item b) more
     ∙ ap (λ (r : Result (BoolItem × List Token) Fault). r >>= λ x. Ok (item.Bool x.0, x.1)) a.1 in
     ((item.Bool a.0.0, a.0.1), read, a.2)
-item_begins (item.Num b) more fit =
+item_begins (item.Num b) more fit apart =
     let a = num_begins b more fit in
     let read : item_at (spelled (item.Num b) ++ more) ≡ Ok (item.Num a.0.0, a.0.1) = behind_docs b.docs key.Num (num_item b) more
     ∙ ap (λ (r : Result (NumItem × List Token) Fault). r >>= λ x. Ok (item.Num x.0, x.1)) a.1 in
     ((item.Num a.0.0, a.0.1), read, a.2)
-item_begins (item.Enum b) more fit =
+item_begins (item.Enum b) more fit apart =
     let a = enum_begins b more in
     let read : item_at (spelled (item.Enum b) ++ more) ≡ Ok (item.Enum a.0.0, a.0.1) = behind_docs b.docs key.Enum (enum_item b) more
     ∙ ap (λ (r : Result (EnumItem × List Token) Fault). r >>= λ x. Ok (item.Enum x.0, x.1)) a.1 in
     ((item.Enum a.0.0, a.0.1), read, a.2)
-item_begins (item.Preset b) more fit =
-    let read : item_at (spelled (item.Preset b) ++ more) ≡ Ok (item.Preset b, more) = behind_docs b.docs key.Preset (preset_item b) more
-    ∙ ap (λ (r : Result (PresetItem × List Token) Fault). r >>= λ x. Ok (item.Preset x.0, x.1)) (preset_again b more) in
-    ((item.Preset b, more), read, omega arith)
+item_begins (item.Preset b) more fit apart = ((item.Preset b, more), preset_reads b more, omega arith)
 
 -- ---- a fault lies within
 
-abbrev item_rest : Item × List Token → List Token
-item_rest x = x.1
-
-group_within : (ts : List Token) (b : Bool)
-    → Within item_rest (Key key.Group ∷ ts) (cond b (name_at wanted.GroupName ts >>= λ n. Ok (item.Group n.0, n.1))
-    (Err (record { left = length (Key key.Group ∷ ts); wanted = wanted.Documented })))
-group_within ts true =
-    longer item_rest ts (Key key.Group ∷ ts) (name_at wanted.GroupName ts >>= λ n. Ok (item.Group n.0, n.1)) (omega arith)
-    (within_bind (λ (x : Name × List Token). x.1) item_rest ts (name_at wanted.GroupName ts) (λ n. Ok (item.Group n.0, n.1))
-    (name_within wanted.GroupName ts) (λ n. omega arith))
-group_within ts false = omega arith
-
 wrapped : {A : Type 0} (k : Keyword) (ts : List Token) (read : Result (A × List Token) Fault) (wrap : A → Item)
-    → Within (λ (x : A × List Token). x.1) ts read → Within item_rest (Key k ∷ ts) (read >>= λ x. Ok (wrap x.0, x.1))
-wrapped {A} k ts read wrap h = longer item_rest ts (Key k ∷ ts) (read >>= λ x. Ok (wrap x.0, x.1)) (omega arith)
-    (within_bind (λ (x : A × List Token). x.1) item_rest ts read (λ x. Ok (wrap x.0, x.1)) h (λ x. omega arith))
+    → Shorter ts read → Shorter (Key k ∷ ts) (read >>= λ x. Ok (wrap x.0, x.1))
+wrapped {A} k ts read wrap h = longer ts (Key k ∷ ts) (read >>= λ x. Ok (wrap x.0, x.1)) (omega arith)
+    (shorter_bind ts read (λ x. Ok (wrap x.0, x.1)) h (λ x. omega arith))
 
-by_within : (ds : List (List ℕ)) (k : Keyword) (ts : List Token) → Within item_rest (Key k ∷ ts) (item_by ds k ts)
-by_within ds key.Type ts = omega arith
-by_within ds key.Kind ts = omega arith
-by_within ds key.Format ts = omega arith
-by_within ds key.Inst ts = omega arith
-by_within ds key.Group ts = group_within ts (length ds == 0)
+undocumented : {A : Type 0} (k : Keyword) (ts : List Token) (read : Result (A × List Token) Fault) (wrap : A → Item) (b : Bool)
+    → Shorter ts read → Shorter (Key k ∷ ts) (cond b (read >>= λ x. Ok (wrap x.0, x.1))
+    (Err (record { left = length (Key k ∷ ts); wanted = wanted.Documented })))
+undocumented k ts read wrap true h = wrapped k ts read wrap h
+undocumented k ts read wrap false h = omega arith
+
+by_within : (ds : List (List ℕ)) (k : Keyword) (ts : List Token) → Shorter (Key k ∷ ts) (item_by ds k ts)
+by_within ds key.Type ts = longer ts (Key key.Type ∷ ts) (item_by ds key.Type ts) (omega arith) (type_item_within ds ts)
+by_within ds key.Kind ts = wrapped key.Kind ts (kind_item_at ds ts) (λ i. item.Kind i) (kind_within ds ts)
+by_within ds key.Format ts = undocumented key.Format ts (format_item_at ts) (λ i. item.Format i) (length ds == 0) (format_within ts)
+by_within ds key.Inst ts = wrapped key.Inst ts (inst_item_at ds ts) (λ i. item.Inst i) (inst_within ds ts)
+by_within ds key.Group ts =
+    undocumented key.Group ts (name_at wanted.GroupName ts) (λ n. item.Group n) (length ds == 0) (name_within wanted.GroupName ts)
 by_within ds key.Bool ts = wrapped key.Bool ts (bool_item_at ds ts) (λ i. item.Bool i) (bool_within ds ts)
 by_within ds key.Num ts = wrapped key.Num ts (num_item_at ds ts) (λ i. item.Num i) (num_within ds ts)
 by_within ds key.Enum ts = wrapped key.Enum ts (enum_item_at ds ts) (λ i. item.Enum i) (enum_within ds ts)
 by_within ds key.Preset ts = wrapped key.Preset ts (preset_item_at ds ts) (λ i. item.Preset i) (preset_within ds ts)
 
-behind_within : (ds : List (List ℕ)) (ts : List Token) → Within item_rest ts (item_behind ds ts)
+behind_within : (ds : List (List ℕ)) (ts : List Token) → Shorter ts (item_behind ds ts)
 behind_within ds [] = omega arith
 behind_within ds (Key k ∷ ts) = by_within ds k ts
 behind_within ds (Word w ∷ ts) = omega arith
@@ -265,28 +286,32 @@ behind_within ds (Sign c ∷ ts) = omega arith
 behind_within ds (Doc d ∷ ts) = omega arith
 behind_within ds (Stray f ∷ ts) = omega arith
 
-pub item_within : (ts : List Token) → Within item_rest ts (item_at ts)
+pub item_within : Keeps item_at
 unfolding item_at
-item_within ts = longer item_rest (docs_at ts).1 ts (item_behind (docs_at ts).0 (docs_at ts).1) (docs_within ts)
-    (behind_within (docs_at ts).0 (docs_at ts).1)
+item_within ts =
+    longer (docs_at ts).1 ts (item_behind (docs_at ts).0 (docs_at ts).1) (docs_within ts) (behind_within (docs_at ts).0 (docs_at ts).1)
 
 -- ---- all items
 
-docs_no_text : (ds : List (List ℕ)) (k : Keyword) (body more : List Token) → quoted_first ((docs ds ++ Key k ∷ body) ++ more) ≡ false
-docs_no_text [] k body more = refl
-docs_no_text (d ∷ ds) k body more = refl
+docs_end : (ds : List (List ℕ)) (k : Keyword) (body more : List Token) → ends ((docs ds ++ Key k ∷ body) ++ more) ≡ true
+docs_end [] k body more = refl
+docs_end (d ∷ ds) k body more = refl
 
--- no text begins an item
-no_text : (i : Item) (more : List Token) → quoted_first (spelled i ++ more) ≡ false
-no_text (item.Group n) more = refl
-no_text (item.Bool b) more = docs_no_text b.docs key.Bool (bool_item b) more
-no_text (item.Num b) more = docs_no_text b.docs key.Num (num_item b) more
-no_text (item.Enum b) more = docs_no_text b.docs key.Enum (enum_item b) more
-no_text (item.Preset b) more = docs_no_text b.docs key.Preset (preset_item b) more
+-- where an item begins, another ends
+item_ends : (i : Item) (more : List Token) → ends (spelled i ++ more) ≡ true
+item_ends i more =
+    ap (λ (r : List Token). ends (r ++ more)) (in_parts i) ∙ docs_end (docs_of i) (keyword_of_item i) (body_of i) more
 
-no_text_in : (is : List Item) → quoted_first (spelled_all is) ≡ false
-no_text_in [] = refl
-no_text_in (i ∷ is) = no_text i (spelled_all is)
+all_end : (is : List Item) → ends (spelled_all is) ≡ true
+all_end [] = refl
+all_end (i ∷ is) = item_ends i (spelled_all is)
+
+-- nothing goes on with an item where another begins
+first_apart : (i : Item) (is : List Item) (more : List Token) → LastApart (i ∷ is) more → Apart i (spelled_all is ++ more)
+first_apart i [] more apart = apart
+first_apart i (j ∷ js) more apart =
+    ends_apart i (spelled_all (j ∷ js) ++ more) (ap ends (append_assoc (spelled j) (spelled_all js) more)
+    ∙ item_ends j (spelled_all js ++ more))
 
 pub all_takes : (n : ℕ) (ts : List Token) (xs : List Item) → items_at n ts ≡ Ok xs → ts ≡ spelled_all xs
 unfolding items_at
@@ -301,7 +326,7 @@ all_takes (suc n) (t ∷ ts) xs e =
     subst (λ (ys : List Item). t ∷ ts ≡ spelled_all ys) (ok_is (a.0.0 ∷ b.0) xs b.2) (one
     ∙ ap (λ (r : List Token). spelled a.0.0 ++ r) more)
 
--- and all numbers are bytes
+-- and it fits
 pub all_fit : (n : ℕ) (ts : List Token) (xs : List Item) → items_at n ts ≡ Ok xs → AllFit xs
 unfolding items_at
 all_fit zero [] xs e = subst AllFit (ok_is [] xs e) tt
@@ -317,11 +342,9 @@ token_more : (ds : List (List ℕ)) (k : Keyword) (body more : List Token) → l
 token_more ds k body more = omega (arith, length-append (docs ds ++ Key k ∷ body) more, length-append (docs ds) (Key k ∷ body))
 
 has_token : (i : Item) (more : List Token) → length more < length (spelled i ++ more)
-has_token (item.Group n) more = omega arith
-has_token (item.Bool b) more = token_more b.docs key.Bool (bool_item b) more
-has_token (item.Num b) more = token_more b.docs key.Num (num_item b) more
-has_token (item.Enum b) more = token_more b.docs key.Enum (enum_item b) more
-has_token (item.Preset b) more = token_more b.docs key.Preset (preset_item b) more
+has_token i more =
+    subst (λ (r : List Token). length more < length (r ++ more)) (sym (in_parts i))
+    (token_more (docs_of i) (keyword_of_item i) (body_of i) more)
 
 -- where a token is, an item is read first
 items_first : (n : ℕ) (ts : List Token) → 0 < length ts → items_at (suc n) ts ≡ (item_at ts >>= λ x. items_at n x.1 >>= λ xs. Ok (x.0 ∷ xs))
@@ -330,7 +353,7 @@ items_first n [] some = absurd (omega arith)
 items_first n (t ∷ ts) some = refl
 
 -- reading on, behind an item
-reads_on : (i : Item) (n : ℕ) (more : List Token) → Fits i → quoted_first more ≡ false
+reads_on : (i : Item) (n : ℕ) (more : List Token) → Fits i → ends more ≡ true
     → items_at (suc n) (spelled i ++ more) ≡ (items_at n more >>= λ xs. Ok (i ∷ xs))
 reads_on i n more fit h =
     let some = has_token i more in
@@ -345,7 +368,7 @@ all_again (i ∷ is) zero fit h = let some = has_token i (spelled_all is) in abs
 all_again (i ∷ is) (suc n) fit h =
     let some = has_token i (spelled_all is) in
     let few : length (spelled_all is) ≤ n = omega arith in
-    reads_on i n (spelled_all is) fit.0 (no_text_in is)
+    reads_on i n (spelled_all is) fit.0 (all_end is)
     ∙ ap (λ (r : Result (List Item) Fault). r >>= λ xs. Ok (i ∷ xs)) (all_again is n fit.1 few)
 
 abbrev failed : Fault → Result (List Item) Fault
@@ -363,51 +386,43 @@ fewer ts x is = let e : length ts ≡ length (spelled x.0 ++ x.1) = ap length (i
     in omega arith
 
 -- where no item is read, none stands
-none_stands : (ts : List Token) (g : Fault) (is : List Item) (more : List Token) → item_at ts ≡ Err g → AllFit is
+none_stands : (ts : List Token) (g : Fault) (is : List Item) (more : List Token) → item_at ts ≡ Err g → AllFit is → LastApart is more
     → ts ≡ spelled_all is ++ more → length ts ≤ length more
-none_stands ts g [] more e fit s = let same : length ts ≡ length more = ap length s in omega arith
-none_stands ts g (i ∷ is) more e fit s =
-    let b = item_begins i (spelled_all is ++ more) fit.0 in
+none_stands ts g [] more e fit apart s = let same : length ts ≡ length more = ap length s in omega arith
+none_stands ts g (i ∷ is) more e fit apart s =
+    let b = item_begins i (spelled_all is ++ more) fit.0 (first_apart i is more apart) in
     let read : item_at ts ≡ Ok b.0 = ap item_at (s ∙ append_assoc (spelled i) (spelled_all is) more) ∙ b.1 in
-    absurd (cc)
-
--- where a text stands behind an item, no further item does
-last_item : (is : List Item) (more : List Token) → quoted_first (spelled_all is ++ more) ≡ true
-    → length (spelled_all is ++ more) ≡ length more
-last_item [] more e = refl
-last_item (i ∷ is) more e =
-    let no : quoted_first (spelled i ++ (spelled_all is ++ more)) ≡ false = no_text i (spelled_all is ++ more) in
-    let yes : quoted_first (spelled i ++ (spelled_all is ++ more)) ≡ true =
-    ap quoted_first (sym (append_assoc (spelled i) (spelled_all is) more)) ∙ e in
     absurd (cc)
 
 -- the longest items behind an item that was read are the longest with it
 abbrev Longest : List Token → List Token → Type 0
-Longest ts rest = (is : List Item) (more : List Token) → AllFit is → ts ≡ spelled_all is ++ more → length rest ≤ length more
-
-longest_by : (ts : List Token) (x : Item × List Token) (rest : List Token) (i : Item) (is : List Item) (more : List Token) (b : Bool)
-    → quoted_first (spelled_all is ++ more) ≡ b
-    → item_at ts ≡ Ok x → length rest ≤ length x.1 → Longest x.1 rest → AllFit (i ∷ is) → ts ≡ spelled i ++ (spelled_all is ++ more)
+Longest ts rest = (is : List Item) (more : List Token) → AllFit is → LastApart is more → ts ≡ spelled_all is ++ more
     → length rest ≤ length more
-longest_by ts x rest i is more false e read short later fit s =
-    let again : item_at ts ≡ Ok (i, spelled_all is ++ more) = ap item_at s ∙ item_again i (spelled_all is ++ more) fit.0 e in
-    let same : x ≡ (i, spelled_all is ++ more) = ok_is x (i, spelled_all is ++ more) (sym read ∙ again) in
-    later is more fit.1 (ap (λ (y : Item × List Token). y.1) same)
-longest_by ts x rest i is more true e read short later fit s =
-    let b = item_begins i (spelled_all is ++ more) fit.0 in
-    let same : x ≡ b.0 = ok_is x b.0 (sym read ∙ ap item_at s ∙ b.1) in
-    let behind : length x.1 ≡ length b.0.1 = ap (λ (y : Item × List Token). length y.1) same in
-    let less : length b.0.1 ≤ length (spelled_all is ++ more) = b.2 in
-    let last = last_item is more e in
-    omega arith
 
 longest_with : (ts : List Token) (x : Item × List Token) (rest : List Token) → item_at ts ≡ Ok x → length rest ≤ length x.1
     → Longest x.1 rest → Longest ts rest
-longest_with ts x rest read short later [] more fit s = let less = fewer ts x read in let same : length ts ≡ length more = ap length s
-    in omega arith
-longest_with ts x rest read short later (i ∷ is) more fit s =
-    longest_by ts x rest i is more (quoted_first (spelled_all is ++ more)) refl read short later fit (s
-    ∙ append_assoc (spelled i) (spelled_all is) more)
+longest_with ts x rest read short later [] more fit apart s =
+    let less = fewer ts x read in let same : length ts ≡ length more = ap length s in omega arith
+longest_with ts x rest read short later (i ∷ []) more fit apart s =
+    let b = item_begins i more fit.0 apart in
+    let one : item_at ts ≡ Ok b.0 = ap item_at (s ∙ append_assoc (spelled i) [] more) ∙ b.1 in
+    let same : x ≡ b.0 = ok_is x b.0 (sym read ∙ one) in
+    let behind : length x.1 ≡ length b.0.1 = ap (λ (y : Item × List Token). length y.1) same in
+    let less : length b.0.1 ≤ length more = b.2 in
+    omega arith
+longest_with ts x rest read short later (i ∷ j ∷ js) more fit apart s =
+    let tail = spelled_all (j ∷ js) ++ more in
+    let end : ends tail ≡ true = ap ends (append_assoc (spelled j) (spelled_all js) more) ∙ item_ends j (spelled_all js ++ more) in
+    let again : item_at ts ≡ Ok (i, tail) = ap item_at (s ∙ append_assoc (spelled i) (spelled_all (j ∷ js)) more)
+    ∙ item_again i tail fit.0 end in
+    let same : x ≡ (i, tail) = ok_is x (i, tail) (sym read ∙ again) in
+    later (j ∷ js) more fit.1 apart (ap (λ (y : Item × List Token). y.1) same)
+
+-- what is left behind the items behind an item is left behind them with it
+last_with : (ts : List Token) (x : Item × List Token) (front : List Item) (rest : List Token) → item_at ts ≡ Ok x
+    → x.1 ≡ spelled_all front ++ rest → LastApart front rest → LastApart (x.0 ∷ front) rest
+last_with ts x [] rest is e last = subst (Apart x.0) e (item_leaves ts x is)
+last_with ts x (j ∷ js) rest is e last = last
 
 -- behind an item that was read
 refused_behind : (ts : List Token) (x : Item × List Token) (left : ℕ) → item_at ts ≡ Ok x → AreRefused x.1 left → AreRefused ts left
@@ -417,6 +432,7 @@ refused_behind ts x left is r = record {
   fit = (item_fits ts x is, r.fit);
   are = item_takes ts x is ∙ ap (λ (y : List Token). spelled x.0 ++ y) r.are
       ∙ sym (append_assoc (spelled x.0) (spelled_all r.front) r.rest);
+  apart = last_with ts x r.front r.rest is r.are r.apart;
   longest = let all : length x.1 ≡ length (spelled_all r.front) + length r.rest = ap length r.are
       ∙ length-append (spelled_all r.front) r.rest in longest_with ts x r.rest is (omega arith) r.longest;
   some = r.some;
@@ -431,10 +447,11 @@ refused_by n t ts f (Err g) is_none later e = record {
   rest = t ∷ ts;
   fit = tt;
   are = refl;
-  longest = λ is more fit s. none_stands (t ∷ ts) g is more is_none fit s;
+  apart = tt;
+  longest = λ is more fit apart s. none_stands (t ∷ ts) g is more is_none fit apart s;
   some = λ no. absurd (cc);
   within = let read : item_at (t ∷ ts) ≡ Err f = subst (λ (d : Fault). item_at (t ∷ ts) ≡ Err d) (err_is g f e) is_none
-      in left_of item_rest (t ∷ ts) (item_at (t ∷ ts)) f (item_within (t ∷ ts)) read;
+      in left_of (t ∷ ts) (item_at (t ∷ ts)) f (item_within (t ∷ ts)) read;
 }
 refused_by n t ts f (Ok x) is later e = later x is (then_err x.0 f (items_at n x.1) e)
 

@@ -1,5 +1,5 @@
 -- Items have no flaw among their tokens, so a text of items is UTF-8.
-use Rattle.std.proofs.Common.{◌≡◌, ◌∙◌, ℕ, Bool, true, false, cond, List, [], ◌∷◌, ◌++◌, Option, Some, None, refl, ap}
+use Rattle.std.proofs.Common.{◌≡◌, ◌∙◌, ℕ, Bool, true, false, cond, List, [], ◌∷◌, ◌++◌, refl, ap}
 use Rattle.std.specs.Prelude.{◌&&◌}
 use Rattle.std.specs.Str.{IsUtf8, is_utf8}
 use Rattle.std.proofs.lemmas.Bool.{and_parts}
@@ -8,17 +8,12 @@ use Rattle.meta_tokens.specs.declared.flaw.Flaw.{Flaw}
 use Rattle.meta_tokens.specs.declared.flaw.Flaw.TheVariants.{NotUtf8}
 use Rattle.meta_tokens.specs.declared.token.Token.{Token}
 use Rattle.meta_tokens.specs.declared.token.Token.TheVariants.{Key, Word, Quoted, Sign, Doc, Stray}
-use Rattle.meta_tokens.specs.declared.keyword.Keyword.{Keyword}
-use Rattle.meta_tokens.specs.declared.keyword.Keyword.TheVariants as key
 use Rattle.meta_tokens.specs.Scan.{tokens_in}
 use Rattle.meta_tokens.specs.Encoding.{lines_before}
 use Rattle.meta_tokens.specs.Squeezed.{is_comma, ends_first, squeezed, read_in}
-use Rattle.meta_items.specs.declared.name.Name.{Name}
-use Rattle.meta_items.specs.declared.name.Name.TheVariants as names
 use Rattle.meta_items.specs.declared.items.Item.{Item}
-use Rattle.meta_items.specs.declared.items.Item.TheVariants as item
-use Rattle.meta_items.specs.Spelling.{docs, name, comment, truth, more_names, name_list, bool_item, num_item, enum_item}
-use Rattle.meta_items.specs.Spelling.{preset_item, spelled, spelled_all}
+use Rattle.meta_items.specs.Spelling.{docs, spelled, spelled_all}
+use Rattle.meta_items_reader.proofs.Bodies.{docs_of, keyword_of_item, body_of, in_parts, plain, of_body}
 
 abbrev is_clean : Token → Bool
 is_clean (Key k) = true
@@ -43,37 +38,19 @@ of_docs : (ds : List (List ℕ)) → clean (docs ds) ≡ true
 of_docs [] = refl
 of_docs (d ∷ ds) = of_docs ds
 
-of_name : (n : Name) → is_clean (name n) ≡ true
-of_name (names.Plain w) = refl
-of_name (names.Quoted t) = refl
-
-of_truth : (b : Bool) → is_clean (truth b) ≡ true
-of_truth true = refl
-of_truth false = refl
-
-of_comment : (c : Option (List ℕ)) → clean (comment c) ≡ true
-of_comment None = refl
-of_comment (Some t) = refl
-
-of_more : (ns : List Name) → clean (more_names ns) ≡ true
-of_more [] = refl
-of_more (n ∷ ns) = rw (of_name n) (of_more ns)
-
-of_list : (ns : List Name) → clean (name_list ns) ≡ true
-of_list [] = refl
-of_list (n ∷ ns) = rw (of_name n) (of_more ns)
-
-of_item : (ds : List (List ℕ)) (k : Keyword) (body : List Token) → clean body ≡ true → clean (docs ds ++ Key k ∷ body) ≡ true
-of_item ds k body h = clean_append (docs ds) (Key k ∷ body) (of_docs ds) h
+of_plain : (ts : List Token) → plain ts ≡ true → clean ts ≡ true
+of_plain [] h = refl
+of_plain (Key k ∷ ts) h = absurd cc
+of_plain (Word w ∷ ts) h = of_plain ts h
+of_plain (Quoted t ∷ ts) h = of_plain ts h
+of_plain (Sign c ∷ ts) h = of_plain ts h
+of_plain (Doc d ∷ ts) h = of_plain ts h
+of_plain (Stray f ∷ ts) h = absurd cc
 
 of_spelled : (i : Item) → clean (spelled i) ≡ true
-of_spelled (item.Group n) = rw (of_name n) refl
-of_spelled (item.Bool i) = of_item i.docs key.Bool (bool_item i) (rw (of_name i.name, of_truth i.default) (of_comment i.comment))
-of_spelled (item.Num i) = of_item i.docs key.Num (num_item i) (rw (of_name i.name) (of_comment i.comment))
-of_spelled (item.Enum i) =
-    of_item i.docs key.Enum (enum_item i)
-    (rw (of_name i.name) (clean_append (name_list i.values) (comment i.comment) (of_list i.values) (of_comment i.comment)))
-of_spelled (item.Preset i) = of_item i.docs key.Preset (preset_item i) (rw (of_name i.name) (of_list i.args))
+of_spelled i =
+    ap clean (in_parts i) ∙ clean_append (docs (docs_of i)) (Key (keyword_of_item i) ∷ body_of i) (of_docs (docs_of i))
+    (of_plain (body_of i) (of_body i))
 
 of_all : (is : List Item) → clean (spelled_all is) ≡ true
 of_all [] = refl

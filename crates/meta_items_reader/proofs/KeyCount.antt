@@ -1,15 +1,11 @@
 -- Each item has one keyword, so it has one line.
-use Rattle.std.proofs.Common.{◌≡◌, ◌∙◌, ℕ, ◌+◌, Bool, true, false, List, [], ◌∷◌, ◌++◌, length, Option, Some, None, refl, ap, arith}
+use Rattle.std.proofs.Common.{◌≡◌, ◌∙◌, ℕ, ◌+◌, true, List, [], ◌∷◌, ◌++◌, length, refl, ap, arith}
 use Rattle.meta_tokens.specs.declared.token.Token.{Token}
 use Rattle.meta_tokens.specs.declared.token.Token.TheVariants.{Key, Word, Quoted, Sign, Doc, Stray}
 use Rattle.meta_tokens.specs.declared.keyword.Keyword.{Keyword}
-use Rattle.meta_tokens.specs.declared.keyword.Keyword.TheVariants as key
-use Rattle.meta_items.specs.declared.name.Name.{Name}
-use Rattle.meta_items.specs.declared.name.Name.TheVariants as names
 use Rattle.meta_items.specs.declared.items.Item.{Item}
-use Rattle.meta_items.specs.declared.items.Item.TheVariants as item
-use Rattle.meta_items.specs.Spelling.{docs, name, comment, truth, more_names, name_list, bool_item, num_item, enum_item}
-use Rattle.meta_items.specs.Spelling.{preset_item, spelled, spelled_all}
+use Rattle.meta_items.specs.Spelling.{docs, spelled, spelled_all}
+use Rattle.meta_items_reader.proofs.Bodies.{docs_of, keyword_of_item, body_of, in_parts, plain, of_body}
 use Rattle.meta_items_reader.specs.ItemLines.{key_lines, key_lines_from}
 
 abbrev one_key : Token → ℕ
@@ -42,39 +38,22 @@ of_docs : (ds : List (List ℕ)) → keys (docs ds) ≡ 0
 of_docs [] = refl
 of_docs (d ∷ ds) = let h = of_docs ds in omega arith
 
-of_name : (n : Name) → one_key (name n) ≡ 0
-of_name (names.Plain w) = refl
-of_name (names.Quoted t) = refl
-
-of_truth : (b : Bool) → one_key (truth b) ≡ 0
-of_truth true = refl
-of_truth false = refl
-
-of_comment : (c : Option (List ℕ)) → keys (comment c) ≡ 0
-of_comment None = refl
-of_comment (Some t) = refl
-
-of_more : (ns : List Name) → keys (more_names ns) ≡ 0
-of_more [] = refl
-of_more (n ∷ ns) = let h = of_more ns in let k = of_name n in omega arith
-
-of_list : (ns : List Name) → keys (name_list ns) ≡ 0
-of_list [] = refl
-of_list (n ∷ ns) = let h = of_more ns in let k = of_name n in omega arith
+-- no keyword where none stands
+of_plain : (ts : List Token) → plain ts ≡ true → keys ts ≡ 0
+of_plain [] h = refl
+of_plain (Key k ∷ ts) h = absurd cc
+of_plain (Word w ∷ ts) h = let k = of_plain ts h in omega arith
+of_plain (Quoted t ∷ ts) h = let k = of_plain ts h in omega arith
+of_plain (Sign c ∷ ts) h = let k = of_plain ts h in omega arith
+of_plain (Doc d ∷ ts) h = let k = of_plain ts h in omega arith
+of_plain (Stray f ∷ ts) h = absurd cc
 
 -- documentation, a keyword, and no other behind it
 of_item : (ds : List (List ℕ)) (k : Keyword) (body : List Token) → keys body ≡ 0 → keys (docs ds ++ Key k ∷ body) ≡ 1
 of_item ds k body e = let h = of_docs ds in let all = keys_append (docs ds) (Key k ∷ body) in omega arith
 
 of_spelled : (i : Item) → keys (spelled i) ≡ 1
-of_spelled (item.Group n) = let k = of_name n in omega arith
-of_spelled (item.Bool i) = of_item i.docs key.Bool (bool_item i) (let n = of_name i.name in
-    let t = of_truth i.default in let c = of_comment i.comment in omega arith)
-of_spelled (item.Num i) = of_item i.docs key.Num (num_item i) (let n = of_name i.name in let c = of_comment i.comment in omega arith)
-of_spelled (item.Enum i) =
-    of_item i.docs key.Enum (enum_item i) (let n = of_name i.name in let v = of_list i.values in
-    let c = of_comment i.comment in let all = keys_append (name_list i.values) (comment i.comment) in omega arith)
-of_spelled (item.Preset i) = of_item i.docs key.Preset (preset_item i) (let n = of_name i.name in let v = of_list i.args in omega arith)
+of_spelled i = ap keys (in_parts i) ∙ of_item (docs_of i) (keyword_of_item i) (body_of i) (of_plain (body_of i) (of_body i))
 
 of_all : (is : List Item) → keys (spelled_all is) ≡ length is
 of_all [] = refl

@@ -1,6 +1,6 @@
 -- Parts of items: what is read is spelled so, what is spelled so is read, and a fault lies within what is left.
 use Rattle.std.proofs.Common.{◌≡◌, ◌∙◌, ℕ, zero, suc, ◌+◌, ◌≤◌, ◌<◌, ◌^◌, Bool, true, false, cond, List, [], ◌∷◌, ◌++◌, length, Option}
-use Rattle.std.proofs.Common.{Some, None, Result, Ok, Err, refl, sym, ap, subst, codes, arith, inl, inr}
+use Rattle.std.proofs.Common.{Some, None, Result, Ok, Err, refl, sym, ap, subst, codes, arith, inl, inr, drop}
 use Rattle.std.specs.Prelude.{◌==◌, ◌≢◌}
 use Rattle.std.specs.Fmt.{decimal}
 use Rattle.std.specs.Cmp.Lexicographic.{pointwise, same_text, bytes_decides}
@@ -11,12 +11,14 @@ use Rattle.meta_tokens.specs.declared.token.Token.TheVariants.{Key, Word, Quoted
 use Rattle.meta_tokens.specs.declared.keyword.Keyword.{Keyword}
 use Rattle.meta_items.specs.declared.name.Name.{Name}
 use Rattle.meta_items.specs.declared.name.Name.TheVariants as names
+use Rattle.meta_items.specs.Words.{written_so}
 use Rattle.meta_items.specs.Spelling.{docs, name, comment, truth, number}
 use Rattle.meta_items_reader.specs.declared.fault.Fault.{Fault}
 use Rattle.meta_items_reader.specs.declared.fault.Wanted.{Wanted}
 use Rattle.meta_items_reader.specs.declared.fault.Wanted.TheVariants as wanted
-use Rattle.meta_items_reader.specs.Reading.{◌>>=◌, name_at, sign_at, truth_of, truth_by, truth_at, number_below, byte_of, byte_by, byte_at}
-use Rattle.meta_items_reader.specs.Reading.{comment_at, docs_at}
+use Rattle.meta_items_reader.specs.Parts.{◌>>=◌, name_at, word_at, text_at, sign_or_at, chosen_by, chosen_at, truth_of, truth_at}
+use Rattle.meta_items_reader.specs.Parts.{number_below}
+use Rattle.meta_items_reader.specs.Parts.{number_of, byte_at, comment_at, docs_at, word_first, sign_first, quoted_first}
 
 -- ---- results
 
@@ -34,25 +36,44 @@ pub guard_ok : {A : Type 0} (b : Bool) (d : Fault) (x y : A) → cond b (Ok x) (
 guard_ok true d x y e = (refl, cc)
 guard_ok false d x y e = absurd cc
 
+abbrev one : {A : Type 0} → A → Option A
+one x = Some x
+
+pub some_is : {A : Type 0} (x y : A) → one x ≡ one y → x ≡ y
+some_is x y e = cc
+
 -- what is left behind a reader, or at its fault, is no more than what it got
-abbrev pub Within : {A : Type 0} → (A → List Token) → List Token → Result A Fault → Type 0
-Within rest ts (Ok x) = length (rest x) ≤ length ts
-Within rest ts (Err f) = f.left ≤ length ts
+abbrev pub Shorter : {A : Type 0} → List Token → Result (A × List Token) Fault → Type 0
+Shorter ts (Ok x) = length x.1 ≤ length ts
+Shorter ts (Err f) = f.left ≤ length ts
 
-pub longer : {A : Type 0} (rest : A → List Token) (short long : List Token) (read : Result A Fault) → length short ≤ length long
-    → Within rest short read → Within rest long read
-longer rest short long (Ok x) le h = omega arith
-longer rest short long (Err f) le h = omega arith
+abbrev pub SignShorter : List Token → Result (List Token) Fault → Type 0
+SignShorter ts (Ok rest) = length rest ≤ length ts
+SignShorter ts (Err f) = f.left ≤ length ts
 
-pub within_bind : {A B : Type 0} (ra : A → List Token) (rb : B → List Token) (ts : List Token) (r : Result A Fault) (f : A
-    → Result B Fault) → Within ra ts r → ((x : A) → Within rb (ra x) (f x)) → Within rb ts (r >>= f)
-within_bind ra rb ts (Ok x) f h g = longer rb (ra x) ts (f x) h (g x)
-within_bind ra rb ts (Err e) f h g = h
+pub longer : {A : Type 0} (short long : List Token) (read : Result (A × List Token) Fault) → length short ≤ length long
+    → Shorter short read → Shorter long read
+longer short long (Ok x) le h = omega arith
+longer short long (Err f) le h = omega arith
 
-pub left_of : {A : Type 0} (rest : A → List Token) (ts : List Token) (read : Result A Fault) (f : Fault) → Within rest ts read
+pub shorter_bind : {A B : Type 0} (ts : List Token) (r : Result (A × List Token) Fault) (f : A × List Token
+    → Result (B × List Token) Fault) → Shorter ts r → ((x : A × List Token) → Shorter x.1 (f x)) → Shorter ts (r >>= f)
+shorter_bind ts (Ok x) f h g = longer x.1 ts (f x) h (g x)
+shorter_bind ts (Err e) f h g = h
+
+pub shorter_sign : {B : Type 0} (ts : List Token) (r : Result (List Token) Fault) (f : List Token → Result (B × List Token) Fault)
+    → SignShorter ts r → ((rest : List Token) → Shorter rest (f rest)) → Shorter ts (r >>= f)
+shorter_sign ts (Ok rest) f h g = longer rest ts (f rest) h (g rest)
+shorter_sign ts (Err e) f h g = h
+
+pub left_of : {A : Type 0} (ts : List Token) (read : Result (A × List Token) Fault) (f : Fault) → Shorter ts read
     → read ≡ Err f → f.left ≤ length ts
-left_of rest ts (Ok x) f h e = absurd cc
-left_of rest ts (Err g) f h e = let same : g ≡ f = cc in subst (λ (d : Fault). d.left ≤ length ts) same h
+left_of ts (Ok x) f h e = absurd cc
+left_of ts (Err g) f h e = let same : g ≡ f = cc in subst (λ (d : Fault). d.left ≤ length ts) same h
+
+pub drop_less : (ts : List Token) → length (drop 1 ts) ≤ length ts
+drop_less [] = omega arith
+drop_less (t ∷ ts) = omega arith
 
 -- ---- a name
 
@@ -72,7 +93,7 @@ name_takes w (Sign c ∷ ts) x e = absurd cc
 name_takes w (Doc d ∷ ts) x e = absurd cc
 name_takes w (Stray f ∷ ts) x e = absurd cc
 
-pub name_within : (w : Wanted) (ts : List Token) → Within (λ (x : Name × List Token). x.1) ts (name_at w ts)
+pub name_within : (w : Wanted) (ts : List Token) → Shorter ts (name_at w ts)
 name_within w [] = omega arith
 name_within w (Key k ∷ ts) = omega arith
 name_within w (Word v ∷ ts) = omega arith
@@ -81,34 +102,123 @@ name_within w (Sign c ∷ ts) = omega arith
 name_within w (Doc d ∷ ts) = omega arith
 name_within w (Stray f ∷ ts) = omega arith
 
+-- ---- a word, and a text
+
+pub word_takes : (w : Wanted) (ts : List Token) (x : List ℕ × List Token) → word_at w ts ≡ Ok x → ts ≡ Word x.0 ∷ x.1
+word_takes w [] x e = absurd cc
+word_takes w (Key k ∷ ts) x e = absurd cc
+word_takes w (Word v ∷ ts) x e = subst (λ (y : List ℕ × List Token). Word v ∷ ts ≡ Word y.0 ∷ y.1) (ok_is (v, ts) x e) refl
+word_takes w (Quoted t ∷ ts) x e = absurd cc
+word_takes w (Sign c ∷ ts) x e = absurd cc
+word_takes w (Doc d ∷ ts) x e = absurd cc
+word_takes w (Stray f ∷ ts) x e = absurd cc
+
+pub word_within : (w : Wanted) (ts : List Token) → Shorter ts (word_at w ts)
+word_within w [] = omega arith
+word_within w (Key k ∷ ts) = omega arith
+word_within w (Word v ∷ ts) = omega arith
+word_within w (Quoted t ∷ ts) = omega arith
+word_within w (Sign c ∷ ts) = omega arith
+word_within w (Doc d ∷ ts) = omega arith
+word_within w (Stray f ∷ ts) = omega arith
+
+pub text_takes : (ts : List Token) (x : List ℕ × List Token) → text_at ts ≡ Ok x → ts ≡ Quoted x.0 ∷ x.1
+text_takes [] x e = absurd cc
+text_takes (Key k ∷ ts) x e = absurd cc
+text_takes (Word v ∷ ts) x e = absurd cc
+text_takes (Quoted t ∷ ts) x e = subst (λ (y : List ℕ × List Token). Quoted t ∷ ts ≡ Quoted y.0 ∷ y.1) (ok_is (t, ts) x e) refl
+text_takes (Sign c ∷ ts) x e = absurd cc
+text_takes (Doc d ∷ ts) x e = absurd cc
+text_takes (Stray f ∷ ts) x e = absurd cc
+
+pub text_within : (ts : List Token) → Shorter ts (text_at ts)
+text_within [] = omega arith
+text_within (Key k ∷ ts) = omega arith
+text_within (Word v ∷ ts) = omega arith
+text_within (Quoted t ∷ ts) = omega arith
+text_within (Sign c ∷ ts) = omega arith
+text_within (Doc d ∷ ts) = omega arith
+text_within (Stray f ∷ ts) = omega arith
+
 -- ---- a sign
 
-pub sign_takes : (s : ℕ) (ts rest : List Token) → sign_at s ts ≡ Ok rest → ts ≡ Sign s ∷ rest
-sign_takes s [] rest e = absurd cc
-sign_takes s (Key k ∷ ts) rest e = absurd cc
-sign_takes s (Word v ∷ ts) rest e = absurd cc
-sign_takes s (Quoted t ∷ ts) rest e = absurd cc
-sign_takes s (Sign c ∷ ts) rest e =
+pub sign_takes : (w : Wanted) (s : ℕ) (ts rest : List Token) → sign_or_at w s ts ≡ Ok rest → ts ≡ Sign s ∷ rest
+sign_takes w s [] rest e = absurd cc
+sign_takes w s (Key k ∷ ts) rest e = absurd cc
+sign_takes w s (Word v ∷ ts) rest e = absurd cc
+sign_takes w s (Quoted t ∷ ts) rest e = absurd cc
+sign_takes w s (Sign c ∷ ts) rest e =
     let g = guard_ok (c == s) _ ts rest e in
     let same : c ≡ s = eqb-true c s g.0 in
     let behind : ts ≡ rest = g.1 in
     cc
-sign_takes s (Doc d ∷ ts) rest e = absurd cc
-sign_takes s (Stray f ∷ ts) rest e = absurd cc
+sign_takes w s (Doc d ∷ ts) rest e = absurd cc
+sign_takes w s (Stray f ∷ ts) rest e = absurd cc
 
 sign_by : (b : Bool) (w : Wanted) (c : ℕ) (ts : List Token)
-    → Within (λ (r : List Token). r) (Sign c ∷ ts) (cond b (Ok ts) (Err (record { left = length (Sign c ∷ ts); wanted = w })))
+    → SignShorter (Sign c ∷ ts) (cond b (Ok ts) (Err (record { left = length (Sign c ∷ ts); wanted = w })))
 sign_by true w c ts = omega arith
 sign_by false w c ts = omega arith
 
-pub sign_within : (s : ℕ) (ts : List Token) → Within (λ (r : List Token). r) ts (sign_at s ts)
-sign_within s [] = omega arith
-sign_within s (Key k ∷ ts) = omega arith
-sign_within s (Word v ∷ ts) = omega arith
-sign_within s (Quoted t ∷ ts) = omega arith
-sign_within s (Sign c ∷ ts) = sign_by (c == s) (wanted.Sign s) c ts
-sign_within s (Doc d ∷ ts) = omega arith
-sign_within s (Stray f ∷ ts) = omega arith
+pub sign_within : (w : Wanted) (s : ℕ) (ts : List Token) → SignShorter ts (sign_or_at w s ts)
+sign_within w s [] = omega arith
+sign_within w s (Key k ∷ ts) = omega arith
+sign_within w s (Word v ∷ ts) = omega arith
+sign_within w s (Quoted t ∷ ts) = omega arith
+sign_within w s (Sign c ∷ ts) = sign_by (c == s) w c ts
+sign_within w s (Doc d ∷ ts) = omega arith
+sign_within w s (Stray f ∷ ts) = omega arith
+
+-- ---- a word that means something
+
+pub chosen_again : {A : Type 0} (w : Wanted) (meaning : List ℕ → Option A) (v : List ℕ) (x : A) (rest : List Token) → meaning v ≡ Some x
+    → chosen_at w meaning (Word v ∷ rest) ≡ Ok (x, rest)
+chosen_again w meaning v x rest h = rw h refl
+
+chosen_word : {A : Type 0} (w : Wanted) (v : List ℕ) (ts : List Token) (x : A × List Token) (o : Option A) → chosen_by w o v ts ≡ Ok x
+    → (o ≡ Some x.0) × (ts ≡ x.1)
+chosen_word w v ts x None e = absurd cc
+chosen_word w v ts x (Some y) e = let same : (y, ts) ≡ x = ok_is (y, ts) x e in (cc, cc)
+
+-- what was read is a word with that meaning
+pub chosen_takes : {A : Type 0} (w : Wanted) (meaning : List ℕ → Option A) (text : A → List ℕ)
+    → ((v : List ℕ) (y : A) → meaning v ≡ Some y → v ≡ text y) → (ts : List Token) (x : A × List Token)
+    → chosen_at w meaning ts ≡ Ok x → ts ≡ Word (text x.0) ∷ x.1
+chosen_takes w meaning text told [] x e = absurd cc
+chosen_takes w meaning text told (Key k ∷ ts) x e = absurd cc
+chosen_takes w meaning text told (Word v ∷ ts) x e =
+    let p = chosen_word w v ts x (meaning v) e in
+    let same : v ≡ text x.0 = told v x.0 p.0 in
+    let behind : ts ≡ x.1 = p.1 in
+    cc
+chosen_takes w meaning text told (Quoted t ∷ ts) x e = absurd cc
+chosen_takes w meaning text told (Sign c ∷ ts) x e = absurd cc
+chosen_takes w meaning text told (Doc d ∷ ts) x e = absurd cc
+chosen_takes w meaning text told (Stray f ∷ ts) x e = absurd cc
+
+chosen_by_within : {A : Type 0} (w : Wanted) (o : Option A) (v : List ℕ) (ts : List Token) → Shorter (Word v ∷ ts) (chosen_by w o v ts)
+chosen_by_within w None v ts = omega arith
+chosen_by_within w (Some x) v ts = omega arith
+
+pub chosen_within : {A : Type 0} (w : Wanted) (meaning : List ℕ → Option A) (ts : List Token) → Shorter ts (chosen_at w meaning ts)
+chosen_within w meaning [] = omega arith
+chosen_within w meaning (Key k ∷ ts) = omega arith
+chosen_within w meaning (Word v ∷ ts) = chosen_by_within w (meaning v) v ts
+chosen_within w meaning (Quoted t ∷ ts) = omega arith
+chosen_within w meaning (Sign c ∷ ts) = omega arith
+chosen_within w meaning (Doc d ∷ ts) = omega arith
+chosen_within w meaning (Stray f ∷ ts) = omega arith
+
+-- the first of some that is written so
+first_so : {A : Type 0} (text : A → List ℕ) (x : A) (xs : List A) (w : List ℕ) (y : A) (b : Bool) → pointwise ◌==◌ w (text x) ≡ b
+    → (written_so text xs w ≡ Some y → w ≡ text y) → cond b (Some x) (written_so text xs w) ≡ Some y → w ≡ text y
+first_so text x xs w y true is later e =
+    let same : x ≡ y = some_is x y e in subst (λ z. w ≡ text z) same (same_text w (text x) (sym is))
+first_so text x xs w y false is later e = later e
+
+pub written_so_takes : {A : Type 0} (text : A → List ℕ) (xs : List A) (w : List ℕ) (y : A) → written_so text xs w ≡ Some y → w ≡ text y
+written_so_takes text [] w y e = absurd cc
+written_so_takes text (x ∷ xs) w y e = first_so text x xs w y (pointwise ◌==◌ w (text x)) refl (written_so_takes text xs w y) e
 
 -- ---- a truth value
 
@@ -116,39 +226,27 @@ pub truth_again : (b : Bool) (rest : List Token) → truth_at (truth b ∷ rest)
 truth_again true rest = refl
 truth_again false rest = refl
 
-abbrev TruthTaken : List Token → Bool × List Token → Type 0
-TruthTaken ts x = ts ≡ truth x.0 ∷ x.1
+abbrev truth_text : Bool → List ℕ
+truth_text true = codes "true"
+truth_text false = codes "false"
 
-truth_word : (w : List ℕ) (ts : List Token) (x : Bool × List Token) (p q : Bool) → pointwise ◌==◌ w (codes "true") ≡ p
-    → pointwise ◌==◌ w (codes "false") ≡ q
-    → truth_by (cond p (Some true) (cond q (Some false) None)) w ts ≡ Ok x → TruthTaken (Word w ∷ ts) x
-truth_word w ts x true q hp hq e =
-    subst (TruthTaken (Word w ∷ ts)) (ok_is (true, ts) x e) (ap (λ (v : List ℕ). Word v ∷ ts) (same_text w (codes "true") (sym hp)))
-truth_word w ts x false true hp hq e =
-    subst (TruthTaken (Word w ∷ ts)) (ok_is (false, ts) x e) (ap (λ (v : List ℕ). Word v ∷ ts) (same_text w (codes "false") (sym hq)))
-truth_word w ts x false false hp hq e = absurd cc
+truth_word : (w : List ℕ) (x p q : Bool) → pointwise ◌==◌ w (codes "true") ≡ p → pointwise ◌==◌ w (codes "false") ≡ q
+    → cond p (Some true) (cond q (Some false) None) ≡ Some x → w ≡ truth_text x
+truth_word w x true q hp hq e = subst (λ b. w ≡ truth_text b) (some_is true x e) (same_text w (codes "true") (sym hp))
+truth_word w x false true hp hq e = subst (λ b. w ≡ truth_text b) (some_is false x e) (same_text w (codes "false") (sym hq))
+truth_word w x false false hp hq e = absurd cc
 
-pub truth_takes : (ts : List Token) (x : Bool × List Token) → truth_at ts ≡ Ok x → TruthTaken ts x
-truth_takes [] x e = absurd cc
-truth_takes (Key k ∷ ts) x e = absurd cc
-truth_takes (Word w ∷ ts) x e = truth_word w ts x _ _ refl refl e
-truth_takes (Quoted t ∷ ts) x e = absurd cc
-truth_takes (Sign c ∷ ts) x e = absurd cc
-truth_takes (Doc d ∷ ts) x e = absurd cc
-truth_takes (Stray f ∷ ts) x e = absurd cc
+of_text : (b : Bool) → Word (truth_text b) ≡ truth b
+of_text true = refl
+of_text false = refl
 
-truth_by_within : (o : Option Bool) (w : List ℕ) (ts : List Token) → Within (λ (x : Bool × List Token). x.1) (Word w ∷ ts) (truth_by o w ts)
-truth_by_within None w ts = omega arith
-truth_by_within (Some b) w ts = omega arith
+pub truth_takes : (ts : List Token) (x : Bool × List Token) → truth_at ts ≡ Ok x → ts ≡ truth x.0 ∷ x.1
+truth_takes ts x e =
+    chosen_takes wanted.Truth truth_of truth_text (λ v y h. truth_word v y _ _ refl refl h) ts x e
+    ∙ ap (λ (t : Token). t ∷ x.1) (of_text x.0)
 
-pub truth_within : (ts : List Token) → Within (λ (x : Bool × List Token). x.1) ts (truth_at ts)
-truth_within [] = omega arith
-truth_within (Key k ∷ ts) = omega arith
-truth_within (Word w ∷ ts) = truth_by_within (truth_of w) w ts
-truth_within (Quoted t ∷ ts) = omega arith
-truth_within (Sign c ∷ ts) = omega arith
-truth_within (Doc d ∷ ts) = omega arith
-truth_within (Stray f ∷ ts) = omega arith
+pub truth_within : (ts : List Token) → Shorter ts (truth_at ts)
+truth_within ts = chosen_within wanted.Truth truth_of ts
 
 -- ---- a number from 0 to 255
 
@@ -193,19 +291,11 @@ below_none zero w other = refl
 below_none (suc k) w other =
     none_by k w (pointwise ◌==◌ w (decimal k)) refl (other k (omega arith)) (below_none k w (λ n lt. other n (omega arith)))
 
-pub byte_some : (w : List ℕ) (n : ℕ) → n < 2 ^ 8 → w ≡ decimal n → byte_of w ≡ Some n
-unfolding byte_of
-byte_some w n lt e = below_again 256 n w (omega arith) (omega arith) e
+number_is : (most : ℕ) (w : List ℕ) (n : ℕ) → number_of most w ≡ Some n → w ≡ decimal n
+unfolding number_of
+number_is most w n e = below_takes (most + 1) w n e
 
-pub byte_none : (w : List ℕ) → ((n : ℕ) → n < 2 ^ 8 → w ≢ decimal n) → byte_of w ≡ None
-unfolding byte_of
-byte_none w other = below_none 256 w (λ n lt. other n (omega arith))
-
-byte_is : (w : List ℕ) (n : ℕ) → byte_of w ≡ Some n → w ≡ decimal n
-unfolding byte_of
-byte_is w n e = below_takes 256 w n e
-
--- and it is below 256
+-- and it is one of those from 0 on
 small_by : (k n : ℕ) (b : Bool) (below : Option ℕ) → (below ≡ Some n → n < k) → cond b (Some k) below ≡ Some n → n < suc k
 small_by k n true below later e = let same : k ≡ n = cc in omega arith
 small_by k n false below later e = let less = later e in omega arith
@@ -215,66 +305,55 @@ unfolding number_below
 below_small zero w n e = absurd cc
 below_small (suc k) w n e = small_by k n (pointwise ◌==◌ w (decimal k)) (number_below k w) (below_small k w n) e
 
-byte_small : (w : List ℕ) (n : ℕ) → byte_of w ≡ Some n → n < 2 ^ 8
-unfolding byte_of
-byte_small w n e = let less : n < 256 = below_small 256 w n e in omega arith
+number_small : (most : ℕ) (w : List ℕ) (n : ℕ) → number_of most w ≡ Some n → n ≤ most
+unfolding number_of
+number_small most w n e = let less : n < most + 1 = below_small (most + 1) w n e in omega arith
 
-small_word : (w : List ℕ) (ts : List Token) (x : ℕ × List Token) (o : Option ℕ) → byte_of w ≡ o → byte_by o w ts ≡ Ok x → x.0 < 2 ^ 8
-small_word w ts x None is e = absurd cc
-small_word w ts x (Some n) is e = subst (λ (y : ℕ × List Token). y.0 < 2 ^ 8) (ok_is (n, ts) x e) (byte_small w n is)
+pub byte_some : (w : List ℕ) (n : ℕ) → n < 2 ^ 8 → w ≡ decimal n → number_of 255 w ≡ Some n
+unfolding number_of
+byte_some w n lt e = below_again 256 n w (omega arith) (omega arith) e
 
-pub byte_fits : (ts : List Token) (x : ℕ × List Token) → byte_at ts ≡ Ok x → x.0 < 2 ^ 8
-byte_fits [] x e = absurd cc
-byte_fits (Key k ∷ ts) x e = absurd cc
-byte_fits (Word w ∷ ts) x e = small_word w ts x (byte_of w) refl e
-byte_fits (Quoted t ∷ ts) x e = absurd cc
-byte_fits (Sign c ∷ ts) x e = absurd cc
-byte_fits (Doc d ∷ ts) x e = absurd cc
-byte_fits (Stray f ∷ ts) x e = absurd cc
+pub byte_none : (w : List ℕ) → ((n : ℕ) → n < 2 ^ 8 → w ≢ decimal n) → number_of 255 w ≡ None
+unfolding number_of
+byte_none w other = below_none 256 w (λ n lt. other n (omega arith))
+
+pub part_number_some : (w : List ℕ) (n : ℕ) → n ≤ 256 → w ≡ decimal n → number_of 256 w ≡ Some n
+unfolding number_of
+part_number_some w n le e = below_again 257 n w (omega arith) (omega arith) e
+
+pub part_number_over : (w : List ℕ) (n : ℕ) → n < 2 ^ 16 → 256 < n → w ≡ decimal n → number_of 256 w ≡ None
+unfolding number_of
+part_number_over w n lt over e =
+    below_none 257 w (λ m less is. let same : n ≡ m = decimal_injective n m (omega arith) (omega arith) (sym e ∙ is)
+    in absurd (omega arith))
+
+pub part_number_none : (w : List ℕ) → ((n : ℕ) → n < 2 ^ 16 → w ≢ decimal n) → number_of 256 w ≡ None
+unfolding number_of
+part_number_none w other = below_none 257 w (λ n lt. other n (omega arith))
 
 pub byte_again : (n : ℕ) (rest : List Token) → n < 2 ^ 8 → byte_at (number n ∷ rest) ≡ Ok (n, rest)
-byte_again n rest lt = ap (λ (o : Option ℕ). byte_by o (decimal n) rest) (byte_some (decimal n) n lt refl)
+byte_again n rest lt = chosen_again wanted.Byte (number_of 255) (decimal n) n rest (byte_some (decimal n) n lt refl)
 
-abbrev ByteTaken : List Token → ℕ × List Token → Type 0
-ByteTaken ts x = ts ≡ number x.0 ∷ x.1
+pub number_takes : (w : Wanted) (most : ℕ) (ts : List Token) (x : ℕ × List Token) → chosen_at w (number_of most) ts ≡ Ok x
+    → ts ≡ number x.0 ∷ x.1
+number_takes w most ts x e = chosen_takes w (number_of most) decimal (number_is most) ts x e
 
-byte_word : (w : List ℕ) (ts : List Token) (x : ℕ × List Token) (o : Option ℕ) → byte_of w ≡ o → byte_by o w ts ≡ Ok x
-    → ByteTaken (Word w ∷ ts) x
-byte_word w ts x None is e = absurd cc
-byte_word w ts x (Some n) is e = subst (ByteTaken (Word w ∷ ts)) (ok_is (n, ts) x e) (ap (λ (v : List ℕ). Word v ∷ ts) (byte_is w n is))
+pub number_fits : (w : Wanted) (most : ℕ) (ts : List Token) (x : ℕ × List Token) → chosen_at w (number_of most) ts ≡ Ok x → x.0 ≤ most
+number_fits w most [] x e = absurd cc
+number_fits w most (Key k ∷ ts) x e = absurd cc
+number_fits w most (Word v ∷ ts) x e = number_small most v x.0 (chosen_word w v ts x (number_of most v) e).0
+number_fits w most (Quoted t ∷ ts) x e = absurd cc
+number_fits w most (Sign c ∷ ts) x e = absurd cc
+number_fits w most (Doc d ∷ ts) x e = absurd cc
+number_fits w most (Stray f ∷ ts) x e = absurd cc
 
-pub byte_takes : (ts : List Token) (x : ℕ × List Token) → byte_at ts ≡ Ok x → ByteTaken ts x
-byte_takes [] x e = absurd cc
-byte_takes (Key k ∷ ts) x e = absurd cc
-byte_takes (Word w ∷ ts) x e = byte_word w ts x (byte_of w) refl e
-byte_takes (Quoted t ∷ ts) x e = absurd cc
-byte_takes (Sign c ∷ ts) x e = absurd cc
-byte_takes (Doc d ∷ ts) x e = absurd cc
-byte_takes (Stray f ∷ ts) x e = absurd cc
+pub byte_takes : (ts : List Token) (x : ℕ × List Token) → byte_at ts ≡ Ok x → ts ≡ number x.0 ∷ x.1
+byte_takes ts x e = number_takes wanted.Byte 255 ts x e
 
-byte_by_within : (o : Option ℕ) (w : List ℕ) (ts : List Token) → Within (λ (x : ℕ × List Token). x.1) (Word w ∷ ts) (byte_by o w ts)
-byte_by_within None w ts = omega arith
-byte_by_within (Some n) w ts = omega arith
-
-pub byte_within : (ts : List Token) → Within (λ (x : ℕ × List Token). x.1) ts (byte_at ts)
-byte_within [] = omega arith
-byte_within (Key k ∷ ts) = omega arith
-byte_within (Word w ∷ ts) = byte_by_within (byte_of w) w ts
-byte_within (Quoted t ∷ ts) = omega arith
-byte_within (Sign c ∷ ts) = omega arith
-byte_within (Doc d ∷ ts) = omega arith
-byte_within (Stray f ∷ ts) = omega arith
+pub byte_within : (ts : List Token) → Shorter ts (byte_at ts)
+byte_within ts = chosen_within wanted.Byte (number_of 255) ts
 
 -- ---- a comment: where none is, no text stands at the front
-
-abbrev pub quoted_first : List Token → Bool
-quoted_first [] = false
-quoted_first (Key k ∷ ts) = false
-quoted_first (Word w ∷ ts) = false
-quoted_first (Quoted t ∷ ts) = true
-quoted_first (Sign c ∷ ts) = false
-quoted_first (Doc d ∷ ts) = false
-quoted_first (Stray f ∷ ts) = false
 
 pub comment_again : (c : Option (List ℕ)) (rest : List Token) → quoted_first rest ≡ false → comment_at (comment c ++ rest) ≡ (c, rest)
 comment_again (Some t) rest h = refl
@@ -331,3 +410,36 @@ docs_within (Quoted t ∷ ts) = omega arith
 docs_within (Sign c ∷ ts) = omega arith
 docs_within (Doc d ∷ ts) = omega (arith, docs_within ts)
 docs_within (Stray f ∷ ts) = omega arith
+
+-- ---- what stands at the front
+
+pub word_is : (v : List ℕ) (ts : List Token) → word_first v ts ≡ true → ts ≡ Word v ∷ drop 1 ts
+word_is v [] e = absurd cc
+word_is v (Key k ∷ ts) e = absurd cc
+word_is v (Word w ∷ ts) e = ap (λ (u : List ℕ). Word u ∷ ts) (same_text w v (sym e))
+word_is v (Quoted t ∷ ts) e = absurd cc
+word_is v (Sign c ∷ ts) e = absurd cc
+word_is v (Doc d ∷ ts) e = absurd cc
+word_is v (Stray f ∷ ts) e = absurd cc
+
+pub sign_is : (s : ℕ) (ts : List Token) → sign_first s ts ≡ true → ts ≡ Sign s ∷ drop 1 ts
+sign_is s [] e = absurd cc
+sign_is s (Key k ∷ ts) e = absurd cc
+sign_is s (Word w ∷ ts) e = absurd cc
+sign_is s (Quoted t ∷ ts) e = absurd cc
+sign_is s (Sign c ∷ ts) e = ap (λ (m : ℕ). Sign m ∷ ts) (eqb-true c s e)
+sign_is s (Doc d ∷ ts) e = absurd cc
+sign_is s (Stray f ∷ ts) e = absurd cc
+
+differs_by : (w v : List ℕ) (b : Bool) → pointwise ◌==◌ w v ≡ b → w ≢ v → b ≡ false
+differs_by w v true is other = absurd (other (same_text w v (sym is)))
+differs_by w v false is other = refl
+
+pub differs : (w v : List ℕ) → w ≢ v → pointwise ◌==◌ w v ≡ false
+differs w v other = differs_by w v (pointwise ◌==◌ w v) refl other
+
+-- where another word is wanted
+pub not_word : (v w : List ℕ) (rest ts : List Token) → word_first v ts ≡ false → ts ≡ Word w ∷ rest → w ≢ v
+not_word v w rest ts h e =
+    λ same. let no : pointwise ◌==◌ w v ≡ false = ap (word_first v) (sym e) ∙ h in
+    let yes : pointwise ◌==◌ w v ≡ true = (bytes_decides w v).1 same in absurd (cc)

@@ -1,5 +1,5 @@
 -- What reading tokens gives, told of the text that they are of.
-use Rattle.std.proofs.Common.{◌≡◌, ◌∙◌, ℕ, ◌+◌, ◌-◌, ◌≤◌, List, [], ◌∷◌, ◌++◌, length, Result, Ok, Err, refl, sym, ap, subst, length-append}
+use Rattle.std.proofs.Common.{◌≡◌, ◌∙◌, ℕ, ◌+◌, ◌-◌, ◌≤◌, List, length, Result, Ok, Err, sym, ap, subst, length-append}
 use Rattle.std.proofs.Common.{arith}
 use Rattle.std.specs.Prelude.{IfOk}
 use Rattle.std.specs.Str.{IsUtf8}
@@ -14,7 +14,8 @@ use Rattle.meta_items_reader.specs.declared.fault.ReadError.{ReadError}
 use Rattle.meta_items_reader.specs.declared.fault.ReadError.TheVariants as reads
 use Rattle.meta_items_reader.specs.ItemLines.{key_lines}
 use Rattle.meta_items_reader.specs.Reading.{items_at}
-use Rattle.meta_items_reader.specs.Refused.{AllFit, IsRefusalOf, IsRefused, GivesItems, items_in}
+use Rattle.meta_items_reader.specs.Fits.{AllFit}
+use Rattle.meta_items_reader.specs.Refused.{IsRefusalOf, IsRefused, GivesItems, items_in}
 use Rattle.meta_items_reader.proofs.PartLaws.{ok_is}
 use Rattle.meta_items_reader.proofs.AllItems.{all_takes, all_fit, all_again, all_refused}
 use Rattle.meta_items_reader.proofs.KeyCount.{a_line_each}
@@ -49,10 +50,12 @@ refused_at text f r e is =
       rest = all.rest;
       fit = all.fit;
       are = all.are;
+      apart = all.apart;
       longest = all.longest;
       some = all.some;
       place = length (read_in text) - f.left;
       behind = omega arith;
+      within = omega arith;
       line = is.line;
       found = is.found;
     }

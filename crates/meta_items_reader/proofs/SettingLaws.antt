@@ -1,23 +1,29 @@
 -- Settings: what is read is spelled so, what is spelled so is read, and a fault lies within what is left.
-use Rattle.std.proofs.Common.{◌≡◌, ◌∙◌, ℕ, ◌≤◌, ◌<◌, ◌^◌, Bool, false, List, [], ◌∷◌, ◌++◌, length, Ok, refl, sym, ap, subst}
+use Rattle.std.proofs.Common.{◌≡◌, ◌∙◌, ℕ, ◌≤◌, ◌<◌, ◌^◌, false, List, [], ◌∷◌, ◌++◌, length, Ok, refl, sym, ap, subst}
 use Rattle.std.proofs.Common.{append_assoc, arith}
 use Rattle.meta_tokens.specs.declared.token.Token.{Token}
 use Rattle.meta_tokens.specs.declared.token.Token.TheVariants.{Key, Sign}
 use Rattle.meta_tokens.specs.declared.keyword.Keyword.{Keyword}
 use Rattle.meta_tokens.specs.declared.keyword.Keyword.TheVariants as key
 use Rattle.meta_items.specs.declared.name.Name.{Name}
+use Rattle.meta_items.specs.declared.name.Name.TheVariants as names
 use Rattle.meta_items.specs.declared.items.BoolItem.{BoolItem}
 use Rattle.meta_items.specs.declared.items.NumItem.{NumItem}
 use Rattle.meta_items.specs.declared.items.EnumItem.{EnumItem}
 use Rattle.meta_items.specs.declared.items.PresetItem.{PresetItem}
-use Rattle.meta_items.specs.Spelling.{docs, name, comment, truth, number, name_list, bool_item, num_item, enum_item, preset_item}
+use Rattle.meta_items.specs.Spelling.{docs, name, comment, truth, number, listed, named, bool_item, num_item, enum_item, preset_item}
+use Rattle.meta_items_reader.specs.declared.fault.Wanted.{Wanted}
 use Rattle.meta_items_reader.specs.declared.fault.Wanted.TheVariants as wanted
-use Rattle.meta_items_reader.specs.Reading.{◌>>=◌, name_at, sign_at, truth_at, byte_at, comment_at, names_at, bool_item_at, num_item_at}
-use Rattle.meta_items_reader.specs.Reading.{enum_item_at, preset_item_at}
-use Rattle.meta_items_reader.proofs.PartLaws.{bind_ok, ok_is, Within, within_bind, name_again, name_takes, name_within, sign_takes}
-use Rattle.meta_items_reader.proofs.PartLaws.{sign_within, truth_again, truth_takes, truth_within, byte_again, byte_takes, byte_fits, byte_within}
-use Rattle.meta_items_reader.proofs.PartLaws.{quoted_first, comment_again, comment_takes, comment_within, comment_less}
-use Rattle.meta_items_reader.proofs.NameLaws.{names_again, names_takes, names_within, rest_of}
+use Rattle.meta_items_reader.specs.declared.lists.Layout.TheVariants as layouts
+use Rattle.meta_items_reader.specs.Parts.{name_at, sign_at, truth_at, byte_at, comment_at, quoted_first}
+use Rattle.meta_items_reader.specs.Lists.{list_at, closes_first}
+use Rattle.meta_items_reader.specs.Fits.{Every}
+use Rattle.meta_items_reader.specs.Reading.{bool_item_at, num_item_at, enum_item_at, preset_item_at}
+use Rattle.meta_items_reader.proofs.PartLaws.{bind_ok, ok_is, shorter_bind, shorter_sign, name_again, name_takes, name_within}
+use Rattle.meta_items_reader.proofs.PartLaws.{sign_takes, sign_within, truth_again, truth_takes, truth_within, byte_again, byte_takes}
+use Rattle.meta_items_reader.proofs.PartLaws.{byte_within, comment_again, comment_takes, comment_within, comment_less}
+use Rattle.meta_items_reader.proofs.ListLaws.{Keeps, list_takes, list_within, Again, list_again}
+use Rattle.meta_items_reader.proofs.Ends.{of_last}
 
 -- documentation, a keyword and what stands behind it are what an item is spelled as
 abbrev pub Spelled : List (List ℕ) → Keyword → List Token → List (List ℕ) → List Token → List Token → Type 0
@@ -26,11 +32,47 @@ Spelled before k ts lines body rest = docs before ++ Key k ∷ ts ≡ (docs line
 pub together : (ds : List (List ℕ)) (k : Keyword) (ts body rest : List Token) → ts ≡ body ++ rest → Spelled ds k ts ds body rest
 together ds k ts body rest e = ap (λ (r : List Token). docs ds ++ Key k ∷ r) e ∙ sym (append_assoc (docs ds) (Key k ∷ body) rest)
 
-abbrev name_rest : Name × List Token → List Token
-name_rest x = x.1
+-- ---- lists of names
 
-abbrev sign_rest : List Token → List Token
-sign_rest r = r
+abbrev AnyName : Name → Type 0
+AnyName n = Unit {0}
+
+-- whatever stands behind
+abbrev Always : Name → List Token → Type 0
+Always n ts = Unit {0}
+
+every_name : (ns : List Name) → Every AnyName ns
+every_name [] = tt
+every_name (n ∷ ns) = (tt, every_name ns)
+
+no_close : (n : Name) (rest : List Token) → closes_first layouts.Parentheses (name n ∷ rest) ≡ false
+no_close (names.Plain w) rest = refl
+no_close (names.Quoted t) rest = refl
+
+named_takes : (w : Wanted) (ts : List Token) (x : Name × List Token) → name_at w ts ≡ Ok x → ts ≡ named x.0 ++ x.1
+named_takes w ts x e = name_takes w ts x e
+
+names_listed : (w : Wanted) → Again named (name_at w) layouts.Parentheses AnyName Always
+names_listed w = record {
+  again = λ n rest good free. name_again w n rest;
+  follows = λ n rest good. refl;
+  parted = λ n m rest. tt;
+  opens = λ n rest. no_close n rest;
+  some = λ n. omega arith;
+}
+
+names_takes : (w : Wanted) (ts : List Token) (x : List Name × List Token) → list_at (name_at w) layouts.Parentheses ts ≡ Ok x
+    → ts ≡ listed named x.0 ++ Sign 41 ∷ x.1
+names_takes w ts x e = list_takes named (name_at w) layouts.Parentheses (named_takes w) refl ts x e
+
+names_within : (w : Wanted) → Keeps (list_at (name_at w) layouts.Parentheses)
+names_within w ts = list_within (name_at w) layouts.Parentheses (name_within w) ts
+
+names_again : (w : Wanted) (ns : List Name) (rest : List Token)
+    → list_at (name_at w) layouts.Parentheses (listed named ns ++ Sign 41 ∷ rest) ≡ Ok (ns, rest)
+names_again w ns rest =
+    list_again named (name_at w) layouts.Parentheses AnyName Always (names_listed w) refl (λ r. refl) (λ r. refl) ns rest
+    (every_name ns) (of_last AnyName (λ n. tt) ns) refl
 
 -- ---- booleans
 
@@ -66,7 +108,7 @@ bool_takes ds ts x e =
     let b = bind_ok (sign_at 61 a.0.1) _ x a.2 in
     let c = bind_ok (truth_at b.0) _ x b.2 in
     let t0 : ts ≡ name a.0.0 ∷ a.0.1 = name_takes wanted.SettingName ts a.0 a.1 in
-    let t1 : a.0.1 ≡ Sign 61 ∷ b.0 = sign_takes 61 a.0.1 b.0 b.1 in
+    let t1 : a.0.1 ≡ Sign 61 ∷ b.0 = sign_takes (wanted.Sign 61) 61 a.0.1 b.0 b.1 in
     let t2 : b.0 ≡ truth c.0.0 ∷ c.0.1 = truth_takes b.0 c.0 c.1 in
     let t3 : c.0.1 ≡ comment (comment_at c.0.1).0 ++ (comment_at c.0.1).1 = comment_takes c.0.1 in
     let made : BoolItem × List Token =
@@ -76,12 +118,12 @@ bool_takes ds ts x e =
     (t1 ∙ ap (λ (r : List Token). Sign 61 ∷ r) (t2 ∙ ap (λ (r : List Token). truth c.0.0 ∷ r) t3)) in
     subst (BoolTaken ds ts) (ok_is made x c.2) (together ds key.Bool ts (bool_item made.0) made.1 whole)
 
-pub bool_within : (ds : List (List ℕ)) (ts : List Token) → Within (λ (x : BoolItem × List Token). x.1) ts (bool_item_at ds ts)
+pub bool_within : (ds : List (List ℕ)) → Keeps (bool_item_at ds)
 unfolding bool_item_at
 bool_within ds ts =
-    within_bind name_rest (λ (x : BoolItem × List Token). x.1) ts (name_at wanted.SettingName ts) _ (name_within wanted.SettingName ts)
-    (λ n. within_bind sign_rest (λ (x : BoolItem × List Token). x.1) n.1 (sign_at 61 n.1) _ (sign_within 61 n.1)
-    (λ after. within_bind (λ (x : Bool × List Token). x.1) (λ (x : BoolItem × List Token). x.1) after
+    shorter_bind ts (name_at wanted.SettingName ts) _ (name_within wanted.SettingName ts)
+    (λ n. shorter_sign n.1 (sign_at 61 n.1) _ (sign_within (wanted.Sign 61) 61 n.1)
+    (λ after. shorter_bind after
     (truth_at after) _ (truth_within after)
     (λ b. comment_within b.1)))
 
@@ -120,7 +162,7 @@ num_takes ds ts x e =
     let b = bind_ok (sign_at 61 a.0.1) _ x a.2 in
     let c = bind_ok (byte_at b.0) _ x b.2 in
     let t0 : ts ≡ name a.0.0 ∷ a.0.1 = name_takes wanted.SettingName ts a.0 a.1 in
-    let t1 : a.0.1 ≡ Sign 61 ∷ b.0 = sign_takes 61 a.0.1 b.0 b.1 in
+    let t1 : a.0.1 ≡ Sign 61 ∷ b.0 = sign_takes (wanted.Sign 61) 61 a.0.1 b.0 b.1 in
     let t2 : b.0 ≡ number c.0.0 ∷ c.0.1 = byte_takes b.0 c.0 c.1 in
     let t3 : c.0.1 ≡ comment (comment_at c.0.1).0 ++ (comment_at c.0.1).1 = comment_takes c.0.1 in
     let made : NumItem × List Token =
@@ -130,23 +172,12 @@ num_takes ds ts x e =
     (t1 ∙ ap (λ (r : List Token). Sign 61 ∷ r) (t2 ∙ ap (λ (r : List Token). number c.0.0 ∷ r) t3)) in
     subst (NumTaken ds ts) (ok_is made x c.2) (together ds key.Num ts (num_item made.0) made.1 whole)
 
--- and its number is one of a byte
-pub num_fits : (ds : List (List ℕ)) (ts : List Token) (x : NumItem × List Token) → num_item_at ds ts ≡ Ok x → x.0.default < 2 ^ 8
-unfolding num_item_at
-num_fits ds ts x e =
-    let a = bind_ok (name_at wanted.SettingName ts) _ x e in
-    let b = bind_ok (sign_at 61 a.0.1) _ x a.2 in
-    let c = bind_ok (byte_at b.0) _ x b.2 in
-    let made : NumItem × List Token =
-    (record { docs = ds; name = a.0.0; default = c.0.0; comment = (comment_at c.0.1).0 }, (comment_at c.0.1).1) in
-    subst (λ (y : NumItem × List Token). y.0.default < 2 ^ 8) (ok_is made x c.2) (byte_fits b.0 c.0 c.1)
-
-pub num_within : (ds : List (List ℕ)) (ts : List Token) → Within (λ (x : NumItem × List Token). x.1) ts (num_item_at ds ts)
+pub num_within : (ds : List (List ℕ)) → Keeps (num_item_at ds)
 unfolding num_item_at
 num_within ds ts =
-    within_bind name_rest (λ (x : NumItem × List Token). x.1) ts (name_at wanted.SettingName ts) _ (name_within wanted.SettingName ts)
-    (λ n. within_bind sign_rest (λ (x : NumItem × List Token). x.1) n.1 (sign_at 61 n.1) _ (sign_within 61 n.1)
-    (λ after. within_bind (λ (x : ℕ × List Token). x.1) (λ (x : NumItem × List Token). x.1) after (byte_at after) _ (byte_within after)
+    shorter_bind ts (name_at wanted.SettingName ts) _ (name_within wanted.SettingName ts)
+    (λ n. shorter_sign n.1 (sign_at 61 n.1) _ (sign_within (wanted.Sign 61) 61 n.1)
+    (λ after. shorter_bind after (byte_at after) _ (byte_within after)
     (λ b. comment_within b.1)))
 
 -- ---- enums
@@ -155,8 +186,8 @@ pub enum_again : (i : EnumItem) (rest : List Token) → quoted_first rest ≡ fa
 unfolding enum_item_at
 enum_again i rest h =
     rw (
-      append_assoc (name_list i.values) (comment i.comment) rest,
-      name_again wanted.SettingName i.name (Sign 40 ∷ (name_list i.values ++ (comment i.comment ++ rest))),
+      append_assoc (listed named i.values) (Sign 41 ∷ comment i.comment) rest,
+      name_again wanted.SettingName i.name (Sign 40 ∷ (listed named i.values ++ Sign 41 ∷ (comment i.comment ++ rest))),
       names_again wanted.Value i.values (comment i.comment ++ rest),
       comment_again i.comment rest h,
     ) refl
@@ -169,8 +200,8 @@ enum_begins i rest =
     let made : EnumItem × List Token = (record { docs = i.docs; name = i.name; values = i.values; comment = tail.0 }, tail.1) in
     let read : enum_item_at i.docs (enum_item i ++ rest) ≡ Ok made =
     rw (
-      append_assoc (name_list i.values) (comment i.comment) rest,
-      name_again wanted.SettingName i.name (Sign 40 ∷ (name_list i.values ++ (comment i.comment ++ rest))),
+      append_assoc (listed named i.values) (Sign 41 ∷ comment i.comment) rest,
+      name_again wanted.SettingName i.name (Sign 40 ∷ (listed named i.values ++ Sign 41 ∷ (comment i.comment ++ rest))),
       names_again wanted.Value i.values (comment i.comment ++ rest),
     ) refl in
     (made, read, comment_less i.comment rest)
@@ -183,26 +214,26 @@ unfolding enum_item_at
 enum_takes ds ts x e =
     let a = bind_ok (name_at wanted.SettingName ts) _ x e in
     let b = bind_ok (sign_at 40 a.0.1) _ x a.2 in
-    let c = bind_ok (names_at wanted.Value b.0) _ x b.2 in
+    let c = bind_ok (list_at (name_at wanted.Value) layouts.Parentheses b.0) _ x b.2 in
     let t0 : ts ≡ name a.0.0 ∷ a.0.1 = name_takes wanted.SettingName ts a.0 a.1 in
-    let t1 : a.0.1 ≡ Sign 40 ∷ b.0 = sign_takes 40 a.0.1 b.0 b.1 in
-    let t2 : b.0 ≡ name_list c.0.0 ++ c.0.1 = names_takes wanted.Value b.0 c.0 c.1 in
+    let t1 : a.0.1 ≡ Sign 40 ∷ b.0 = sign_takes (wanted.Sign 40) 40 a.0.1 b.0 b.1 in
+    let t2 : b.0 ≡ listed named c.0.0 ++ Sign 41 ∷ c.0.1 = names_takes wanted.Value b.0 c.0 c.1 in
     let t3 : c.0.1 ≡ comment (comment_at c.0.1).0 ++ (comment_at c.0.1).1 = comment_takes c.0.1 in
     let made : EnumItem × List Token =
     (record { docs = ds; name = a.0.0; values = c.0.0; comment = (comment_at c.0.1).0 }, (comment_at c.0.1).1) in
-    let tail : b.0 ≡ (name_list c.0.0 ++ comment (comment_at c.0.1).0) ++ (comment_at c.0.1).1 = t2
-    ∙ (ap (λ (r : List Token). name_list c.0.0 ++ r) t3
-    ∙ sym (append_assoc (name_list c.0.0) (comment (comment_at c.0.1).0) (comment_at c.0.1).1)) in
+    let tail : b.0 ≡ (listed named c.0.0 ++ Sign 41 ∷ comment (comment_at c.0.1).0) ++ (comment_at c.0.1).1 = t2
+    ∙ (ap (λ (r : List Token). listed named c.0.0 ++ Sign 41 ∷ r) t3
+    ∙ sym (append_assoc (listed named c.0.0) (Sign 41 ∷ comment (comment_at c.0.1).0) (comment_at c.0.1).1)) in
     let whole : ts ≡ enum_item made.0 ++ made.1 = t0
     ∙ ap (λ (r : List Token). name a.0.0 ∷ r) (t1 ∙ ap (λ (r : List Token). Sign 40 ∷ r) tail) in
     subst (EnumTaken ds ts) (ok_is made x c.2) (together ds key.Enum ts (enum_item made.0) made.1 whole)
 
-pub enum_within : (ds : List (List ℕ)) (ts : List Token) → Within (λ (x : EnumItem × List Token). x.1) ts (enum_item_at ds ts)
+pub enum_within : (ds : List (List ℕ)) → Keeps (enum_item_at ds)
 unfolding enum_item_at
 enum_within ds ts =
-    within_bind name_rest (λ (x : EnumItem × List Token). x.1) ts (name_at wanted.SettingName ts) _ (name_within wanted.SettingName ts)
-    (λ n. within_bind sign_rest (λ (x : EnumItem × List Token). x.1) n.1 (sign_at 40 n.1) _ (sign_within 40 n.1)
-    (λ after. within_bind rest_of (λ (x : EnumItem × List Token). x.1) after (names_at wanted.Value after) _
+    shorter_bind ts (name_at wanted.SettingName ts) _ (name_within wanted.SettingName ts)
+    (λ n. shorter_sign n.1 (sign_at 40 n.1) _ (sign_within (wanted.Sign 40) 40 n.1)
+    (λ after. shorter_bind after (list_at (name_at wanted.Value) layouts.Parentheses after) _
     (names_within wanted.Value after)
     (λ vs. comment_within vs.1)))
 
@@ -211,7 +242,8 @@ enum_within ds ts =
 pub preset_again : (i : PresetItem) (rest : List Token) → preset_item_at i.docs (preset_item i ++ rest) ≡ Ok (i, rest)
 unfolding preset_item_at
 preset_again i rest = rw (
-  name_again wanted.PresetName i.name (Sign 40 ∷ (name_list i.args ++ rest)),
+  append_assoc (listed named i.args) (Sign 41 ∷ []) rest,
+  name_again wanted.PresetName i.name (Sign 40 ∷ (listed named i.args ++ Sign 41 ∷ rest)),
   names_again wanted.Argument i.args rest,
 ) refl
 
@@ -223,20 +255,21 @@ unfolding preset_item_at
 preset_takes ds ts x e =
     let a = bind_ok (name_at wanted.PresetName ts) _ x e in
     let b = bind_ok (sign_at 40 a.0.1) _ x a.2 in
-    let c = bind_ok (names_at wanted.Argument b.0) _ x b.2 in
+    let c = bind_ok (list_at (name_at wanted.Argument) layouts.Parentheses b.0) _ x b.2 in
     let t0 : ts ≡ name a.0.0 ∷ a.0.1 = name_takes wanted.PresetName ts a.0 a.1 in
-    let t1 : a.0.1 ≡ Sign 40 ∷ b.0 = sign_takes 40 a.0.1 b.0 b.1 in
-    let t2 : b.0 ≡ name_list c.0.0 ++ c.0.1 = names_takes wanted.Argument b.0 c.0 c.1 in
+    let t1 : a.0.1 ≡ Sign 40 ∷ b.0 = sign_takes (wanted.Sign 40) 40 a.0.1 b.0 b.1 in
+    let t2 : b.0 ≡ listed named c.0.0 ++ Sign 41 ∷ c.0.1 = names_takes wanted.Argument b.0 c.0 c.1 in
     let made : PresetItem × List Token = (record { docs = ds; name = a.0.0; args = c.0.0 }, c.0.1) in
     let whole : ts ≡ preset_item made.0 ++ made.1 = t0
-    ∙ ap (λ (r : List Token). name a.0.0 ∷ r) (t1 ∙ ap (λ (r : List Token). Sign 40 ∷ r) t2) in
+    ∙ ap (λ (r : List Token). name a.0.0 ∷ r) (t1 ∙ ap (λ (r : List Token). Sign 40 ∷ r) (t2
+    ∙ sym (append_assoc (listed named c.0.0) (Sign 41 ∷ []) c.0.1))) in
     subst (PresetTaken ds ts) (ok_is made x c.2) (together ds key.Preset ts (preset_item made.0) made.1 whole)
 
-pub preset_within : (ds : List (List ℕ)) (ts : List Token) → Within (λ (x : PresetItem × List Token). x.1) ts (preset_item_at ds ts)
+pub preset_within : (ds : List (List ℕ)) → Keeps (preset_item_at ds)
 unfolding preset_item_at
 preset_within ds ts =
-    within_bind name_rest (λ (x : PresetItem × List Token). x.1) ts (name_at wanted.PresetName ts) _ (name_within wanted.PresetName ts)
-    (λ n. within_bind sign_rest (λ (x : PresetItem × List Token). x.1) n.1 (sign_at 40 n.1) _ (sign_within 40 n.1)
-    (λ after. within_bind rest_of (λ (x : PresetItem × List Token). x.1) after (names_at wanted.Argument after) _
+    shorter_bind ts (name_at wanted.PresetName ts) _ (name_within wanted.PresetName ts)
+    (λ n. shorter_sign n.1 (sign_at 40 n.1) _ (sign_within (wanted.Sign 40) 40 n.1)
+    (λ after. shorter_bind after (list_at (name_at wanted.Argument) layouts.Parentheses after) _
     (names_within wanted.Argument after)
     (λ args. omega arith)))

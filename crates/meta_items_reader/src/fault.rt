@@ -8,7 +8,7 @@ use std::alloc::{AllocError, AllocFailed};
 /// What was wanted in place of a token.
 #[derive(Clone, Copy, PartialEq, Eq)]
 pub enum Wanted {
-    /// One of `group`, `bool`, `num`, `enum` and `preset`, or documentation.
+    /// A keyword, or documentation.
     Item,
     /// Behind documentation the keyword of an item that has documentation.
     Documented,
@@ -18,14 +18,56 @@ pub enum Wanted {
     SettingName,
     /// The name of a preset.
     PresetName,
+    /// A word that names a type.
+    TypeWord,
+    /// A word that names a kind.
+    KindWord,
+    /// A word that names a format.
+    FormatWord,
+    /// The name of an instruction.
+    InstName,
+    /// The name of an operand.
+    OperandName,
+    /// The name of a field.
+    FieldName,
+    /// The word of a type.
+    Type,
+    /// A function that derives a type.
+    Function,
+    /// The word of a part of a set of types.
+    Dimension,
+    /// `all`, `none` or a number.
+    Members,
+    /// A number from 0 to 256, decimal, without leading zeros.
+    PartNumber,
+    /// The sort of a kind.
+    Sort,
+    /// A text in quotes.
+    Text,
+    /// What a format stores at a place.
+    Slot,
+    /// `value`.
+    ValueWord,
+    /// The word of a format.
+    FormatName,
+    /// A mark of an instruction.
+    Mark,
+    /// The name that a value has in Rust.
+    RustValue,
     /// The name of a value of an enum.
     Value,
     /// The name of a boolean or a preset.
     Argument,
     /// This sign.
     Sign(u8),
+    /// `:` or `=`.
+    ColonOrEquals,
+    /// `->`.
+    Arrow,
     /// `,` or `)`.
     CommaOrClose,
+    /// `,` or `]`.
+    CommaOrBracket,
     /// `true` or `false`.
     Truth,
     /// A number from 0 to 255, decimal, without leading zeros.

@@ -1,9 +1,14 @@
-ghost use Rattle.std.specs.Prelude.{◌≡◌, length};
-ghost use Rattle.meta_items_reader.specs.Reading.{Gives, wanted_item, item_behind, item_at, items_at};
+ghost use Rattle.std.specs.Prelude.{◌≡◌, List, length, IfOk};
+ghost use Rattle.meta_items_reader.specs.Parts.{Gives};
+ghost use Rattle.meta_items_reader.specs.Reading.{wanted_item, format_at, group_at, item_by, item_behind, item_at, items_at};
 
 use super::fault::{Fault, PartError, Wanted};
+use super::formats::format_item;
+use super::insts::inst_item;
+use super::kinds::kind_item;
 use super::parts::{docs_of, name_of};
 use super::settings::{bool_item, enum_item, num_item, preset_item};
+use super::types::type_item;
 use meta_items::{Docs, Item};
 use meta_tokens::{Keyword, Token};
 use std::alloc::Global;
@@ -19,39 +24,92 @@ fn wanted_item(docs: &Docs) -> Wanted
     }
 }
 
+/// Reads a format behind its keyword, where no documentation stands before it.
+fn format_behind<'t>(
+    alloc: Global,
+    docs: &Docs,
+    tokens: &'t [Token],
+) -> Result<(Item, &'t [Token]), PartError>
+    ensures { Gives (λ x. (x.0, x.1.now)) result (format_at docs.now tokens.now) }
+{
+    if !docs.as_slice().is_empty() {
+        return Err(PartError::Fault(Fault {
+            left: tokens.len() + 1,
+            wanted: Wanted::Documented,
+        }));
+    }
+    let (item, rest) = format_item(alloc, tokens)?;
+    Ok((Item::Format(item), rest))
+}
+
+/// Reads a group behind its keyword, where no documentation stands before it.
+fn group_behind<'t>(
+    alloc: Global,
+    docs: &Docs,
+    tokens: &'t [Token],
+) -> Result<(Item, &'t [Token]), PartError>
+    ensures { Gives (λ x. (x.0, x.1.now)) result (group_at docs.now tokens.now) }
+{
+    if !docs.as_slice().is_empty() {
+        return Err(PartError::Fault(Fault {
+            left: tokens.len() + 1,
+            wanted: Wanted::Documented,
+        }));
+    }
+    let (name, rest) = name_of(alloc, tokens, Wanted::GroupName)?;
+    Ok((Item::Group(name), rest))
+}
+
+/// Reads an item behind its keyword.
+fn item_by(
+    alloc: Global,
+    docs: Docs,
+    keyword: Keyword,
+    tokens: &[Token],
+) -> Result<(Item, &[Token]), PartError>
+    ensures { Gives (λ x. (x.0, x.1.now)) result (item_by docs keyword tokens.now) }
+{
+    match keyword {
+        Keyword::Type => type_item(alloc, docs, tokens),
+        Keyword::Kind => {
+            let (item, rest) = kind_item(alloc, docs, tokens)?;
+            Ok((Item::Kind(item), rest))
+        }
+        Keyword::Format => format_behind(alloc, &docs, tokens),
+        Keyword::Inst => {
+            let (item, rest) = inst_item(alloc, docs, tokens)?;
+            Ok((Item::Inst(item), rest))
+        }
+        Keyword::Group => group_behind(alloc, &docs, tokens),
+        Keyword::Bool => {
+            let (item, rest) = bool_item(alloc, docs, tokens)?;
+            Ok((Item::Bool(item), rest))
+        }
+        Keyword::Num => {
+            let (item, rest) = num_item(alloc, docs, tokens)?;
+            Ok((Item::Num(item), rest))
+        }
+        Keyword::Enum => {
+            let (item, rest) = enum_item(alloc, docs, tokens)?;
+            Ok((Item::Enum(item), rest))
+        }
+        Keyword::Preset => {
+            let (item, rest) = preset_item(alloc, docs, tokens)?;
+            Ok((Item::Preset(item), rest))
+        }
+    }
+}
+
 /// Reads an item behind its documentation.
 fn item_behind(alloc: Global, docs: Docs, tokens: &[Token]) -> Result<(Item, &[Token]), PartError>
     ensures { Gives (λ x. (x.0, x.1.now)) result (item_behind docs tokens.now) }
 {
-    let fault = Fault {
-        left: tokens.len(),
-        wanted: wanted_item(&docs),
-    };
     match tokens {
-        [Token::Key(Keyword::Group), rest @ ..] => {
-            if !docs.as_slice().is_empty() {
-                return Err(PartError::Fault(fault));
-            }
-            let (name, rest) = name_of(alloc, rest, Wanted::GroupName)?;
-            Ok((Item::Group(name), rest))
-        }
-        [Token::Key(Keyword::Bool), rest @ ..] => {
-            let (item, rest) = bool_item(alloc, docs, rest)?;
-            Ok((Item::Bool(item), rest))
-        }
-        [Token::Key(Keyword::Num), rest @ ..] => {
-            let (item, rest) = num_item(alloc, docs, rest)?;
-            Ok((Item::Num(item), rest))
-        }
-        [Token::Key(Keyword::Enum), rest @ ..] => {
-            let (item, rest) = enum_item(alloc, docs, rest)?;
-            Ok((Item::Enum(item), rest))
-        }
-        [Token::Key(Keyword::Preset), rest @ ..] => {
-            let (item, rest) = preset_item(alloc, docs, rest)?;
-            Ok((Item::Preset(item), rest))
-        }
-        _ => Err(PartError::Fault(fault)),
+        [Token::Key(keyword), rest @ ..] => item_by(alloc, docs, *keyword, rest),
+        _ => Err(PartError::Fault(Fault {
+            left: tokens.len(),
+            wanted: wanted_item(&docs),
+        })),
     }
 }
 

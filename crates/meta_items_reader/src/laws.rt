@@ -3,7 +3,8 @@ ghost use Rattle.meta_tokens.specs.Laid.{laid, CanWriteAll};
 ghost use Rattle.meta_tokens.specs.Squeezed.{read_in};
 ghost use Rattle.meta_items.specs.Spelling.{spelled_all};
 ghost use Rattle.meta_items.specs.declared.items.Item.{Item};
-ghost use Rattle.meta_items_reader.specs.Refused.{AllFit, items_in};
+ghost use Rattle.meta_items_reader.specs.Fits.{AllFit};
+ghost use Rattle.meta_items_reader.specs.Refused.{items_in};
 
 use meta_tokens::what_is_laid_is_read;
 
@@ -13,8 +14,8 @@ pub fn one_list_of_items()
         → read_in text ≡ spelled_all js → is ≡ js }
 {}
 
-/// The text that `write_items` makes of items is spelled as these items, and reads as them, where each of their tokens can be written and
-/// their numbers are bytes.
+/// The text that `write_items` makes of items is spelled as these items, where each of their tokens can be written, and reads as them, where
+/// they fit too.
 pub fn what_is_written_is_read()
     ensures spelled { (is : List Item) → CanWriteAll (spelled_all is) → read_in (laid (spelled_all is)) ≡ spelled_all is }
     ensures read { (is : List Item) → AllFit is → CanWriteAll (spelled_all is) → items_in (laid (spelled_all is)) ≡ Ok is }

@@ -2,13 +2,17 @@
 #![tactic(auto)]
 
 mod fault;
+mod formats;
+mod insts;
 mod items;
+mod kinds;
 mod laws;
-mod names;
+mod lists;
 mod parts;
 mod reading;
 mod reason;
 mod settings;
+mod types;
 
 pub use fault::{ReadError, Refusal, Wanted};
 pub use laws::{one_list_of_items, what_is_written_is_read};

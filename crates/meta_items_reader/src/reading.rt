@@ -6,8 +6,10 @@ ghost use Rattle.meta_items.specs.declared.items.Item.{Item};
 ghost use Rattle.meta_items_reader.specs.declared.fault.Refusal.{Refusal};
 ghost use Rattle.meta_items_reader.specs.declared.fault.ReadError.TheVariants.{Refused};
 ghost use Rattle.meta_items_reader.specs.ItemLines.{key_line, key_lines};
-ghost use Rattle.meta_items_reader.specs.Reading.{Gives, items_at};
-ghost use Rattle.meta_items_reader.specs.Refused.{AllFit, IsRefusalOf, IsRefused, GivesItems, items_in};
+ghost use Rattle.meta_items_reader.specs.Parts.{Gives};
+ghost use Rattle.meta_items_reader.specs.Reading.{items_at};
+ghost use Rattle.meta_items_reader.specs.Fits.{AllFit};
+ghost use Rattle.meta_items_reader.specs.Refused.{IsRefusalOf, IsRefused, GivesItems, items_in};
 
 use super::fault::{Fault, PartError, ReadError, Refusal};
 use super::items::items;
@@ -111,7 +113,7 @@ fn read_text(alloc: Global, text: &[u8]) -> Result<ReadItems, ReadError>
 pub fn read_items(alloc: Global, text: &[u8]) -> Result<ReadItems, ReadError>
     // What is read is spelled so.
     ensures found { IfOk result (λ v. read_in text.now ≡ spelled_all v.items.items) }
-    // Each number is one of a byte.
+    // Its numbers are in their ranges, and its words mean what they are.
     ensures fit { IfOk result (λ v. AllFit v.items.items) }
     // A text that isn't UTF-8 is no items.
     ensures utf8 { IfOk result (λ _. IsUtf8 text.now) }

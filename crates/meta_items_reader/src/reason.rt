@@ -19,17 +19,47 @@ fn write_wanted(text: &mut Vec<u8>, wanted: Wanted) -> Result<(), AllocError>
     ensures { OnOk result (text.new.items ≡ text.old.items ++ wanted_text wanted) }
 {
     match wanted {
-        Wanted::Item => text.extend_from_slice(b"group, bool, num, enum or preset"),
-        Wanted::Documented => {
-            text.extend_from_slice(b"behind documentation bool, num, enum or preset")
-        }
+        Wanted::Item => text.extend_from_slice(
+            b"type, kind, format, inst, group, bool, num, enum or preset",
+        ),
+        Wanted::Documented => text.extend_from_slice(
+            b"behind documentation type, kind, inst, bool, num, enum or preset",
+        ),
         Wanted::GroupName => text.extend_from_slice(b"the name of the group"),
         Wanted::SettingName => text.extend_from_slice(b"the name of the setting"),
         Wanted::PresetName => text.extend_from_slice(b"the name of the preset"),
         Wanted::Value => text.extend_from_slice(b"a value"),
         Wanted::Argument => text.extend_from_slice(b"a boolean or a preset"),
+        Wanted::TypeWord => text.extend_from_slice(b"a word that names the type"),
+        Wanted::KindWord => text.extend_from_slice(b"a word that names the kind"),
+        Wanted::FormatWord => text.extend_from_slice(b"a word that names the format"),
+        Wanted::InstName => text.extend_from_slice(b"the name of the instruction"),
+        Wanted::OperandName => text.extend_from_slice(b"the name of an operand"),
+        Wanted::FieldName => text.extend_from_slice(b"the name of the field"),
+        Wanted::Type => text.extend_from_slice(b"a type"),
+        Wanted::Function => text.extend_from_slice(
+            b"one of lane_of, as_truthy, half_width, double_width, split_lanes, merge_lanes, dynamic_to_vector, narrower, wider",
+        ),
+        Wanted::Dimension => text.extend_from_slice(b"lanes, dynamic, ints or floats"),
+        Wanted::Members => text.extend_from_slice(b"all, none or a number"),
+        Wanted::PartNumber => text.extend_from_slice(b"a number from 0 to 256"),
+        Wanted::Sort => text.extend_from_slice(b"entity, imm, imm_enum, varargs or value"),
+        Wanted::Text => text.extend_from_slice(b"a text in quotes"),
+        Wanted::Slot => text.extend_from_slice(
+            b"value, designated value, block, raw_block, varargs, or a kind",
+        ),
+        Wanted::ValueWord => text.extend_from_slice(b"value"),
+        Wanted::FormatName => text.extend_from_slice(b"a format"),
+        Wanted::Mark => text.extend_from_slice(
+            b"terminates_block, branches, call, returns, can_load, can_store, can_trap, other_side_effects, \
+              side_effects_idempotent, imm_method or second",
+        ),
+        Wanted::RustValue => text.extend_from_slice(b"the value in Rust"),
         Wanted::Sign(sign) => write_back_quoted(text, &[sign]),
+        Wanted::ColonOrEquals => text.extend_from_slice(b"`:` or `=`"),
+        Wanted::Arrow => text.extend_from_slice(b"`->`"),
         Wanted::CommaOrClose => text.extend_from_slice(b"`,` or `)`"),
+        Wanted::CommaOrBracket => text.extend_from_slice(b"`,` or `]`"),
         Wanted::Truth => text.extend_from_slice(b"true or false"),
         Wanted::Byte => text.extend_from_slice(b"a number from 0 to 255"),
     }

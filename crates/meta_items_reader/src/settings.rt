@@ -1,7 +1,8 @@
-ghost use Rattle.meta_items_reader.specs.Reading.{Gives, bool_item_at, num_item_at, enum_item_at, preset_item_at};
+ghost use Rattle.meta_items_reader.specs.Parts.{Gives};
+ghost use Rattle.meta_items_reader.specs.Reading.{bool_item_at, num_item_at, enum_item_at, preset_item_at};
 
 use super::fault::{PartError, Wanted};
-use super::names::names_of;
+use super::lists::{Layout, list};
 use super::parts::{behind_sign, byte, comment, name_of, truth};
 use meta_items::{BoolItem, Docs, EnumItem, NumItem, PresetItem};
 use meta_tokens::Token;
@@ -62,7 +63,7 @@ pub(crate) fn enum_item(
 {
     let (name, rest) = name_of(alloc, tokens, Wanted::SettingName)?;
     let rest = behind_sign(rest, b'(')?;
-    let (values, rest) = names_of(alloc, rest, Wanted::Value)?;
+    let (values, rest) = list(alloc, rest, Layout::Parentheses, Wanted::Value)?;
     let (comment, rest) = comment(alloc, rest)?;
     let item = EnumItem {
         docs,
@@ -84,7 +85,7 @@ pub(crate) fn preset_item(
 {
     let (name, rest) = name_of(alloc, tokens, Wanted::PresetName)?;
     let rest = behind_sign(rest, b'(')?;
-    let (args, rest) = names_of(alloc, rest, Wanted::Argument)?;
+    let (args, rest) = list(alloc, rest, Layout::Parentheses, Wanted::Argument)?;
     let item = PresetItem { docs, name, args };
     Ok((item, rest))
 }

@@ -1,8 +1,10 @@
+use super::many::write_sum;
 use meta_file::{FileEnding, Over, run_file};
 use meta_text::MemorySink;
 use meta_types::Text;
 use rows_outside::Outside;
 use rows_words::Trouble;
+use sha2::{Digest, Sha256};
 use std::alloc::{AllocError, Global};
 use std::io::{self, Write};
 
@@ -59,6 +61,14 @@ impl Ran {
         } else {
             println!(rt; "other")?;
         }
+        self.write_ending(rt)
+    }
+
+    /// Writes the SHA-256 of what the sink took, and the rest as `write` does.
+    pub(crate) fn write_sum(&self, rt: &HostRuntime) -> io::Result<()> {
+        let mut sum = Sha256::new();
+        sum.update(self.sink.bytes());
+        write_sum(rt, sum)?;
         self.write_ending(rt)
     }
 

@@ -65,6 +65,14 @@ fn refusal(alloc: Global, path: &[u8], text: &[u8]) -> Result<Option<Bytes>, Tro
     }
 }
 
+/// Writes a SHA-256.
+pub(crate) fn write_sum(rt: &HostRuntime, sum: Sha256) -> io::Result<()> {
+    for byte in sum.finalize() {
+        print!(rt; "{byte:02x}")?;
+    }
+    println!(rt; "")
+}
+
 impl Loaded {
     /// Loads a text.
     fn add(&mut self, alloc: Global, text: &[u8]) -> Result<(), Trouble> {
@@ -95,10 +103,7 @@ impl Loaded {
             messages,
         } = self;
         print!(rt; "{declared} declared, {refused} refused, {astray} astray, ")?;
-        for byte in messages.finalize() {
-            print!(rt; "{byte:02x}")?;
-        }
-        println!(rt; "")
+        write_sum(rt, messages)
     }
 }
 

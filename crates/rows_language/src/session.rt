@@ -118,9 +118,10 @@ impl Session {
         }
     }
 
-    /// Answers a line. `run WORDS` runs words over the text as a file, `against NAME WORDS` holds what they write against the file of that
-    /// name, and `over WORDS` says what they are asked over. `fronts` loads each front of the text, and `changes BITS` the text with each
-    /// byte changed. `data NAME` and `input NAME` add what a file has to the text and to the input.
+    /// Answers a line. `run WORDS` runs words over the text as a file, `sum WORDS` tells the SHA-256 of what they write, and
+    /// `against NAME WORDS` holds that against the file of that name. `over WORDS` says what they are asked over. `fronts` loads each front
+    /// of the text, and `changes BITS` the text with each byte changed. `data NAME` and `input NAME` add what a file has to the text and to
+    /// the input.
     fn ask(&mut self, rt: &HostRuntime, line: &str) -> io::Result<()> {
         let (word, rest) = line.split_once(' ').unwrap_or((line, ""));
         match word {
@@ -128,6 +129,10 @@ impl Session {
             "input" => Session::add_file(&mut self.input, rt, rest),
             "run" => match self.ran(rest) {
                 Ok(ran) => ran.write(rt),
+                Err(_) => println!(rt; "no case"),
+            },
+            "sum" => match self.ran(rest) {
+                Ok(ran) => ran.write_sum(rt),
                 Err(_) => println!(rt; "no case"),
             },
             "against" => self.run_against(rt, rest),

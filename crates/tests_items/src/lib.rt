@@ -2,7 +2,11 @@
 #![tactic(auto)]
 
 #[cfg(test)]
+mod bad;
+#[cfg(test)]
 mod expect;
+#[cfg(test)]
+mod machine;
 #[cfg(test)]
 mod reads;
 #[cfg(test)]

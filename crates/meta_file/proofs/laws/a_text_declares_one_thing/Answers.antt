@@ -1,14 +1,15 @@
-use Rattle.meta_file.proofs.Texts.{one_declared, not_refused}
+use Rattle.std.proofs.Common.{List}
+use Rattle.meta_file.proofs.Texts.{DeclareOne, one_declared, not_refused}
 use Rattle.meta_file.proofs.OneMessage.{one_message}
 use Rattle.meta_file.proofs.laws.a_text_declares_one_thing.Goals as goal
 
 pub returns-clause-same : goal.returns-clause-same
-returns-clause-same c = one_declared c.items_say_one_thing.ensures.same
+returns-clause-same c = one_declared c.one_declaration.ensures
 
 pub returns-clause-refused : goal.returns-clause-refused
-returns-clause-refused c = not_refused c.items_say_one_thing.ensures.same c.items_say_one_thing.ensures.right
-    (λ d e. c.one_first_fault.ensures.valid d e)
+returns-clause-refused c = not_refused c.one_declaration.ensures
+    c.items_say_one_thing.ensures.right (λ d e. c.one_first_fault.ensures.valid d e)
 
 pub returns-clause-message : goal.returns-clause-message
-returns-clause-message c = one_message c.items_say_one_thing.ensures.same c.items_say_one_thing.ensures.right
-    c.items_say_one_thing.ensures.first (λ d e f. c.one_first_fault.ensures.same d e f)
+returns-clause-message c = one_message c.one_declaration.ensures
+    c.items_say_one_thing.ensures.right c.items_say_one_thing.ensures.first (λ d e f. c.one_first_fault.ensures.same d e f)

@@ -1,6 +1,6 @@
 use Rattle.std.proofs.Common.{◌≡◌, List, ℕ, Err, subst}
 use Rattle.meta_items.specs.declared.items.Item.{Item}
-use Rattle.meta_items_declared.specs.Refused.{IsWrongAt}
+use Rattle.meta_items_declared.specs.AllItems.{IsFirstWrong}
 use Rattle.meta_items_declared.specs.declared.refused.DeclareError.TheVariants as declare_errors
 use Rattle.meta_file.specs.File.{IsMessageOf}
 use Rattle.meta_file.proofs.loading.declared_by.Goals as goal
@@ -17,7 +17,7 @@ returns-in_ok-message-in-Err-Refused-clause-refused c = λ message e.
     record {
       place = place;
       reason = reason;
-      wrong = subst (λ (is : List Item). IsWrongAt is place reason) c.deref.ensures.value (c.declare.ensures.refused place reason refused);
+      wrong = subst (λ (is : List Item). IsFirstWrong is place reason) c.deref.ensures.value (c.declare.ensures.refused place reason refused);
       tells = subst (λ (m : List ℕ). IsMessageOf c.args.path.now items.items.items items.lines.items place reason m) same
           c.in_ok-message-in-Err-Refused.ensures;
     }

@@ -1,11 +1,8 @@
-use Rattle.meta_items_declared.proofs.OneSaying.{says_one, says_right, one_wrong}
+use Rattle.meta_items_declared.proofs.OneSaying.{declares_right, one_wrong}
 use Rattle.meta_items_declared.proofs.laws.items_say_one_thing.Goals as goal
 
-pub returns-clause-same : goal.returns-clause-same
-returns-clause-same c = says_one
-
 pub returns-clause-right : goal.returns-clause-right
-returns-clause-right c = says_right
+returns-clause-right c = declares_right
 
 pub returns-clause-first : goal.returns-clause-first
 returns-clause-first c = one_wrong

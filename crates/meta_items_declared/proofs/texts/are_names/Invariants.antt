@@ -1,5 +1,6 @@
 use Rattle.std.proofs.Common.{◌≡◌, drop}
-use Rattle.meta_items_declared.specs.Texts.{are_texts, names_in}
+use Rattle.meta_items_types.specs.Texts.{are_texts}
+use Rattle.meta_items_declared.specs.Texts.{names_in}
 use Rattle.meta_items_declared.proofs.texts.are_names.Given as goal
 
 -- what is left decides

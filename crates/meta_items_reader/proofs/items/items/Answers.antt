@@ -1,4 +1,3 @@
-use Rattle.std.proofs.Common.{refl, [], ◌∷◌}
 use Rattle.std.proofs.lemmas.Result.{err_from_is_err_and}
 use Rattle.meta_items_reader.proofs.AllItems.{is_empty_then, goes_on, fails, runs_out, no_fuel}
 use Rattle.meta_items_reader.proofs.items.items.Goals as goal

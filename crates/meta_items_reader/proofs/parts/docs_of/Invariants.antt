@@ -1,5 +1,5 @@
 use Rattle.std.proofs.Common.{◌≡◌, ◌++◌, length}
-use Rattle.meta_items_reader.specs.Reading.{docs_at}
+use Rattle.meta_items_reader.specs.Parts.{docs_at}
 use Rattle.meta_items_reader.proofs.parts.docs_of.Given as goal
 
 -- the lines so far, and those that still stand in front, are all

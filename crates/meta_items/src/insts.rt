@@ -1,0 +1,128 @@
+use super::docs::Docs;
+use super::listed::Listed;
+use super::name::Name;
+use super::types::TypeExpr;
+use meta_tokens::Bytes;
+
+/// An operand: its name, its type or kind, and a text that documents it.
+#[derive(Drop)]
+pub struct Operand {
+    /// Its name.
+    pub name: Name,
+    /// Its type, or the word of its kind.
+    pub what: TypeExpr,
+    /// The text that documents it, if one is there.
+    pub text: Option<Bytes>,
+}
+
+/// What an instruction does.
+#[derive(Clone, Copy, PartialEq, Eq)]
+pub enum Property {
+    /// `terminates_block`
+    TerminatesBlock,
+    /// `branches`
+    Branches,
+    /// `call`
+    Call,
+    /// `returns`
+    Returns,
+    /// `can_load`
+    CanLoad,
+    /// `can_store`
+    CanStore,
+    /// `can_trap`
+    CanTrap,
+    /// `other_side_effects`
+    OtherSideEffects,
+    /// `side_effects_idempotent`
+    SideEffectsIdempotent,
+    /// `imm_method`
+    ImmMethod,
+}
+
+/// A mark of an instruction.
+#[derive(Drop)]
+pub enum Mark {
+    /// What it does.
+    Is(Property),
+    /// `second TYPE`: the second type that controls.
+    Second(TypeExpr),
+}
+
+/// An instruction: `inst NAME: WORD(OPERAND, OPERAND) -> OPERAND [MARK, MARK]`, where the word is that of its format.
+#[derive(Drop)]
+pub struct InstItem {
+    /// The lines of documentation above it.
+    pub docs: Docs,
+    /// Its name.
+    pub name: Name,
+    /// The word of its format.
+    pub format: Bytes,
+    /// The inputs in order.
+    pub inputs: Listed<Operand>,
+    /// The outputs; none where no arrow stands.
+    pub outputs: Listed<Operand>,
+    /// The marks; `None` where no brackets stand.
+    pub marks: Option<Listed<Mark>>,
+}
+
+ghost use Rattle.std.specs.Prelude.{◌≡◌};
+ghost use Rattle.meta_items.specs.Words.{property_text, property_of};
+
+impl Property {
+    /// The word that it is.
+    pub fn as_slice(self) -> &'static [u8]
+        ensures { result.now ≡ property_text self }
+    {
+        match self {
+            Property::TerminatesBlock => b"terminates_block",
+            Property::Branches => b"branches",
+            Property::Call => b"call",
+            Property::Returns => b"returns",
+            Property::CanLoad => b"can_load",
+            Property::CanStore => b"can_store",
+            Property::CanTrap => b"can_trap",
+            Property::OtherSideEffects => b"other_side_effects",
+            Property::SideEffectsIdempotent => b"side_effects_idempotent",
+            Property::ImmMethod => b"imm_method",
+        }
+    }
+
+    /// The mark that a word is, if it is one.
+    #[tactic(auto, unfolding(crate::specs::Words::property_of))]
+    pub fn of(word: &[u8]) -> Option<Property>
+        ensures { result ≡ property_of word.now }
+    {
+        if word == b"terminates_block".as_slice() {
+            return Some(Property::TerminatesBlock);
+        }
+        if word == b"branches".as_slice() {
+            return Some(Property::Branches);
+        }
+        if word == b"call".as_slice() {
+            return Some(Property::Call);
+        }
+        if word == b"returns".as_slice() {
+            return Some(Property::Returns);
+        }
+        if word == b"can_load".as_slice() {
+            return Some(Property::CanLoad);
+        }
+        if word == b"can_store".as_slice() {
+            return Some(Property::CanStore);
+        }
+        if word == b"can_trap".as_slice() {
+            return Some(Property::CanTrap);
+        }
+        if word == b"other_side_effects".as_slice() {
+            return Some(Property::OtherSideEffects);
+        }
+        if word == b"side_effects_idempotent".as_slice() {
+            return Some(Property::SideEffectsIdempotent);
+        }
+        if word == b"imm_method".as_slice() {
+            return Some(Property::ImmMethod);
+        }
+        None
+    }
+}

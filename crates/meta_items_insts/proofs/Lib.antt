@@ -1,0 +1,10 @@
+pub mod AddedItems
+pub mod Each
+pub mod Items
+pub mod MadeOperands
+pub mod Mentioning
+pub mod Naming
+pub mod Seconds
+pub mod Staying
+pub mod Stores
+pub mod Told

@@ -1,0 +1,34 @@
+use Rattle.std.proofs.Common.{◌∙◌, sym, subst}
+use Rattle.meta_items.specs.declared.insts.Mark.{Mark}
+use Rattle.meta_items_types.specs.Registered.{Extends}
+use Rattle.meta_items_types.specs.Held.{registered, Holds}
+use Rattle.meta_items_types.proofs.Staying.{extends_same}
+use Rattle.meta_items_insts.specs.Mentioned.{after_mark}
+use Rattle.meta_items_insts.proofs.MadeOperands.{at_place}
+use Rattle.meta_items_insts.proofs.Seconds.{new_second}
+use Rattle.meta_items_insts.proofs.marks.second_at.Goals as goal
+
+pub returns-in-Is-clause-extends : goal.returns-in-Is-clause-extends
+returns-in-Is-clause-extends g c = λ mark at.
+    let same = at_place c.args.marks.now c.args.place c.index-marks-place.result mark c.index-marks-place.is at in
+    subst (λ (x : Mark). Extends (registered c.args.types.now g.said) (registered c.args.types.now (after_mark g.said x)))
+    (sym c.in-Is.is ∙ same)
+    (extends_same (registered c.args.types.now g.said))
+
+pub returns-in_ok-type_in-in-Second-clause-means : goal.returns-in_ok-type_in-in-Second-clause-means
+returns-in_ok-type_in-in-Second-clause-means g c = λ m mark h at.
+    let same = at_place c.args.marks.now c.args.place c.index-marks-place.result mark c.index-marks-place.is at in
+    new_second (registered c.args.types.now g.said) c.type_in.new.types g.said m c.args.second c.args.place mark c.in-Second.means
+    c.in_ok-type_in-in-Second.field-0 (sym same ∙ c.in-Second.is) c.if-is_some.ensures h c.in_ok-type_in-in-Second.ensures.means
+
+pub returns-in_ok-type_in-in-Second-clause-holds : goal.returns-in_ok-type_in-in-Second-clause-holds
+returns-in_ok-type_in-in-Second-clause-holds g c = λ mark at.
+    let same = at_place c.args.marks.now c.args.place c.index-marks-place.result mark c.index-marks-place.is at in
+    subst (λ (x : Mark). Holds c.type_in.new.types (after_mark g.said x)) (sym c.in-Second.is ∙ same)
+    c.in_ok-type_in-in-Second.ensures.holds
+
+pub returns-in_ok-type_in-in-Second-clause-extends : goal.returns-in_ok-type_in-in-Second-clause-extends
+returns-in_ok-type_in-in-Second-clause-extends g c = λ mark at.
+    let same = at_place c.args.marks.now c.args.place c.index-marks-place.result mark c.index-marks-place.is at in
+    subst (λ (x : Mark). Extends (registered c.args.types.now g.said) (registered c.type_in.new.types (after_mark g.said x)))
+    (sym c.in-Second.is ∙ same) c.in_ok-type_in-in-Second.ensures.extends

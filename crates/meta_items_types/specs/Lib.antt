@@ -1,0 +1,11 @@
+pub mod Texts
+pub mod Plain
+pub mod Meant
+pub mod Symbols
+pub mod Sets
+pub mod Words
+pub mod Said
+pub mod Registered
+pub mod Held
+pub mod Operands
+pub mod Telling

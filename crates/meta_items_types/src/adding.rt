@@ -1,0 +1,246 @@
+ghost use Rattle.std.specs.Prelude.{◌≡◌, ◌∷◌, ◌++◌, ◌<◌, ◌==◌, ◌^◌, ◌-◌, not, [], length, OnOk, IfOk, Ok, Err, None, Some};
+ghost use Rattle.meta_items_types.specs.declared.refused.Reason.{Reason as spec_Reason};
+ghost use Rattle.meta_items_types.specs.declared.refused.TypeError.TheVariants.{Wrong};
+ghost use Rattle.meta_items_types.specs.Words.{wrong_word, type_named, set_like, set_of, entry_of};
+ghost use Rattle.meta_items_types.specs.Said.{Said, mentioning, after_set, after_type, after_sort, root_with, root_of, alias_of, kind_of};
+ghost use Rattle.meta_items_types.specs.Said.{with_root, with_alias, with_kind, after, wrong_with};
+ghost use Rattle.meta_items_types.specs.Texts.{field_or};
+ghost use Rattle.meta_items.specs.Named.{doc_text};
+ghost use Rattle.meta_operands.specs.Kind.{doc_of_kind};
+ghost use Rattle.meta_typevar.specs.Registry.{root_content};
+ghost use Rattle.meta_items_types.specs.Telling.{Tells, Refuses, reason_in};
+ghost use Rattle.meta_items_types.specs.Registered.{Extends};
+ghost use Rattle.meta_items_types.specs.Held.{registered, Holds};
+
+use super::given::has_own_meaning;
+use super::refused::{Reason, TypeError};
+use super::sets::{set_of_parts, wrong_parts};
+use super::texts::{
+    doc_text, field_or, is_text_alias, is_text_kind, is_text_type, shown_or, text_in,
+};
+use super::types::Types;
+use super::words::{Meaning, Word};
+use meta_items::{AliasItem, Docs, Item, KindItem, SetExpr, TypeItem};
+use meta_operands::{OperandKind, OperandKindFields};
+use meta_tokens::Bytes;
+use meta_typevar::{TypeSet, TypeVar, TypeVars};
+use std::alloc::{AllocError, Global};
+
+impl Types {
+    /// The set of the type that a word stands for, which isn't derived.
+    #[tactic(auto, using(crate::proofs::Deriving::like_root, crate::proofs::Deriving::like_derived, crate::proofs::Deriving::like_fails))]
+    fn set_like(&mut self, alloc: Global, word: &[u8]) -> Result<TypeSet, TypeError>
+        ghost said: { Said }
+        requires { Holds self.old said }
+        ensures means { Tells (λ s x. x ≡ s) result (set_like said.words word.now) }
+        ensures holds { OnOk result (Holds self.new (mentioning said (type_named said.words word.now))) }
+        ensures extends { OnOk result
+            (Extends (registered self.old said) (registered self.new (mentioning said (type_named said.words word.now)))) }
+    {
+        let variable = self.type_named(word)?;
+        if self.vars.content(variable).base.is_some() {
+            return Err(TypeError::Wrong(Reason::LikeDerived));
+        }
+        Ok(variable.get_typeset(alloc, &self.vars)?)
+    }
+
+    /// The set of a type variable.
+    #[tactic(auto, using(crate::proofs::Steps::set_wrong, crate::proofs::Steps::like_means, crate::proofs::Steps::like_holds, crate::proofs::Steps::like_extends, crate::proofs::Staying::extends_same))]
+    fn set_of(&mut self, alloc: Global, set: &SetExpr) -> Result<TypeSet, TypeError>
+        ghost said: { Said }
+        requires { Holds self.old said }
+        ensures means { Tells (λ s x. x ≡ s) result (set_of said.words set.now) }
+        ensures holds { OnOk result (Holds self.new (after_set said set.now)) }
+        ensures extends { OnOk result (Extends (registered self.old said) (registered self.new (after_set said set.now))) }
+    {
+        match set {
+            SetExpr::Parts(parts) => match wrong_parts(parts.as_slice()) {
+                Some(reason) => Err(TypeError::Wrong(reason)),
+                None => Ok(set_of_parts(parts.as_slice())?),
+            },
+            SetExpr::Like(word) => self.set_like(alloc, word.as_slice()),
+        }
+    }
+
+    /// Why an item can't declare the word, if it can't.
+    #[tactic(auto, using(crate::proofs::Checked::word_own, crate::proofs::Checked::word_known, crate::proofs::Checked::word_new))]
+    fn wrong_word(&self, word: &[u8]) -> Option<Reason>
+        ensures { (said : Said) → Holds self.now said → result ≡ wrong_word said.words word.now }
+    {
+        if has_own_meaning(word) {
+            return Some(Reason::OwnMeaning);
+        }
+        let kept = self.words.get(word)?;
+        Some(Reason::Declared(kept.place))
+    }
+
+    /// Whether an item can declare the word.
+    fn check_word(&self, word: &Bytes) -> Result<(), TypeError>
+        ensures { (said : Said) → Holds self.now said → Refuses result (wrong_word said.words word.now) }
+    {
+        match self.wrong_word(word.as_slice()) {
+            Some(reason) => Err(TypeError::Wrong(reason)),
+            None => Ok(()),
+        }
+    }
+
+    /// Adds a type variable with this set, and its word.
+    fn declare_root(
+        &mut self,
+        alloc: Global,
+        place: usize,
+        item: &TypeItem,
+        set: TypeSet,
+    ) -> Result<(), AllocError>
+        ghost said: { Said }
+        requires held { Holds self.old said }
+        requires new { entry_of said.words item.now.word ≡ None }
+        ensures holds { OnOk result (Holds self.new (with_root said item.now.word place (Ok (root_with item.now set)))) }
+        ensures extends { OnOk result (Extends (registered self.old said)
+            (registered self.new (with_root said item.now.word place (Ok (root_with item.now set))))) }
+    {
+        if !self.vars.has_room() {
+            return Err(AllocError);
+        }
+        let variable = new_root(alloc, &mut self.vars, item, set)?;
+        let meaning = Meaning::Type(variable);
+        self.words
+            .insert(alloc, &item.word, Word { place, meaning })?;
+        Ok(())
+    }
+
+    /// Adds a type variable.
+    #[tactic(auto, using(crate::proofs::Steps::root_no_text, crate::proofs::Steps::root_fails))]
+    fn add_type(&mut self, alloc: Global, place: usize, item: &TypeItem) -> Result<(), TypeError>
+        ghost said: { Said }
+        requires { Holds self.old said }
+        ensures tells { Refuses result (reason_in (root_of said.words item.now)) }
+        ensures added { OnOk result
+            (Holds self.new (with_root (after_set said item.now.set) item.now.word place (root_of said.words item.now))) }
+        ensures extends { OnOk result (Extends (registered self.old said)
+            (registered self.new (with_root (after_set said item.now.set) item.now.word place (root_of said.words item.now)))) }
+    {
+        if !is_text_type(item) {
+            return Err(TypeError::Wrong(Reason::NotText));
+        }
+        let set = self.set_of(alloc, &item.set)?;
+        self.check_word(&item.word)?;
+        self.declare_root(alloc, place, item, set)?;
+        Ok(())
+    }
+
+    /// Adds another word for a type.
+    #[tactic(auto, using(crate::proofs::Steps::alias_no_text, crate::proofs::Steps::alias_docs, crate::proofs::Steps::alias_fails))]
+    fn add_alias(&mut self, alloc: Global, place: usize, item: &AliasItem) -> Result<(), TypeError>
+        ghost said: { Said }
+        requires { Holds self.old said }
+        ensures tells { Refuses result (reason_in (alias_of said.words item.now)) }
+        ensures added { OnOk result
+            (Holds self.new (with_alias (after_type said item.now.means) item.now.word place (alias_of said.words item.now))) }
+        ensures extends { OnOk result (Extends (registered self.old said)
+            (registered self.new (with_alias (after_type said item.now.means) item.now.word place (alias_of said.words item.now)))) }
+    {
+        if !is_text_alias(item) {
+            return Err(TypeError::Wrong(Reason::NotText));
+        }
+        if has_docs(&item.docs) {
+            return Err(TypeError::Wrong(Reason::DocumentedAlias));
+        }
+        let variable = self.type_var(alloc, &item.means)?;
+        self.check_word(&item.word)?;
+        let meaning = Meaning::Type(variable);
+        self.words
+            .insert(alloc, &item.word, Word { place, meaning })?;
+        Ok(())
+    }
+
+    /// Adds a kind.
+    #[tactic(auto, using(crate::proofs::Steps::kind_no_text, crate::proofs::Steps::kind_fails))]
+    fn add_kind(&mut self, alloc: Global, place: usize, item: &KindItem) -> Result<(), TypeError>
+        ghost said: { Said }
+        requires { Holds self.old said }
+        ensures tells { Refuses result (reason_in (kind_of said.words item.now)) }
+        ensures added { OnOk result
+            (Holds self.new (with_kind (after_sort said item.now.sort) item.now.word place (kind_of said.words item.now))) }
+        ensures extends { OnOk result (Extends (registered self.old said)
+            (registered self.new (with_kind (after_sort said item.now.sort) item.now.word place (kind_of said.words item.now)))) }
+    {
+        if !is_text_kind(item) {
+            return Err(TypeError::Wrong(Reason::NotText));
+        }
+        let fields = self.sort_of(alloc, &item.sort)?;
+        self.check_word(&item.word)?;
+        let meaning = Meaning::Kind(kind_with(alloc, item, fields)?);
+        self.words
+            .insert(alloc, &item.word, Word { place, meaning })?;
+        Ok(())
+    }
+
+    /// Adds what an item, which stands at a place among all items, declares; a format, an instruction, a group or an entry declares nothing
+    /// of types and kinds. `Wrong` comes exactly where something is wrong with the item, and says what is first.
+    #[tactic(auto, using(crate::proofs::Checked::refuses_right, crate::proofs::Checked::refuses_wrong, crate::proofs::Staying::extends_same))]
+    pub fn add(&mut self, alloc: Global, place: usize, item: &Item) -> Result<(), TypeError>
+        ghost said: { Said }
+        requires { Holds self.old said }
+        // Nothing is wrong with the item, and what it declares is kept.
+        ensures right { OnOk result (wrong_with said item.now ≡ None) }
+        ensures added { OnOk result (Holds self.new (after said place item.now)) }
+        ensures extends { OnOk result (Extends (registered self.old said) (registered self.new (after said place item.now))) }
+        // What is wrong with it.
+        ensures wrong { (reason : spec_Reason) → result ≡ Err (Wrong reason) → wrong_with said item.now ≡ Some reason }
+    {
+        match item {
+            Item::Type(item) => self.add_type(alloc, place, item),
+            Item::Alias(item) => self.add_alias(alloc, place, item),
+            Item::Kind(item) => self.add_kind(alloc, place, item),
+            Item::Format(_)
+            | Item::Inst(_)
+            | Item::Group(_)
+            | Item::Bool(_)
+            | Item::Num(_)
+            | Item::Enum(_)
+            | Item::Preset(_) => Ok(()),
+        }
+    }
+}
+
+/// Whether there is a line of documentation.
+fn has_docs(docs: &Docs) -> bool
+    ensures { result ≡ not (length docs.now == 0) }
+{
+    !docs.as_slice().is_empty()
+}
+
+/// The variable of the type variable that an item declares, with this set.
+fn new_root(
+    alloc: Global,
+    vars: &mut TypeVars,
+    item: &TypeItem,
+    set: TypeSet,
+) -> Result<TypeVar, AllocError>
+    requires { length vars.old < 2 ^ 32 - 1 }
+    ensures number { IfOk result (λ v. v ≡ length vars.old) }
+    ensures added { let r = root_with item.now set in
+        OnOk result (vars.new ≡ vars.old ++ root_content r.name r.doc r.set (length vars.old) ∷ []) }
+{
+    let name = text_in(alloc, shown_or(&item.word, &item.shown))?;
+    let doc = doc_text(alloc, &item.docs)?;
+    TypeVar::new(vars, name, doc, set)
+}
+
+/// The kind that an item declares, of which operands are this.
+fn kind_with(
+    alloc: Global,
+    item: &KindItem,
+    fields: OperandKindFields,
+) -> Result<OperandKind, AllocError>
+    ensures field { IfOk result (λ k. k.rust_field_name ≡ field_or item.now.word item.now.field) }
+    ensures rust { IfOk result (λ k. k.rust_type ≡ item.now.rust) }
+    ensures fields { IfOk result (λ k. k.fields ≡ fields) }
+    ensures doc { IfOk result (λ k. doc_of_kind k ≡ Some (doc_text item.now.docs)) }
+{
+    let field = text_in(alloc, field_or(&item.word, &item.field))?;
+    let rust = text_in(alloc, item.rust.as_slice())?;
+    let doc = doc_text(alloc, &item.docs)?;
+    Ok(OperandKind::new(field, rust, fields, doc))
+}

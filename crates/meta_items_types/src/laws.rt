@@ -1,0 +1,15 @@
+ghost use Rattle.std.specs.Prelude.{◌≡◌, ℕ, List};
+ghost use Rattle.meta_operands.specs.declared.kind.OperandKind.{OperandKind};
+ghost use Rattle.meta_items_types.specs.Meant.{MeantType, MeantKind, Sense};
+ghost use Rattle.meta_items_types.specs.Registered.{Registered, IsTypeIn, IsKindIn, Extends};
+ghost use Rattle.meta_items_types.specs.Operands.{IsOperandKindIn};
+
+/// What is meant stays where a registry grows.
+#[tactic(auto, using(crate::proofs::Staying::type_stays, crate::proofs::Staying::kind_stays, crate::proofs::Staying::operand_stays))]
+pub fn what_is_meant_stays()
+    ensures type_of { (old new : Registered) (m : MeantType) (n : ℕ) → Extends old new → IsTypeIn old m n → IsTypeIn new m n }
+    ensures kind { (old new : Registered) (k : MeantKind) (kind : OperandKind) → Extends old new → IsKindIn old k kind
+        → IsKindIn new k kind }
+    ensures operand { (old new : Registered) (s : Sense) (kind : OperandKind) → Extends old new → IsOperandKindIn old s kind
+        → IsOperandKindIn new s kind }
+{}

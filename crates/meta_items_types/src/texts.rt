@@ -1,0 +1,120 @@
+ghost use Rattle.std.specs.Prelude.{◌≡◌, IfOk};
+ghost use Rattle.std.specs.Str.{is_utf8};
+ghost use Rattle.meta_items.specs.Named.{doc_text};
+ghost use Rattle.meta_items_types.specs.Texts.{shown_or, field_or, value_texts, sort_texts, type_texts, alias_texts, kind_texts, are_texts};
+
+use meta_items::{AliasItem, Docs, EnumValue, KindItem, Name, Sort, TypeItem};
+use meta_tokens::Bytes;
+use meta_types::Text;
+use std::alloc::{AllocError, Global};
+use std::str;
+
+/// Whether the bytes are UTF-8.
+#[tactic(auto, using(crate::proofs::Utf8::is_text, crate::proofs::Utf8::no_text))]
+pub fn is_text(bytes: &[u8]) -> bool
+    ensures { result ≡ is_utf8 bytes.now }
+{
+    match str::from_utf8(bytes) {
+        Ok(_) => true,
+        Err(_) => false,
+    }
+}
+
+/// Whether each of the lines is UTF-8.
+pub fn are_lines(lines: &[Bytes]) -> bool
+    ensures { result ≡ are_texts lines.now }
+{
+    for line in lines {
+        if !is_text(line.as_slice()) {
+            return false;
+        }
+    }
+    true
+}
+
+/// Whether the names of an enum's values are UTF-8.
+fn are_values(values: &[EnumValue]) -> bool
+    ensures { result ≡ are_texts (value_texts values.now) }
+{
+    for value in values {
+        if !is_text(value.name.as_slice()) || !is_text(value.rust.as_slice()) {
+            return false;
+        }
+    }
+    true
+}
+
+/// Whether the texts of a sort are UTF-8.
+fn is_text_sort(sort: &Sort) -> bool
+    ensures { result ≡ are_texts (sort_texts sort.now) }
+{
+    match sort {
+        Sort::ImmEnum(values) => are_values(values.as_slice()),
+        Sort::Entity | Sort::Imm | Sort::Varargs | Sort::Value(_) => true,
+    }
+}
+
+/// What is shown for a word: a text, or the word where that is left out.
+pub fn shown_or<'a>(word: &'a Bytes, shown: &'a Option<Bytes>) -> &'a [u8]
+    ensures { result.now ≡ shown_or word.now shown.now }
+{
+    match shown {
+        Some(text) => text.as_slice(),
+        None => word.as_slice(),
+    }
+}
+
+/// The name of a field: a name, or the word where that is left out.
+pub(crate) fn field_or<'a>(word: &'a Bytes, field: &'a Option<Name>) -> &'a [u8]
+    ensures { result.now ≡ field_or word.now field.now }
+{
+    match field {
+        Some(name) => name.as_slice(),
+        None => word.as_slice(),
+    }
+}
+
+/// Whether the texts of a type variable are UTF-8.
+pub(crate) fn is_text_type(item: &TypeItem) -> bool
+    ensures { result ≡ are_texts (type_texts item.now) }
+{
+    is_text(item.word.as_slice())
+        && is_text(shown_or(&item.word, &item.shown))
+        && are_lines(item.docs.as_slice())
+}
+
+/// Whether the texts of another word for a type are UTF-8.
+pub(crate) fn is_text_alias(item: &AliasItem) -> bool
+    ensures { result ≡ are_texts (alias_texts item.now) }
+{
+    is_text(item.word.as_slice()) && are_lines(item.docs.as_slice())
+}
+
+/// Whether the texts of a kind are UTF-8.
+pub(crate) fn is_text_kind(item: &KindItem) -> bool
+    ensures { result ≡ are_texts (kind_texts item.now) }
+{
+    is_text(item.word.as_slice())
+        && is_text(item.rust.as_slice())
+        && is_text(field_or(&item.word, &item.field))
+        && are_lines(item.docs.as_slice())
+        && is_text_sort(&item.sort)
+}
+
+/// The text that these bytes are. Bytes that are no UTF-8 are handled as want of memory: the texts of an item are tested before.
+pub fn text_in(alloc: Global, bytes: &[u8]) -> Result<Text, AllocError>
+    ensures { IfOk result (λ t. t ≡ bytes.now) }
+{
+    match str::from_utf8(bytes) {
+        Ok(text) => Text::new(alloc, text),
+        Err(_) => Err(AllocError),
+    }
+}
+
+/// The documentation as one text.
+pub fn doc_text(alloc: Global, docs: &Docs) -> Result<Text, AllocError>
+    ensures { IfOk result (λ t. t ≡ doc_text docs.now) }
+{
+    let text = docs.text(alloc)?;
+    text_in(alloc, &text)
+}

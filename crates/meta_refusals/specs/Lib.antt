@@ -1,0 +1,3 @@
+pub mod Standing
+pub mod ItemWhy
+pub mod Why

@@ -1,0 +1,11 @@
+//! What is said of a file that is refused, beside what can't be read, which `meta_items_reader` says.
+//!
+//! `declare_why` says what is wrong with an item, `fault_why` what a fault of declarations means, and `located` puts the path and the
+//! line before it.
+#![tactic(auto)]
+
+mod item_why;
+mod standing;
+mod why;
+
+pub use why::{declare_why, fault_why, located};
