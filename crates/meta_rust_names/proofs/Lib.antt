@@ -1,0 +1,5 @@
+mod Found
+mod Truths
+mod Placed
+mod Breaks
+mod Growing

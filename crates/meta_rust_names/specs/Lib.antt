@@ -1,0 +1,12 @@
+pub mod Words
+pub mod Comments
+pub mod Refused
+pub mod Methods
+pub mod Known
+pub mod Inputs
+pub mod Instructions
+pub mod Fields
+pub mod Formats
+pub mod Groups
+pub mod AllRefused
+pub mod Texts
