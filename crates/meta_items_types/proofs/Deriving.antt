@@ -2,7 +2,7 @@
 use Rattle.std.proofs.Common.{◌≡◌, ◌∙◌, ◌<◌, ◌≤◌, ◌+◌, ℕ, zero, suc, List, [], ◌∷◌, ◌++◌, length, drop, slice_get, sym, ap, subst, refl}
 use Rattle.std.proofs.Common.{arith}
 use Rattle.std.proofs.Common.{Bool, true, false, cond, inl, inr, ⊎_elim}
-use Rattle.std.specs.Prelude.{Some, None, Result, Ok, Err, IfOk, OnOk, is_some, not, ◌⊎◌}
+use Rattle.std.specs.Prelude.{Some, None, Result, Ok, Err, IfOk, OnOk, is_some, not, nat_lt, ◌⊎◌}
 use Rattle.std.proofs.lemmas.Bool.{cases_lt}
 use Rattle.std.proofs.Math.Seq.{drop-length}
 use Rattle.std.proofs.lemmas.List.{length-append}
@@ -25,13 +25,15 @@ use Rattle.meta_items.specs.declared.types.Function.{Function as Word}
 use Rattle.meta_items.specs.declared.types.TypeExpr.{TypeExpr}
 use Rattle.meta_items_types.specs.declared.plain.PlainRoot.{PlainRoot}
 use Rattle.meta_items_types.specs.declared.refused.Reason.{Reason}
-use Rattle.meta_items_types.specs.declared.refused.Reason.TheVariants.{CannotDerive, LikeDerived}
+use Rattle.meta_items_types.specs.declared.refused.Reason.TheVariants.{CannotDerive, TooDeep, LikeDerived}
 use Rattle.meta_items_types.specs.declared.refused.TypeError.{TypeError}
 use Rattle.meta_items_types.specs.declared.refused.TypeError.TheVariants.{Memory, Wrong}
 use Rattle.meta_items_types.specs.declared.words.Words.{Words}
 use Rattle.meta_items_types.specs.Meant.{Root, Declared, Plain, MeantType, MeantRoot, is_underived, derived_by}
 use Rattle.meta_items_types.specs.Symbols.{Symbol, symbol, symbol_of, with_symbol, with_type}
-use Rattle.meta_items_types.specs.Words.{Entry, entry_of, function_meant, derive_at, derived_from, type_named, type_of, root_set, set_like}
+use Rattle.meta_items_types.specs.Words.{Entry, entry_of, function_meant, most_functions, may_be_derived_from, derive_at, derived_from}
+use Rattle.meta_items_types.specs.Words.{type_named, type_of, root_set, set_like}
+use Rattle.meta_items_types.specs.Depth.{depth_at}
 use Rattle.meta_items_types.specs.Said.{Said, mentioning}
 use Rattle.meta_items_types.specs.declared.types.Types.{Types}
 use Rattle.meta_items_types.specs.Telling.{◌>>=◌, found_or, Fails, IsMeant, Tells}
@@ -47,15 +49,23 @@ use Rattle.meta_items_types.proofs.Told.{fails_on}
 
 -- ---- one function
 
-pub derive_can : (place : ℕ) (f : Word) (m : MeantType) → can_derive (function_meant f) m.set ≡ true
-    → derive_at place f m ≡ Ok (derived_by (function_meant f) m)
-derive_can place f m e =
-    ap (λ (b : Bool). found_or (CannotDerive place) (cond b (Some (derived_by (function_meant f) m)) None)) e
+-- what a function derives from a type, by whether it may have one function more, and whether its set allows the function
+abbrev derived_if : ℕ → Word → MeantType → Bool → Bool → Result MeantType Reason
+derived_if place f m room can =
+    cond room (found_or (CannotDerive place) (cond can (Some (derived_by (function_meant f) m)) None)) (Err (TooDeep place))
 
-pub derive_cannot : (place : ℕ) (f : Word) (m : MeantType) → can_derive (function_meant f) m.set ≡ false
-    → derive_at place f m ≡ Err (CannotDerive place)
-derive_cannot place f m e =
-    ap (λ (b : Bool). found_or (CannotDerive place) (cond b (Some (derived_by (function_meant f) m)) None)) e
+derive_by : (place : ℕ) (f : Word) (m : MeantType) (room can : Bool) → may_be_derived_from m ≡ room
+    → can_derive (function_meant f) m.set ≡ can → derive_at place f m ≡ derived_if place f m room can
+derive_by place f m room can r e =
+    ap (λ (b : Bool). derived_if place f m b (can_derive (function_meant f) m.set)) r ∙ ap (derived_if place f m room) e
+
+-- whether the type that a variable stands for may have one function more, by the variable
+room_meant : (t : Types) (s : Said) (m : MeantType) (n : ℕ) → IsMentioned t s m n → (room : Bool)
+    → room ≡ nat_lt (depth_at t.vars n) most_functions → may_be_derived_from m ≡ room
+room_meant t s m n h room e =
+    let r = registered t (mentioning s (Ok m)) in
+    let v = symbol_variable r s.roots h.holds.registry (symbol_of m) n h.type_is.number in
+    ap (λ (w : Variable). nat_lt (length w.chain) most_functions) (sym v.variable) ∙ sym e
 
 -- the set of what is derived
 coded_longer : (vars : List TypeVarContent) (n v : ℕ) (f : Function) → variable_at vars v ≡ longer (variable_at vars n) f
@@ -216,16 +226,26 @@ module _ (vars : List TypeVarContent) (symbols : List Symbol) (known : List Plai
 
 -- ---- what a function tells of one function
 
-pub derive_refused : (vars : List TypeVarContent) (n place : ℕ) (w : Word) (g : DerivedFunc) (m : MeantType)
-    → function_of g ≡ function_meant w
-    → coded_at vars n ≡ m.set → false ≡ can_derive (function_of g) (coded_at vars n) → derive_at place w m ≡ Err (CannotDerive place)
-derive_refused vars n place w g m same set test =
-    derive_cannot place w m
-    (ap (λ (f : Function). can_derive f m.set) (sym same)
-    ∙ (ap (can_derive (function_of g)) (sym set) ∙ sym test))
+-- whether the set of the type allows the function, by the variable
+set_meant : (t : Types) (s : Said) (m : MeantType) (n : ℕ) → IsMentioned t s m n → (g : DerivedFunc) (w : Word)
+    → function_of g ≡ function_meant w → (can : Bool) → can ≡ can_derive (function_of g) (coded_at t.vars n)
+    → can_derive (function_meant w) m.set ≡ can
+set_meant t s m n h g w same can e =
+    ap (λ (f : Function). can_derive f m.set) (sym same) ∙ (ap (can_derive (function_of g)) (sym h.type_is.set) ∙ sym e)
+
+pub derive_deep : (t : Types) (s : Said) (m : MeantType) (n : ℕ) → IsMentioned t s m n → (place : ℕ) (w : Word)
+    → false ≡ nat_lt (depth_at t.vars n) most_functions → derive_at place w m ≡ Err (TooDeep place)
+derive_deep t s m n h place w deep = derive_by place w m false _ (room_meant t s m n h false deep) refl
+
+pub derive_refused : (t : Types) (s : Said) (m : MeantType) (n : ℕ) → IsMentioned t s m n → (place : ℕ) (w : Word) (g : DerivedFunc)
+    → function_of g ≡ function_meant w → true ≡ nat_lt (depth_at t.vars n) most_functions
+    → false ≡ can_derive (function_of g) (coded_at t.vars n) → derive_at place w m ≡ Err (CannotDerive place)
+derive_refused t s m n h place w g same room test =
+    derive_by place w m true false (room_meant t s m n h true room) (set_meant t s m n h g w same false test)
 
 module _ (old : Types) (new : List TypeVarContent) (s : Said) (m : MeantType) (n : ℕ) (h : IsMentioned old s m n) (g : DerivedFunc)
-    (place : ℕ) (w : Word) (same : function_of g ≡ function_meant w) (test : true ≡ can_derive (function_of g) (coded_at old.vars n)) where
+    (place : ℕ) (w : Word) (same : function_of g ≡ function_meant w) (room : true ≡ nat_lt (depth_at old.vars n) most_functions)
+    (test : true ≡ can_derive (function_of g) (coded_at old.vars n)) where
   abbrev grown : Types
   grown = record { vars = new; plain = old.plain; words = old.words }
 
@@ -234,8 +254,7 @@ module _ (old : Types) (new : List TypeVarContent) (s : Said) (m : MeantType) (n
 
   can : derive_at place w m ≡ Ok derived
   can =
-      derive_can place w m
-      (ap (λ (f : Function). can_derive f m.set) (sym same) ∙ (ap (can_derive (function_of g)) (sym h.type_is.set) ∙ sym test))
+      derive_by place w m true true (room_meant old s m n h true room) (set_meant old s m n h g w same true test)
       ∙ ap (λ (f : Function). Ok (derived_by f m)) (sym same)
 
   step : {E : Type 0} (result : Result ℕ E) (v : ℕ) → Derives old.vars n g result new → result ≡ Ok v

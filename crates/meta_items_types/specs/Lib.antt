@@ -3,6 +3,7 @@ pub mod Plain
 pub mod Meant
 pub mod Symbols
 pub mod Sets
+pub mod Depth
 pub mod Words
 pub mod Said
 pub mod Registered

@@ -4,7 +4,7 @@
 --     type_of words t             the type that a type expression means, or what is wrong with it
 --     set_of words s              the set of a type variable, or what is wrong with it
 --     sort_of words s             what operands of a kind are, or what is wrong with the sort
-use Rattle.std.specs.Prelude.{ℕ, ◌+◌, List, [], ◌∷◌, Option, Some, None, Result, Ok, Err, option_map, is_some}
+use Rattle.std.specs.Prelude.{ℕ, ◌+◌, nat_lt, Bool, List, [], ◌∷◌, length, Option, Some, None, Result, Ok, Err, option_map, is_some}
 use Rattle.std.specs.Prelude.{if◌then◌else◌}
 use Rattle.std.specs.List.{find}
 use Rattle.std.specs.Option.{option_or}
@@ -27,8 +27,8 @@ use Rattle.meta_items_types.specs.Meant.{MeantSort, Entity, Imm, ImmEnum, Variab
 use Rattle.meta_items_types.specs.Sets.{wrong_parts, set_of_parts}
 use Rattle.meta_items_types.specs.Telling.{◌>>=◌, found_or, unless}
 use Rattle.meta_items_types.specs.declared.refused.Reason.{Reason}
-use Rattle.meta_items_types.specs.declared.refused.Reason.TheVariants.{LikeDerived, Unknown, NoType, CannotDerive, ValueTwice, OwnMeaning}
-use Rattle.meta_items_types.specs.declared.refused.Reason.TheVariants.{Declared}
+use Rattle.meta_items_types.specs.declared.refused.Reason.TheVariants.{LikeDerived, Unknown, NoType, CannotDerive, TooDeep, ValueTwice}
+use Rattle.meta_items_types.specs.declared.refused.Reason.TheVariants.{OwnMeaning, Declared}
 
 -- ---- words
 
@@ -81,9 +81,18 @@ type_in (Some (KindSense k)) = Err NoType
 unfoldable pub type_named : List Entry → List ℕ → Result MeantType Reason
 type_named entries w = type_in (sense_of entries w)
 
+-- how many functions a type may have behind its root, those of the word that it begins with included
+abbrev pub most_functions : ℕ
+most_functions = 64
+
+-- whether a type may have one function more
+abbrev pub may_be_derived_from : MeantType → Bool
+may_be_derived_from m = nat_lt (length m.functions) most_functions
+
 -- what the function at a place derives from a type
 abbrev pub derive_at : ℕ → Word → MeantType → Result MeantType Reason
-derive_at place f m = found_or (CannotDerive place) (derive (function_meant f) m)
+derive_at place f m =
+    if may_be_derived_from m then found_or (CannotDerive place) (derive (function_meant f) m) else Err (TooDeep place)
 
 -- what functions derive from a type, the last one first; the first of them stands at a place
 abbrev pub derived_from : ℕ → List Word → Result MeantType Reason → Result MeantType Reason

@@ -5,6 +5,7 @@
 #![tactic(auto)]
 
 mod adding;
+mod depth;
 mod given;
 mod kinds;
 mod laws;

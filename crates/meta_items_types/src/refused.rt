@@ -28,6 +28,8 @@ pub enum Reason {
     NoKind,
     /// The function at this place can't be applied to what stands behind it.
     CannotDerive(usize),
+    /// The function at this place would be the 65th behind the root of a type.
+    TooDeep(usize),
     /// The name of the enum's value at this place is that of an earlier value.
     ValueTwice(usize),
     /// The word that the item declares has a meaning of its own.

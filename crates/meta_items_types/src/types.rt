@@ -9,6 +9,7 @@ ghost use Rattle.meta_items_types.specs.Telling.{Tells};
 ghost use Rattle.meta_items_types.specs.Registered.{IsTypeIn, Extends};
 ghost use Rattle.meta_items_types.specs.Held.{StandsFor, registered, vars_in, Holds, IsMentioned};
 
+use super::depth::{has_short_name, may_be_derived_from};
 use super::given::GivenKind;
 use super::plain::{PlainRoot, plain_type, variable_for};
 use super::refused::{Reason, TypeError};
@@ -145,7 +146,7 @@ impl Types {
     }
 
     /// What the function, which stands at a place, derives from a type whose variable this is.
-    #[tactic(auto, using(crate::proofs::Deriving::derive_refused))]
+    #[tactic(auto, using(crate::proofs::Deriving::derive_refused, crate::proofs::Deriving::derive_deep))]
     fn derive(
         &mut self,
         alloc: Global,
@@ -161,7 +162,13 @@ impl Types {
             (derive_at place function m)))) }
         ensures of { IfOk result (λ v. v < length (vars_in self.new)) }
     {
+        if !may_be_derived_from(&self.vars, variable) {
+            return Err(TypeError::Wrong(Reason::TooDeep(place)));
+        }
         if !self.vars.has_room() {
+            return Err(TypeError::Memory);
+        }
+        if !has_short_name(&self.vars, variable) {
             return Err(TypeError::Memory);
         }
         let function = derived_func(function);

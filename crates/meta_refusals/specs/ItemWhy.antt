@@ -67,6 +67,10 @@ abbrev pub not_derived : List Function → List ℕ → List ℕ
 not_derived [] w = []
 not_derived (f ∷ fs) w = no_derivation f fs w
 
+-- a function is one too many behind the root of what the word stands for
+abbrev pub too_deep : List ℕ → Function → List ℕ
+too_deep w f = function_text f ++ (codes " is the 65th function behind the root of " ++ back_quoted w)
+
 -- the numbers that a part may have
 unfoldable pub numbers_text : Dimension → List ℕ
 numbers_text d = join_by decimal (codes ", ") (numbers_of d)
@@ -122,6 +126,7 @@ type_why lines i t type_reasons.Unknown = codes "nothing is named " ++ (back_quo
 type_why lines i t type_reasons.NoType = back_quoted t.word ++ codes " is a kind and no type"
 type_why lines i t type_reasons.NoKind = back_quoted t.word ++ codes " is a type: a format has value"
 type_why lines i t (type_reasons.CannotDerive k) = not_derived (drop k t.functions) t.word
+type_why lines i t (type_reasons.TooDeep k) = option_map_or (too_deep t.word) (slice_get t.functions k) []
 type_why lines i t (type_reasons.ValueTwice k) = option_map_or value_twice (slice_get (values_in i) k) []
 type_why lines i t type_reasons.OwnMeaning = back_quoted (word_in i) ++ codes " has a meaning of its own"
 type_why lines i t (type_reasons.Declared place) = declared_in lines (word_in i) place

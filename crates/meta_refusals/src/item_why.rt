@@ -4,8 +4,9 @@ ghost use Rattle.std.specs.Fmt.{decimal};
 ghost use Rattle.meta_items_types.specs.Sets.{high_end};
 ghost use Rattle.meta_refusals.specs.Standing.{type_of_written};
 ghost use Rattle.meta_refusals.specs.ItemWhy.{quoted_text, written_name, opened, closed, written_type, line_at_place, no_derivation};
-ghost use Rattle.meta_refusals.specs.ItemWhy.{not_derived, numbers_text, none_of, no_number, bad_low, bad_high, empty, empty_range, dimension_twice};
-ghost use Rattle.meta_refusals.specs.ItemWhy.{part_twice, twice, name_twice, value_twice, declared_in, type_why, inst_why};
+ghost use Rattle.meta_refusals.specs.ItemWhy.{not_derived, too_deep, numbers_text, none_of, no_number, bad_low, bad_high, empty};
+ghost use Rattle.meta_refusals.specs.ItemWhy.{empty_range, dimension_twice, part_twice, twice, name_twice, value_twice, declared_in, type_why};
+ghost use Rattle.meta_refusals.specs.ItemWhy.{inst_why};
 ghost use Rattle.meta_items_reader.specs.Reason.{back_quoted};
 
 use super::standing::{
@@ -112,6 +113,30 @@ fn write_not_derived(
     match functions {
         [function, behind @ ..] => write_no_derivation(out, *function, behind, word),
         [] => Ok(()),
+    }
+}
+
+/// Adds that a function is one too many.
+fn write_too_deep(out: &mut Vec<u8>, word: &[u8], function: Function) -> Result<(), AllocError>
+    ensures { OnOk result (out.new.items ≡ out.old.items ++ too_deep word.now function) }
+{
+    out.extend_from_slice(function.as_slice())?;
+    out.extend_from_slice(b" is the 65th function behind the root of ")?;
+    write_back_quoted(out, word)
+}
+
+/// Adds that the function at a place is one too many.
+fn write_deep_at(
+    out: &mut Vec<u8>,
+    functions: &[Function],
+    word: &[u8],
+    place: usize,
+) -> Result<(), AllocError>
+    ensures { OnOk result (out.new.items ≡ out.old.items ++ option_map_or (too_deep word.now) (slice_get functions.now place) []) }
+{
+    match functions.get(place) {
+        Some(function) => write_too_deep(out, word, *function),
+        None => Ok(()),
     }
 }
 
@@ -314,6 +339,7 @@ pub(crate) fn write_type_why(
         Reason::CannotDerive(place) => {
             write_not_derived(out, behind(found.functions, place), found.word)
         }
+        Reason::TooDeep(place) => write_deep_at(out, found.functions, found.word, place),
         Reason::ValueTwice(place) => write_value_twice(out, values_in(item), place),
         Reason::OwnMeaning => write_about(out, b"", word_in(item), b" has a meaning of its own"),
         Reason::Declared(place) => write_declared(out, lines, word_in(item), place),

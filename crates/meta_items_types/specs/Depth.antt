@@ -1,0 +1,15 @@
+-- How many functions stand behind the root of a variable.
+--     depth_at vars n           how many
+--     IsBehind vars p n         the variable n has one function more than p
+use Rattle.std.specs.Prelude.{◌≡◌, ◌<◌, ◌+◌, ℕ, List, length}
+use Rattle.meta_typevar.specs.Registry.{variable_at}
+use Rattle.meta_typevar.specs.declared.content.TypeVarContent.{TypeVarContent}
+
+-- how many functions stand behind the root of the variable with the number n
+abbrev pub depth_at : List TypeVarContent → ℕ → ℕ
+depth_at vars n = length (variable_at vars n).chain
+
+-- the variable with the number n has one function more than that with the number p
+pub record IsBehind (vars : List TypeVarContent) (n p : ℕ) : Type 0 where
+  pub of : p < length vars
+  pub depth : depth_at vars n ≡ depth_at vars p + 1
