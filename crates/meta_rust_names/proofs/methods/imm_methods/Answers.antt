@@ -1,0 +1,15 @@
+use Rattle.meta_operands.specs.Texts.{same_text}
+use Rattle.meta_rust_names.specs.Methods.{imm_methods_of}
+use Rattle.meta_rust_names.proofs.Growing.{known_more, known_all}
+use Rattle.meta_rust_names.proofs.methods.imm_methods.Goals as goal
+
+pub loop-instruction-preserved : goal.loop-instruction-preserved
+loop-instruction-preserved c = λ text.
+    known_more (λ name. same_text name text) imm_methods_of c.args.instructions.now c.loop-instruction.instruction-index
+    c.instruction-item.result _ _ c.loop-instruction-test.true c.instruction-item.is (c.in_ok-add_imm_methods.ensures text)
+    (c.loop-instruction.invariant text)
+
+pub returns : goal.returns
+returns c = λ text.
+    known_all (λ name. same_text name text) imm_methods_of c.args.instructions.now c.loop-instruction.instruction-index _
+    c.loop-instruction-test.false (c.loop-instruction.invariant text)

@@ -1,0 +1,11 @@
+use Rattle.std.proofs.Common.{◌≡◌, ◌∷◌, [], ℕ, List, take}
+use Rattle.std.specs.List.{flat_map}
+use Rattle.meta_rust_words.specs.Known.{known}
+use Rattle.meta_rust_names.specs.Methods.{is_among, method_name}
+use Rattle.meta_rust_names.proofs.methods.instruction_methods.Given as goal
+
+-- the names so far
+abbrev pub invariant-loop-instruction : goal.invariant-loop-instruction
+invariant-loop-instruction l =
+    (text : List ℕ) → known l.names text
+    ≡ is_among (flat_map (λ c. method_name c ∷ []) (take l.instruction-index l.instructions)) text

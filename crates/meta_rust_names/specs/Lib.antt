@@ -1,0 +1,7 @@
+pub mod Methods
+pub mod Inputs
+pub mod Instructions
+pub mod Fields
+pub mod Formats
+pub mod Groups
+pub mod AllRefused

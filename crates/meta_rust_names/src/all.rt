@@ -1,0 +1,89 @@
+ghost use Rattle.std.specs.Prelude.{◌≡◌, ◌++◌, ℕ, List, IfOk, OnOk};
+ghost use Rattle.meta_inst.specs.InstructionSet.{AreOfRegistries};
+ghost use Rattle.meta_rust_words.specs.Known.{known};
+ghost use Rattle.meta_rust_names.specs.Methods.{is_among, format_names, imm_methods};
+ghost use Rattle.meta_rust_names.specs.Instructions.{instructions_refused};
+ghost use Rattle.meta_rust_names.specs.Formats.{formats_refused};
+ghost use Rattle.meta_rust_names.specs.AllRefused.{refused_names};
+
+use super::formats::push_formats;
+use super::groups::push_groups;
+use super::instructions::{Others, push_instructions};
+use super::methods::{format_names, imm_methods, instruction_methods};
+use meta_declared::{Built, Declarations};
+use meta_rust_words::{Names, RefusedName};
+use meta_typevar::TypeVars;
+use std::alloc::{AllocError, Global};
+
+/// The type variables, which are those of the instructions.
+fn variables(declarations: &Declarations) -> &TypeVars
+    ensures vars { result.now ≡ declarations.now.set.vars }
+    ensures fits { AreOfRegistries declarations.now.set.vars declarations.now.set.formats declarations.now.set.instructions }
+{
+    // the instructions say whose variables they have
+    let _instructions = declarations.instructions();
+    declarations.vars()
+}
+
+/// The names that instructions can't have, since other methods have them.
+fn others(alloc: Global, built: &Built<'_>) -> Result<Others, AllocError>
+    ensures formats { IfOk result (λ others. (text : List ℕ) → known others.formats text
+        ≡ is_among (format_names built.now.declared.set.formats built.now.formats) text) }
+    ensures imm_methods { IfOk result (λ others. (text : List ℕ) → known others.imm_methods text
+        ≡ is_among (imm_methods built.now.instructions) text) }
+{
+    Ok(Others {
+        formats: format_names(alloc, built.declarations().formats(), built.formats())?,
+        imm_methods: imm_methods(alloc, built.instructions())?,
+    })
+}
+
+/// Adds what is refused of the instructions.
+#[tactic(auto, unfolding(crate::specs::Instructions::instructions_refused))]
+fn push_all_instructions(
+    alloc: Global,
+    out: &mut Vec<RefusedName>,
+    built: &Built<'_>,
+    others: &Others,
+) -> Result<(), AllocError>
+    requires formats { (text : List ℕ) → known others.now.formats text
+        ≡ is_among (format_names built.now.declared.set.formats built.now.formats) text }
+    requires imm_methods { (text : List ℕ) → known others.now.imm_methods text ≡ is_among (imm_methods built.now.instructions) text }
+    ensures { OnOk result (out.new.items ≡ out.old.items ++ instructions_refused built.now) }
+{
+    let declarations = built.declarations();
+    let (vars, formats) = (variables(declarations), declarations.formats());
+    push_instructions(alloc, out, others, vars, formats, built.instructions())
+}
+
+/// Adds what is refused of the formats in use.
+#[tactic(auto, unfolding(crate::specs::Formats::formats_refused))]
+fn push_all_formats(
+    alloc: Global,
+    out: &mut Vec<RefusedName>,
+    built: &Built<'_>,
+    imm: &Names,
+) -> Result<(), AllocError>
+    requires { (text : List ℕ) → known imm.now text ≡ is_among (imm_methods built.now.instructions) text }
+    ensures { OnOk result (out.new.items ≡ out.old.items ++ formats_refused built.now) }
+{
+    let methods = instruction_methods(alloc, built.instructions())?;
+    let formats = built.declarations().formats();
+    push_formats(alloc, out, &methods, imm, formats, built.formats())
+}
+
+/// All names of the declarations with which the texts of Rust aren't compiled, in order, each with its first reason: those of the
+/// instructions, of the formats in use, and of the groups of settings. Texts of declarations without such a name are compiled where the
+/// including crate has what they name, but for what isn't a matter of names (`docs/USING.md`). It costs the length of the names and
+/// their documentation, and the logarithm of their count. The only error is want of memory (this project's own).
+#[tactic(auto, unfolding(crate::specs::AllRefused::refused_names))]
+pub fn refused_names(alloc: Global, built: &Built<'_>) -> Result<Vec<RefusedName>, AllocError>
+    ensures { IfOk result (λ v. v.items ≡ refused_names built.now) }
+{
+    let others = others(alloc, built)?;
+    let mut out = Vec::new(alloc);
+    push_all_instructions(alloc, &mut out, built, &others)?;
+    push_all_formats(alloc, &mut out, built, &others.imm_methods)?;
+    push_groups(alloc, &mut out, built.groups())?;
+    Ok(out)
+}

@@ -1,0 +1,266 @@
+ghost use Rattle.std.specs.Prelude.{◌≡◌, ◌<◌, ◌+◌, ◌^◌, ◌++◌, ℕ, List, Some, OnOk, IfOk, length, slice_get};
+ghost use Rattle.std.specs.List.{flat_map, enumerate_from};
+ghost use Rattle.meta_operands.specs.Operand.{variable_of, variables_of};
+ghost use Rattle.meta_inst.specs.Operands.{AreOf};
+ghost use Rattle.meta_builder_text.specs.Operands.{variable_name};
+ghost use Rattle.meta_builder_text.specs.Arguments.{asked_control};
+ghost use Rattle.meta_operands.specs.Operand.{doc_at};
+ghost use Rattle.meta_builder_text.specs.BuilderText.{HasVariablesOf, HaveVariablesOf};
+ghost use Rattle.meta_rust_words.specs.Known.{known};
+ghost use Rattle.meta_rust_names.specs.Methods.{method_name};
+ghost use Rattle.meta_rust_names.specs.Instructions.{own_name_why, output_refused, outputs_refused, control_why, control_refused};
+ghost use Rattle.meta_rust_names.specs.Instructions.{operands_refused, with_format, instruction_refused};
+
+use super::inputs::push_inputs;
+use super::methods::{is_base_method, method_name};
+use meta_inst::{InstructionContent, PolymorphicInfo};
+use meta_operands::{FormatTable, InstructionFormat, Operand};
+use meta_rust_words::{
+    Names, Part, RefusedName, Why, comment_why, doc_why, is_keyword, is_named, or_why,
+    push_refused, word_why,
+};
+use meta_types::Place;
+use meta_typevar::{TypeVar, TypeVars};
+use std::alloc::{AllocError, Global};
+
+/// Why an instruction of this camel case and of this method can't have its name, where these are the names of the formats and of the
+/// immediate methods.
+#[tactic(auto, unfolding(crate::specs::Instructions::own_name_why))]
+fn own_name_why(
+    formats: &Names,
+    imm_methods: &Names,
+    instruction: &InstructionContent,
+) -> Option<Why>
+    ensures { result ≡ own_name_why (known formats.now) (known imm_methods.now) instruction.now.camel_name (method_name instruction.now) }
+{
+    let method = method_name(instruction);
+    if is_keyword(method.as_bytes()) {
+        return Some(Why::Keyword);
+    }
+    if instruction.camel_name().as_bytes() == b"Self".as_slice() {
+        return Some(Why::SelfType);
+    }
+    if is_base_method(method.as_bytes()) {
+        return Some(Why::FixedMethod);
+    }
+    if formats.has(method) {
+        return Some(Why::FormatName);
+    }
+    if imm_methods.has(method) {
+        return Some(Why::ImmMethod);
+    }
+    None
+}
+
+/// Adds what is refused of the output at this place among the outputs. Its variable, where it is a value, is of the registry.
+#[tactic(auto, unfolding(crate::specs::Instructions::output_refused))]
+fn push_output(
+    out: &mut Vec<RefusedName>,
+    vars: &TypeVars,
+    place: Place,
+    number: usize,
+    output: &Operand,
+) -> Result<(), AllocError>
+    requires { (tv : ℕ) → variable_of output.now ≡ Some tv → tv < length vars.now }
+    ensures { OnOk result (out.new.items ≡ out.old.items ++ output_refused vars.now place (number, output.now)) }
+{
+    let number = number as u64;
+    push_refused(
+        out,
+        place,
+        Part::Output(number),
+        comment_why(output.name.as_str()),
+    )?;
+    push_refused(
+        out,
+        place,
+        Part::OutputDoc(number),
+        doc_why(output.doc(vars)),
+    )
+}
+
+/// Adds what is refused of the outputs. The variables of those that are values are of the registry.
+fn push_outputs(
+    out: &mut Vec<RefusedName>,
+    vars: &TypeVars,
+    outputs: &[Operand],
+    place: Place,
+) -> Result<(), AllocError>
+    requires { AreOf vars.now (variables_of outputs.now) }
+    ensures { OnOk result (out.new.items ≡ out.old.items ++ outputs_refused vars.now place outputs.now) }
+{
+    for number in 0..outputs.len() {
+        push_output(out, vars, place, number, &outputs[number])?;
+    }
+    Ok(())
+}
+
+/// The control, where it is an argument.
+fn asked_control(info: Option<PolymorphicInfo>) -> Option<TypeVar>
+    ensures { result ≡ asked_control info }
+{
+    let info = info?;
+    if info.use_typevar_operand {
+        return None;
+    }
+    Some(info.ctrl_typevar)
+}
+
+/// The name of the variable, and nothing where it isn't of the registry.
+fn variable_name(vars: &TypeVars, tv: TypeVar) -> &str
+    ensures { result.now ≡ variable_name vars.now tv }
+{
+    if !vars.is_of(tv) {
+        return "";
+    }
+    vars.content(tv).name.as_str()
+}
+
+/// Its documentation, and nothing where it isn't.
+fn variable_doc(vars: &TypeVars, tv: TypeVar) -> &str
+    ensures { result.now ≡ doc_at (slice_get vars.now tv) }
+{
+    if !vars.is_of(tv) {
+        return "";
+    }
+    vars.content(tv).doc.as_str()
+}
+
+/// Why the variable that controls can't have this name, where these are the names of the inputs.
+#[tactic(auto, unfolding(crate::specs::Instructions::control_why))]
+fn control_why(
+    alloc: Global,
+    format: &InstructionFormat,
+    names: &Names,
+    name: &str,
+) -> Result<Option<Why>, AllocError>
+    ensures { IfOk result (λ why. why ≡ control_why format.now (known names.now) name.now) }
+{
+    if let Some(why) = word_why(name.as_bytes()) {
+        return Ok(Some(why));
+    }
+    if format.has_value_list && is_named(b"vlist", name.as_bytes()) {
+        return Ok(Some(Why::ListLocal));
+    }
+    if names.meets(alloc, name)? {
+        return Ok(Some(Why::OfInput));
+    }
+    Ok(None)
+}
+
+/// Adds what is refused of the control, where it is an argument.
+fn push_control(
+    alloc: Global,
+    out: &mut Vec<RefusedName>,
+    vars: &TypeVars,
+    format: &InstructionFormat,
+    place: Place,
+    names: &Names,
+    control: Option<TypeVar>,
+) -> Result<(), AllocError>
+    ensures { OnOk result (out.new.items ≡ out.old.items ++ control_refused vars.now format.now place (known names.now) control) }
+{
+    let Some(tv) = control else {
+        return Ok(());
+    };
+    let why = control_why(alloc, format, names, variable_name(vars, tv))?;
+    push_refused(out, place, Part::Control, why)?;
+    push_refused(
+        out,
+        place,
+        Part::ControlDoc,
+        doc_why(variable_doc(vars, tv)),
+    )
+}
+
+/// Adds what is refused behind the instruction's own name. The variables of its operands are of the registry.
+#[tactic(auto, unfolding(crate::specs::Instructions::operands_refused))]
+fn push_operands(
+    alloc: Global,
+    out: &mut Vec<RefusedName>,
+    vars: &TypeVars,
+    instruction: &InstructionContent,
+    format: &InstructionFormat,
+    place: Place,
+) -> Result<(), AllocError>
+    requires { HasVariablesOf vars.now instruction.now }
+    ensures { OnOk result (out.new.items ≡ out.old.items ++ operands_refused vars.now instruction.now format.now place) }
+{
+    let inputs = instruction.operands_in();
+    let names = push_inputs(alloc, out, vars, instruction, format, inputs, place)?;
+    push_outputs(out, vars, instruction.operands_out(), place)?;
+    push_refused(out, place, Part::Doc, doc_why(instruction.doc().as_str()))?;
+    let control = asked_control(instruction.polymorphic_info());
+    push_control(alloc, out, vars, format, place, &names, control)
+}
+
+/// Adds the same, where its format is of the table.
+fn push_with_format(
+    alloc: Global,
+    out: &mut Vec<RefusedName>,
+    vars: &TypeVars,
+    formats: &FormatTable,
+    instruction: &InstructionContent,
+    place: Place,
+) -> Result<(), AllocError>
+    requires { HasVariablesOf vars.now instruction.now }
+    ensures { OnOk result (out.new.items ≡ out.old.items
+        ++ with_format vars.now instruction.now place (slice_get formats.now instruction.now.format)) }
+{
+    let format = instruction.format();
+    if !formats.is_of(format) {
+        return Ok(());
+    }
+    push_operands(alloc, out, vars, instruction, formats.get(format), place)
+}
+
+/// The names of the methods that instructions can't have.
+#[derive(Drop)]
+pub(crate) struct Others {
+    /// Those of formats.
+    pub(crate) formats: Names,
+    /// Those that take an immediate.
+    pub(crate) imm_methods: Names,
+}
+
+/// Adds what is refused of the instruction at this place among all. The variables of its operands are of the registry.
+#[tactic(auto, unfolding(crate::specs::Instructions::instruction_refused))]
+fn push_instruction(
+    alloc: Global,
+    out: &mut Vec<RefusedName>,
+    others: &Others,
+    vars: &TypeVars,
+    formats: &FormatTable,
+    number: usize,
+    instruction: &InstructionContent,
+) -> Result<(), AllocError>
+    requires few { number + 1 < 2 ^ 64 }
+    requires variables { HasVariablesOf vars.now instruction.now }
+    ensures { OnOk result (out.new.items ≡ out.old.items ++ instruction_refused (known others.now.formats) (known others.now.imm_methods)
+        vars.now formats.now (number, instruction.now)) }
+{
+    let place = Place::Instruction(number as u64 + 1);
+    let why = own_name_why(&others.formats, &others.imm_methods, instruction);
+    push_refused(out, place, Part::Name, why)?;
+    push_with_format(alloc, out, vars, formats, instruction, place)
+}
+
+/// Adds what is refused of the instructions. The variables of their operands are of the registry.
+pub(crate) fn push_instructions(
+    alloc: Global,
+    out: &mut Vec<RefusedName>,
+    others: &Others,
+    vars: &TypeVars,
+    formats: &FormatTable,
+    instructions: &[InstructionContent],
+) -> Result<(), AllocError>
+    requires { HaveVariablesOf vars.now instructions.now }
+    ensures { OnOk result (out.new.items ≡ out.old.items ++ flat_map (instruction_refused (known others.now.formats)
+        (known others.now.imm_methods) vars.now formats.now) (enumerate_from 0 instructions.now)) }
+{
+    for number in 0..instructions.len() {
+        let instruction = &instructions[number];
+        push_instruction(alloc, out, others, vars, formats, number, instruction)?;
+    }
+    Ok(())
+}
