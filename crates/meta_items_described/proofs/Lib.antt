@@ -1,0 +1,4 @@
+pub mod Alike
+pub mod Inserted
+pub mod Wording
+pub mod FreeWords

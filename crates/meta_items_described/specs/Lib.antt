@@ -1,0 +1,4 @@
+pub mod Described
+pub mod Counted
+pub mod Wording
+pub mod GivenWords

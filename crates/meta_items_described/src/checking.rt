@@ -1,0 +1,122 @@
+ghost use Rattle.std.specs.Prelude.{◌≡◌, ◌↔◌, List, IfOk, IsTrue};
+ghost use Rattle.meta_items.specs.declared.items.Item.{Item as spec_Item};
+ghost use Rattle.meta_items_declared.specs.AllItems.{Declares};
+ghost use Rattle.meta_settings_text.specs.SettingsText.{settings_text};
+ghost use Rattle.meta_builder_text.specs.BuilderText.{builder_text};
+ghost use Rattle.meta_rust_text.specs.InstructionsText.{instructions_text};
+ghost use Rattle.meta_items_described.specs.Described.{HaveSameTables, HaveSameTexts, Describes};
+
+use meta_builder_text::builder_text;
+use meta_declared::{Built, Declarations, build_all};
+use meta_gen::tables_of;
+use meta_items::Item;
+use meta_items_declared::{DeclareError, declare};
+use meta_rust_text::instructions_text;
+use meta_settings_text::settings_text;
+use meta_types::DefinitionError;
+use std::alloc::{AllocError, Global};
+
+/// Whether the bytes are the same.
+pub(crate) fn are_same(one: &[u8], other: &[u8]) -> bool
+    ensures { IsTrue result ↔ (one.now ≡ other.now) }
+{
+    one == other
+}
+
+/// Whether the tables of both are the same.
+#[tactic(auto, using(crate::proofs::Alike::same_tables))]
+fn have_same_tables(alloc: Global, built: &Built<'_>, other: &Built<'_>) -> Result<bool, AllocError>
+    ensures { IfOk result (λ same. IsTrue same → HaveSameTables built.now.declared other.now.declared) }
+{
+    let tables = tables_of(alloc, built)?;
+    let others = tables_of(alloc, other)?;
+    Ok(tables.same(&others))
+}
+
+/// Whether the texts of settings of both are the same.
+fn have_same_settings(
+    alloc: Global,
+    built: &Built<'_>,
+    other: &Built<'_>,
+) -> Result<bool, AllocError>
+    ensures { IfOk result (λ same. IsTrue same → settings_text built.now.groups ≡ settings_text other.now.groups) }
+{
+    let text = settings_text(alloc, built.groups())?;
+    let others = settings_text(alloc, other.groups())?;
+    Ok(are_same(text.as_bytes(), others.as_bytes()))
+}
+
+/// Whether the texts of instructions of both are the same.
+fn have_same_instructions(
+    alloc: Global,
+    built: &Built<'_>,
+    other: &Built<'_>,
+) -> Result<bool, AllocError>
+    ensures { IfOk result (λ same. IsTrue same → instructions_text built.now ≡ instructions_text other.now) }
+{
+    let text = instructions_text(alloc, built)?;
+    let others = instructions_text(alloc, other)?;
+    Ok(are_same(text.as_bytes(), others.as_bytes()))
+}
+
+/// Whether the texts of the builder of both are the same.
+fn have_same_builder(
+    alloc: Global,
+    built: &Built<'_>,
+    other: &Built<'_>,
+) -> Result<bool, AllocError>
+    ensures { IfOk result (λ same. IsTrue same → builder_text built.now ≡ builder_text other.now) }
+{
+    let text = builder_text(alloc, built)?;
+    let others = builder_text(alloc, other)?;
+    Ok(are_same(text.as_bytes(), others.as_bytes()))
+}
+
+/// Whether the texts of both are the same.
+#[tactic(auto, using(crate::proofs::Alike::same_texts))]
+fn have_same_texts(alloc: Global, built: &Built<'_>, other: &Built<'_>) -> Result<bool, AllocError>
+    ensures { IfOk result (λ same. IsTrue same → HaveSameTexts built.now.declared other.now.declared) }
+{
+    // Their clauses say that the parts are what is built of the declarations.
+    let (_declarations, _others) = (built.declarations(), other.declarations());
+    let settings = have_same_settings(alloc, built, other)?;
+    let instructions = have_same_instructions(alloc, built, other)?;
+    let builder = have_same_builder(alloc, built, other)?;
+    Ok(settings && instructions && builder)
+}
+
+/// Whether these declarations show no fault, and what is built of them has the same tables and texts.
+#[tactic(auto, using(crate::proofs::Alike::describes))]
+fn are_declared_alike(
+    alloc: Global,
+    built: &Built<'_>,
+    declarations: &Declarations,
+) -> Result<bool, AllocError>
+    ensures { (items : List spec_Item) → Declares items declarations.now
+        → IfOk result (λ alike. IsTrue alike → Describes items built.now.declared) }
+{
+    match build_all(alloc, declarations) {
+        Ok(other) => {
+            let tables = have_same_tables(alloc, built, &other)?;
+            let texts = have_same_texts(alloc, built, &other)?;
+            Ok(tables && texts)
+        }
+        Err(DefinitionError::OutOfMemory) => Err(AllocError),
+        Err(_) => Ok(false),
+    }
+}
+
+/// Whether the items declare what has the same tables and texts.
+pub(crate) fn is_described(
+    alloc: Global,
+    built: &Built<'_>,
+    items: &[Item],
+) -> Result<bool, AllocError>
+    ensures { IfOk result (λ described. IsTrue described → Describes items.now built.now.declared) }
+{
+    match declare(alloc, items) {
+        Ok(declarations) => are_declared_alike(alloc, built, &declarations),
+        Err(DeclareError::Memory) => Err(AllocError),
+        Err(DeclareError::Refused(_, _)) => Ok(false),
+    }
+}

@@ -1,0 +1,106 @@
+ghost use Rattle.std.specs.Prelude.{◌≡◌, IfOk, IfSome, IsTrue, string_bytes};
+ghost use Rattle.meta_items_described.specs.Described.{Describes, IsDescription};
+
+use super::checking::{are_same, is_described};
+use super::formats::{FormatWords, are_formats_of, used_formats};
+use super::insts::push_insts;
+use super::kinds::Kinds;
+use super::roots::Roots;
+use super::settings::push_groups;
+use super::words::Words;
+use meta_declared::Built;
+use meta_items::{Item, write_items};
+use meta_items_reader::{ReadError, read_items};
+use meta_operands::FormatId;
+use std::alloc::{AllocError, Global};
+use std::collections::BTreeSet;
+use std::str;
+
+/// The items for what is built of declarations: types and kinds, formats, instructions, and groups.
+fn items_for(
+    alloc: Global,
+    built: &Built<'_>,
+    formats: &BTreeSet<FormatId>,
+) -> Result<Vec<Item>, AllocError> {
+    let declarations = built.declarations();
+    let mut items = Vec::new(alloc);
+    let mut words = Words::new(alloc);
+    let roots = Roots::of(alloc, declarations, &mut words, &mut items)?;
+    let kinds = Kinds::of(alloc, declarations, formats, roots, &mut words, &mut items)?;
+    let format_words = FormatWords::of(alloc, declarations, formats, &kinds, &mut items)?;
+    push_insts(alloc, built, &kinds, &format_words, &mut items)?;
+    push_groups(alloc, built.groups(), &mut items)?;
+    Ok(items)
+}
+
+/// The items for what is built of declarations, if they can say the kinds of the formats in use.
+fn tried_items(alloc: Global, built: &Built<'_>) -> Result<Option<Vec<Item>>, AllocError> {
+    let formats = used_formats(alloc, built)?;
+    if !are_formats_of(built.declarations(), &formats) {
+        return Ok(None);
+    }
+    Ok(Some(items_for(alloc, built, &formats)?))
+}
+
+/// The items, in one form, that describe declarations, of which this is built: a type for each root in use that isn't a plain type's,
+/// kinds, the formats in use, the instructions, and the groups, whose settings stand in the order of their layout, and whose presets name
+/// the booleans that they turn on (this project's own).
+///
+/// The items are made, declared and compared. `None` comes where they would declare something else or be refused, as where the kind of
+/// a format's field is of values whose variable is of another registry, or where a variable has more functions behind its root than a
+/// type may have.
+pub fn describe(alloc: Global, built: &Built<'_>) -> Result<Option<Vec<Item>>, AllocError>
+    // What the items declare has the same tables and the same texts.
+    ensures { IfOk result (λ o. IfSome o (λ v. Describes v.items built.now.declared)) }
+{
+    let Some(items) = tried_items(alloc, built)? else {
+        return Ok(None);
+    };
+    if is_described(alloc, built, &items)? {
+        return Ok(Some(items));
+    }
+    Ok(None)
+}
+
+/// Whether a text is the canonical one of the items that it reads as, and these describe the declarations.
+#[tactic(auto, using(crate::proofs::Alike::description))]
+fn is_description(alloc: Global, built: &Built<'_>, text: &[u8]) -> Result<bool, AllocError>
+    ensures { IfOk result (λ described. IsTrue described → IsDescription text.now built.now.declared) }
+{
+    match read_items(alloc, text) {
+        Ok(read) => {
+            let written = write_items(alloc, &read.items)?;
+            let is_alike = is_described(alloc, built, &read.items)?;
+            Ok(are_same(&written, text) && is_alike)
+        }
+        Err(ReadError::Memory) => Err(AllocError),
+        Err(ReadError::Refused(_)) => Ok(false),
+    }
+}
+
+/// These bytes as a text. Bytes that are no UTF-8 are handled as want of memory: what reads as items is.
+fn text_of(alloc: Global, bytes: &[u8]) -> Result<String, AllocError>
+    ensures { IfOk result (λ text. string_bytes text ≡ bytes.now) }
+{
+    match str::from_utf8(bytes) {
+        Ok(text) => String::from_str(alloc, text),
+        Err(_) => Err(AllocError),
+    }
+}
+
+/// The text of a file that describes declarations, of which this is built, by the items that `describe` makes (this project's own).
+///
+/// The text is made, read, declared and compared. `None` comes where it would declare something else or be refused.
+pub fn write_description(alloc: Global, built: &Built<'_>) -> Result<Option<String>, AllocError>
+    // The text reads as items that declare what has the same tables and the same texts.
+    ensures { IfOk result (λ o. IfSome o (λ text. IsDescription (string_bytes text) built.now.declared)) }
+{
+    let Some(items) = tried_items(alloc, built)? else {
+        return Ok(None);
+    };
+    let text = write_items(alloc, &items)?;
+    if is_description(alloc, built, &text)? {
+        return Ok(Some(text_of(alloc, &text)?));
+    }
+    Ok(None)
+}

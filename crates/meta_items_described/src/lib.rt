@@ -1,0 +1,23 @@
+//! Declarations as a file of declarations: the items that describe what is built of them.
+//!
+//! `describe` makes items in one form, declares them, and answers them where what they declare has the same tables and the same texts of
+//! Rust source; `write_description` does so with their text, which it reads first.
+#![tactic(auto)]
+
+mod checking;
+mod describing;
+mod formats;
+mod insts;
+mod kind_items;
+mod kinds;
+mod names;
+mod operands;
+mod roots;
+mod sets;
+mod settings;
+mod texts;
+mod used_kinds;
+mod used_roots;
+mod words;
+
+pub use describing::{describe, write_description};

@@ -1,0 +1,123 @@
+ghost use Rattle.std.specs.Prelude.{◌≡◌, IsTrue, IfOk};
+ghost use Rattle.std.specs.Option.{unwrap_or};
+ghost use Rattle.std.specs.List.{list_all};
+ghost use Rattle.meta_tokens.specs.Scan.{is_word_byte};
+ghost use Rattle.meta_tokens.specs.Laid.{IsWord};
+ghost use Rattle.meta_items.specs.Named.{name_bytes, doc_text};
+ghost use Rattle.meta_items_described.specs.Wording.{are_word_bytes, begins_as_name};
+
+use meta_items::{Docs, Name};
+use meta_tokens::{Bytes, Keyword};
+use std::alloc::{AllocError, Global};
+
+/// Whether words have the byte.
+fn is_word_byte(byte: u8) -> bool
+    ensures { result ≡ is_word_byte byte }
+{
+    matches!(byte, b'a'..=b'z' | b'A'..=b'Z' | b'0'..=b'9' | b'_')
+}
+
+/// Whether words have each of the bytes.
+fn has_word_bytes(bytes: &[u8]) -> bool
+    ensures { result ≡ list_all is_word_byte bytes.now }
+{
+    bytes.iter().all(|byte| is_word_byte(*byte))
+}
+
+/// Whether there are bytes, and words have each of them.
+fn are_word_bytes(bytes: &[u8]) -> bool
+    ensures { result ≡ are_word_bytes bytes.now }
+{
+    !bytes.is_empty() && has_word_bytes(bytes)
+}
+
+/// Whether the bytes are a word that is no keyword.
+#[tactic(auto, using(crate::proofs::Wording::is_word))]
+pub(crate) fn is_word(bytes: &[u8]) -> bool
+    ensures { IsTrue result → IsWord bytes.now }
+{
+    are_word_bytes(bytes) && Keyword::of(bytes).is_none()
+}
+
+/// Whether the bytes are a word, a keyword perhaps, that doesn't begin with a digit.
+pub(crate) fn begins_as_name(bytes: &[u8]) -> bool
+    ensures { result ≡ begins_as_name bytes.now }
+{
+    match bytes {
+        [first, ..] => are_word_bytes(bytes) && !first.is_ascii_digit(),
+        [] => false,
+    }
+}
+
+/// Equal bytes of their own.
+pub(crate) fn bytes_of(alloc: Global, bytes: &[u8]) -> Result<Bytes, AllocError>
+    ensures { IfOk result (λ owned. owned ≡ bytes.now) }
+{
+    Ok(Bytes::of(Vec::from_slice(alloc, bytes)?))
+}
+
+/// The name that these bytes are, in quotes where they are no word or a keyword.
+pub(crate) fn name_of(alloc: Global, bytes: &[u8]) -> Result<Name, AllocError>
+    ensures { IfOk result (λ name. name_bytes name ≡ bytes.now) }
+{
+    let owned = bytes_of(alloc, bytes)?;
+    if is_word(bytes) {
+        return Ok(Name::Plain(owned));
+    }
+    Ok(Name::Quoted(owned))
+}
+
+/// The text, unless it is the same as what is told without it.
+pub(crate) fn unless_same(
+    alloc: Global,
+    text: &[u8],
+    told: &[u8],
+) -> Result<Option<Bytes>, AllocError>
+    ensures { IfOk result (λ o. unwrap_or o told.now ≡ text.now) }
+{
+    if text == told {
+        return Ok(None);
+    }
+    Ok(Some(bytes_of(alloc, text)?))
+}
+
+/// The lines of a documentation, none where it is empty.
+pub(crate) fn docs_of(alloc: Global, text: &[u8]) -> Result<Docs, AllocError>
+    ensures { IfOk result (λ docs. doc_text docs ≡ text.now) }
+{
+    let mut lines = Vec::new(alloc);
+    if text.is_empty() {
+        return Ok(Docs::of(lines));
+    }
+    let mut line = Vec::new(alloc);
+    for byte in text {
+        if *byte == b'\n' {
+            lines.push(Bytes::of(line))?;
+            line = Vec::new(alloc);
+        } else {
+            line.push(*byte)?;
+        }
+    }
+    lines.push(Bytes::of(line))?;
+    Ok(Docs::of(lines))
+}
+
+/// The last name of a path in small letters, with a `_` before each capital behind another sign than a capital: `imm64`, `func_ref`.
+pub(crate) fn snake_case(alloc: Global, path: &[u8]) -> Result<Vec<u8>, AllocError> {
+    let mut word = Vec::new(alloc);
+    let mut is_behind_small = false;
+    for byte in path {
+        if byte.is_ascii_uppercase() && is_behind_small {
+            word.push(b'_')?;
+        }
+        if is_word_byte(*byte) {
+            word.push(byte.to_ascii_lowercase())?;
+            is_behind_small = !byte.is_ascii_uppercase();
+        }
+        if *byte == b':' {
+            word = Vec::new(alloc);
+            is_behind_small = false;
+        }
+    }
+    Ok(word)
+}

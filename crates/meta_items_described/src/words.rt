@@ -1,0 +1,169 @@
+ghost use Rattle.std.specs.Prelude.{◌≡◌, ◌==◌, ◌||◌, ℕ, List, None, true, false, IsTrue, IfOk, OnOk};
+ghost use Rattle.std.specs.Cmp.Lexicographic.{pointwise};
+ghost use Rattle.meta_tokens.specs.Laid.{IsWord};
+ghost use Rattle.meta_items_types.specs.Plain.{has_own_meaning};
+ghost use Rattle.meta_items_types.specs.Said.{nothing_said, wrong_with};
+ghost use Rattle.meta_items_described.specs.GivenWords.{other_word, is_given};
+
+use super::texts::{bytes_of, is_word};
+use meta_items::{AliasItem, Docs, Item, Listed, TypeExpr};
+use meta_items_types::{TypeError, Types};
+use meta_tokens::Bytes;
+use std::alloc::{AllocError, Global};
+use std::collections::BTreeMap;
+
+/// Another word for a type that is always there.
+fn alias_of(alloc: Global, word: &[u8]) -> Result<Item, AllocError>
+    ensures { IfOk result (λ item. item ≡ other_word word.now) }
+{
+    let means = TypeExpr {
+        functions: Listed::of(Vec::new(alloc)),
+        word: bytes_of(alloc, b"i8")?,
+    };
+    Ok(Item::Alias(AliasItem {
+        docs: Docs::of(Vec::new(alloc)),
+        word: bytes_of(alloc, word)?,
+        means,
+    }))
+}
+
+/// Whether nothing is wrong with the item as the first of a file.
+fn is_right(alloc: Global, item: &Item) -> Result<bool, AllocError>
+    ensures { IfOk result (λ right. IsTrue right → wrong_with nothing_said item.now ≡ None) }
+{
+    let mut types = Types::new(alloc);
+    match types.add(alloc, 0, item) {
+        Ok(()) => Ok(true),
+        Err(TypeError::Wrong(_)) => Ok(false),
+        Err(TypeError::Memory) => Err(AllocError),
+    }
+}
+
+/// Whether the first item of a file may declare the word: it has no meaning of its own.
+#[tactic(auto, using(crate::proofs::FreeWords::no_meaning))]
+fn has_no_meaning(alloc: Global, word: &[u8]) -> Result<bool, AllocError>
+    ensures { IfOk result (λ free. IsTrue free → has_own_meaning word.now ≡ false) }
+{
+    let item = alias_of(alloc, word)?;
+    is_right(alloc, &item)
+}
+
+/// The name with a number behind it, and `_` between two digits.
+fn with_number(alloc: Global, name: &[u8], number: usize) -> Result<Vec<u8>, AllocError> {
+    let mut word = Vec::from_slice(alloc, name)?;
+    if let Some(last) = name.last() {
+        if last.is_ascii_digit() {
+            word.push(b'_')?;
+        }
+    }
+    let digits = format!(in alloc; "{number}")?;
+    word.extend_from_slice(digits.as_bytes())?;
+    Ok(word)
+}
+
+/// The words that are given to things of which each has one of its own.
+#[derive(Drop)]
+pub(crate) struct Words {
+    /// The words, and names behind which numbers stand, each with the greatest of the numbers behind it.
+    given: BTreeMap<Vec<u8>, usize>,
+}
+
+impl Words {
+    /// No words.
+    pub(crate) fn new(alloc: Global) -> Words
+        ensures { (word : List ℕ) → is_given result word ≡ false }
+    {
+        Words {
+            given: BTreeMap::new(alloc),
+        }
+    }
+
+    /// Whether the word is given, or numbers stand behind it.
+    fn has(&self, word: &[u8]) -> bool
+        ensures { result ≡ is_given self.now word.now }
+    {
+        self.given.contains_key(word)
+    }
+
+    /// Whether the word can be given.
+    fn is_free(&self, alloc: Global, word: &[u8]) -> Result<bool, AllocError>
+        ensures word { IfOk result (λ free. IsTrue free → IsWord word.now) }
+        ensures new { IfOk result (λ free. IsTrue free → is_given self.now word.now ≡ false) }
+        ensures meaning { IfOk result (λ free. IsTrue free → has_own_meaning word.now ≡ false) }
+    {
+        if !is_word(word) || self.has(word) {
+            return Ok(false);
+        }
+        has_no_meaning(alloc, word)
+    }
+
+    /// Keeps the word, or the name, with the greatest number behind it.
+    fn keep(&mut self, alloc: Global, word: &[u8], number: usize) -> Result<(), AllocError>
+        ensures { OnOk result ((other : List ℕ) → is_given self.new other
+            ≡ (pointwise ◌==◌ other word.now || is_given self.old other)) }
+    {
+        let key = Vec::from_slice(alloc, word)?;
+        self.given.insert(key, number)?;
+        Ok(())
+    }
+
+    /// The greatest of the numbers behind the name.
+    fn last_number(&self, name: &[u8]) -> usize {
+        match self.given.get(name) {
+            Some(number) => *number,
+            None => 0,
+        }
+    }
+
+    /// The next number with which the name is free, and the word that they are.
+    fn next_numbered(&self, alloc: Global, name: &[u8]) -> Result<(usize, Vec<u8>), AllocError>
+        ensures word { IfOk result (λ next. IsWord next.1.items) }
+        ensures new { IfOk result (λ next. is_given self.now next.1.items ≡ false) }
+        ensures meaning { IfOk result (λ next. has_own_meaning next.1.items ≡ false) }
+    {
+        for before in self.last_number(name)..usize::MAX {
+            let word = with_number(alloc, name, before + 1)?;
+            if self.is_free(alloc, &word)? {
+                return Ok((before + 1, word));
+            }
+        }
+        Err(AllocError)
+    }
+
+    /// The name with the next number with which it is free.
+    #[tactic(auto, using(crate::proofs::FreeWords::itself, crate::proofs::FreeWords::stays))]
+    fn give_numbered(&mut self, alloc: Global, name: &[u8]) -> Result<Bytes, AllocError>
+        ensures word { IfOk result IsWord }
+        ensures meaning { IfOk result (λ word. has_own_meaning word ≡ false) }
+        ensures new { IfOk result (λ word. is_given self.old word ≡ false) }
+        ensures given { IfOk result (λ word. is_given self.new word ≡ true) }
+        ensures kept { OnOk result ((other : List ℕ) → is_given self.old other ≡ true → is_given self.new other ≡ true) }
+    {
+        let (number, word) = self.next_numbered(alloc, name)?;
+        self.keep(alloc, name, number)?;
+        self.keep(alloc, &word, 0)?;
+        Ok(Bytes::of(word))
+    }
+
+    /// A word for what has this name: the name itself where nothing else has it and it can be given, or else with a number behind it.
+    #[tactic(auto, using(crate::proofs::FreeWords::itself, crate::proofs::FreeWords::stays))]
+    pub(crate) fn give(
+        &mut self,
+        alloc: Global,
+        name: &[u8],
+        is_alone: bool,
+    ) -> Result<Bytes, AllocError>
+        ensures word { IfOk result IsWord }
+        ensures meaning { IfOk result (λ word. has_own_meaning word ≡ false) }
+        // No other has the word, and the words that are given stay so.
+        ensures new { IfOk result (λ word. is_given self.old word ≡ false) }
+        ensures given { IfOk result (λ word. is_given self.new word ≡ true) }
+        ensures kept { OnOk result ((other : List ℕ) → is_given self.old other ≡ true → is_given self.new other ≡ true) }
+    {
+        if is_alone && self.is_free(alloc, name)? {
+            self.keep(alloc, name, 0)?;
+            return bytes_of(alloc, name);
+        }
+        self.give_numbered(alloc, name)
+    }
+}
