@@ -5,10 +5,12 @@ mod manual;
 
 use manual::{ASM_MANUAL, MANUAL};
 use meta_file::{FileEnding, Over, Tool, run_file, run_words};
+use meta_file_check::{CheckEnding, Names, check_file};
 use meta_main::{answer_of_itself, tell, tell_wrong, words};
 use meta_run::Ending;
 use meta_shared_ops::define;
 use meta_text::{StdSink, StdSource};
+use meta_tokens::Bytes;
 use meta_types::Text;
 use std::fs::File;
 use std::io::{self, Write};
@@ -53,18 +55,46 @@ fn tell_message(rt: &HostRuntime, message: &[u8]) {
     }
 }
 
+/// Says that the file at the path could not be read.
+fn tell_unread(rt: &HostRuntime, path: &str) {
+    let name = MANUAL.name;
+    let _ = eprintln!(rt; "{name}: {path} could not be read");
+}
+
+/// Says that it is too long.
+fn tell_too_long(rt: &HostRuntime, path: &str) {
+    let name = MANUAL.name;
+    let _ = eprintln!(rt; "{name}: {path} is longer than 1048576 bytes");
+}
+
 /// Says on standard error what the ending of a run over a file was about.
 fn tell_file_ending(rt: &HostRuntime, ending: &FileEnding, path: &Text, words: &[Text]) {
-    let (name, path) = (MANUAL.name, path.as_str());
     match ending {
         FileEnding::Ran(ending) => tell_ending(rt, *ending, words),
         FileEnding::Refused(message) => tell_message(rt, message.as_slice()),
-        FileEnding::FileFault => {
-            let _ = eprintln!(rt; "{name}: {path} could not be read");
+        FileEnding::FileFault => tell_unread(rt, path.as_str()),
+        FileEnding::FileTooLong => tell_too_long(rt, path.as_str()),
+    }
+}
+
+/// Says on standard error the messages of names that Rust refuses.
+fn tell_names(rt: &HostRuntime, messages: &[Bytes]) {
+    for message in messages {
+        tell_message(rt, message.as_slice());
+    }
+}
+
+/// Says on standard error what a check of a file found, and what its ending was about.
+fn tell_check(rt: &HostRuntime, ending: &CheckEnding, path: &Text) {
+    match ending {
+        CheckEnding::Ran(ending, messages) => {
+            tell_names(rt, messages);
+            tell(rt, &MANUAL, *ending);
         }
-        FileEnding::FileTooLong => {
-            let _ = eprintln!(rt; "{name}: {path} is longer than 1048576 bytes");
-        }
+        CheckEnding::NamesRefused(messages) => tell_names(rt, messages),
+        CheckEnding::Refused(message) => tell_message(rt, message.as_slice()),
+        CheckEnding::FileFault => tell_unread(rt, path.as_str()),
+        CheckEnding::FileTooLong => tell_too_long(rt, path.as_str()),
     }
 }
 
@@ -101,14 +131,44 @@ fn run_over(rt: &HostRuntime, path: &Text, words: &[Text]) -> FileEnding {
     )
 }
 
-/// Does what the words ask, and says what it was about where that isn't done. The status is that of the ending.
-fn answer(rt: &HostRuntime, words: &[Text]) -> u8 {
-    match Over::of(words) {
-        Over::File(path, words) => {
+/// Checks the file at a path, where names that Rust refuses are told or refused.
+fn check_over(rt: &HostRuntime, path: &Text, names: Names) -> CheckEnding {
+    let Ok(file) = File::open(rt, path.as_str()) else {
+        return CheckEnding::FileFault;
+    };
+    let mut file = StdSource::new(file);
+    let mut source = StdSource::new(rt.reader());
+    let mut sink = StdSink::new(io::writer(rt));
+    check_file(
+        rt.alloc(),
+        path.as_bytes(),
+        names,
+        &mut file,
+        &mut source,
+        &mut sink,
+    )
+}
+
+/// Does what the words ask over the declarations of the file at a path.
+fn answer_over(rt: &HostRuntime, path: &Text, words: &[Text]) -> u8 {
+    match Names::asked(words) {
+        Some(names) => {
+            let ending = check_over(rt, path, names);
+            tell_check(rt, &ending, path);
+            ending.code()
+        }
+        None => {
             let ending = run_over(rt, path, words);
             tell_file_ending(rt, &ending, path, words);
             ending.code()
         }
+    }
+}
+
+/// Does what the words ask, and says what it was about where that isn't done. The status is that of the ending.
+fn answer(rt: &HostRuntime, words: &[Text]) -> u8 {
+    match Over::of(words) {
+        Over::File(path, words) => answer_over(rt, path, words),
         Over::Shared(words) => run_shared(rt, words),
     }
 }

@@ -4,7 +4,8 @@ const HELP: &str = "\
 Answers by the declarations of an instruction set: those of Cranelift's shared instructions and settings, or those of a file.
 
 Usage: ciderlater [-d FILE] COMMAND    what the command answers
-       ciderlater check FILE           ok and how much is declared, or which line of the file is the first wrong one, and why
+       ciderlater check [--rust] FILE  ok and how much is declared, or which line of the file is the first wrong one, and why;
+                                       the lines with names that rustc refuses are told, and with --rust refused
 
 Commands:
   tables          the tables as text
@@ -24,6 +25,7 @@ Commands:
   flags           the settings, set and told by name in standard input
   audit           whether the tables in standard input mean what is declared
   check           ok, and how many instructions, formats, type sets, constraints, and settings and presets there are
+  describe        a file that declares the same, in one form
 
 A file declares an instruction set: `type Int: ints 8..64`, `kind number: imm \"i64\"`, `format Binary: value, value`,
 `inst add: Binary(x: Int, y: Int) -> a: Int`; and groups of settings: `group NAME`, and below it `bool NAME = true`, `num NAME = 16`,
@@ -35,7 +37,7 @@ Options:
   -V, --version            prints the version
 
 Status: 0 done, 1 declarations refused, 2 usage, 3 read fault, 4 write fault, 5 out of memory, 6 input or file too long,
-        7 a line of the list is wrong, or the tables don't fit the version, 8 the file can't be read";
+        7 a line of the list is wrong, the tables don't fit the version, or no file declares the same, 8 the file can't be read";
 
 /// What the program says of itself, where `asm` is asked.
 pub(crate) const ASM_MANUAL: Manual = Manual {
@@ -113,6 +115,10 @@ pub(crate) const MANUAL: Manual = Manual {
         },
         CommandForm {
             name: "check",
+            numbers: &[],
+        },
+        CommandForm {
+            name: "describe",
             numbers: &[],
         },
     ],

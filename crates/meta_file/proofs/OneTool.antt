@@ -12,7 +12,7 @@ use Rattle.meta_file.specs.Tool.{AreToolWords, lone_name}
 use Rattle.meta_file.specs.declared.tool.Lone.{Lone}
 use Rattle.meta_file.specs.declared.tool.Lone.TheVariants as lone
 use Rattle.meta_file.specs.declared.tool.Tool.{Tool}
-use Rattle.meta_file.specs.declared.tool.Tool.TheVariants.{Run, TablesIn, Verify, Asm, Flags, Audit, Check}
+use Rattle.meta_file.specs.declared.tool.Tool.TheVariants.{Run, TablesIn, Verify, Asm, Flags, Audit, Check, Describe}
 
 -- the first two letters of a word as a number, and those of the first word
 abbrev letters_in : List ℕ → ℕ
@@ -33,6 +33,7 @@ tag Flags = 3
 tag Audit = 4
 tag Check = 5
 tag (TablesIn version) = 6
+tag Describe = 7
 
 abbrev tag_at : ℕ → ℕ → ℕ
 tag_at l count =
@@ -41,6 +42,7 @@ tag_at l count =
     if l == 26220 then 3 else
     if l == 24949 then 4 else
     if l == 25448 then 5 else
+    if l == 25701 then 7 else
     if l == 29793 then (if count == 3 then 6 else 0) else 0
 
 abbrev tag_in : List (List ℕ) → ℕ
@@ -64,6 +66,7 @@ tag_of_words (Asm f) words h = ap tag_in h
 tag_of_words Flags words h = ap tag_in h
 tag_of_words Audit words h = ap tag_in h
 tag_of_words Check words h = ap tag_in h
+tag_of_words Describe words h = ap tag_in h
 
 -- the third word, and the first digit of a word
 abbrev third : List (List ℕ) → List ℕ
@@ -109,6 +112,7 @@ same_tool one_command one_form t u words h g = by t u h g (sym (tag_of_words t w
     by (Run a) Flags h g e = let no : 0 ≡ 3 = e in absurd (cc)
     by (Run a) Audit h g e = let no : 0 ≡ 4 = e in absurd (cc)
     by (Run a) Check h g e = let no : 0 ≡ 5 = e in absurd (cc)
+    by (Run a) Describe h g e = let no : 0 ≡ 7 = e in absurd (cc)
     by (TablesIn a) (Run b) h g e = let no : 6 ≡ 0 = e in absurd (cc)
     by (TablesIn v) (TablesIn w) h g e = ap TablesIn (same_version v w (ap digit (sym h ∙ g)))
     by (TablesIn a) Verify h g e = let no : 6 ≡ 1 = e in absurd (cc)
@@ -116,6 +120,7 @@ same_tool one_command one_form t u words h g = by t u h g (sym (tag_of_words t w
     by (TablesIn a) Flags h g e = let no : 6 ≡ 3 = e in absurd (cc)
     by (TablesIn a) Audit h g e = let no : 6 ≡ 4 = e in absurd (cc)
     by (TablesIn a) Check h g e = let no : 6 ≡ 5 = e in absurd (cc)
+    by (TablesIn a) Describe h g e = let no : 6 ≡ 7 = e in absurd (cc)
     by Verify (Run b) h g e = let no : 1 ≡ 0 = e in absurd (cc)
     by Verify (TablesIn b) h g e = let no : 1 ≡ 6 = e in absurd (cc)
     by Verify Verify h g e = refl
@@ -123,6 +128,7 @@ same_tool one_command one_form t u words h g = by t u h g (sym (tag_of_words t w
     by Verify Flags h g e = let no : 1 ≡ 3 = e in absurd (cc)
     by Verify Audit h g e = let no : 1 ≡ 4 = e in absurd (cc)
     by Verify Check h g e = let no : 1 ≡ 5 = e in absurd (cc)
+    by Verify Describe h g e = let no : 1 ≡ 7 = e in absurd (cc)
     by (Asm a) (Run b) h g e = let no : 2 ≡ 0 = e in absurd (cc)
     by (Asm a) (TablesIn b) h g e = let no : 2 ≡ 6 = e in absurd (cc)
     by (Asm a) Verify h g e = let no : 2 ≡ 1 = e in absurd (cc)
@@ -130,6 +136,7 @@ same_tool one_command one_form t u words h g = by t u h g (sym (tag_of_words t w
     by (Asm a) Flags h g e = let no : 2 ≡ 3 = e in absurd (cc)
     by (Asm a) Audit h g e = let no : 2 ≡ 4 = e in absurd (cc)
     by (Asm a) Check h g e = let no : 2 ≡ 5 = e in absurd (cc)
+    by (Asm a) Describe h g e = let no : 2 ≡ 7 = e in absurd (cc)
     by Flags (Run b) h g e = let no : 3 ≡ 0 = e in absurd (cc)
     by Flags (TablesIn b) h g e = let no : 3 ≡ 6 = e in absurd (cc)
     by Flags Verify h g e = let no : 3 ≡ 1 = e in absurd (cc)
@@ -137,6 +144,7 @@ same_tool one_command one_form t u words h g = by t u h g (sym (tag_of_words t w
     by Flags Flags h g e = refl
     by Flags Audit h g e = let no : 3 ≡ 4 = e in absurd (cc)
     by Flags Check h g e = let no : 3 ≡ 5 = e in absurd (cc)
+    by Flags Describe h g e = let no : 3 ≡ 7 = e in absurd (cc)
     by Audit (Run b) h g e = let no : 4 ≡ 0 = e in absurd (cc)
     by Audit (TablesIn b) h g e = let no : 4 ≡ 6 = e in absurd (cc)
     by Audit Verify h g e = let no : 4 ≡ 1 = e in absurd (cc)
@@ -144,6 +152,7 @@ same_tool one_command one_form t u words h g = by t u h g (sym (tag_of_words t w
     by Audit Flags h g e = let no : 4 ≡ 3 = e in absurd (cc)
     by Audit Audit h g e = refl
     by Audit Check h g e = let no : 4 ≡ 5 = e in absurd (cc)
+    by Audit Describe h g e = let no : 4 ≡ 7 = e in absurd (cc)
     by Check (Run b) h g e = let no : 5 ≡ 0 = e in absurd (cc)
     by Check (TablesIn b) h g e = let no : 5 ≡ 6 = e in absurd (cc)
     by Check Verify h g e = let no : 5 ≡ 1 = e in absurd (cc)
@@ -151,6 +160,15 @@ same_tool one_command one_form t u words h g = by t u h g (sym (tag_of_words t w
     by Check Flags h g e = let no : 5 ≡ 3 = e in absurd (cc)
     by Check Audit h g e = let no : 5 ≡ 4 = e in absurd (cc)
     by Check Check h g e = refl
+    by Check Describe h g e = let no : 5 ≡ 7 = e in absurd (cc)
+    by Describe (Run b) h g e = let no : 7 ≡ 0 = e in absurd (cc)
+    by Describe (TablesIn b) h g e = let no : 7 ≡ 6 = e in absurd (cc)
+    by Describe Verify h g e = let no : 7 ≡ 1 = e in absurd (cc)
+    by Describe (Asm b) h g e = let no : 7 ≡ 2 = e in absurd (cc)
+    by Describe Flags h g e = let no : 7 ≡ 3 = e in absurd (cc)
+    by Describe Audit h g e = let no : 7 ≡ 4 = e in absurd (cc)
+    by Describe Check h g e = let no : 7 ≡ 5 = e in absurd (cc)
+    by Describe Describe h g e = refl
 
 -- words that ask for no command, for no version of tables, for no form and for no tool of one word ask nothing
 pub asks_none : (words : List (List ℕ)) → ((c : Command) → AreWordsOf c words → ⊥)
@@ -164,3 +182,4 @@ asks_none words no_command no_version no_form no_lone (Asm f) h = no_form f h
 asks_none words no_command no_version no_form no_lone Flags h = no_lone lone.Flags h
 asks_none words no_command no_version no_form no_lone Audit h = no_lone lone.Audit h
 asks_none words no_command no_version no_form no_lone Check h = no_lone lone.Check h
+asks_none words no_command no_version no_form no_lone Describe h = no_lone lone.Describe h

@@ -1,5 +1,6 @@
 pub mod TablesIn
 pub mod Counts
+pub mod Described
 pub mod Tool
 pub mod Over
 pub mod File

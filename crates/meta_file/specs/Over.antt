@@ -1,5 +1,5 @@
 -- What words are asked over.
-use Rattle.std.specs.Prelude.{◌≡◌, ◌⊎◌, ℕ, List, [], ◌∷◌, codes}
+use Rattle.std.specs.Prelude.{◌≡◌, ◌≢◌, ◌⊎◌, ℕ, List, [], ◌∷◌, codes}
 use Rattle.meta_file.specs.declared.over.Over.{Over}
 use Rattle.meta_file.specs.declared.over.Over.TheVariants.{Shared, File}
 
@@ -7,11 +7,16 @@ use Rattle.meta_file.specs.declared.over.Over.TheVariants.{Shared, File}
 abbrev pub IsOption : List ℕ → Type 0
 IsOption word = (word ≡ codes "-d") ⊎ (word ≡ codes "--declarations")
 
--- the words ask this over the declarations of the file at this path: `-d FILE WORDS`, or `check FILE`
+-- the word that asks `check` to refuse names
+abbrev pub rust_word : List ℕ
+rust_word = codes "--rust"
+
+-- the words ask this over the declarations of the file at this path: `-d FILE WORDS`, `check FILE`, or `check --rust FILE`
 abbrev pub AskOverFile : List (List ℕ) → List ℕ → List (List ℕ) → Type 0
 AskOverFile words path asked =
     ((option : List ℕ) × IsOption option × (words ≡ option ∷ (path ∷ asked)))
-    ⊎ ((words ≡ codes "check" ∷ (path ∷ [])) × (asked ≡ codes "check" ∷ []))
+    ⊎ (((words ≡ codes "check" ∷ (path ∷ [])) × (path ≢ rust_word) × (asked ≡ codes "check" ∷ []))
+    ⊎ ((words ≡ codes "check" ∷ (rust_word ∷ (path ∷ []))) × (asked ≡ codes "check" ∷ (rust_word ∷ []))))
 
 -- the words ask this of a file, or they ask nothing of any file and all of them are for the shared declarations
 abbrev pub IsOver : List (List ℕ) → Over → Type 0

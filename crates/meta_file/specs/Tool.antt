@@ -11,10 +11,11 @@ use Rattle.meta_flags.specs.FlagsOutput.{IsFlagsOutput}
 use Rattle.meta_audit.specs.AuditLine.{IsAuditLine}
 use Rattle.meta_file.specs.TablesIn.{version_words, shown_in}
 use Rattle.meta_file.specs.Counts.{IsCheckLine}
+use Rattle.meta_file.specs.Described.{described}
 use Rattle.meta_file.specs.declared.tool.Lone.{Lone}
 use Rattle.meta_file.specs.declared.tool.Lone.TheVariants as lone
 use Rattle.meta_file.specs.declared.tool.Tool.{Tool}
-use Rattle.meta_file.specs.declared.tool.Tool.TheVariants.{Run, TablesIn, Verify, Asm, Flags, Audit, Check}
+use Rattle.meta_file.specs.declared.tool.Tool.TheVariants.{Run, TablesIn, Verify, Asm, Flags, Audit, Check, Describe}
 
 -- the name of a tool that has one word
 abbrev pub lone_name : Lone → List ℕ
@@ -22,6 +23,7 @@ lone_name lone.Verify = codes "verify"
 lone_name lone.Flags = codes "flags"
 lone_name lone.Audit = codes "audit"
 lone_name lone.Check = codes "check"
+lone_name lone.Describe = codes "describe"
 
 -- the words ask this: those of a command of `run` are its own, those of `asm` are its name and a form, and `tables` may have a version
 abbrev pub AreToolWords : Tool → List (List ℕ) → Type 0
@@ -32,6 +34,7 @@ AreToolWords (Asm form) words = words ≡ codes "asm" ∷ words_for form
 AreToolWords Flags words = words ≡ codes "flags" ∷ []
 AreToolWords Audit words = words ≡ codes "audit" ∷ []
 AreToolWords Check words = words ≡ codes "check" ∷ []
+AreToolWords Describe words = words ≡ codes "describe" ∷ []
 
 -- the words ask something
 abbrev pub AskSomething : List (List ℕ) → Type 0
@@ -46,12 +49,14 @@ reads_input (Asm form) = true
 reads_input Flags = true
 reads_input Audit = true
 reads_input Check = false
+reads_input Describe = false
 
 -- of declarations that show no fault it is said how much of each kind there is
 abbrev pub says_counts : Outputs
 says_counts d input output = IsCheckLine d output
 
--- the texts that answer an input over declarations: those of the programs of these names, and of `check` the line that begins with `ok`
+-- the texts that answer an input over declarations: those of the programs of these names, of `check` the line that begins with `ok`, and of
+-- `describe` a file that declares the same
 abbrev pub texts_of : Tool → Texts
 texts_of (Run command) = never_rejecting (query.IsOutputOf command)
 texts_of (TablesIn version) = shown_in version
@@ -60,3 +65,4 @@ texts_of (Asm form) = written_in form
 texts_of Flags = never_rejecting IsFlagsOutput
 texts_of Audit = never_rejecting IsAuditLine
 texts_of Check = never_rejecting says_counts
+texts_of Describe = described

@@ -5,6 +5,7 @@
 #![tactic(auto)]
 
 mod checking;
+mod describing;
 mod file_ending;
 mod file_run;
 mod laws;
@@ -19,5 +20,5 @@ pub use file_run::run_file;
 pub use laws::{a_text_declares_one_thing, one_check_line, one_tool};
 pub use loading::{LoadError, load};
 pub use over::Over;
-pub use running::run_words;
+pub use running::{run_check, run_words};
 pub use tool::Tool;

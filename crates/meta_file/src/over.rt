@@ -1,5 +1,5 @@
 ghost use Rattle.std.specs.Prelude.{◌≡◌, ◌↔◌, ◌∷◌, IsTrue, codes};
-ghost use Rattle.meta_file.specs.Over.{IsOption, IsOver};
+ghost use Rattle.meta_file.specs.Over.{IsOption, IsOver, rust_word};
 
 use meta_types::Text;
 
@@ -26,9 +26,16 @@ fn is_check(word: &Text) -> bool
     word.as_bytes() == b"check".as_slice()
 }
 
+/// Whether the word asks `check` to refuse names.
+fn is_rust(word: &Text) -> bool
+    ensures { IsTrue result ↔ (word.now ≡ rust_word) }
+{
+    word.as_bytes() == b"--rust".as_slice()
+}
+
 impl<'w> Over<'w> {
     /// Behind `-d FILE` or `--declarations FILE` words are asked over the declarations of the file; `check FILE` asks `check` over
-    /// them. All other words are asked over the shared declarations.
+    /// them, and `check --rust FILE` asks `check --rust`. All other words are asked over the shared declarations.
     pub fn of(words: &'w [Text]) -> Over<'w>
         ensures { IsOver words.now result }
     {
@@ -47,9 +54,21 @@ impl<'w> Over<'w> {
         if is_option(first) {
             return Over::File(path, rest);
         }
-        if is_check(first) && rest.is_empty() {
-            return Over::File(path, words.split_at(1).0);
+        if is_check(first) {
+            return Over::of_check(words, path, rest);
         }
         Over::Shared(words)
+    }
+
+    /// The same, where the first of two words and more is `check`.
+    fn of_check(words: &'w [Text], second: &'w Text, rest: &'w [Text]) -> Over<'w>
+        requires { words.now ≡ codes "check" ∷ (second.now ∷ rest.now) }
+        ensures { IsOver words.now result }
+    {
+        match (is_rust(second), rest) {
+            (false, []) => Over::File(second, words.split_at(1).0),
+            (true, [path]) => Over::File(path, words.split_at(2).0),
+            _ => Over::Shared(words),
+        }
     }
 }

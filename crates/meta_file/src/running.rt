@@ -7,10 +7,12 @@ ghost use Rattle.meta_asm.specs.Form.{words_for, written_in};
 ghost use Rattle.meta_flags.specs.FlagsOutput.{IsFlagsOutput};
 ghost use Rattle.meta_audit.specs.AuditLine.{IsAuditLine};
 ghost use Rattle.meta_file.specs.TablesIn.{shown_in};
+ghost use Rattle.meta_file.specs.Described.{described};
 ghost use Rattle.meta_file.specs.Tool.{AreToolWords, AskSomething, reads_input, says_counts, texts_of};
 ghost use Rattle.meta_file.specs.declared.tool.Tool.{Tool as spec_Tool};
 
 use super::checking::Checker;
+use super::describing::Describer;
 use super::laws::one_tool;
 use super::tables_in::InVersion;
 use super::tool::Tool;
@@ -129,8 +131,8 @@ fn run_audit<S: Source, K: Sink>(
     audit_run(alloc, words, declarations, source, sink).ending()
 }
 
-/// Says how much of each kind there is, where the declarations show no fault.
-fn run_check<S: Source, K: Sink>(
+/// Says how much of each kind there is, where the declarations show no fault, as `run_words` does for `check`.
+pub fn run_check<S: Source, K: Sink>(
     alloc: Global,
     declarations: &Declarations,
     source: &mut S,
@@ -140,6 +142,19 @@ fn run_check<S: Source, K: Sink>(
         false (never_rejecting says_counts) result }
 {
     run_answerer(alloc, &Checker, declarations, source, sink)
+}
+
+/// Writes the declarations as the text of a file.
+fn run_describe<S: Source, K: Sink>(
+    alloc: Global,
+    declarations: &Declarations,
+    source: &mut S,
+    sink: &mut K,
+) -> Ending
+    ensures { Ran S.left S.faults K.taken K.faults declarations.now source.old source.new sink.old sink.new
+        false described result }
+{
+    run_answerer(alloc, &Describer, declarations, source, sink)
 }
 
 /// Runs what the words ask.
@@ -163,6 +178,7 @@ fn run_tool<S: Source, K: Sink>(
         Tool::Flags => run_flags(alloc, behind(words), declarations, source, sink),
         Tool::Audit => run_audit(alloc, behind(words), declarations, source, sink),
         Tool::Check => run_check(alloc, declarations, source, sink),
+        Tool::Describe => run_describe(alloc, declarations, source, sink),
     }
 }
 
@@ -184,7 +200,8 @@ fn attempt<S: Source, K: Sink>(
 }
 
 /// Runs what the words ask over declarations (this project's own). `verify`, `asm`, `flags` and `audit` hand the words behind them to
-/// what is run by these names, `check` says how much of each kind is declared, and all other words are those of `run`.
+/// what is run by these names, `check` says how much of each kind is declared, `describe` writes a file that declares the same, and all
+/// other words are those of `run`.
 ///
 /// The order is: the words; the declarations, which are refused by the first fault that they show; the whole input, where there is
 /// one; all that is answered, in memory; the writes. `OutOfMemory` may come in any case but `Usage`.

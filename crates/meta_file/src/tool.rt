@@ -28,6 +28,8 @@ pub enum Tool {
     Audit,
     /// `check`: that the declarations show no fault, and how much of each kind there is.
     Check,
+    /// `describe`: the declarations as the text of a file.
+    Describe,
 }
 
 /// A tool whose words are its name alone.
@@ -37,6 +39,7 @@ enum Lone {
     Flags,
     Audit,
     Check,
+    Describe,
 }
 
 /// The tool of this name.
@@ -55,6 +58,9 @@ fn lone_named(name: &[u8]) -> Option<Lone>
     }
     if name == b"check".as_slice() {
         return Some(Lone::Check);
+    }
+    if name == b"describe".as_slice() {
+        return Some(Lone::Describe);
     }
     None
 }
@@ -109,6 +115,7 @@ fn tool_of(lone: Lone) -> Tool
         Lone::Flags => Tool::Flags,
         Lone::Audit => Tool::Audit,
         Lone::Check => Tool::Check,
+        Lone::Describe => Tool::Describe,
     }
 }
 

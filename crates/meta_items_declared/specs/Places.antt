@@ -2,6 +2,7 @@
 --     item_of_place items p       the place of the item that declares what stands at the place p of the declarations
 --     named_by count e            what a fault names
 --     place_of_fault items e      the place of the item that declares what the fault names
+--     laid_places items           the places of the settings of one group, as the group is laid out
 use Rattle.std.specs.Prelude.{◌≡◌, ℕ, ◌+◌, ◌-◌, ◌==◌, Bool, true, false, List, [], ◌∷◌, ◌++◌, length, Option, Some, None, option_map, option_and_then, drop}
 use Rattle.std.specs.Prelude.{slice_get, if◌then◌else◌}
 use Rattle.std.specs.List.{before_first}
@@ -102,6 +103,31 @@ places_from is n (i ∷ items) = if is i then n ∷ places_from is (n + 1) items
 abbrev pub places_of : (Item → Bool) → List Item → List ℕ
 places_of is items = places_from is 0 items
 
+-- whether it declares a setting that has a byte of its own, and one that has a bit
+abbrev pub is_valued : Item → Bool
+is_valued (item.Group n) = false
+is_valued (item.Type i) = false
+is_valued (item.Alias i) = false
+is_valued (item.Kind i) = false
+is_valued (item.Format i) = false
+is_valued (item.Inst i) = false
+is_valued (item.Bool i) = false
+is_valued (item.Num i) = true
+is_valued (item.Enum i) = true
+is_valued (item.Preset i) = false
+
+abbrev pub is_bool : Item → Bool
+is_bool (item.Group n) = false
+is_bool (item.Type i) = false
+is_bool (item.Alias i) = false
+is_bool (item.Kind i) = false
+is_bool (item.Format i) = false
+is_bool (item.Inst i) = false
+is_bool (item.Bool i) = true
+is_bool (item.Num i) = false
+is_bool (item.Enum i) = false
+is_bool (item.Preset i) = false
+
 -- the items before the first group
 abbrev pub before_group : List Item → List Item
 before_group items = before_first is_group items
@@ -113,6 +139,11 @@ place_of_group items g = slice_get (places_of is_group items) g
 -- the places of the entries among the items of one group, in the order of the entries: the settings, and then the presets
 abbrev pub entry_places : List Item → List ℕ
 entry_places items = places_of is_setting items ++ places_of is_preset items
+
+-- the places of the settings among the items of one group, in the order in which the group is laid out: its enums and numbers, and then its
+-- booleans
+abbrev pub laid_places : List Item → List ℕ
+laid_places items = places_of is_valued items ++ places_of is_bool items
 
 -- the place of an entry of the group that is opened at a place: the items of the group stand behind it
 abbrev pub entry_behind : List Item → ℕ → ℕ → Option ℕ

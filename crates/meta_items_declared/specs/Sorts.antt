@@ -3,7 +3,7 @@ use Rattle.std.specs.Prelude.{Bool}
 use Rattle.meta_items.specs.declared.items.Item.{Item}
 use Rattle.meta_items_declared.specs.declared.places.Sort.{Sort}
 use Rattle.meta_items_declared.specs.declared.places.Sort.TheVariants as sorts
-use Rattle.meta_items_declared.specs.Places.{is_group, is_setting, is_preset, is_format, is_inst}
+use Rattle.meta_items_declared.specs.Places.{is_group, is_setting, is_preset, is_format, is_inst, is_valued, is_bool}
 
 -- whether an item is of a sort
 abbrev pub is_of : Sort → Item → Bool
@@ -12,3 +12,5 @@ is_of sorts.Setting i = is_setting i
 is_of sorts.Preset i = is_preset i
 is_of sorts.Format i = is_format i
 is_of sorts.Inst i = is_inst i
+is_of sorts.Valued i = is_valued i
+is_of sorts.Bool i = is_bool i

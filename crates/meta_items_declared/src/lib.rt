@@ -19,5 +19,5 @@ pub use laws::{
     each_name_has_its_argument, faults_have_their_items, items_say_one_thing, one_declaration,
     settings_stand_alone,
 };
-pub use places::place_of_fault;
+pub use places::{laid_setting, place_of_fault};
 pub use refused::{DeclareError, Reason};

@@ -1,6 +1,6 @@
-ghost use Rattle.std.specs.Prelude.{◌≡◌, ◌<◌, ◌≤◌, IfSome, slice_get, length};
+ghost use Rattle.std.specs.Prelude.{◌≡◌, ◌<◌, ◌≤◌, ◌++◌, IfSome, slice_get, length};
 ghost use Rattle.std.specs.List.{position};
-ghost use Rattle.meta_items_declared.specs.Places.{is_group, places_of, before_group, entry_places, place_of_entry, place_of_inst, item_of_place, named_by};
+ghost use Rattle.meta_items_declared.specs.Places.{is_group, places_of, before_group, entry_places, laid_places, place_of_entry, place_of_inst, item_of_place, named_by};
 ghost use Rattle.meta_items_declared.specs.Places.{place_of_fault};
 ghost use Rattle.meta_items_declared.specs.Sorts.{is_of};
 
@@ -20,6 +20,10 @@ enum Sort {
     Format,
     /// It declares an instruction.
     Inst,
+    /// It declares a setting that has a byte of its own: an enum or a number.
+    Valued,
+    /// It declares a boolean.
+    Bool,
 }
 
 /// Whether the item is of the sort.
@@ -32,6 +36,8 @@ fn is_of(sort: Sort, item: &Item) -> bool
         (Sort::Preset, Item::Preset(_)) => true,
         (Sort::Format, Item::Format(_)) => true,
         (Sort::Inst, Item::Inst(_)) => true,
+        (Sort::Valued, Item::Num(_) | Item::Enum(_)) => true,
+        (Sort::Bool, Item::Bool(_)) => true,
         _ => false,
     }
 }
@@ -86,16 +92,33 @@ fn before_group(items: &[Item]) -> &[Item]
     }
 }
 
+/// The place of the n-th item, from 0, of those of the one sort and then those of the other.
+fn nth_of_both(first: Sort, second: Sort, items: &[Item], n: u64) -> Option<usize>
+    ensures place { result ≡ slice_get (places_of (is_of first) items.now ++ places_of (is_of second) items.now) n }
+    ensures within { IfSome result (λ place. place < length items.now) }
+{
+    let count = count_of(first, items);
+    if n < count {
+        return nth(first, items, n);
+    }
+    nth(second, items, n - count)
+}
+
 /// The place of an entry among the items of its group.
 fn entry_in(items: &[Item], entry: u64) -> Option<usize>
     ensures place { result ≡ slice_get (entry_places items.now) entry }
     ensures within { IfSome result (λ place. place < length items.now) }
 {
-    let settings = count_of(Sort::Setting, items);
-    if entry < settings {
-        return nth(Sort::Setting, items, entry);
-    }
-    nth(Sort::Preset, items, entry - settings)
+    nth_of_both(Sort::Setting, Sort::Preset, items, entry)
+}
+
+/// The place, among the items behind one that opens a group, of the item that declares this setting of the group, from 0, in the order in
+/// which the group is laid out: its enums and numbers, and then its booleans, each in the order of declaration. `None` where the group has
+/// no such setting.
+pub fn laid_setting(behind: &[Item], setting: u64) -> Option<usize>
+    ensures { result ≡ slice_get (laid_places (before_group behind.now)) setting }
+{
+    nth_of_both(Sort::Valued, Sort::Bool, before_group(behind), setting)
 }
 
 /// The place of the item that declares an entry of a group.

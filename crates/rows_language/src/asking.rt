@@ -1,6 +1,8 @@
 use super::many::write_sum;
 use meta_file::{FileEnding, Over, run_file};
-use meta_text::MemorySink;
+use meta_file_check::{CheckEnding, Names, check_file};
+use meta_text::{MemorySink, MemorySource};
+use meta_tokens::Bytes;
 use meta_types::Text;
 use rows_outside::Outside;
 use rows_words::Trouble;
@@ -22,11 +24,48 @@ fn texts_of(alloc: Global, words: &str) -> Result<Vec<Text>, AllocError> {
     Ok(texts)
 }
 
-/// How a run over a file ended, and what its sink took.
+/// What a run over a file told, its status, and what its sink took.
 #[derive(Drop)]
 pub(crate) struct Ran {
-    ending: FileEnding,
+    told: Vec<Bytes>,
+    status: u8,
     sink: MemorySink,
+}
+
+/// What a run of words over a file told, and its status.
+fn run_words(
+    alloc: Global,
+    words: &[Text],
+    file: &mut MemorySource,
+    source: &mut MemorySource,
+    sink: &mut MemorySink,
+) -> Result<(Vec<Bytes>, u8), AllocError> {
+    let ending = run_file(alloc, words, PATH, file, source, sink);
+    let status = ending.code();
+    let mut told = Vec::new(alloc);
+    if let FileEnding::Refused(message) = ending {
+        told.push(message)?;
+    }
+    Ok((told, status))
+}
+
+/// What a check of a file told, and its status.
+fn run_check(
+    alloc: Global,
+    names: Names,
+    file: &mut MemorySource,
+    source: &mut MemorySource,
+    sink: &mut MemorySink,
+) -> Result<(Vec<Bytes>, u8), AllocError> {
+    let ending = check_file(alloc, PATH, names, file, source, sink);
+    let status = ending.code();
+    let mut told = Vec::new(alloc);
+    match ending {
+        CheckEnding::Ran(_, messages) | CheckEnding::NamesRefused(messages) => told = messages,
+        CheckEnding::Refused(message) => told.push(message)?,
+        CheckEnding::FileFault | CheckEnding::FileTooLong => {}
+    }
+    Ok((told, status))
 }
 
 impl Ran {
@@ -41,11 +80,14 @@ impl Ran {
         let mut file = file.source(alloc, text)?;
         let mut source = outside.source(alloc, input)?;
         let mut sink = outside.sink(alloc)?;
-        let ending = run_file(alloc, &words, PATH, &mut file, &mut source, &mut sink);
-        Ok(Ran { ending, sink })
+        let (told, status) = match Names::asked(&words) {
+            Some(names) => run_check(alloc, names, &mut file, &mut source, &mut sink)?,
+            None => run_words(alloc, &words, &mut file, &mut source, &mut sink)?,
+        };
+        Ok(Ran { told, status, sink })
     }
 
-    /// Writes what the sink took, why the file was refused, if it was, and the status.
+    /// Writes what the sink took, what was told, and the status.
     pub(crate) fn write(&self, rt: &HostRuntime) -> io::Result<()> {
         io::writer(rt).write_all(self.sink.bytes())?;
         self.write_ending(rt)
@@ -72,13 +114,13 @@ impl Ran {
         self.write_ending(rt)
     }
 
-    /// Writes why the file was refused, if it was, and the status.
+    /// Writes what was told, and the status.
     fn write_ending(&self, rt: &HostRuntime) -> io::Result<()> {
-        if let FileEnding::Refused(message) = &self.ending {
+        for message in &self.told {
             io::writer(rt).write_all(message.as_slice())?;
             println!(rt; "")?;
         }
-        println!(rt; "status {}", self.ending.code())
+        println!(rt; "status {}", self.status)
     }
 }
 

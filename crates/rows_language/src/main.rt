@@ -3,6 +3,7 @@
 #![tactic(auto)]
 
 mod asking;
+mod describing;
 mod many;
 mod session;
 

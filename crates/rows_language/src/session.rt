@@ -1,4 +1,5 @@
 use super::asking::{Ran, write_over};
+use super::describing::{write_described, write_shared, write_synths};
 use super::many::{Each, write_loaded};
 use rows_outside::Outside;
 use rows_words::{Case, Trouble, decoded, number, pair_of};
@@ -121,7 +122,7 @@ impl Session {
     /// Answers a line. `run WORDS` runs words over the text as a file, `sum WORDS` tells the SHA-256 of what they write, and
     /// `against NAME WORDS` holds that against the file of that name. `over WORDS` says what they are asked over. `fronts` loads each front
     /// of the text, and `changes BITS` the text with each byte changed. `data NAME` and `input NAME` add what a file has to the text and to
-    /// the input.
+    /// the input. `described` describes the text, `shared NAME` the shared declarations, and `synths COUNT` those that are made from numbers.
     fn ask(&mut self, rt: &HostRuntime, line: &str) -> io::Result<()> {
         let (word, rest) = line.split_once(' ').unwrap_or((line, ""));
         match word {
@@ -137,6 +138,12 @@ impl Session {
             },
             "against" => self.run_against(rt, rest),
             "over" => write_over(rt, rest),
+            "described" => write_described(rt, &self.text),
+            "shared" => write_shared(rt, rest),
+            "synths" => match number::<u32>(rest) {
+                Ok(count) => write_synths(rt, count),
+                Err(_) => println!(rt; "no case"),
+            },
             "fronts" => write_loaded(rt, &self.text, Each::Front),
             "changes" => match number::<u8>(rest) {
                 Ok(bits) => write_loaded(rt, &self.text, Each::Change(bits)),

@@ -1,0 +1,83 @@
+-- What a check of a file does.
+--     DidCheck .. ending      what was read and written, and what is told, by how it ended
+use Rattle.std.specs.Prelude.{◌≡◌, ◌≢◌, ◌⊎◌, ℕ, List, [], Option, false}
+use Rattle.meta_text.specs.Outside.{Rose, longest_input, GaveMore}
+use Rattle.meta_declared.specs.AllDeclared.{Declared, AreValid}
+use Rattle.meta_run.specs.Run.{IsReadWhole, Ran as RanOver, never_rejecting}
+use Rattle.meta_run.specs.Ending.{code_of}
+use Rattle.meta_run.specs.declared.ending.Ending.{Ending}
+use Rattle.meta_run.specs.declared.ending.Ending.TheVariants as ends
+use Rattle.meta_file.specs.File.{Declares, IsRefusal}
+use Rattle.meta_file.specs.Tool.{says_counts}
+use Rattle.meta_file_check.specs.Told.{AreTold}
+use Rattle.meta_file_check.specs.declared.asked.Names.{Names}
+use Rattle.meta_file_check.specs.declared.asked.Names.TheVariants.{Refuse}
+use Rattle.meta_file_check.specs.declared.check_ending.CheckEnding.{CheckEnding}
+use Rattle.meta_file_check.specs.declared.check_ending.CheckEnding.TheVariants.{Ran, NamesRefused, Refused, FileFault, FileTooLong}
+
+-- the exit status of the process: that of the run; 1 where the file or its names are refused, 6 where it is too long, 8 where it can't be read
+abbrev pub check_code : CheckEnding → ℕ
+check_code (Ran ending messages) = code_of ending
+check_code (NamesRefused messages) = code_of ends.Refused
+check_code (Refused message) = code_of ends.Refused
+check_code FileFault = 8
+check_code FileTooLong = code_of ends.TooLong
+
+-- memory ran out, and nothing is told
+abbrev pub IsOutOfMemory : CheckEnding → Type 0
+IsOutOfMemory (Ran ending messages) = (ending ≡ ends.OutOfMemory) × (messages.items ≡ [])
+IsOutOfMemory (NamesRefused messages) = ⊥
+IsOutOfMemory (Refused message) = ⊥
+IsOutOfMemory FileFault = ⊥
+IsOutOfMemory FileTooLong = ⊥
+
+-- the path, what is asked of names and a text; and a source and a sink, by what they tell, before and after a check of the text
+module _ {S K : Type 0} (left : S → Option (List ℕ)) (reads : S → ℕ) (taken : K → Option (List ℕ)) (writes : K → ℕ)
+    (path : List ℕ) (names : Names) (text : List ℕ) (s s' : S) (k k' : K) where
+  -- nothing was read beside the file, and nothing was written
+  abbrev pub LeavesAll : Type 0
+  LeavesAll = (s' ≡ s) × (k' ≡ k)
+
+  -- the text declares what shows no fault, these are the messages of its names, of which there are none where they are refused, and what
+  -- is declared was counted
+  pub record IsChecked (ending : Ending) (messages : List (List ℕ)) : Type 0 where
+    pub declared : Declared
+    pub declares : Declares text declared
+    pub valid : AreValid declared
+    pub told : AreTold path names text declared messages
+    pub none : names ≡ Refuse → messages ≡ []
+    pub ran : RanOver left reads taken writes declared s s' k k' false (never_rejecting says_counts) ending
+
+  -- the text declares what shows no fault, and has names, of which these are the messages
+  pub record HasNames (messages : List (List ℕ)) : Type 0 where
+    pub declared : Declared
+    pub declares : Declares text declared
+    pub valid : AreValid declared
+    pub told : AreTold path names text declared messages
+    pub some : messages ≢ []
+
+  -- what a check of the text did
+  abbrev pub DidCheckText : CheckEnding → Type 0
+  DidCheckText (Ran ending messages) = IsChecked ending messages.items ⊎ (IsOutOfMemory (Ran ending messages) × LeavesAll)
+  DidCheckText (NamesRefused messages) = (names ≡ Refuse) × HasNames messages.items × LeavesAll
+  DidCheckText (Refused message) = IsRefusal path text message × LeavesAll
+  DidCheckText FileFault = ⊥
+  DidCheckText FileTooLong = ⊥
+
+-- the path and what is asked of names; and a file, a source and a sink, by what they tell, before and after a check of the file
+module _ {F S K : Type 0} (file_left : F → Option (List ℕ)) (file_reads : F → ℕ) (left : S → Option (List ℕ)) (reads : S → ℕ)
+    (taken : K → Option (List ℕ)) (writes : K → ℕ) (path : List ℕ) (names : Names) (f f' : F) (s s' : S) (k k' : K) where
+  -- the file was read whole, and this is what a check of its text did
+  pub record IsCheckedFile (ending : CheckEnding) : Type 0 where
+    pub text : List ℕ
+    pub read : IsReadWhole file_left f f' text
+    pub did : DidCheckText left reads taken writes path names text s s' k k' ending
+
+  -- What was read and written. Memory may have run out as the file was read.
+  abbrev pub DidCheck : CheckEnding → Type 0
+  DidCheck (Ran ending messages) =
+      IsCheckedFile (Ran ending messages) ⊎ (IsOutOfMemory (Ran ending messages) × (s' ≡ s) × (k' ≡ k))
+  DidCheck (NamesRefused messages) = IsCheckedFile (NamesRefused messages)
+  DidCheck (Refused message) = IsCheckedFile (Refused message)
+  DidCheck FileFault = Rose (file_reads f) (file_reads f') × (s' ≡ s) × (k' ≡ k)
+  DidCheck FileTooLong = GaveMore longest_input (file_left f) (file_left f') × (s' ≡ s) × (k' ≡ k)

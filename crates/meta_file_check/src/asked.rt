@@ -1,0 +1,51 @@
+ghost use Rattle.std.specs.Prelude.{◌≡◌, ◌≢◌, ◌↔◌, ◌∷◌, [], codes, IfSome, IfNone, IsTrue};
+ghost use Rattle.meta_file.specs.Over.{rust_word};
+ghost use Rattle.meta_file_check.specs.Asked.{check_words};
+ghost use Rattle.meta_file_check.specs.declared.asked.Names as spec;
+ghost use Rattle.meta_file_check.specs.declared.asked.Names.TheVariants as spec_names;
+
+use meta_types::Text;
+
+/// What a check does with names that Rust refuses (this project's own).
+#[derive(Clone, Copy, Debug, PartialEq, Eq)]
+pub enum Names {
+    /// `check`: it tells them, and goes on.
+    Warn,
+    /// `check --rust`: it tells them, and refuses the file.
+    Refuse,
+}
+
+/// Whether the word is `check`.
+fn is_check(word: &Text) -> bool
+    ensures { IsTrue result ↔ (word.now ≡ codes "check") }
+{
+    word.as_bytes() == b"check".as_slice()
+}
+
+/// Whether the word is `--rust`.
+fn is_rust(word: &Text) -> bool
+    ensures { IsTrue result ↔ (word.now ≡ rust_word) }
+{
+    word.as_bytes() == b"--rust".as_slice()
+}
+
+impl Names {
+    /// What words ask a check for, and `None` exactly where they ask for no check.
+    pub fn asked(words: &[Text]) -> Option<Names>
+        ensures some { IfSome result (λ names. words.now ≡ check_words names) }
+        ensures none { IfNone result ((names : spec.Names) → words.now ≢ check_words names) }
+    {
+        match words {
+            [check] if is_check(check) => Some(Names::Warn),
+            [check, rust] if is_check(check) && is_rust(rust) => Some(Names::Refuse),
+            _ => None,
+        }
+    }
+
+    /// Whether names are refused.
+    pub(crate) fn are_refused(self) -> bool
+        ensures { IsTrue result ↔ (self ≡ spec_names.Refuse) }
+    {
+        matches!(self, Names::Refuse)
+    }
+}

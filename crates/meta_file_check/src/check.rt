@@ -1,0 +1,116 @@
+ghost use Rattle.meta_declared.specs.AllDeclared.{AreValid};
+ghost use Rattle.meta_file.specs.File.{Declares};
+ghost use Rattle.meta_file_check.specs.Told.{AreTold};
+ghost use Rattle.meta_file_check.specs.Checked.{IsOutOfMemory, DidCheckText, DidCheck};
+
+use super::asked::Names;
+use super::check_ending::CheckEnding;
+use super::told::names_told;
+use meta_declared::Declarations;
+use meta_file::{LoadError, load, run_check};
+use meta_run::Ending;
+use meta_text::{ReadError, Sink, Source, read_whole};
+use meta_tokens::Bytes;
+use std::alloc::Global;
+
+/// The end where memory ran out.
+fn out_of_memory(alloc: Global) -> CheckEnding
+    ensures { IsOutOfMemory result }
+{
+    CheckEnding::Ran(Ending::OutOfMemory, Vec::new(alloc))
+}
+
+/// Counts the declarations, where these messages of their names don't have them refused.
+fn check_told<S: Source, K: Sink>(
+    alloc: Global,
+    path: &[u8],
+    names: Names,
+    text: &[u8],
+    messages: Vec<Bytes>,
+    declarations: &Declarations,
+    source: &mut S,
+    sink: &mut K,
+) -> CheckEnding
+    requires declares { Declares text.now declarations.now }
+    requires valid { AreValid declarations.now }
+    requires told { AreTold path.now names text.now declarations.now messages.items }
+    ensures { DidCheckText S.left S.faults K.taken K.faults path.now names text.now source.old source.new sink.old sink.new result }
+{
+    if names.are_refused() && !messages.is_empty() {
+        return CheckEnding::NamesRefused(messages);
+    }
+    let ending = run_check(alloc, declarations, source, sink);
+    CheckEnding::Ran(ending, messages)
+}
+
+/// Checks declarations that a text makes, and that show no fault.
+fn check_declared<S: Source, K: Sink>(
+    alloc: Global,
+    path: &[u8],
+    names: Names,
+    text: &[u8],
+    declarations: &Declarations,
+    source: &mut S,
+    sink: &mut K,
+) -> CheckEnding
+    requires declares { Declares text.now declarations.now }
+    requires valid { AreValid declarations.now }
+    ensures { DidCheckText S.left S.faults K.taken K.faults path.now names text.now source.old source.new sink.old sink.new result }
+{
+    match names_told(alloc, path, names, text, declarations) {
+        Ok(messages) => check_told(
+            alloc,
+            path,
+            names,
+            text,
+            messages,
+            declarations,
+            source,
+            sink,
+        ),
+        Err(_) => out_of_memory(alloc),
+    }
+}
+
+/// Checks a text.
+fn check_text<S: Source, K: Sink>(
+    alloc: Global,
+    path: &[u8],
+    names: Names,
+    text: &[u8],
+    source: &mut S,
+    sink: &mut K,
+) -> CheckEnding
+    ensures { DidCheckText S.left S.faults K.taken K.faults path.now names text.now source.old source.new sink.old sink.new result }
+{
+    match load(alloc, path, text) {
+        Ok(declarations) => check_declared(alloc, path, names, text, &declarations, source, sink),
+        Err(LoadError::Refused(message)) => CheckEnding::Refused(message),
+        Err(LoadError::Memory) => out_of_memory(alloc),
+    }
+}
+
+/// Reads a file, counts what it declares, as `run_file` does for `check`, and tells the names that Rust refuses; where they are to be
+/// refused and there are some, nothing is written (this project's own). The path stands in messages alone, and the source isn't read.
+///
+/// The order is: the whole file; what it reads as and declares, which is refused by the first thing that is wrong, in the order of `load`;
+/// its names; the count, which is written. Memory may run out at any point.
+pub fn check_file<F: Source, S: Source, K: Sink>(
+    alloc: Global,
+    path: &[u8],
+    names: Names,
+    file: &mut F,
+    source: &mut S,
+    sink: &mut K,
+) -> CheckEnding
+    // What was read and written, and what is told, by how it ended.
+    ensures did { DidCheck F.left F.faults S.left S.faults K.taken K.faults path.now names file.old file.new
+        source.old source.new sink.old sink.new result }
+{
+    match read_whole(alloc, file) {
+        Ok(text) => check_text(alloc, path, names, &text, source, sink),
+        Err(ReadError::ReadFault) => CheckEnding::FileFault,
+        Err(ReadError::TooLong) => CheckEnding::FileTooLong,
+        Err(ReadError::OutOfMemory) => out_of_memory(alloc),
+    }
+}
