@@ -2,3 +2,4 @@ pub mod Alike
 pub mod Inserted
 pub mod Wording
 pub mod FreeWords
+pub mod Functions

@@ -1,3 +1,8 @@
+ghost use Rattle.std.specs.Prelude.{◌≡◌, ◌++◌, ◌∷◌, [], IfOk, OnOk, Some, slice_get, if◌then◌else◌};
+ghost use Rattle.meta_inst.specs.Builder.{Builder};
+ghost use Rattle.meta_items.specs.Named.{name_bytes, doc_text};
+ghost use Rattle.meta_items.specs.declared.insts.Mark.TheVariants as mark;
+
 use super::formats::FormatWords;
 use super::kinds::Kinds;
 use super::operands::operands_of;
@@ -9,7 +14,9 @@ use meta_typevar::TypeVar;
 use std::alloc::{AllocError, Global};
 
 /// Adds the mark, where the instruction has it.
-fn push_mark(marks: &mut Vec<Mark>, holds: bool, property: Property) -> Result<(), AllocError> {
+fn push_mark(marks: &mut Vec<Mark>, holds: bool, property: Property) -> Result<(), AllocError>
+    ensures { OnOk result (marks.new.items ≡ (if holds then (marks.old.items ++ mark.Is property ∷ []) else marks.old.items)) }
+{
     if holds {
         marks.push(Mark::Is(property))?;
     }
@@ -65,7 +72,10 @@ fn inst_of(
     formats: &FormatWords,
     inst: &InstructionContent,
     second: Option<TypeVar>,
-) -> Result<InstItem, AllocError> {
+) -> Result<InstItem, AllocError>
+    ensures docs { IfOk result (λ item. doc_text item.docs ≡ inst.now.doc) }
+    ensures name { IfOk result (λ item. name_bytes item.name ≡ inst.now.name) }
+{
     Ok(InstItem {
         docs: docs_of(alloc, inst.doc().as_bytes())?,
         name: name_of(alloc, inst.name().as_bytes())?,
@@ -77,7 +87,9 @@ fn inst_of(
 }
 
 /// The second control of the instruction at a place, if it is there and names one.
-fn second_at(declarations: &Declarations, place: usize) -> Option<TypeVar> {
+fn second_at(declarations: &Declarations, place: usize) -> Option<TypeVar>
+    ensures { (b : Builder) → slice_get declarations.now.set.instructions place ≡ Some b → result ≡ b.second }
+{
     let instructions = declarations.instructions();
     if place < instructions.len() {
         return instructions.get(place).second();

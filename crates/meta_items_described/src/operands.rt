@@ -1,5 +1,9 @@
-ghost use Rattle.std.specs.Prelude.{◌≡◌, ◌<◌, ℕ, IsTrue, Some, length};
-ghost use Rattle.meta_operands.specs.Operand.{variable_of};
+ghost use Rattle.std.specs.Prelude.{◌≡◌, ◌<◌, ℕ, IfOk, IsTrue, Some, None, length, map};
+ghost use Rattle.std.specs.Option.{unwrap_or};
+ghost use Rattle.meta_operands.specs.Kind.{variable_in};
+ghost use Rattle.meta_operands.specs.Operand.{variable_of, own_doc, doc_of};
+ghost use Rattle.meta_operands.specs.declared.operand.Operand.{Operand as spec_Operand};
+ghost use Rattle.meta_items.specs.Named.{name_bytes};
 
 use super::kinds::Kinds;
 use super::texts::{name_of, unless_same};
@@ -20,7 +24,9 @@ fn is_of(vars: &TypeVars, operand: &Operand) -> bool
 }
 
 /// Whether the variable of values of the kind, if it is of values, is of the registry.
-pub(crate) fn is_kind_of(vars: &TypeVars, kind: &OperandKind) -> bool {
+pub(crate) fn is_kind_of(vars: &TypeVars, kind: &OperandKind) -> bool
+    ensures { IsTrue result → (tv : ℕ) → variable_in kind.now.fields ≡ Some tv → tv < length vars.now }
+{
     match kind.fields {
         OperandKindFields::TypeVar(variable) => vars.is_of(variable),
         _ => true,
@@ -28,7 +34,9 @@ pub(crate) fn is_kind_of(vars: &TypeVars, kind: &OperandKind) -> bool {
 }
 
 /// The documentation of an operand. A variable that isn't of the registry is handled as want of memory.
-fn doc_of(alloc: Global, vars: &TypeVars, operand: &Operand) -> Result<Text, AllocError> {
+fn doc_of(alloc: Global, vars: &TypeVars, operand: &Operand) -> Result<Text, AllocError>
+    ensures { IfOk result (λ doc. doc ≡ doc_of vars.now operand.now) }
+{
     if !is_of(vars, operand) {
         return Err(AllocError);
     }
@@ -40,13 +48,18 @@ pub(crate) fn default_doc(
     alloc: Global,
     vars: &TypeVars,
     kind: &OperandKind,
-) -> Result<Text, AllocError> {
+) -> Result<Text, AllocError>
+    ensures { IfOk result (λ doc. (o : spec_Operand) → o.kind ≡ kind.now → own_doc o ≡ None → doc ≡ doc_of vars.now o) }
+{
     let operand = Operand::new(Text::new(alloc, "")?, kind.copy(alloc)?);
     doc_of(alloc, vars, &operand)
 }
 
 /// The documentation of the operand, if it differs from that of an operand of its kind without one.
-fn own_doc(alloc: Global, vars: &TypeVars, operand: &Operand) -> Result<Option<Bytes>, AllocError> {
+fn own_doc(alloc: Global, vars: &TypeVars, operand: &Operand) -> Result<Option<Bytes>, AllocError>
+    ensures { IfOk result (λ doc. (o : spec_Operand) → o.kind ≡ operand.now.kind → own_doc o ≡ None
+        → unwrap_or doc (doc_of vars.now o) ≡ doc_of vars.now operand.now) }
+{
     let default = default_doc(alloc, vars, &operand.kind)?;
     let doc = doc_of(alloc, vars, operand)?;
     unless_same(alloc, doc.as_bytes(), default.as_bytes())
@@ -57,7 +70,9 @@ fn operand_of(
     alloc: Global,
     kinds: &Kinds<'_>,
     operand: &Operand,
-) -> Result<meta_items::Operand, AllocError> {
+) -> Result<meta_items::Operand, AllocError>
+    ensures { IfOk result (λ o. name_bytes o.name ≡ operand.now.name) }
+{
     Ok(meta_items::Operand {
         name: name_of(alloc, operand.name.as_bytes())?,
         what: kinds.type_or_kind(alloc, &operand.kind)?,
@@ -70,7 +85,9 @@ pub(crate) fn operands_of(
     alloc: Global,
     kinds: &Kinds<'_>,
     operands: &[Operand],
-) -> Result<Vec<meta_items::Operand>, AllocError> {
+) -> Result<Vec<meta_items::Operand>, AllocError>
+    ensures { IfOk result (λ listed. map (λ o. name_bytes o.name) listed.items ≡ map (λ o. o.name) operands.now) }
+{
     let mut listed = Vec::new(alloc);
     for operand in operands {
         listed.push(operand_of(alloc, kinds, operand)?)?;

@@ -1,4 +1,10 @@
-ghost use Rattle.std.specs.Prelude.{◌<◌, length};
+ghost use Rattle.std.specs.Prelude.{◌≡◌, ◌<◌, IfOk, Some, length, map, reverse, slice_get};
+ghost use Rattle.std.specs.Option.{unwrap_or};
+ghost use Rattle.meta_typevar.specs.Registry.{variable_at};
+ghost use Rattle.meta_typevar.specs.declared.content.TypeVarContent.{TypeVarContent};
+ghost use Rattle.meta_items.specs.Named.{doc_text};
+ghost use Rattle.meta_items_types.specs.Words.{function_meant};
+ghost use Rattle.meta_items_described.specs.Functions.{word_for};
 
 use super::names::NameCounts;
 use super::sets::set_of;
@@ -31,7 +37,9 @@ fn is_plain(alloc: Global, vars: &TypeVars, root: TypeVar) -> Result<bool, Alloc
 }
 
 /// The function as items have it.
-fn function_of(function: DerivedFunc) -> Function {
+fn function_of(function: DerivedFunc) -> Function
+    ensures { result ≡ word_for function }
+{
     match function {
         DerivedFunc::LaneOf => Function::LaneOf,
         DerivedFunc::AsTruthy => Function::AsTruthy,
@@ -46,12 +54,14 @@ fn function_of(function: DerivedFunc) -> Function {
 }
 
 /// The functions of a chain as items have them: the last one first.
-fn functions_of(alloc: Global, chain: &[DerivedFunc]) -> Result<Vec<Function>, AllocError> {
-    let mut functions = Vec::new(alloc);
-    for function in chain.iter().rev() {
-        functions.push(function_of(*function))?;
-    }
-    Ok(functions)
+fn functions_of(alloc: Global, chain: &[DerivedFunc]) -> Result<Vec<Function>, AllocError>
+    ensures { IfOk result (λ v. v.items ≡ map word_for (reverse chain.now)) }
+{
+    chain
+        .iter()
+        .rev()
+        .map(|function| function_of(*function))
+        .collect(alloc)
 }
 
 /// The item of a root, by its word.
@@ -62,6 +72,9 @@ fn type_item(
     word: &Bytes,
 ) -> Result<TypeItem, AllocError>
     requires { root < length vars.now }
+    ensures word { IfOk result (λ item. item.word ≡ word.now) }
+    ensures shown { IfOk result (λ item. (c : TypeVarContent) → slice_get vars.now root ≡ Some c → unwrap_or item.shown item.word ≡ c.name) }
+    ensures docs { IfOk result (λ item. (c : TypeVarContent) → slice_get vars.now root ≡ Some c → doc_text item.docs ≡ c.doc) }
 {
     let content = vars.content(root);
     let masks = root.get_typeset(alloc, vars)?.masks();
@@ -165,11 +178,10 @@ impl<'d> Roots<'d> {
     }
 
     /// The type of a variable in use. One that isn't is handled as want of memory.
-    pub(crate) fn type_expr(
-        &self,
-        alloc: Global,
-        variable: TypeVar,
-    ) -> Result<TypeExpr, AllocError> {
+    #[tactic(auto, using(crate::proofs::Functions::words_mean))]
+    pub(crate) fn type_expr(&self, alloc: Global, variable: TypeVar) -> Result<TypeExpr, AllocError>
+        ensures { IfOk result (λ t. map function_meant t.functions ≡ reverse (variable_at self.now.vars.now variable).chain) }
+    {
         if !self.vars.is_of(variable) {
             return Err(AllocError);
         }

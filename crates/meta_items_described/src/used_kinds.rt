@@ -1,3 +1,6 @@
+ghost use Rattle.std.specs.Prelude.{◌≡◌, IfSome, codes};
+ghost use Rattle.meta_operands.specs.declared.kind.OperandKindFields.TheVariants as fields;
+
 use super::kind_items::key_of;
 use super::names::NameCounts;
 use super::roots::Roots;
@@ -9,7 +12,11 @@ use std::alloc::{AllocError, Global};
 use std::collections::{BTreeMap, BTreeSet};
 
 /// The variable of values of a type, if the kind says no more of them.
-pub(crate) fn plain_variable(kind: &OperandKind) -> Option<TypeVar> {
+pub(crate) fn plain_variable(kind: &OperandKind) -> Option<TypeVar>
+    ensures field { IfSome result (λ _. kind.now.rust_field_name ≡ codes "value") }
+    ensures rust { IfSome result (λ _. kind.now.rust_type ≡ codes "ir::Value") }
+    ensures variable { IfSome result (λ variable. kind.now.fields ≡ fields.TypeVar variable) }
+{
     if kind.rust_field_name.as_str() != "value" || kind.rust_type.as_str() != "ir::Value" {
         return None;
     }
