@@ -3,18 +3,15 @@
 #   bench/asm.sh
 # The lines are those of bench/verify.sh: the queries of bench/queries.txt that are accepted, one for each of the 163 instructions,
 # again and again, behind parameters of all types that they use. `short` leaves their types out, and `explicit` writes what came of
-# it back. The programs `meta_query_cli` and `meta_asm_cli` are proved and built first where that is still to be done. Instructions
+# it back. The program `ciderlater` is proved and built first where that is still to be done. Instructions
 # are counted by `valgrind --tool=callgrind`. The status is 1 where a run fails or doesn't give the list back, or where a line of the
-# greater list takes a quarter more instructions than one of the smaller, and 125 where a program couldn't be built or there is no
+# greater list takes a quarter more instructions than one of the smaller, and 125 where the program couldn't be built or there is no
 # valgrind.
 set -u
 
 . "$(dirname "$0")/programs.sh"
 
-built meta_query_cli --version
-query=$program
-built meta_asm_cli --version
-asm=$program
+built ciderlater --version
 if ! command -v valgrind > /dev/null; then
     printf 'no valgrind\n' >&2
     exit 125
@@ -23,7 +20,7 @@ folder=$(mktemp -d) || exit 1
 trap 'rm -rf "$folder"' EXIT
 
 # The queries that are accepted.
-"$query" query < "$top/bench/queries.txt" > "$folder/answers" || exit 1
+"$program" query < "$top/bench/queries.txt" > "$folder/answers" || exit 1
 paste -d' ' "$folder/answers" "$top/bench/queries.txt" | sed -n 's/^accept accept /accept /p' > "$folder/accepted"
 
 # A parameter for each type of a value, and so many lines behind them.
@@ -43,17 +40,17 @@ list() {
 }
 
 list 0 > "$folder/parameters"
-"$asm" short < "$folder/parameters" > "$folder/short" || exit 1
-short_start=$(counted "$folder/parameters" "$asm" short) || exit 1
-explicit_start=$(counted "$folder/short" "$asm" explicit) || exit 1
+"$program" asm short < "$folder/parameters" > "$folder/short" || exit 1
+short_start=$(counted "$folder/parameters" "$program" asm short) || exit 1
+explicit_start=$(counted "$folder/short" "$program" asm explicit) || exit 1
 
 # The instructions of a line at a size, both ways.
 measured() {
     list "$1" > "$folder/list"
-    "$asm" short < "$folder/list" > "$folder/short" || return 1
-    "$asm" explicit < "$folder/short" | cmp -s - "$folder/list" || return 1
-    short=$((($(counted "$folder/list" "$asm" short) - short_start) / $1))
-    explicit=$((($(counted "$folder/short" "$asm" explicit) - explicit_start) / $1))
+    "$program" asm short < "$folder/list" > "$folder/short" || return 1
+    "$program" asm explicit < "$folder/short" | cmp -s - "$folder/list" || return 1
+    short=$((($(counted "$folder/list" "$program" asm short) - short_start) / $1))
+    explicit=$((($(counted "$folder/short" "$program" asm explicit) - explicit_start) / $1))
     printf '%d lines: %d instructions a line by short, %d by explicit\n' "$1" "$short" "$explicit"
 }
 

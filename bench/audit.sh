@@ -5,7 +5,7 @@
 # controls, each of any of 153 types; of each also the time that making the tables takes, which is a part of it, and what is left for
 # the comparison. What one takes is the difference between a run of many and a run of one, shared out; of three runs of each the least
 # counts. The program `rows_audit` declares them.
-# Then come the instructions of the processor in a run of `meta_audit_cli` over the text of the shared tables, and over some that other
+# Then come the instructions of the processor in a run of `ciderlater audit` over the text of the shared tables, and over some that other
 # programs wrote, and how many numbers were tested against a constraint: the calls of one function, as callgrind counts them. The last
 # line has an operand that is always of one type, under a control of 4 types, and under one of 4 and another of 2, where the text
 # names a function of the first control: 5 passes of 544 tests for each, one for each type of a control that a constraint reads, beside
@@ -17,7 +17,7 @@ set -u
 
 . "$(dirname "$0")/programs.sh"
 
-built meta_audit_cli --version
+built ciderlater --version
 audit=$program
 built rows_audit
 rows=$program
@@ -59,12 +59,15 @@ tests() {
          END { print sum + 0 }' "$1"
 }
 
-# What a run of a program over the input does, behind a name, with fewer tests than so many.
+# What a run of a program, behind its name and so many tests, over the input does, with fewer tests than that.
 over() {
-    valgrind --tool=callgrind --callgrind-out-file="$folder/calls" "$3" < "$folder/input" > "$folder/out" 2> "$folder/log" || return 1
+    name=$1
+    most=$2
+    shift 2
+    valgrind --tool=callgrind --callgrind-out-file="$folder/calls" "$@" < "$folder/input" > "$folder/out" 2> "$folder/log" || return 1
     count=$(tests "$folder/calls")
-    printf '%s: %s, %s instructions, %s tests of a number\n' "$1" "$(head -n 1 "$folder/out")" "$(awk '/Collected/ { print $NF }' "$folder/log")" "$count"
-    [ "$count" -lt "$2" ]
+    printf '%s: %s, %s instructions, %s tests of a number\n' "$name" "$(head -n 1 "$folder/out")" "$(awk '/Collected/ { print $NF }' "$folder/log")" "$count"
+    [ "$count" -lt "$most" ]
 }
 
 # The same over the text that the lines write, which are the other words.
@@ -74,7 +77,7 @@ over_text() {
     shift 2
     printf '%s\n' '%% shared' "$@" > "$folder/lines"
     "$rows" < "$folder/lines" > "$folder/input" || return 1
-    over "$name" "$most" "$audit"
+    over "$name" "$most" "$audit" audit
 }
 
 # The lines that edit a text behind a comment of the stored rows.

@@ -15,7 +15,7 @@ set -u
 
 . "$(dirname "$0")/programs.sh"
 
-built meta_query_cli --version
+built ciderlater --version
 folder=$(mktemp -d) || exit 125
 trap 'rm -rf "$folder"' EXIT
 

@@ -2,14 +2,14 @@
 # Counts the instructions of the processor that the service of settings takes for a line, at two sizes, for each kind of line:
 #   bench/flags.sh
 # The lines of a kind are those below, again and again, and the last kind is all of them in turn. The second size has ten times the
-# lines of the first. The program `meta_flags_cli` is proved and built first where that is still to be done. Instructions are counted by
+# lines of the first. The program `ciderlater` is proved and built first where that is still to be done. Instructions are counted by
 # `valgrind --tool=callgrind`. The status is 1 where a run fails, or where a line of the second size takes a tenth more instructions
 # than one of the first, and 125 where the program couldn't be built or there is no valgrind.
 set -u
 
 . "$(dirname "$0")/programs.sh"
 
-built meta_flags_cli --version
+built ciderlater --version
 if ! command -v valgrind > /dev/null; then
     printf 'no valgrind\n' >&2
     exit 125
@@ -41,12 +41,12 @@ lines() {
 }
 
 : > "$folder/none"
-start=$(counted "$folder/none" "$program") || exit 1
+start=$(counted "$folder/none" "$program" flags) || exit 1
 
 # The instructions of a line of a kind at a size.
 of_a_line() {
     lines "$1" "$2" > "$folder/lines"
-    count=$(counted "$folder/lines" "$program") || return 1
+    count=$(counted "$folder/lines" "$program" flags) || return 1
     awk -v lines="$2" -v count="$((count - start))" 'BEGIN { printf "%.0f\n", count / lines }'
 }
 

@@ -26,7 +26,7 @@ built meta_bench tables 1 1
 bench=$program
 built rows
 rows=$program
-built meta_query_cli --version
+built ciderlater --version
 processor
 
 exec python3 - "$bench" "$rows" "$program" "$@" << 'END'

@@ -3,7 +3,7 @@
 #   bench/query.sh
 # The queries are those of bench/queries.txt, again and again: one that is accepted for each of the 163 instructions, one for each
 # of the 27 settings, and 21 that aren't answered so, of which a third each is refused, unknown and bad. The program
-# `meta_query_cli` is proved and built first where that is still to be done. A time is the processor time of a run, the least of
+# `ciderlater` is proved and built first where that is still to be done. A time is the processor time of a run, the least of
 # five. Instructions are counted by `valgrind --tool=callgrind`, and left out where there is no valgrind. The status is 1 where a run
 # fails, and 125 where the program couldn't be built.
 set -u
@@ -11,7 +11,7 @@ set -u
 . "$(dirname "$0")/programs.sh"
 
 queries=$top/bench/queries.txt
-built meta_query_cli --version
+built ciderlater --version
 folder=$(mktemp -d) || exit 1
 trap 'rm -rf "$folder"' EXIT
 

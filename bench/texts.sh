@@ -2,7 +2,7 @@
 # Counts the instructions of the processor that the texts take to be made and to be read, at two sizes, of which one is about twice
 # the other, and those and the time of one run of each command over the shared declarations:
 #   bench/texts.sh
-# The programs `meta_bench`, `rows` and `meta_query_cli` are proved and built first where that is still to be done. Counted is by
+# The programs `meta_bench`, `rows` and `ciderlater` are proved and built first where that is still to be done. Counted is by
 # `valgrind --tool=callgrind`.
 #
 # `meta_bench tables N TIMES` declares N instructions, makes their tables once, and their text so many times; what one text takes is
@@ -22,7 +22,7 @@ built meta_bench tables 1 1
 bench=$program
 built rows
 rows=$program
-built meta_query_cli --version
+built ciderlater --version
 folder=$(mktemp -d) || exit 1
 trap 'rm -rf "$folder"' EXIT
 processor

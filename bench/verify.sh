@@ -5,18 +5,15 @@
 # The lines are the queries of bench/queries.txt that are accepted, one for each of the 163 instructions, again and again: `accept`
 # asks by types, and `line` names values, which are parameters of these types, and defines new ones. The third size is the longest
 # list that an input has room for. The last part has 50,000 parameters whose numbers are 1 apart, which stand in a list, and as many
-# whose numbers are 32 apart, which stand in an ordered map. The programs `meta_query_cli` and `meta_verify_cli` are proved and built
-# first where that is still to be done.
+# whose numbers are 32 apart, which stand in an ordered map. The program `ciderlater` is proved and built first where that is
+# still to be done.
 # Instructions are counted by `valgrind --tool=callgrind`. The status is 1 where a run fails, or where a line of the longest list takes
-# twice the instructions of a query or more, and 125 where a program couldn't be built or there is no valgrind.
+# twice the instructions of a query or more, and 125 where the program couldn't be built or there is no valgrind.
 set -u
 
 . "$(dirname "$0")/programs.sh"
 
-built meta_query_cli --version
-query=$program
-built meta_verify_cli --version
-verify=$program
+built ciderlater --version
 if ! command -v valgrind > /dev/null; then
     printf 'no valgrind\n' >&2
     exit 125
@@ -25,7 +22,7 @@ folder=$(mktemp -d) || exit 1
 trap 'rm -rf "$folder"' EXIT
 
 # The queries that are accepted.
-"$query" query < "$top/bench/queries.txt" > "$folder/answers" || exit 1
+"$program" query < "$top/bench/queries.txt" > "$folder/answers" || exit 1
 paste -d' ' "$folder/answers" "$top/bench/queries.txt" | sed -n 's/^accept accept /accept /p' > "$folder/accepted"
 
 # So many queries, or as many lines as there are.
@@ -59,17 +56,17 @@ parameters() {
 
 : > "$folder/none"
 list 0 > "$folder/parameters"
-query_start=$(counted "$folder/none" "$query" query) || exit 1
-verify_start=$(counted "$folder/parameters" "$verify") || exit 1
+query_start=$(counted "$folder/none" "$program" query) || exit 1
+verify_start=$(counted "$folder/parameters" "$program" verify) || exit 1
 
 # The instructions of a line at a size, and of a query.
 compared() {
     list "$1" > "$folder/list"
-    [ "$("$verify" < "$folder/list")" = ok ] || return 1
+    [ "$("$program" verify < "$folder/list")" = ok ] || return 1
     lines=$(($(wc -l < "$folder/list") - $(wc -l < "$folder/parameters")))
     queries "$lines" > "$folder/queries"
-    line_count=$(counted "$folder/list" "$verify") || return 1
-    query_count=$(counted "$folder/queries" "$query" query) || return 1
+    line_count=$(counted "$folder/list" "$program" verify) || return 1
+    query_count=$(counted "$folder/queries" "$program" query) || return 1
     awk -v lines="$lines" -v a="$((line_count - verify_start))" -v b="$((query_count - query_start))" 'BEGIN {
         printf "%d lines: %.0f instructions a line, %.0f a query, %.2f times as many\n", lines, a / lines, b / lines, a / b
         exit !(a < 2 * b)
@@ -81,10 +78,10 @@ compared 10000
 compared 1000000
 status=$?
 
-empty=$(counted "$folder/none" "$verify") || exit 1
+empty=$(counted "$folder/none" "$program" verify) || exit 1
 for step in 1 32; do
     parameters 50000 "$step" > "$folder/list"
-    count=$(counted "$folder/list" "$verify") || exit 1
+    count=$(counted "$folder/list" "$program" verify) || exit 1
     awk -v step="$step" -v a="$((count - empty))" 'BEGIN { printf "50000 parameters, %d apart: %.0f instructions a line\n", step, a / 50000 }'
 done
 exit "$status"

@@ -20,8 +20,11 @@ fail() {
 
 # The lines of stored runs and of the examples that ask something, whatever they are answered with there.
 stored_lines() {
-    cat "$top"/crates/meta_query_cli/stdin "$top"/crates/rows_language/data/toy.in "$top"/examples/*.txt
-    awk '{ gsub(/\\r|\\n/, "\n"); print }' "$top"/crates/rows/stdin | grep -E '^(accept|infer|setting) '
+    cat "$top"/crates/rows_language/data/toy.in "$top"/examples/*.txt
+    {
+        sed -n 's/^> //p' "$top"/crates/rows_language/stdin
+        awk '{ gsub(/\\r|\\n/, "\n"); print }' "$top"/crates/rows/stdin
+    } | grep -E '^(accept|infer|setting) '
 }
 
 # Lines about each opcode and each setting of the text of tables: every opcode under each type as its control and under none, with

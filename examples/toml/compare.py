@@ -1,7 +1,7 @@
 #!/usr/bin/env python3
 """Reads what the service of settings writes as TOML by Python's own reader, and holds it against what was declared and set.
 
-    examples/toml/compare.py META_FLAGS_CLI ROWS_FLAGS
+    examples/toml/compare.py CIDERLATER ROWS_FLAGS
 
 The first program serves the shared settings: each name that it writes has the value that `get` tells, before and after values are
 set. The second serves twenty groups that are made here, whose values are known. The status is 0 where all are read as they should
@@ -12,8 +12,8 @@ import sys
 import tomllib
 
 
-def answers(program, text):
-    run = subprocess.run([program], input=text.encode(), capture_output=True, check=True)
+def answers(words, text):
+    run = subprocess.run(words, input=text.encode(), capture_output=True, check=True)
     return run.stdout.decode()
 
 
@@ -30,13 +30,13 @@ def shared(program):
     """How many values of the shared settings were compared."""
     compared = 0
     for lines in ["", "set opt_level speed\nenable is_pic\nset probestack_size_log2 255\nset enable_verifier false\n"]:
-        written = answers(program, lines + "toml\n")
+        written = answers([program, "flags"], lines + "toml\n")
         written = written[written.index("["):]
         groups = tomllib.loads(written)
         if list(groups) != ["shared"]:
             sys.exit(f"other groups: {list(groups)}")
         values = groups["shared"]
-        gets = answers(program, lines + "".join(f"get {name}\n" for name in values)).splitlines()
+        gets = answers([program, "flags"], lines + "".join(f"get {name}\n" for name in values)).splitlines()
         gets = gets[lines.count("\n"):]
         if gets != [told(value) for value in values.values()]:
             sys.exit("a shared setting is read otherwise than it is told")
@@ -85,7 +85,7 @@ def own(program):
     for seed in range(20):
         name, lines, asked, values = made(seed)
         rows = ["new", *lines, "declare", *(f"> {line}" for line in [*asked, "toml"]), "run"]
-        written = answers(program, "\n".join(rows) + "\n")
+        written = answers([program], "\n".join(rows) + "\n")
         status, *rest = written.split("\n")
         if status != "Done 0" or rest[:len(asked)] != ["ok"] * len(asked):
             sys.exit(f"group {seed} is answered {written[:200]!r}")

@@ -1,3 +1,7 @@
+ghost use Rattle.std.specs.Prelude.{◌≡◌, ◌⊎◌, IfErr};
+ghost use Rattle.meta_main.specs.OwnAnswer.{IsOwnAnswer, WasPrinted};
+ghost use Rattle.meta_run.specs.declared.ending.Ending.TheVariants.{OutOfMemory, Usage};
+
 use super::asked::Asked;
 use super::manual::Manual;
 use super::telling::about;
@@ -23,15 +27,19 @@ pub trait Program {
 }
 
 /// What it means that the words of the program can't be had.
-fn no_words(error: &io::Error) -> Ending {
+fn no_words(error: &io::Error) -> Ending
+    ensures { (result ≡ OutOfMemory) ⊎ (result ≡ Usage) }
+{
     match error.kind() {
         ErrorKind::OutOfMemory => Ending::OutOfMemory,
         _ => Ending::Usage,
     }
 }
 
-/// The words after the program's name.
-pub fn words(rt: &HostRuntime) -> Result<Vec<Text>, Ending> {
+/// The words after the program's name. `OutOfMemory` says that there is no room for them, and `Usage` that they are no text.
+pub fn words(rt: &HostRuntime) -> Result<Vec<Text>, Ending>
+    ensures had_or_told { IfErr result (λ ending. (ending ≡ OutOfMemory) ⊎ (ending ≡ Usage)) }
+{
     let alloc = rt.alloc();
     let args = std::env::args(rt).map_err(|error| no_words(&error))?;
     let mut words = Vec::new(alloc);
@@ -43,15 +51,19 @@ pub fn words(rt: &HostRuntime) -> Result<Vec<Text>, Ending> {
 }
 
 /// How a print on standard output ended.
-fn printed(outcome: io::Result<()>) -> Ending {
+fn printed(outcome: io::Result<()>) -> Ending
+    ensures { WasPrinted result }
+{
     match outcome {
         Ok(()) => Ending::Done,
         Err(_) => Ending::WriteFault,
     }
 }
 
-/// Prints the help or the version, where the words ask for it, and says how that ended.
-pub fn answer_of_itself(rt: &HostRuntime, manual: &Manual, words: &[Text]) -> Option<Ending> {
+/// Prints the help or the version, where the words ask for it, and says how that ended: `Done`, or `WriteFault`.
+pub fn answer_of_itself(rt: &HostRuntime, manual: &Manual, words: &[Text]) -> Option<Ending>
+    ensures asked { IsOwnAnswer words.now result }
+{
     let (name, version, help) = (manual.name, manual.version, manual.help);
     match Asked::of(words) {
         Asked::Help => Some(printed(println!(rt; "{help}"))),
