@@ -1,4 +1,5 @@
-use meta_main::{CommandForm, Manual, Range};
+use meta_file::COMMANDS;
+use meta_main::{CommandForm, Manual};
 
 const HELP: &str = "\
 Answers by the declarations of an instruction set: those of Cranelift's shared instructions and settings, or those of a file.
@@ -61,65 +62,5 @@ pub(crate) const MANUAL: Manual = Manual {
     name: "ciderlater",
     version: "0.1.0",
     help: HELP,
-    commands: &[
-        CommandForm {
-            name: "tables",
-            numbers: &[],
-        },
-        CommandForm {
-            name: "types",
-            numbers: &[],
-        },
-        CommandForm {
-            name: "settings",
-            numbers: &[],
-        },
-        CommandForm {
-            name: "instructions",
-            numbers: &[],
-        },
-        CommandForm {
-            name: "builder",
-            numbers: &[],
-        },
-        CommandForm {
-            name: "query",
-            numbers: &[],
-        },
-        CommandForm {
-            name: "recheck",
-            numbers: &[],
-        },
-        CommandForm {
-            name: "synth",
-            numbers: &[Range {
-                least: 0,
-                most: u32::MAX,
-            }],
-        },
-        CommandForm {
-            name: "verify",
-            numbers: &[],
-        },
-        CommandForm {
-            name: "asm",
-            numbers: &[],
-        },
-        CommandForm {
-            name: "flags",
-            numbers: &[],
-        },
-        CommandForm {
-            name: "audit",
-            numbers: &[],
-        },
-        CommandForm {
-            name: "check",
-            numbers: &[],
-        },
-        CommandForm {
-            name: "describe",
-            numbers: &[],
-        },
-    ],
+    commands: COMMANDS,
 };

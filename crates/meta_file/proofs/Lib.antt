@@ -1,6 +1,7 @@
 pub mod Counted
 pub mod ToolRuns
 pub mod OneTool
+mod ToolsListed
 pub mod Texts
 mod OneMessage
 pub mod FileRuns

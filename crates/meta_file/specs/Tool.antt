@@ -1,17 +1,20 @@
 -- What one asks over declarations, and how.
 --     AreToolWords tool words       the words ask this
+--     HaveWordBehind words          a word that is no number stands behind the name: a form of `asm`, or a version of the tables
 --     texts_of tool                 what it is answered with
-use Rattle.std.specs.Prelude.{◌≡◌, ℕ, Bool, true, false, List, [], ◌∷◌, codes}
+use Rattle.std.specs.Prelude.{◌≡◌, ◌⊎◌, ℕ, Bool, true, false, List, [], ◌∷◌, codes}
 use Rattle.meta_run.specs.Run.{Texts, Outputs, never_rejecting}
 use Rattle.meta_query.specs.Command.{AreWordsOf}
 use Rattle.meta_query.specs.Run as query
 use Rattle.meta_verify.specs.Verifier.{verdicts}
 use Rattle.meta_asm.specs.Form.{words_for, written_in}
+use Rattle.meta_asm.specs.declared.form.Form.{Form}
 use Rattle.meta_flags.specs.FlagsOutput.{IsFlagsOutput}
 use Rattle.meta_audit.specs.AuditLine.{IsAuditLine}
 use Rattle.meta_file.specs.TablesIn.{version_words, shown_in}
 use Rattle.meta_file.specs.Counts.{IsCheckLine}
 use Rattle.meta_file.specs.Described.{described}
+use Rattle.meta_table_text.specs.declared.version.Version.{Version}
 use Rattle.meta_file.specs.declared.tool.Lone.{Lone}
 use Rattle.meta_file.specs.declared.tool.Lone.TheVariants as lone
 use Rattle.meta_file.specs.declared.tool.Tool.{Tool}
@@ -39,6 +42,11 @@ AreToolWords Describe words = words ≡ codes "describe" ∷ []
 -- the words ask something
 abbrev pub AskSomething : List (List ℕ) → Type 0
 AskSomething words = (tool : Tool) × AreToolWords tool words
+
+-- a word that is no number stands behind the name: a form of `asm`, or a version of the tables
+abbrev pub HaveWordBehind : List (List ℕ) → Type 0
+HaveWordBehind words = ((form : Form) × (words ≡ codes "asm" ∷ words_for form))
+    ⊎ ((version : Version) × (words ≡ codes "tables" ∷ version_words version))
 
 -- whether there is an input
 abbrev pub reads_input : Tool → Bool

@@ -14,6 +14,7 @@ mod over;
 mod running;
 mod tables_in;
 mod tool;
+mod tool_list;
 
 pub use file_ending::FileEnding;
 pub use file_run::run_file;
@@ -22,3 +23,4 @@ pub use loading::{LoadError, load};
 pub use over::Over;
 pub use running::{run_check, run_words};
 pub use tool::Tool;
+pub use tool_list::{COMMANDS, listed_tools};

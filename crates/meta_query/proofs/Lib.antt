@@ -4,4 +4,4 @@ mod Told
 mod Runs
 mod TableReplies
 mod OneOutput
-mod Listed
+pub mod Listed

@@ -19,7 +19,7 @@ abbrev inner : {A : Type 0} → A → Option A → A
 inner d None = d
 inner d (Some x) = x
 
-some_same : {A : Type 0} (a b : A) → Some a ≡ Some b → a ≡ b
+pub some_same : {A : Type 0} (a b : A) → Some a ≡ Some b → a ≡ b
 some_same a b e = ap (inner a) e
 
 -- the numbers of 32 bits
@@ -28,7 +28,7 @@ range = record { least = 0; most = 4294967295 }
 
 -- ---- the numbers behind a name
 
-no_numbers : AreNumbersIn [] []
+pub no_numbers : AreNumbersIn [] []
 no_numbers = record { count = refl; numbers = λ k r word less at word_at. absurd (omega (arith, less)) }
 
 one_place : (n : ℕ) → n < 2 ^ 32 → AreNumbersTo 1 (range ∷ []) (decimal n ∷ [])
@@ -82,7 +82,7 @@ other_name name entry e = by_test (pointwise nat_eq entry.name.now name) refl e
     by_test true is e = absurd (cc)
     by_test false is e = other_text entry.name.now name (sym is)
 
-others : (entries : List CommandForm) (place : ℕ) (name : List ℕ)
+pub others : (entries : List CommandForm) (place : ℕ) (name : List ℕ)
     → list_all (is_other name) (take place entries) ≡ true → NamesNoneBefore place entries name
 others entries zero name e k entry below at = absurd (omega (arith, below))
 others [] (suc place) name e k entry below at = absurd (cc)
@@ -135,7 +135,7 @@ entry_at [] all k entry e = absurd (cc)
 entry_at (x ∷ entries) all zero entry e = subst IsEntry (some_same x entry e) all.0
 entry_at (x ∷ entries) all (suc k) entry e = entry_at entries all.1 k entry e
 
-of_entry : (entries : List CommandForm) (words : List (List ℕ)) (h : AreCommandWords entries words) → IsEntry h.command → IsCommand words
+pub of_entry : (entries : List CommandForm) (words : List (List ℕ)) (h : AreCommandWords entries words) → IsEntry h.command → IsCommand words
 of_entry entries words h (inl (c, number, none, name, no_ranges)) =
     let behind : h.behind ≡ number_words c = nil_from_length h.behind (h.numbers.count ∙ ap length no_ranges) ∙ sym none in
     (c, record { number = number; are = h.are ∙ ap₂ (λ n b. n ∷ b) name behind })

@@ -1,0 +1,70 @@
+use Rattle.std.proofs.Common.{refl, inl, inr}
+use Rattle.meta_query.specs.declared.command.Command.TheVariants.{Query, Recheck, Tables, Types, Settings, Instructions, Builder, Synth}
+use Rattle.meta_file.specs.declared.tool.Lone.TheVariants as lone
+use Rattle.meta_file.proofs.ToolsListed.{all_listed, all_asked}
+use Rattle.meta_file.proofs.tool_list.listed_tools.Goals as goal
+
+pub returns-clause-listed : goal.returns-clause-listed
+returns-clause-listed c =
+    all_listed _ (elim [
+      | Query ↦ record { place = 5; entry = _; at = refl; name = refl; numbers = refl; first = refl }
+      | Recheck ↦ record { place = 6; entry = _; at = refl; name = refl; numbers = refl; first = refl }
+      | Tables ↦ record { place = 0; entry = _; at = refl; name = refl; numbers = refl; first = refl }
+      | Types ↦ record { place = 1; entry = _; at = refl; name = refl; numbers = refl; first = refl }
+      | Settings ↦ record { place = 2; entry = _; at = refl; name = refl; numbers = refl; first = refl }
+      | Instructions ↦ record { place = 3; entry = _; at = refl; name = refl; numbers = refl; first = refl }
+      | Builder ↦ record { place = 4; entry = _; at = refl; name = refl; numbers = refl; first = refl }
+      | (Synth n) ↦ record { place = 7; entry = _; at = refl; name = refl; numbers = refl; first = refl }
+    ]) (elim [
+      | lone.Verify ↦ record { place = 8; entry = _; at = refl; name_is = refl; none = refl; first = refl }
+      | lone.Flags ↦ record { place = 10; entry = _; at = refl; name_is = refl; none = refl; first = refl }
+      | lone.Audit ↦ record { place = 11; entry = _; at = refl; name_is = refl; none = refl; first = refl }
+      | lone.Check ↦ record { place = 12; entry = _; at = refl; name_is = refl; none = refl; first = refl }
+      | lone.Describe ↦ record { place = 13; entry = _; at = refl; name_is = refl; none = refl; first = refl }
+    ])
+
+pub returns-clause-commands : goal.returns-clause-commands
+returns-clause-commands c =
+    all_asked _ (
+      inl (inl (Tables, tt, refl, refl, refl)),
+      (
+        inl (inl (Types, tt, refl, refl, refl)),
+        (
+          inl (inl (Settings, tt, refl, refl, refl)),
+          (
+            inl (inl (Instructions, tt, refl, refl, refl)),
+            (
+              inl (inl (Builder, tt, refl, refl, refl)),
+              (
+                inl (inl (Query, tt, refl, refl, refl)),
+                (
+                  inl (inl (Recheck, tt, refl, refl, refl)),
+                  (
+                    inl (inr (refl, refl)),
+                    (
+                      inr (inl (lone.Verify, refl, refl)),
+                      (
+                        inr (inr (refl, refl)),
+                        (
+                          inr (inl (lone.Flags, refl, refl)),
+                          (
+                            inr (inl (lone.Audit, refl, refl)),
+                            (
+                              inr (inl (lone.Check, refl, refl)),
+                              (
+                                inr (inl (lone.Describe, refl, refl)),
+                                tt,
+                              ),
+                            ),
+                          ),
+                        ),
+                      ),
+                    ),
+                  ),
+                ),
+              ),
+            ),
+          ),
+        ),
+      ),
+    )
