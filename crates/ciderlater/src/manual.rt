@@ -5,7 +5,7 @@ const HELP: &str = "\
 Answers by the declarations of an instruction set: those of Cranelift's shared instructions and settings, or those of a file.
 
 Usage: ciderlater [-d FILE] COMMAND    what the command answers
-       ciderlater check [--rust] FILE  ok and how much is declared, or which line of the file is the first wrong one, and why;
+       ciderlater check [--rust] FILE  ok and how much is declared, or what is wrong first, with its line;
                                        the lines with names that rustc refuses are told, and with --rust refused
 
 Commands:

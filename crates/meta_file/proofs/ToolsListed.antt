@@ -7,8 +7,11 @@ use Rattle.std.specs.List.{list_all}
 use Rattle.meta_main.specs.Misuse.{AreCommandWords, AreTaken, AreNumbersIn, NamesNoneBefore}
 use Rattle.meta_main.specs.declared.manual.CommandForm.{CommandForm}
 use Rattle.meta_query.specs.declared.command.Command.{Command}
+use Rattle.meta_query.specs.declared.command.Command.TheVariants.{Tables}
+use Rattle.meta_asm.specs.Form.{words_for}
+use Rattle.meta_file.specs.TablesIn.{version_words}
 use Rattle.meta_query.proofs.Listed.{is_other, no_numbers, others, some_same, HaveEntry, listed, IsEntry, of_entry}
-use Rattle.meta_file.specs.Tool.{AreToolWords, AskSomething, HaveWordBehind, lone_name}
+use Rattle.meta_file.specs.Tool.{AskSomething, BeginWithNameOf, HaveWordBehind, lone_name}
 use Rattle.meta_file.specs.declared.tool.Lone.{Lone}
 use Rattle.meta_file.specs.declared.tool.Lone.TheVariants as lone
 use Rattle.meta_file.specs.declared.tool.Tool.{Tool}
@@ -47,6 +50,23 @@ all_listed entries commands lones words (Flags, h) = inl (taken entries (codes "
 all_listed entries commands lones words (Audit, h) = inl (taken entries (codes "audit") (lones lone.Audit) words h)
 all_listed entries commands lones words (Check, h) = inl (taken entries (codes "check") (lones lone.Check) words h)
 all_listed entries commands lones words (Describe, h) = inl (taken entries (codes "describe") (lones lone.Describe) words h)
+
+begins : (entries : List CommandForm) (words : List (List ℕ)) → AreTaken entries words → BeginWithNameOf entries words
+begins entries words h = (h.are.named.place, h.are.command, h.are.behind, h.are.named.at, h.are.are)
+
+-- the entries begin all words that ask something: one is that of `tables`, and one that of `asm`
+pub all_named : (entries : List CommandForm) → ((c : Command) → HaveEntry entries c)
+    → ((l : Lone) → HavePlainEntry entries (lone_name l)) → HavePlainEntry entries (codes "asm")
+    → (words : List (List ℕ)) → AskSomething words → BeginWithNameOf entries words
+all_named entries commands lones asm words h = of_listed (all_listed entries commands lones words h)
+  where
+    of_listed : AreTaken entries words ⊎ HaveWordBehind words → BeginWithNameOf entries words
+    of_listed (inl it) = begins entries words it
+    of_listed (inr (inl (form, e))) =
+        (asm.place, asm.entry, words_for form, asm.at, e ∙ ap (λ n. n ∷ words_for form) (sym asm.name_is))
+    of_listed (inr (inr (version, e))) =
+        let it = commands Tables in
+        (it.place, it.entry, version_words version, it.at, e ∙ ap (λ n. n ∷ version_words version) (sym it.name))
 
 -- the entry is that of a command of `run`, of a tool whose words are its name, or of `asm`
 abbrev pub IsToolEntry : CommandForm → Type 0

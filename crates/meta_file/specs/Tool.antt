@@ -1,8 +1,10 @@
 -- What one asks over declarations, and how.
 --     AreToolWords tool words       the words ask this
+--     BeginWithNameOf commands words    the first word is the name of one of the commands
 --     HaveWordBehind words          a word that is no number stands behind the name: a form of `asm`, or a version of the tables
 --     texts_of tool                 what it is answered with
-use Rattle.std.specs.Prelude.{◌≡◌, ◌⊎◌, ℕ, Bool, true, false, List, [], ◌∷◌, codes}
+use Rattle.std.specs.Prelude.{◌≡◌, ◌⊎◌, ℕ, Bool, true, false, List, [], ◌∷◌, codes, slice_get, Some}
+use Rattle.meta_main.specs.declared.manual.CommandForm.{CommandForm}
 use Rattle.meta_run.specs.Run.{Texts, Outputs, never_rejecting}
 use Rattle.meta_query.specs.Command.{AreWordsOf}
 use Rattle.meta_query.specs.Run as query
@@ -42,6 +44,11 @@ AreToolWords Describe words = words ≡ codes "describe" ∷ []
 -- the words ask something
 abbrev pub AskSomething : List (List ℕ) → Type 0
 AskSomething words = (tool : Tool) × AreToolWords tool words
+
+-- the first word is the name of one of the commands
+abbrev pub BeginWithNameOf : List CommandForm → List (List ℕ) → Type 0
+BeginWithNameOf commands words = (k : ℕ) × (command : CommandForm) × (behind : List (List ℕ))
+    × (slice_get commands k ≡ Some command) × (words ≡ command.name.now ∷ behind)
 
 -- a word that is no number stands behind the name: a form of `asm`, or a version of the tables
 abbrev pub HaveWordBehind : List (List ℕ) → Type 0

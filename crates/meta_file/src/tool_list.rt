@@ -1,6 +1,6 @@
 ghost use Rattle.std.specs.Prelude.{◌≡◌, ◌⊎◌, ◌∷◌, [], ℕ, List, codes};
 ghost use Rattle.meta_main.specs.Misuse.{AreCommandWords, AreTaken};
-ghost use Rattle.meta_file.specs.Tool.{AskSomething, HaveWordBehind};
+ghost use Rattle.meta_file.specs.Tool.{AskSomething, BeginWithNameOf, HaveWordBehind};
 
 use meta_main::{CommandForm, Range};
 
@@ -71,6 +71,8 @@ pub const COMMANDS: &[CommandForm] = &[
 /// no numbers: so a usage error names each command and no other.
 pub fn listed_tools() -> &'static [CommandForm]
     ensures listed { (words : List (List ℕ)) → AskSomething words → AreTaken result.now words ⊎ HaveWordBehind words }
+    // Also these begin with a name of the list.
+    ensures named { (words : List (List ℕ)) → AskSomething words → BeginWithNameOf result.now words }
     ensures commands { (words : List (List ℕ)) → AreCommandWords result.now words → AskSomething words ⊎ (words ≡ codes "asm" ∷ []) }
 {
     COMMANDS

@@ -1,7 +1,7 @@
 use Rattle.std.proofs.Common.{refl, inl, inr}
 use Rattle.meta_query.specs.declared.command.Command.TheVariants.{Query, Recheck, Tables, Types, Settings, Instructions, Builder, Synth}
 use Rattle.meta_file.specs.declared.tool.Lone.TheVariants as lone
-use Rattle.meta_file.proofs.ToolsListed.{all_listed, all_asked}
+use Rattle.meta_file.proofs.ToolsListed.{all_listed, all_named, all_asked}
 use Rattle.meta_file.proofs.tool_list.listed_tools.Goals as goal
 
 pub returns-clause-listed : goal.returns-clause-listed
@@ -22,6 +22,25 @@ returns-clause-listed c =
       | lone.Check ↦ record { place = 12; entry = _; at = refl; name_is = refl; none = refl; first = refl }
       | lone.Describe ↦ record { place = 13; entry = _; at = refl; name_is = refl; none = refl; first = refl }
     ])
+
+pub returns-clause-named : goal.returns-clause-named
+returns-clause-named c =
+    all_named _ (elim [
+      | Query ↦ record { place = 5; entry = _; at = refl; name = refl; numbers = refl; first = refl }
+      | Recheck ↦ record { place = 6; entry = _; at = refl; name = refl; numbers = refl; first = refl }
+      | Tables ↦ record { place = 0; entry = _; at = refl; name = refl; numbers = refl; first = refl }
+      | Types ↦ record { place = 1; entry = _; at = refl; name = refl; numbers = refl; first = refl }
+      | Settings ↦ record { place = 2; entry = _; at = refl; name = refl; numbers = refl; first = refl }
+      | Instructions ↦ record { place = 3; entry = _; at = refl; name = refl; numbers = refl; first = refl }
+      | Builder ↦ record { place = 4; entry = _; at = refl; name = refl; numbers = refl; first = refl }
+      | (Synth n) ↦ record { place = 7; entry = _; at = refl; name = refl; numbers = refl; first = refl }
+    ]) (elim [
+      | lone.Verify ↦ record { place = 8; entry = _; at = refl; name_is = refl; none = refl; first = refl }
+      | lone.Flags ↦ record { place = 10; entry = _; at = refl; name_is = refl; none = refl; first = refl }
+      | lone.Audit ↦ record { place = 11; entry = _; at = refl; name_is = refl; none = refl; first = refl }
+      | lone.Check ↦ record { place = 12; entry = _; at = refl; name_is = refl; none = refl; first = refl }
+      | lone.Describe ↦ record { place = 13; entry = _; at = refl; name_is = refl; none = refl; first = refl }
+    ]) (record { place = 9; entry = _; at = refl; name_is = refl; none = refl; first = refl })
 
 pub returns-clause-commands : goal.returns-clause-commands
 returns-clause-commands c =
