@@ -1,4 +1,6 @@
 mod AllItems
+mod Begun
+mod BegunItems
 mod Bodies
 mod Clean
 mod ClosedLoop
@@ -8,6 +10,7 @@ mod InstLaws
 mod KeyCount
 mod KindLaws
 mod LeaveLaws
+mod LineLaws
 mod ListLaws
 mod Loop
 mod PartLaws

@@ -1,12 +1,23 @@
-ghost use Rattle.std.specs.Prelude.{◌≡◌, ℕ, List, Ok};
+ghost use Rattle.std.specs.Prelude.{◌≡◌, ◌↔◌, ◌-◌, ℕ, List, ◌∷◌, ◌++◌, length, Ok, Err};
+ghost use Rattle.std.specs.Str.{IsUtf8};
+ghost use Rattle.meta_tokens.specs.Scan.{tokens_in};
+ghost use Rattle.meta_tokens.specs.Encoding.{text_tokens};
 ghost use Rattle.meta_tokens.specs.Laid.{laid, CanWriteAll};
 ghost use Rattle.meta_tokens.specs.Squeezed.{read_in};
 ghost use Rattle.meta_items.specs.Spelling.{spelled_all};
 ghost use Rattle.meta_items.specs.declared.items.Item.{Item};
+ghost use Rattle.meta_items_reader.specs.declared.fault.Fault.{Fault};
 ghost use Rattle.meta_items_reader.specs.Fits.{AllFit};
-ghost use Rattle.meta_items_reader.specs.Refused.{items_in};
+ghost use Rattle.meta_items_reader.specs.Refused.{AreRefused, items_in};
 
 use meta_tokens::what_is_laid_is_read;
+
+/// A text reads as items exactly where they fit and its tokens are theirs, one item behind the other. Where it reads as none, it is some
+/// items at its front, the longest, and then what doesn't go on: there it is refused.
+pub fn what_is_read()
+    ensures read { (text : List ℕ) (is : List Item) → (items_in text ≡ Ok is) ↔ (AllFit is × (read_in text ≡ spelled_all is)) }
+    ensures refused { (text : List ℕ) (f : Fault) → items_in text ≡ Err f → AreRefused (read_in text) (length (read_in text) - f.left) }
+{}
 
 /// A text reads as one list of items at most.
 pub fn one_list_of_items()
@@ -22,3 +33,9 @@ pub fn what_is_written_is_read()
 {
     what_is_laid_is_read();
 }
+
+/// Lines are read one by one: no token, and no flaw either, goes on behind a line end.
+pub fn lines_are_read_alone()
+    ensures bytes { (a b : List ℕ) → tokens_in (a ++ 10 ∷ b) ≡ tokens_in a ++ tokens_in b }
+    ensures texts { (a b : List ℕ) → IsUtf8 a → IsUtf8 b → text_tokens (a ++ 10 ∷ b) ≡ text_tokens a ++ text_tokens b }
+{}
