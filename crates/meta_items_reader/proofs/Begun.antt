@@ -346,8 +346,12 @@ unfolding type_at
 type_told ts =
     told_bind (Starts type_expr Any) ts (calls_at ts) _ (calls_told ts)
     (λ fs e. told_behind (Starts type_expr Any) (each_behind [] called fs.0) fs.1 ts _ (calls_takes ts fs e)
-    (told_word (λ d. Starts type_expr Any (each_behind [] called fs.0 ++ d)) wanted.Type fs.1 _
-    (a_type fs.0, Word (codes "i32") ∷ closed fs.0, tt, sym (append_assoc (each_behind [] called fs.0) [] (Word (codes "i32") ∷ closed fs.0)))
+    (told_word (λ d. Starts type_expr Any (each_behind [] called fs.0 ++ d)) wanted.Type fs.1 _ (
+      a_type fs.0,
+      Word (codes "i32") ∷ closed fs.0,
+      tt,
+      sym (append_assoc (each_behind [] called fs.0) [] (Word (codes "i32") ∷ closed fs.0)),
+    )
     (λ w. told_bind (λ d. Starts type_expr Any (each_behind [] called fs.0 ++ Word w.0 ∷ d)) w.1 (closed_at (length fs.0) w.1) _
     (closed_told fs.0 (λ d. Starts type_expr Any (each_behind [] called fs.0 ++ Word w.0 ∷ d)) w.1
     (λ d more c. (

@@ -1,6 +1,7 @@
 -- What stands before a fault begins what is read: sets, kinds, formats, instructions, settings and items.
 use Rattle.std.proofs.Common.{◌≡◌, ◌∙◌, ℕ, ◌-◌, Bool, true, false, cond, List, [], ◌∷◌, ◌++◌, length, drop, Option}
-use Rattle.std.proofs.Common.{Some, None, Result, Ok, Err, refl, sym, ap, subst, append_assoc, append-nil, codes, arith, ◌+◌, take, length-append}
+use Rattle.std.proofs.Common.{Some, None, Result, Ok, Err, refl, sym, ap, subst, append_assoc, append-nil, codes, arith, ◌+◌, take}
+use Rattle.std.proofs.Common.{length-append}
 use Rattle.std.specs.Prelude.{◌==◌}
 use Rattle.std.proofs.lemmas.Bool.{eqb-true}
 use Rattle.std.proofs.Math.Seq.{take-append_seam}
@@ -40,7 +41,8 @@ use Rattle.meta_items_reader.specs.Parts.{◌>>=◌, wants, name_at, word_at, si
 use Rattle.meta_items_reader.specs.Parts.{byte_at, comment_at, docs_at, word_first, sign_first, digit_first}
 use Rattle.meta_items_reader.specs.Lists.{some_at, list_at}
 use Rattle.meta_items_reader.specs.SetReading.{part_number_at, high_at, span_at, members_at, part_at, set_at, wanted_colon, alias_at}
-use Rattle.meta_items_reader.specs.SetReading.{variable_at, type_item_at, type_at, enum_value_at, imm_enum_at, value_of_at, sort_at, field_at}
+use Rattle.meta_items_reader.specs.SetReading.{variable_at, type_item_at, type_at, enum_value_at, imm_enum_at, value_of_at, sort_at}
+use Rattle.meta_items_reader.specs.SetReading.{field_at}
 use Rattle.meta_items_reader.specs.SetReading.{kind_item_at, designated_at, slot_at, slots_at, format_item_at, operand_at, outputs_at}
 use Rattle.meta_items_reader.specs.SetReading.{mark_at, marks_at, inputs_at, inst_item_at}
 use Rattle.meta_items_reader.specs.Reading.{bool_item_at, num_item_at, enum_item_at, preset_item_at, item_by, item_behind}
@@ -54,7 +56,8 @@ use Rattle.meta_items_reader.proofs.TypeLaws.{type_takes}
 use Rattle.meta_items_reader.proofs.KindLaws.{value_takes, sort_takes, slot_takes}
 use Rattle.meta_items_reader.proofs.InstLaws.{format_inputs, inputs_takes, outputs_takes, operand_takes, mark_takes}
 use Rattle.meta_items_reader.proofs.SettingLaws.{named_takes}
-use Rattle.meta_items_reader.proofs.Begun.{Starts, Before, Told, Begins, Any, at_front, told_as, told_behind, told_bind, told_part, with_tail}
+use Rattle.meta_items_reader.proofs.Begun.{Starts, Before, Told, Begins, Any, at_front, told_as, told_behind, told_bind, told_part}
+use Rattle.meta_items_reader.proofs.Begun.{with_tail}
 use Rattle.meta_items_reader.proofs.Begun.{with_front_of, with_nil, name_told, word_told, chosen_told, told_name, told_word, told_text}
 use Rattle.meta_items_reader.proofs.Begun.{told_sign, some_told, some_told_by, list_told, type_told}
 
@@ -100,7 +103,8 @@ span_told w ts =
     (high_told n.1)) (λ h r. tt)))
 
 members_by : (ts : List Token) (p q r : Bool)
-    → Told {A = Members × List Token} (Starts part_members MembersFit) ts (cond p (Ok (members.All, drop 1 ts)) (cond q (Ok (members.Nothing, drop 1 ts))
+    → Told {A = Members × List Token} (Starts part_members MembersFit) ts
+    (cond p (Ok (members.All, drop 1 ts)) (cond q (Ok (members.Nothing, drop 1 ts))
     (cond r (some_at (span_at wanted.PartNumber) layouts.Numbers ts >>= λ ss. Ok (members.Spans ss.0, ss.1)) (wants wanted.Members ts))))
 members_by ts true q r = tt
 members_by ts false true r = tt
@@ -135,7 +139,8 @@ part_told w ts =
     (members_told x.1)) (λ m r. tt)))
 
 set_by : (ts : List Token) (b : Bool) → word_first (codes "like") ts ≡ b
-    → Told {A = SetExpr × List Token} (Starts set_expr SetFits) ts (cond b (word_at wanted.Type (drop 1 ts) >>= λ w. Ok (sets.Like w.0, w.1))
+    → Told {A = SetExpr × List Token} (Starts set_expr SetFits) ts
+    (cond b (word_at wanted.Type (drop 1 ts) >>= λ w. Ok (sets.Like w.0, w.1))
     (some_at (part_at wanted.Dimension) layouts.Commas ts >>= λ ps. Ok (sets.Parts ps.0, ps.1)))
 set_by ts true is =
     told_behind (Starts set_expr SetFits) (Word (codes "like") ∷ []) (drop 1 ts) ts _ (word_is (codes "like") ts is)
@@ -146,7 +151,12 @@ set_by ts false is =
     told_bind (Starts set_expr SetFits) ts (some_at (part_at wanted.Dimension) layouts.Commas ts) _
     (some_told set_part PartFits (part_at wanted.Dimension) layouts.Commas (part_takes wanted.Dimension) (part_fits wanted.Dimension)
     (part_told wanted.Dimension) (Starts set_expr SetFits)
-    (λ p ps d more all w. (sets.Parts (p ∷ ps), more, (omega arith, all), with_nil (set_part p) (each_behind comma set_part ps) d more w)) ts)
+    (λ p ps d more all w. (
+      sets.Parts (p ∷ ps),
+      more,
+      (omega arith, all),
+      with_nil (set_part p) (each_behind comma set_part ps) d more w,
+    )) ts)
     (λ ps e. tt)
 
 set_told : Begins set_expr SetFits set_at
@@ -271,7 +281,8 @@ value_of_told ts =
     ) (λ r. tt))))
 
 sort_by : (ts : List Token) (p q r s t : Bool) → word_first (codes "imm_enum") ts ≡ r → word_first (codes "value") ts ≡ t
-    → Told {A = Sort × List Token} SortStarts ts (cond p (Ok (sorts.Entity, drop 1 ts)) (cond q (Ok (sorts.Imm, drop 1 ts)) (cond r (imm_enum_at (drop 1 ts))
+    → Told {A = Sort × List Token} SortStarts ts
+    (cond p (Ok (sorts.Entity, drop 1 ts)) (cond q (Ok (sorts.Imm, drop 1 ts)) (cond r (imm_enum_at (drop 1 ts))
     (cond s (Ok (sorts.Varargs, drop 1 ts)) (cond t (value_of_at (drop 1 ts)) (wants wanted.Sort ts))))))
 sort_by ts true q r s t hr ht = tt
 sort_by ts false true r s t hr ht = tt
@@ -289,7 +300,8 @@ unfolding sort_at
 sort_told ts = sort_by ts _ _ _ _ _ refl refl
 
 field_by : (ts : List Token) (b : Bool) → word_first (codes "field") ts ≡ b
-    → Told {A = Option Name × List Token} (Starts field_name Any) ts (cond b (name_at wanted.FieldName (drop 1 ts) >>= λ n. Ok (Some n.0, n.1)) (Ok (None, ts)))
+    → Told {A = Option Name × List Token} (Starts field_name Any) ts
+    (cond b (name_at wanted.FieldName (drop 1 ts) >>= λ n. Ok (Some n.0, n.1)) (Ok (None, ts)))
 field_by ts true is =
     told_behind (Starts field_name Any) (Word (codes "field") ∷ []) (drop 1 ts) ts _ (word_is (codes "field") ts is)
     (told_bind (λ d. Starts field_name Any (Word (codes "field") ∷ d)) (drop 1 ts) (name_at wanted.FieldName (drop 1 ts)) _
@@ -341,7 +353,8 @@ abbrev SlotStarts : List Token → Type 0
 SlotStarts d = Starts slot FirstGood d
 
 designated_by : (ts : List Token) (b : Bool)
-    → Told {A = Slot × List Token} (λ d. SlotStarts (Word (codes "designated") ∷ d)) ts (cond b (Ok (slots.Designated, drop 1 ts)) (wants wanted.ValueWord ts))
+    → Told {A = Slot × List Token} (λ d. SlotStarts (Word (codes "designated") ∷ d)) ts
+    (cond b (Ok (slots.Designated, drop 1 ts)) (wants wanted.ValueWord ts))
 designated_by ts true = tt
 designated_by ts false =
     at_front (λ d. SlotStarts (Word (codes "designated") ∷ d)) ts (slots.Designated, Word (codes "value") ∷ [], (tt, tt), refl)
@@ -358,7 +371,8 @@ slot_by w ts false true is =
     told_behind SlotStarts (Word (codes "designated") ∷ []) (drop 1 ts) ts (designated_at (drop 1 ts)) (word_is (codes "designated") ts is)
     (designated_told (drop 1 ts))
 slot_by w ts false false is =
-    told_bind SlotStarts ts (word_at w ts) _ (word_told SlotStarts w ts (slots.Value, Word (codes "value") ∷ [], (tt, tt), refl)) (λ v e. tt)
+    told_bind SlotStarts ts (word_at w ts) _
+    (word_told SlotStarts w ts (slots.Value, Word (codes "value") ∷ [], (tt, tt), refl)) (λ v e. tt)
 
 slot_told : (w : Wanted) → Begins slot FirstGood (slot_at w)
 unfolding slot_at
@@ -368,7 +382,8 @@ later_told : (w : Wanted) → Begins slot SlotFits (slot_at w)
 later_told w ts = told_as SlotStarts (Starts slot SlotFits) ts (slot_at w ts) (λ d s. (s.0, s.1, s.2.0, s.3)) (slot_told w ts)
 
 slots_by : (ts : List Token) (b : Bool) → word_first (codes "none") ts ≡ b
-    → Told {A = List Slot × List Token} (Starts format_slots SlotsFit) ts (cond b (Ok ([], drop 1 ts)) (some_at (slot_at wanted.Slot) layouts.Commas ts))
+    → Told {A = List Slot × List Token} (Starts format_slots SlotsFit) ts
+    (cond b (Ok ([], drop 1 ts)) (some_at (slot_at wanted.Slot) layouts.Commas ts))
 slots_by ts true is = tt
 slots_by ts false is =
     some_told_by slot SlotFits FirstGood (slot_at wanted.Slot) layouts.Commas (slot_takes wanted.Slot) (slot_fits wanted.Slot)
@@ -476,7 +491,8 @@ unfolding mark_at
 mark_told w ts = mark_by w ts (word_first (codes "second") ts) refl
 
 marks_by : (ts : List Token) (b : Bool) → sign_first 91 ts ≡ b
-    → Told {A = Option (List Mark) × List Token} (Starts mark_list Any) ts (cond b (list_at (mark_at wanted.Mark) layouts.Brackets (drop 1 ts)
+    → Told {A = Option (List Mark) × List Token} (Starts mark_list Any) ts
+    (cond b (list_at (mark_at wanted.Mark) layouts.Brackets (drop 1 ts)
     >>= λ ms. Ok (Some ms.0, ms.1)) (Ok (None, ts)))
 marks_by ts true is =
     told_behind (Starts mark_list Any) (Sign 91 ∷ []) (drop 1 ts) ts _ (sign_is 91 ts is)
@@ -490,13 +506,15 @@ marks_told : Begins mark_list Any marks_at
 unfolding marks_at
 marks_told ts = marks_by ts (sign_first 91 ts) refl
 
-inst_starts : (ds : List (List ℕ)) (n : Name) (f : List ℕ × List Operand) (os : List Operand) (ms : Option (List Mark)) (d more : List Token)
+inst_starts : (ds : List (List ℕ)) (n : Name) (f : List ℕ × List Operand) (os : List Operand) (ms : Option (List Mark))
+    (d more : List Token)
     → format_inputs f ++ (outputs os ++ mark_list ms) ≡ d ++ more → OfItem ds key.Inst (name n ∷ Sign 58 ∷ d)
 inst_starts ds n f os ms d more e =
     an_item ds key.Inst (item.Inst (record { docs = ds; name = n; format = f.0; inputs = f.1; outputs = os; marks = ms }))
     (name n ∷ Sign 58 ∷ Word f.0 ∷ Sign 40 ∷ (listed operand f.1 ++ Sign 41 ∷ (outputs os ++ mark_list ms))) (name n ∷ Sign 58 ∷ d) more tt
     refl (ap (λ (u : List Token). name n ∷ Sign 58 ∷ u)
-    (ap (λ (u : List Token). Word f.0 ∷ Sign 40 ∷ u) (sym (append_assoc (listed operand f.1) (Sign 41 ∷ []) (outputs os ++ mark_list ms))) ∙ e))
+    (ap (λ (u : List Token). Word f.0 ∷ Sign 40 ∷ u)
+    (sym (append_assoc (listed operand f.1) (Sign 41 ∷ []) (outputs os ++ mark_list ms))) ∙ e))
 
 an_inst : (ds : List (List ℕ)) (n : Name) (d more : List Token)
     → name n ∷ Sign 58 ∷ Word a_word ∷ Sign 40 ∷ Sign 41 ∷ [] ≡ d ++ more → OfItem ds key.Inst d
@@ -632,7 +650,8 @@ group_told ts =
     (an_item [] key.Group (item.Group a_name) (name a_name ∷ []) [] (name a_name ∷ []) tt refl refl)
 
 group_by : (ds : List (List ℕ)) (ts : List Token) (b : Bool) → (length ds == 0) ≡ b
-    → Told {A = Item × List Token} (Documented ds) (Key key.Group ∷ ts) (cond b (name_at wanted.GroupName ts >>= λ n. Ok (item.Group n.0, n.1))
+    → Told {A = Item × List Token} (Documented ds) (Key key.Group ∷ ts)
+    (cond b (name_at wanted.GroupName ts >>= λ n. Ok (item.Group n.0, n.1))
     (wants wanted.Documented (Key key.Group ∷ ts)))
 group_by [] ts true is = then_made [] key.Group ts (name_at wanted.GroupName ts) (λ n. (item.Group n.0, n.1)) (group_told ts)
 group_by (d ∷ ds) ts true is = let z : length (d ∷ ds) ≡ 0 = eqb-true (length (d ∷ ds)) 0 is in absurd (omega arith)

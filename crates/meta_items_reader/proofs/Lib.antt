@@ -15,7 +15,9 @@ mod ListLaws
 mod Loop
 mod PartLaws
 mod Refusals
+mod Rewritten
 mod SetLaws
 mod SettingLaws
 mod TypeLaws
+mod Writable
 mod Written

@@ -19,7 +19,7 @@ lines_alone a b = lines_from (record { mode = _; bytes = [] }) a b
 line_end : IsUtf8 (10 ∷ [])
 line_end = subst IsUtf8 (encode_ascii 10 (omega arith)) (IsUtf8-encode 10 (low_scalar 10 (omega arith)))
 
-text_is : (text : List ℕ) → IsUtf8 text → text_tokens text ≡ tokens_in text
+pub text_is : (text : List ℕ) → IsUtf8 text → text_tokens text ≡ tokens_in text
 text_is text u = rw (is_utf8-from_IsUtf8 text u) refl
 
 pub text_lines_alone : (a b : List ℕ) → IsUtf8 a → IsUtf8 b → text_tokens (a ++ 10 ∷ b) ≡ text_tokens a ++ text_tokens b

@@ -25,13 +25,21 @@ pub fn one_list_of_items()
         → read_in text ≡ spelled_all js → is ≡ js }
 {}
 
-/// The text that `write_items` makes of items is spelled as these items, where each of their tokens can be written, and reads as them, where
-/// they fit too.
+/// The text that `write_items` makes of items is spelled as these items, where each of their tokens can be written, and reads as them,
+/// where they fit too.
 pub fn what_is_written_is_read()
     ensures spelled { (is : List Item) → CanWriteAll (spelled_all is) → read_in (laid (spelled_all is)) ≡ spelled_all is }
     ensures read { (is : List Item) → AllFit is → CanWriteAll (spelled_all is) → items_in (laid (spelled_all is)) ≡ Ok is }
 {
     what_is_laid_is_read();
+}
+
+/// What is read can be written: the text that `write_items` makes of it reads as the same items.
+pub fn what_is_read_can_be_written()
+    ensures tokens { (text : List ℕ) (is : List Item) → read_in text ≡ spelled_all is → CanWriteAll (spelled_all is) }
+    ensures again { (text : List ℕ) (is : List Item) → items_in text ≡ Ok is → items_in (laid (spelled_all is)) ≡ Ok is }
+{
+    what_is_written_is_read();
 }
 
 /// Lines are read one by one: no token, and no flaw either, goes on behind a line end.
