@@ -12,8 +12,8 @@ ghost use Rattle.meta_items_reader.specs.Refused.{AreRefused, items_in};
 
 use meta_tokens::what_is_laid_is_read;
 
-/// A text reads as items exactly where they fit and its tokens are theirs, one item behind the other. Where it reads as none, it is some
-/// items at its front, the longest, and then what doesn't go on: there it is refused.
+/// A text reads as items exactly where they fit and its tokens are theirs, one item behind the other. Else it is some items, the longest
+/// that nothing goes on with, and then other tokens: it is refused at one of these or at the end, behind what begins items.
 pub fn what_is_read()
     ensures read { (text : List ℕ) (is : List Item) → (items_in text ≡ Ok is) ↔ (AllFit is × (read_in text ≡ spelled_all is)) }
     ensures refused { (text : List ℕ) (f : Fault) → items_in text ≡ Err f → AreRefused (read_in text) (length (read_in text) - f.left) }
