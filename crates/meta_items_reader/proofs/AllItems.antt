@@ -1,6 +1,7 @@
 -- Items one after the other.
 use Rattle.std.proofs.Common.{◌≡◌, ℕ, zero, suc, ◌-◌, ◌+◌, ◌≤◌, ◌<◌, Bool, true, false, cond, List, [], ◌∷◌, ◌++◌, length, Result, Ok, Err}
-use Rattle.std.proofs.Common.{refl, sym, ap, subst, ◌∙◌, append_assoc, length-append, arith}
+use Rattle.std.proofs.Common.{refl, sym, ap, subst, ◌∙◌, append_assoc, length-append, arith, take}
+use Rattle.std.proofs.Math.Seq.{take-append-add}
 use Rattle.std.specs.Prelude.{◌==◌}
 use Rattle.std.proofs.lemmas.List.{append-nil}
 use Rattle.std.proofs.lemmas.Bool.{eqb-true}
@@ -46,6 +47,8 @@ use Rattle.meta_items_reader.proofs.SetLaws.{type_item_takes, type_item_within, 
 use Rattle.meta_items_reader.proofs.KindLaws.{kind_takes, kind_within, kind_again, format_takes, format_within, format_again}
 use Rattle.meta_items_reader.proofs.InstLaws.{inst_takes, inst_within, inst_again}
 use Rattle.meta_items_reader.proofs.FitLaws.{item_fits}
+use Rattle.meta_items_reader.proofs.Begun.{with_front_of}
+use Rattle.meta_items_reader.proofs.BegunItems.{fault_begins}
 use Rattle.meta_items_reader.proofs.LeaveLaws.{item_leaves}
 use Rattle.meta_items_reader.proofs.Bodies.{docs_of, keyword_of_item, body_of, in_parts}
 
@@ -424,38 +427,67 @@ last_with : (ts : List Token) (x : Item × List Token) (front : List Item) (rest
 last_with ts x [] rest is e last = subst (Apart x.0) e (item_leaves ts x is)
 last_with ts x (j ∷ js) rest is e last = last
 
+-- with so many tokens left
+abbrev pub RefusedBefore : ℕ → List Token → Type 0
+RefusedBefore left ts = (left ≤ length ts) × AreRefused ts (length ts - left)
+
 -- behind an item that was read
-refused_behind : (ts : List Token) (x : Item × List Token) (left : ℕ) → item_at ts ≡ Ok x → AreRefused x.1 left → AreRefused ts left
-refused_behind ts x left is r = record {
-  front = x.0 ∷ r.front;
-  rest = r.rest;
-  fit = (item_fits ts x is, r.fit);
-  are = item_takes ts x is ∙ ap (λ (y : List Token). spelled x.0 ++ y) r.are
-      ∙ sym (append_assoc (spelled x.0) (spelled_all r.front) r.rest);
-  apart = last_with ts x r.front r.rest is r.are r.apart;
-  longest = let all : length x.1 ≡ length (spelled_all r.front) + length r.rest = ap length r.are
-      ∙ length-append (spelled_all r.front) r.rest in longest_with ts x r.rest is (omega arith) r.longest;
-  some = r.some;
-  within = r.within;
-}
+refused_behind : (ts : List Token) (x : Item × List Token) (left : ℕ) → item_at ts ≡ Ok x → RefusedBefore left x.1 → RefusedBefore left ts
+refused_behind ts x left is (few, r) =
+    let all : length x.1 ≡ length (spelled_all r.front) + length r.rest = ap length r.are
+    ∙ length-append (spelled_all r.front) r.rest in
+    let whole : length ts ≡ length (spelled x.0) + length x.1 = ap length (item_takes ts x is) ∙ length-append (spelled x.0) x.1 in
+    let items : length (spelled_all (x.0 ∷ r.front)) ≡ length (spelled x.0) + length (spelled_all r.front) =
+    length-append (spelled x.0) (spelled_all r.front) in
+    let from : length (spelled_all r.front) ≤ length x.1 - left = r.behind in
+    let place : length ts - left ≡ length (spelled x.0) + (length x.1 - left) = omega arith in
+    let before : take (length ts - left) ts ≡ spelled x.0 ++ take (length x.1 - left) x.1 = ap (λ (n : ℕ). take n ts) place
+    ∙ ap (λ (us : List Token). take (length (spelled x.0) + (length x.1 - left)) us) (item_takes ts x is)
+    ∙ take-append-add (spelled x.0) x.1 (length x.1 - left) in (
+      omega arith,
+      record {
+        front = x.0 ∷ r.front;
+        rest = r.rest;
+        fit = (item_fits ts x is, r.fit);
+        are = item_takes ts x is ∙ ap (λ (y : List Token). spelled x.0 ++ y) r.are
+            ∙ sym (append_assoc (spelled x.0) (spelled_all r.front) r.rest);
+        apart = last_with ts x r.front r.rest is r.are r.apart;
+        longest = longest_with ts x r.rest is (omega arith) r.longest;
+        some = r.some;
+        behind = omega arith;
+        within = omega arith;
+        begun = record {
+          is = x.0 ∷ r.begun.is;
+          more = r.begun.more;
+          fit = (item_fits ts x is, r.begun.fit);
+          are = with_front_of (spelled x.0) (spelled_all r.begun.is) (take (length x.1 - left) x.1) r.begun.more r.begun.are
+              ∙ ap (λ (d : List Token). d ++ r.begun.more) (sym before);
+        };
+      },
+    )
 
 refused_by : (n : ℕ) (t : Token) (ts : List Token) (f : Fault) (r : Result (Item × List Token) Fault) → item_at (t ∷ ts) ≡ r
-    → ((x : Item × List Token) → item_at (t ∷ ts) ≡ Ok x → items_at n x.1 ≡ Err f → AreRefused (t ∷ ts) f.left)
-    → (r >>= λ x. items_at n x.1 >>= λ xs. Ok (x.0 ∷ xs)) ≡ Err f → AreRefused (t ∷ ts) f.left
-refused_by n t ts f (Err g) is_none later e = record {
-  front = [];
-  rest = t ∷ ts;
-  fit = tt;
-  are = refl;
-  apart = tt;
-  longest = λ is more fit apart s. none_stands (t ∷ ts) g is more is_none fit apart s;
-  some = λ no. absurd (cc);
-  within = let read : item_at (t ∷ ts) ≡ Err f = subst (λ (d : Fault). item_at (t ∷ ts) ≡ Err d) (err_is g f e) is_none
-      in left_of (t ∷ ts) (item_at (t ∷ ts)) f (item_within (t ∷ ts)) read;
-}
+    → ((x : Item × List Token) → item_at (t ∷ ts) ≡ Ok x → items_at n x.1 ≡ Err f → RefusedBefore f.left (t ∷ ts))
+    → (r >>= λ x. items_at n x.1 >>= λ xs. Ok (x.0 ∷ xs)) ≡ Err f → RefusedBefore f.left (t ∷ ts)
+refused_by n t ts f (Err g) is_none later e =
+    let read : item_at (t ∷ ts) ≡ Err f = subst (λ (d : Fault). item_at (t ∷ ts) ≡ Err d) (err_is g f e) is_none in (
+      left_of (t ∷ ts) (item_at (t ∷ ts)) f (item_within (t ∷ ts)) read,
+      record {
+        front = [];
+        rest = t ∷ ts;
+        fit = tt;
+        are = refl;
+        apart = tt;
+        longest = λ is more fit apart s. none_stands (t ∷ ts) g is more is_none fit apart s;
+        some = λ no. absurd (cc);
+        behind = omega arith;
+        within = omega arith;
+        begun = fault_begins (t ∷ ts) f read;
+      },
+    )
 refused_by n t ts f (Ok x) is later e = later x is (then_err x.0 f (items_at n x.1) e)
 
-pub all_refused : (n : ℕ) (ts : List Token) (f : Fault) → length ts ≤ n → items_at n ts ≡ Err f → AreRefused ts f.left
+pub all_refused : (n : ℕ) (ts : List Token) (f : Fault) → length ts ≤ n → items_at n ts ≡ Err f → RefusedBefore f.left ts
 unfolding items_at
 all_refused zero [] f le e = absurd cc
 all_refused zero (t ∷ ts) f le e = absurd (omega arith)
@@ -466,8 +498,4 @@ all_refused (suc n) (t ∷ ts) f le e =
 
 -- a fault has no more tokens left than there are
 pub left_fits : (ts : List Token) (f : Fault) → items_at (length ts) ts ≡ Err f → f.left ≤ length ts
-left_fits ts f e =
-    let r = all_refused (length ts) ts f (omega arith) e in
-    let all : length ts ≡ length (spelled_all r.front) + length r.rest = ap length r.are ∙ length-append (spelled_all r.front) r.rest in
-    let within : f.left ≤ length r.rest = r.within in
-    omega arith
+left_fits ts f e = (all_refused (length ts) ts f (omega arith) e).0

@@ -15,7 +15,7 @@ use Rattle.meta_items.specs.declared.items.Item.{Item}
 use Rattle.meta_items.specs.Spelling.{docs, spelled, spelled_all}
 use Rattle.meta_items_reader.proofs.Bodies.{docs_of, keyword_of_item, body_of, in_parts, plain, of_body}
 
-abbrev is_clean : Token → Bool
+abbrev pub is_clean : Token → Bool
 is_clean (Key k) = true
 is_clean (Word w) = true
 is_clean (Quoted t) = true
@@ -24,7 +24,7 @@ is_clean (Doc d) = true
 is_clean (Stray f) = false
 
 -- no flaw is among the tokens
-abbrev clean : List Token → Bool
+abbrev pub clean : List Token → Bool
 clean [] = true
 clean (t ∷ ts) = is_clean t && clean ts
 
@@ -52,7 +52,7 @@ of_spelled i =
     ap clean (in_parts i) ∙ clean_append (docs (docs_of i)) (Key (keyword_of_item i) ∷ body_of i) (of_docs (docs_of i))
     (of_plain (body_of i) (of_body i))
 
-of_all : (is : List Item) → clean (spelled_all is) ≡ true
+pub of_all : (is : List Item) → clean (spelled_all is) ≡ true
 of_all [] = refl
 of_all (i ∷ is) = clean_append (spelled i) (spelled_all is) (of_spelled i) (of_all is)
 

@@ -42,10 +42,10 @@ use Rattle.meta_items_reader.proofs.KindLaws.{slot_takes}
 -- ---- lists
 
 -- each that is read is such a one
-abbrev Gets : {A : Type 0} → (A → Type 0) → (List Token → Result (A × List Token) Fault) → Type 0
+abbrev pub Gets : {A : Type 0} → (A → Type 0) → (List Token → Result (A × List Token) Fault) → Type 0
 Gets {A} good at = (ts : List Token) (x : A × List Token) → at ts ≡ Ok x → good x.0
 
-abbrev OneGood : {A : Type 0} → (A → Type 0) → Option A × List Token → Type 0
+abbrev pub OneGood : {A : Type 0} → (A → Type 0) → Option A × List Token → Type 0
 OneGood good (None, rest) = Unit {0}
 OneGood good (Some y, rest) = good y
 
@@ -59,7 +59,7 @@ part_good {A} good at gets true rest x e =
     subst (OneGood good) (ok_is (Some a.0.0, a.0.1) x a.2) (gets rest a.0 a.1)
 part_good {A} good at gets false rest x e = subst (OneGood good) (ok_is (None, rest) x e) tt
 
-step_good : {A : Type 0} (good : A → Type 0) (at : List Token → Result (A × List Token) Fault) (l : Layout) → Gets good at
+pub step_good : {A : Type 0} (good : A → Type 0) (at : List Token → Result (A × List Token) Fault) (l : Layout) → Gets good at
     → (ts : List Token) (x : Option A × List Token) → step_at at l ts ≡ Ok x → OneGood good x
 step_good good at l gets ts x e =
     let a = bind_ok (separator_at l ts) (λ s. part_behind at s.0 s.1) x e in
@@ -111,7 +111,7 @@ high_fits : Gets HighFits high_at
 unfolding high_at
 high_fits ts x e = high_by ts x (sign_first 46 ts) e
 
-span_fits : (w : Wanted) → Gets SpanFits (span_at w)
+pub span_fits : (w : Wanted) → Gets SpanFits (span_at w)
 unfolding span_at
 span_fits w ts x e =
     let a = bind_ok (part_number_at w ts) _ x e in
@@ -135,7 +135,7 @@ members_fit : Gets MembersFit members_at
 unfolding members_at
 members_fit ts x e = members_by ts x (word_first (codes "all") ts) (word_first (codes "none") ts) (digit_first ts) e
 
-part_fits : (w : Wanted) → Gets PartFits (part_at w)
+pub part_fits : (w : Wanted) → Gets PartFits (part_at w)
 unfolding part_at
 part_fits w ts x e =
     let a = bind_ok (chosen_at w dimension_of ts) _ x e in
@@ -181,11 +181,11 @@ slot_by w ts x false false hp hq e =
     subst (λ (y : Slot × List Token). SlotFits y.0) (ok_is (slots.Kind a.0.0, a.0.1) x a.2)
     (not_word (codes "value") a.0.0 a.0.1 ts hp first, not_word (codes "designated") a.0.0 a.0.1 ts hq first)
 
-slot_fits : (w : Wanted) → Gets SlotFits (slot_at w)
+pub slot_fits : (w : Wanted) → Gets SlotFits (slot_at w)
 unfolding slot_at
 slot_fits w ts x e = slot_by w ts x (word_first (codes "value") ts) (word_first (codes "designated") ts) refl refl e
 
-first_fits : (s : Slot) (rest ts : List Token) → word_first (codes "none") ts ≡ false → ts ≡ slot s ++ rest → FirstFits s
+pub first_fits : (s : Slot) (rest ts : List Token) → word_first (codes "none") ts ≡ false → ts ≡ slot s ++ rest → FirstFits s
 first_fits slots.Value rest ts h e = tt
 first_fits slots.Designated rest ts h e = tt
 first_fits (slots.Kind w) rest ts h e = not_word (codes "none") w rest ts h e

@@ -40,7 +40,7 @@ use Rattle.meta_items_reader.proofs.SettingLaws.{Spelled, together}
 
 -- ---- operands
 
-operand_takes : (w : Wanted) → Takes operand (operand_at w)
+pub operand_takes : (w : Wanted) → Takes operand (operand_at w)
 unfolding operand_at
 operand_takes w ts x e =
     let a = bind_ok (name_at w ts) _ x e in
@@ -122,10 +122,10 @@ outputs_listed = record {
 
 -- ---- the format, and inputs
 
-abbrev format_inputs : List ℕ × List Operand → List Token
+abbrev pub format_inputs : List ℕ × List Operand → List Token
 format_inputs x = Word x.0 ∷ Sign 40 ∷ (listed operand x.1 ++ Sign 41 ∷ [])
 
-inputs_takes : Takes format_inputs inputs_at
+pub inputs_takes : Takes format_inputs inputs_at
 unfolding inputs_at
 inputs_takes ts x e =
     let a = bind_ok (word_at wanted.FormatName ts) _ x e in
@@ -170,7 +170,7 @@ outputs_by ts x true is e =
     whole ∙ ap (λ (ys : List Operand). outputs ys ++ x.1) (sym s.2)
 outputs_by ts x false is e = subst (Taken outputs ts) (ok_is ([], ts) x e) refl
 
-outputs_takes : Takes outputs outputs_at
+pub outputs_takes : Takes outputs outputs_at
 unfolding outputs_at
 outputs_takes ts x e = outputs_by ts x (sign_first 45 ts) refl e
 
@@ -199,7 +199,7 @@ outputs_again (o ∷ os) rest apart =
 
 -- ---- marks
 
-property_is : (v : List ℕ) (p : Property) → property_of v ≡ Some p → v ≡ property_text p
+pub property_is : (v : List ℕ) (p : Property) → property_of v ≡ Some p → v ≡ property_text p
 unfolding property_of
 property_is v p e = written_so_takes property_text all_properties v p e
 
@@ -239,7 +239,7 @@ mark_by w ts x false is e =
     let a = bind_ok (chosen_at w property_of ts) _ x e in
     subst (Taken mark ts) (ok_is (marks.Is a.0.0, a.0.1) x a.2) (chosen_takes w property_of property_text property_is ts a.0 a.1)
 
-mark_takes : (w : Wanted) → Takes mark (mark_at w)
+pub mark_takes : (w : Wanted) → Takes mark (mark_at w)
 unfolding mark_at
 mark_takes w ts x e = mark_by w ts x (word_first (codes "second") ts) refl e
 

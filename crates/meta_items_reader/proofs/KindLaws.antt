@@ -40,7 +40,7 @@ use Rattle.meta_items_reader.proofs.SettingLaws.{Spelled, together}
 
 -- ---- values of an enum
 
-value_takes : (w : Wanted) → Takes enum_value (enum_value_at w)
+pub value_takes : (w : Wanted) → Takes enum_value (enum_value_at w)
 unfolding enum_value_at
 value_takes w ts x e =
     let a = bind_ok (name_at w ts) _ x e in
@@ -154,7 +154,7 @@ sort_by ts x false false false true t hp hq hr hs ht e =
 sort_by ts x false false false false true hp hq hr hs ht e = word_is (codes "value") ts ht ∙ value_of_takes (drop 1 ts) x e
 sort_by ts x false false false false false hp hq hr hs ht e = absurd cc
 
-sort_takes : Takes kind_sort sort_at
+pub sort_takes : Takes kind_sort sort_at
 unfolding sort_at
 sort_takes ts x e = sort_by ts x _ _ _ _ _ refl refl refl refl refl e
 

@@ -1,4 +1,6 @@
 mod AllItems
+mod Begun
+mod BegunItems
 mod Bodies
 mod Clean
 mod ClosedLoop
@@ -8,11 +10,14 @@ mod InstLaws
 mod KeyCount
 mod KindLaws
 mod LeaveLaws
+mod LineLaws
 mod ListLaws
 mod Loop
 mod PartLaws
 mod Refusals
+mod Rewritten
 mod SetLaws
 mod SettingLaws
 mod TypeLaws
+mod Writable
 mod Written

@@ -36,7 +36,7 @@ closing layouts.Calls = []
 
 -- ---- what stands behind a part
 
-abbrev Parted : List Token → List Token → List Token → Bool × List Token → Type 0
+abbrev pub Parted : List Token → List Token → List Token → Bool × List Token → Type 0
 Parted between close ts (true, rest) = ts ≡ between ++ rest
 Parted between close ts (false, rest) = ts ≡ close ++ rest
 
@@ -69,7 +69,7 @@ nothing_between : (b : Bool) (ts : List Token) → Parted [] [] ts (b, ts)
 nothing_between true ts = refl
 nothing_between false ts = refl
 
-separator_takes : (l : Layout) (ts : List Token) (x : Bool × List Token) → separator_at l ts ≡ Ok x
+pub separator_takes : (l : Layout) (ts : List Token) (x : Bool × List Token) → separator_at l ts ≡ Ok x
     → Parted (separator l) (closing l) ts x
 separator_takes layouts.Parentheses ts x e = comma_or_takes 41 wanted.CommaOrClose ts x e
 separator_takes layouts.Brackets ts x e = comma_or_takes 93 wanted.CommaOrBracket ts x e
@@ -111,7 +111,7 @@ Taken part ts x = ts ≡ part x.0 ++ x.1
 abbrev pub Takes : {A : Type 0} → (A → List Token) → (List Token → Result (A × List Token) Fault) → Type 0
 Takes {A} part at = (ts : List Token) (x : A × List Token) → at ts ≡ Ok x → Taken part ts x
 
-abbrev StepTaken : {A : Type 0} → (A → List Token) → Layout → List Token → Option A × List Token → Type 0
+abbrev pub StepTaken : {A : Type 0} → (A → List Token) → Layout → List Token → Option A × List Token → Type 0
 StepTaken part l ts (None, rest) = ts ≡ closing l ++ rest
 StepTaken part l ts (Some y, rest) = ts ≡ separator l ++ (part y ++ rest)
 
@@ -124,7 +124,7 @@ part_takes {A} part at l takes ts true rest x parted e =
     ∙ ap (λ (r : List Token). separator l ++ r) (takes rest a.0 a.1))
 part_takes {A} part at l takes ts false rest x parted e = subst (StepTaken part l ts) (ok_is (None, rest) x e) parted
 
-step_takes : {A : Type 0} (part : A → List Token) (at : List Token → Result (A × List Token) Fault) (l : Layout) → Takes part at
+pub step_takes : {A : Type 0} (part : A → List Token) (at : List Token → Result (A × List Token) Fault) (l : Layout) → Takes part at
     → (ts : List Token) (x : Option A × List Token) → step_at at l ts ≡ Ok x → StepTaken part l ts x
 step_takes part at l takes ts x e =
     let a = bind_ok (separator_at l ts) (λ s. part_behind at s.0 s.1) x e in

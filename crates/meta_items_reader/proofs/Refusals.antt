@@ -1,7 +1,7 @@
 -- What reading tokens gives, told of the text that they are of.
-use Rattle.std.proofs.Common.{◌≡◌, ◌∙◌, ℕ, ◌+◌, ◌-◌, ◌≤◌, List, length, Result, Ok, Err, sym, ap, subst, length-append}
+use Rattle.std.proofs.Common.{◌≡◌, ◌∙◌, ℕ, ◌-◌, List, length, Result, Ok, Err, sym, ap, subst}
 use Rattle.std.proofs.Common.{arith}
-use Rattle.std.specs.Prelude.{IfOk}
+use Rattle.std.specs.Prelude.{IfOk, ◌↔◌}
 use Rattle.std.specs.Str.{IsUtf8}
 use Rattle.meta_tokens.specs.declared.token.Token.{Token}
 use Rattle.meta_tokens.specs.Encoding.{text_last_line}
@@ -15,7 +15,7 @@ use Rattle.meta_items_reader.specs.declared.fault.ReadError.TheVariants as reads
 use Rattle.meta_items_reader.specs.ItemLines.{key_lines}
 use Rattle.meta_items_reader.specs.Reading.{items_at}
 use Rattle.meta_items_reader.specs.Fits.{AllFit}
-use Rattle.meta_items_reader.specs.Refused.{IsRefusalOf, IsRefused, GivesItems, items_in}
+use Rattle.meta_items_reader.specs.Refused.{AreRefused, IsRefusalOf, IsRefused, GivesItems, items_in}
 use Rattle.meta_items_reader.proofs.PartLaws.{ok_is}
 use Rattle.meta_items_reader.proofs.AllItems.{all_takes, all_fit, all_again, all_refused}
 use Rattle.meta_items_reader.proofs.KeyCount.{a_line_each}
@@ -37,28 +37,26 @@ pub one_list : (text : List ℕ) (is js : List Item) → AllFit is → AllFit js
     → is ≡ js
 one_list text is js fit also e f = ok_is is js (sym (again text is fit e) ∙ again text js also f)
 
--- a refusal is some items, and then what no item begins
+-- what is read is spelled as the text, and fits
+pub exactly : (text : List ℕ) (is : List Item) → (items_in text ≡ Ok is) ↔ (AllFit is × (read_in text ≡ spelled_all is))
+exactly text is = (
+  λ e. (all_fit (length (read_in text)) (read_in text) is e, all_takes (length (read_in text)) (read_in text) is e),
+  λ h. again text is h.0 h.1,
+)
+
+-- where a text is refused
+pub where_refused : (text : List ℕ) (f : Fault) → items_in text ≡ Err f → AreRefused (read_in text) (length (read_in text) - f.left)
+where_refused text f e = (all_refused (length (read_in text)) (read_in text) f (omega arith) e).1
+
+-- a refusal is told of that place
 pub refused_at : (text : List ℕ) (f : Fault) (r : Refusal) → items_in text ≡ Err f
     → IsRefusalOf (read_in text) (read_lines text) (text_last_line text) f r → IsRefused text r
-refused_at text f r e is =
-    let all = all_refused (length (read_in text)) (read_in text) f (omega arith) e in
-    let long : length (read_in text) ≡ length (spelled_all all.front) + length all.rest = ap length all.are
-    ∙ length-append (spelled_all all.front) all.rest in
-    let within : f.left ≤ length all.rest = all.within in
-    record {
-      front = all.front;
-      rest = all.rest;
-      fit = all.fit;
-      are = all.are;
-      apart = all.apart;
-      longest = all.longest;
-      some = all.some;
-      place = length (read_in text) - f.left;
-      behind = omega arith;
-      within = omega arith;
-      line = is.line;
-      found = is.found;
-    }
+refused_at text f r e is = record {
+  place = length (read_in text) - f.left;
+  are = where_refused text f e;
+  line = is.line;
+  found = is.found;
+}
 
 -- the answer at a fault
 pub gives_refusal : {X : Type 0} (view : X → List Item) (text : List ℕ) (ts : List Token) (lines : List ℕ) (last : ℕ) (f : Fault)

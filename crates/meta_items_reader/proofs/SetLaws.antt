@@ -84,7 +84,7 @@ unfolding high_at
 high_again None rest fit e = rw e refl
 high_again (Some n) rest fit e = rw (part_number_some (decimal n) n fit refl) refl
 
-span_takes : (w : Wanted) → Takes span (span_at w)
+pub span_takes : (w : Wanted) → Takes span (span_at w)
 unfolding span_at
 span_takes w ts x e =
     let a = bind_ok (part_number_at w ts) _ x e in
@@ -194,7 +194,7 @@ members_again (members.Spans (s ∷ ss)) rest fit apart =
 
 -- ---- parts
 
-dimension_is : (v : List ℕ) (d : Dimension) → dimension_of v ≡ Some d → v ≡ dimension_text d
+pub dimension_is : (v : List ℕ) (d : Dimension) → dimension_of v ≡ Some d → v ≡ dimension_text d
 unfolding dimension_of
 dimension_is v d e = written_so_takes dimension_text all_dimensions v d e
 
@@ -205,7 +205,7 @@ dimension_known dimensions.Dynamic = refl
 dimension_known dimensions.Ints = refl
 dimension_known dimensions.Floats = refl
 
-part_takes : (w : Wanted) → Takes set_part (part_at w)
+pub part_takes : (w : Wanted) → Takes set_part (part_at w)
 unfolding part_at
 part_takes w ts x e =
     let a = bind_ok (chosen_at w dimension_of ts) _ x e in

@@ -49,7 +49,7 @@ no_close : (n : Name) (rest : List Token) → closes_first layouts.Parentheses (
 no_close (names.Plain w) rest = refl
 no_close (names.Quoted t) rest = refl
 
-named_takes : (w : Wanted) (ts : List Token) (x : Name × List Token) → name_at w ts ≡ Ok x → ts ≡ named x.0 ++ x.1
+pub named_takes : (w : Wanted) (ts : List Token) (x : Name × List Token) → name_at w ts ≡ Ok x → ts ≡ named x.0 ++ x.1
 named_takes w ts x e = name_takes w ts x e
 
 names_listed : (w : Wanted) → Again named (name_at w) layouts.Parentheses AnyName Always

@@ -26,7 +26,7 @@ use Rattle.meta_items_reader.specs.Apart.{FunctionsApart, TypeApart}
 
 -- ---- functions
 
-function_is : (v : List ℕ) (f : Function) → function_of v ≡ Some f → v ≡ function_text f
+pub function_is : (v : List ℕ) (f : Function) → function_of v ≡ Some f → v ≡ function_text f
 unfolding function_of
 function_is v f e = written_so_takes function_text all_functions v f e
 
@@ -42,7 +42,7 @@ function_known functions.DynamicToVector = refl
 function_known functions.Narrower = refl
 function_known functions.Wider = refl
 
-function_takes : (w : Wanted) → Takes called (function_at w)
+pub function_takes : (w : Wanted) → Takes called (function_at w)
 unfolding function_at
 function_takes w ts x e =
     let a = bind_ok (chosen_at w function_of ts) _ x e in
@@ -87,7 +87,7 @@ calls_by ts x true e = some_rows called layouts.Calls ts x refl refl
     (some_takes called (function_at wanted.Function) layouts.Calls (function_takes wanted.Function) ts x e)
 calls_by ts x false e = subst (Taken (each_behind [] called) ts) (ok_is ([], ts) x e) refl
 
-calls_takes : Takes (each_behind [] called) calls_at
+pub calls_takes : Takes (each_behind [] called) calls_at
 unfolding calls_at
 calls_takes ts x e = calls_by ts x (call_first ts) e
 

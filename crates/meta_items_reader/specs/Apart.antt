@@ -81,8 +81,8 @@ abbrev pub InstApart : List Operand → Option (List Mark) → List Token → Ty
 InstApart os None ts = (sign_first 91 ts ≡ false) × OutputsApart os ts
 InstApart os (Some ms) ts = Unit {0}
 
--- A group and a setting end whatever stands behind them: at most a text goes on with a setting, which is its comment, and ends it. Any
--- other item that goes on wants more than one token, and if the first of them stands there without the others, no item is read, though one
+-- A group and a setting end whatever stands behind them: at most a text goes on with a setting, which is its comment, and ends it. What
+-- goes on with another item may be more than one token, and where the first of them stands without the others, no item is read, though one
 -- stands in front of it.
 abbrev pub Apart : Item → List Token → Type 0
 Apart (item.Type i) ts = SetApart i.set ts

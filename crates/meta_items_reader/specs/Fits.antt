@@ -1,4 +1,4 @@
--- Items that a text can have: their numbers are in their ranges, and their words mean what they are.
+-- Items that are read of the tokens that spell them: their numbers are in their ranges, and their words mean what they are.
 use Rattle.std.specs.Prelude.{ℕ, ◌<◌, ◌≤◌, ◌^◌, ◌≢◌, List, [], ◌∷◌, length, Option, Some, None, codes}
 use Rattle.meta_items.specs.declared.types.Span.{Span}
 use Rattle.meta_items.specs.declared.types.Members.{Members}

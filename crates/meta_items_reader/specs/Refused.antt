@@ -1,5 +1,5 @@
 -- What is read of a text, and where a text is refused.
-use Rattle.std.specs.Prelude.{◌≡◌, ℕ, ◌-◌, ◌≤◌, List, [], ◌++◌, length, slice_get, Result, Ok, Err}
+use Rattle.std.specs.Prelude.{◌≡◌, ℕ, ◌-◌, ◌≤◌, List, [], ◌++◌, length, take, slice_get, Result, Ok, Err}
 use Rattle.meta_tokens.specs.declared.token.Token.{Token}
 use Rattle.meta_tokens.specs.TokenLines.{line_at}
 use Rattle.meta_tokens.specs.Encoding.{text_last_line}
@@ -14,10 +14,17 @@ use Rattle.meta_items_reader.specs.Fits.{AllFit}
 use Rattle.meta_items_reader.specs.Apart.{LastApart}
 use Rattle.meta_items_reader.specs.Reading.{items_at}
 
--- The tokens are some items that fit, and then tokens that don't go on with the last of them and where no item is read. No other items that
--- fit reach further, one behind the other, unless what stands behind them goes on with the last of them: so the items are these alone. So
--- many tokens are left at a place among those where no item is read, or at the end.
-pub record AreRefused (ts : List Token) (left : ℕ) : Type 0 where
+-- these tokens are the first of those of some items that fit
+pub record BeginItems (ts : List Token) : Type 0 where
+  pub is : List Item
+  pub more : List Token
+  pub fit : AllFit is
+  pub are : spelled_all is ≡ ts ++ more
+
+-- The tokens are some items that fit, and then others, one at least, which don't go on with the last of them. No items that fit reach
+-- further, one behind the other, unless what stands behind them goes on with the last of them: so the items are these alone. The place is
+-- that of one of the others, or the end, and what stands before it begins items.
+pub record AreRefused (ts : List Token) (place : ℕ) : Type 0 where
   pub front : List Item
   pub rest : List Token
   pub fit : AllFit front
@@ -26,7 +33,9 @@ pub record AreRefused (ts : List Token) (left : ℕ) : Type 0 where
   pub longest : (is : List Item) (more : List Token) → AllFit is → LastApart is more → ts ≡ spelled_all is ++ more
       → length rest ≤ length more
   pub some : rest ≡ [] → ⊥
-  pub within : left ≤ length rest
+  pub behind : length (spelled_all front) ≤ place
+  pub within : place ≤ length ts
+  pub begun : BeginItems (take place ts)
 
 -- the items of a text, or its first fault
 abbrev pub items_in : List ℕ → Result (List Item) Fault
@@ -38,21 +47,10 @@ pub record IsRefusalOf (tokens : List Token) (lines : List ℕ) (last : ℕ) (f 
   pub wanted : r.wanted ≡ f.wanted
   pub found : r.found ≡ slice_get tokens (length tokens - f.left)
 
--- The text is some items that fit, and then tokens that don't go on with the last of them and where no item is read. No other items that fit
--- reach further, one behind the other, unless what stands behind them goes on with the last of them: so the items are these alone. The
--- refusal stands at a place among the tokens where no item is read, or at the end of the text.
+-- the tokens of the text are refused at a place: what stands there was found, in its line, and at the end nothing, in the last line
 pub record IsRefused (text : List ℕ) (r : Refusal) : Type 0 where
-  pub front : List Item
-  pub rest : List Token
-  pub fit : AllFit front
-  pub are : read_in text ≡ spelled_all front ++ rest
-  pub apart : LastApart front rest
-  pub longest : (is : List Item) (more : List Token) → AllFit is → LastApart is more → read_in text ≡ spelled_all is ++ more
-      → length rest ≤ length more
-  pub some : rest ≡ [] → ⊥
   pub place : ℕ
-  pub behind : length (spelled_all front) ≤ place
-  pub within : place ≤ length (read_in text)
+  pub are : AreRefused (read_in text) place
   pub line : r.line ≡ line_at (read_lines text) (text_last_line text) place
   pub found : r.found ≡ slice_get (read_in text) place
 

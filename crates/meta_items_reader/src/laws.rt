@@ -1,12 +1,23 @@
-ghost use Rattle.std.specs.Prelude.{◌≡◌, ℕ, List, Ok};
+ghost use Rattle.std.specs.Prelude.{◌≡◌, ◌↔◌, ◌-◌, ℕ, List, ◌∷◌, ◌++◌, length, Ok, Err};
+ghost use Rattle.std.specs.Str.{IsUtf8};
+ghost use Rattle.meta_tokens.specs.Scan.{tokens_in};
+ghost use Rattle.meta_tokens.specs.Encoding.{text_tokens};
 ghost use Rattle.meta_tokens.specs.Laid.{laid, CanWriteAll};
 ghost use Rattle.meta_tokens.specs.Squeezed.{read_in};
 ghost use Rattle.meta_items.specs.Spelling.{spelled_all};
 ghost use Rattle.meta_items.specs.declared.items.Item.{Item};
+ghost use Rattle.meta_items_reader.specs.declared.fault.Fault.{Fault};
 ghost use Rattle.meta_items_reader.specs.Fits.{AllFit};
-ghost use Rattle.meta_items_reader.specs.Refused.{items_in};
+ghost use Rattle.meta_items_reader.specs.Refused.{AreRefused, items_in};
 
 use meta_tokens::what_is_laid_is_read;
+
+/// A text reads as items exactly where they fit and its tokens are theirs, one item behind the other. Else it is some items, the longest
+/// that nothing goes on with, and then other tokens: it is refused at one of these or at the end, behind what begins items.
+pub fn what_is_read()
+    ensures read { (text : List ℕ) (is : List Item) → (items_in text ≡ Ok is) ↔ (AllFit is × (read_in text ≡ spelled_all is)) }
+    ensures refused { (text : List ℕ) (f : Fault) → items_in text ≡ Err f → AreRefused (read_in text) (length (read_in text) - f.left) }
+{}
 
 /// A text reads as one list of items at most.
 pub fn one_list_of_items()
@@ -14,11 +25,25 @@ pub fn one_list_of_items()
         → read_in text ≡ spelled_all js → is ≡ js }
 {}
 
-/// The text that `write_items` makes of items is spelled as these items, where each of their tokens can be written, and reads as them, where
-/// they fit too.
+/// The text that `write_items` makes of items is spelled as these items, where each of their tokens can be written, and reads as them,
+/// where they fit too.
 pub fn what_is_written_is_read()
     ensures spelled { (is : List Item) → CanWriteAll (spelled_all is) → read_in (laid (spelled_all is)) ≡ spelled_all is }
     ensures read { (is : List Item) → AllFit is → CanWriteAll (spelled_all is) → items_in (laid (spelled_all is)) ≡ Ok is }
 {
     what_is_laid_is_read();
 }
+
+/// What is read can be written: the text that `write_items` makes of it reads as the same items.
+pub fn what_is_read_can_be_written()
+    ensures tokens { (text : List ℕ) (is : List Item) → read_in text ≡ spelled_all is → CanWriteAll (spelled_all is) }
+    ensures again { (text : List ℕ) (is : List Item) → items_in text ≡ Ok is → items_in (laid (spelled_all is)) ≡ Ok is }
+{
+    what_is_written_is_read();
+}
+
+/// Lines are read one by one: no token, and no flaw either, goes on behind a line end.
+pub fn lines_are_read_alone()
+    ensures bytes { (a b : List ℕ) → tokens_in (a ++ 10 ∷ b) ≡ tokens_in a ++ tokens_in b }
+    ensures texts { (a b : List ℕ) → IsUtf8 a → IsUtf8 b → text_tokens (a ++ 10 ∷ b) ≡ text_tokens a ++ text_tokens b }
+{}

@@ -15,6 +15,9 @@ mod settings;
 mod types;
 
 pub use fault::{ReadError, Refusal, Wanted};
-pub use laws::{one_list_of_items, what_is_written_is_read};
+pub use laws::{
+    lines_are_read_alone, one_list_of_items, what_is_read, what_is_read_can_be_written,
+    what_is_written_is_read,
+};
 pub use reading::{ReadItems, read_items};
 pub use reason::write_back_quoted;

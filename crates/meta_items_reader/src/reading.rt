@@ -120,10 +120,11 @@ pub fn read_items(alloc: Global, text: &[u8]) -> Result<ReadItems, ReadError>
     // Each item has the line of its keyword.
     ensures lines { IfOk result (λ v. v.lines.items ≡ key_lines (read_in text.now) (read_lines text.now)) }
     ensures each { IfOk result (λ v. length v.lines.items ≡ length v.items.items) }
-    // What is spelled so is read, unless memory runs out.
+    // What is spelled by items that fit is read, unless memory runs out.
     ensures only { (is : List Item) → AllFit is → read_in text.now ≡ spelled_all is
         → GivesItems (λ v. v.items.items) text.now result (Ok is) }
-    // What is refused is some items, and then what no item begins; the refusal stands there.
+    // What is refused is some items, the longest behind which nothing goes on with the last, and then other tokens; the refusal stands at
+    // one of these, or at the end.
     ensures refused { (r : Refusal) → result ≡ Err (Refused r) → IsRefused text.now r }
     // Which refusal it is.
     ensures exact { GivesItems (λ v. v.items.items) text.now result (items_in text.now) }
