@@ -18,6 +18,7 @@ use Rattle.meta_rust_words.specs.Words.{word_why}
 use Rattle.meta_rust_words.specs.Comments.{comment_why, type_why}
 use Rattle.meta_rust_words.specs.Forms.{is_named, is_numbered, meets}
 use Rattle.meta_rust_names.specs.Methods.{is_form}
+use Rattle.meta_rust_names.specs.Variants.{variant_why}
 
 -- ---- names that the text has itself
 
@@ -80,12 +81,17 @@ is_of_format f name =
 
 -- ---- why a field can't have its name
 
-unfoldable pub field_name_why : InstructionFormat → (List ℕ → Bool) → List ℕ → Option Why
-field_name_why f known name = or_why (word_why name) (
+-- something beside it has the name
+unfoldable pub taken_why : InstructionFormat → (List ℕ → Bool) → List ℕ → Option Why
+taken_why f known name =
     if is_table_constant name then Some InScope
     else (if is_of_format f name then Some OfFormat
     else (if meets known name then Some EarlierField
-    else None)))
+    else None))
+
+unfoldable pub field_name_why : InstructionFormat → (List ℕ → Bool) → FormatField → Option Why
+field_name_why f known field =
+    or_why (word_why field.member) (or_why (variant_why field.kind field.member) (taken_why f known field.member))
 
 -- why its type isn't one: the type stands in a comment too
 unfoldable pub field_type_why : List ℕ → Option Why
@@ -99,7 +105,7 @@ earlier_fields fields k = flat_map (λ (field : FormatField). field.member ∷ [
 
 unfoldable pub field_refused : InstructionFormat → Place → (List ℕ → Bool) → ℕ × FormatField → List RefusedName
 field_refused f place known at =
-    refused place (Field at.0) (field_name_why f known at.1.member)
+    refused place (Field at.0) (field_name_why f known at.1)
     ++ refused place (FieldType at.0) (field_type_why at.1.kind.rust_type)
 
 abbrev pub field_at : InstructionFormat → Place → List FormatField → ℕ × FormatField → List RefusedName

@@ -1,9 +1,10 @@
 -- The names of the formats in use.
 --     format_refused b id       those of the format with this number that are refused
-use Rattle.std.specs.Prelude.{ℕ, Bool, List, [], ◌++◌, slice_get, Option, None, Some, if◌then◌else◌}
+use Rattle.std.specs.Prelude.{ℕ, Bool, List, [], ◌++◌, slice_get, Option, None, Some, if◌then◌else◌, codes}
 use Rattle.std.specs.List.{flat_map}
 use Rattle.meta_types.specs.declared.fault.Place.{Place}
 use Rattle.meta_types.specs.declared.fault.Place.TheVariants.{Format}
+use Rattle.meta_operands.specs.Texts.{same_text}
 use Rattle.meta_operands.specs.declared.format.InstructionFormat.{InstructionFormat}
 use Rattle.meta_declared.specs.BuiltDeclarations.{BuiltDeclarations}
 use Rattle.meta_rust_words.specs.declared.refused.Why.{Why}
@@ -15,14 +16,16 @@ use Rattle.meta_rust_words.specs.Words.{is_keyword}
 use Rattle.meta_rust_names.specs.Methods.{is_among, is_base_method, instruction_methods, imm_methods}
 use Rattle.meta_rust_names.specs.Fields.{fields_refused}
 
--- A format is a variant of the data and of `InstructionFormat`, and a method of the builder, beside those of the instructions.
+-- A format is a variant of the data and of `InstructionFormat`, and a method of the builder, beside those of the instructions. Each
+-- constructor calls `InstructionFormat::from`, which as a variant would be no function.
 unfoldable pub format_name_why : (List ℕ → Bool) → (List ℕ → Bool) → List ℕ → Option Why
 format_name_why is_method is_imm name =
     if is_keyword name then Some Keyword
     else (if is_base_method name then Some FixedMethod
+    else (if same_text name (codes "from") then Some FixedMethod
     else (if is_method name then Some InstructionMethod
     else (if is_imm name then Some ImmMethod
-    else None)))
+    else None))))
 
 -- its name, and its fields
 unfoldable pub of_format : (List ℕ → Bool) → (List ℕ → Bool) → InstructionFormat → Place → List RefusedName

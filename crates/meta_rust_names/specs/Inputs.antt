@@ -12,7 +12,7 @@ use Rattle.meta_inst.specs.Built.{BuiltInstruction}
 use Rattle.meta_inst.specs.FormatMatch.{is_value_operand, is_block_operand, is_raw_block_operand}
 use Rattle.meta_inst.specs.declared.polymorphic.PolymorphicInfo.{PolymorphicInfo}
 use Rattle.meta_rust_words.specs.declared.refused.Why.{Why}
-use Rattle.meta_rust_words.specs.declared.refused.Why.TheVariants.{NotBlock, ControlLocal, ListLocal, ImmLocal, EarlierInput}
+use Rattle.meta_rust_words.specs.declared.refused.Why.TheVariants.{NotBlock, ImmBlock, ControlLocal, ListLocal, ImmLocal, EarlierInput}
 use Rattle.meta_rust_words.specs.declared.refused.Part.TheVariants.{Input, InputType, InputDoc}
 use Rattle.meta_rust_words.specs.declared.refused.RefusedName.{RefusedName}
 use Rattle.meta_rust_words.specs.Refused.{or_why, refused}
@@ -20,6 +20,7 @@ use Rattle.meta_rust_words.specs.Words.{word_why}
 use Rattle.meta_rust_words.specs.Comments.{doc_why, type_why}
 use Rattle.meta_rust_words.specs.Forms.{is_named}
 use Rattle.meta_rust_names.specs.Methods.{is_form, meets_some}
+use Rattle.meta_rust_names.specs.Variants.{variant_why}
 
 -- ---- the names that an input takes
 
@@ -40,9 +41,13 @@ earlier_inputs inputs k = flat_map names_of_input (take k inputs)
 
 -- ---- why an input can't have its name
 
--- a block without arguments is passed by its name, and the argument for it is `block`
-unfoldable pub block_why : Operand → Option Why
-block_why o = if is_raw_block_operand o && not (is_named (codes "block") o.name) then Some NotBlock else None
+-- A block without arguments is passed by its name, and the argument for it is `block`. A method that takes an immediate passes one with
+-- arguments by its name too, where there are two arguments for it.
+unfoldable pub block_why : BuiltInstruction → Operand → Option Why
+block_why c o =
+    if is_raw_block_operand o && not (is_named (codes "block") o.name) then Some NotBlock
+    else (if is_block_operand o && c.marks.inst_builder_imm_method then Some ImmBlock
+    else None)
 
 -- whether an operand tells the type that controls, which the method keeps in `ctrl_typevar`
 abbrev pub operand_controls : Option PolymorphicInfo → Bool
@@ -79,28 +84,31 @@ earlier_why known o = if meets_some known (names_of_input o) then Some EarlierIn
 
 -- why it can't have its name, where these names are known of earlier inputs
 unfoldable pub input_why : BuiltInstruction → InstructionFormat → (List ℕ → Bool) → Operand → Option Why
-input_why c f known o = or_why (block_why o) (or_why (word_why o.name) (or_why (local_why c f o) (earlier_why known o)))
+input_why c f known o =
+    or_why (block_why c o) (
+    or_why (word_why o.name) (or_why (variant_why o.kind o.name) (or_why (local_why c f o) (earlier_why known o))))
 
--- why its type isn't one: that of an immediate or a reference is that of the format's field
-unfoldable pub input_type_why : Operand → Option Why
-input_type_why o = if is_listed o then type_why o.kind.rust_type else None
+-- whether its documentation stands in a comment: that of a block does only with the methods that take an immediate
+abbrev pub is_documented : BuiltInstruction → Operand → Bool
+is_documented c o = c.marks.inst_builder_imm_method || not (is_block_operand o || is_raw_block_operand o)
 
--- why its documentation can't stand in a comment; of a block none is written
-unfoldable pub input_doc_why : List TypeVarContent → Operand → Option Why
-input_doc_why vars o = if is_block_operand o then None else (if is_raw_block_operand o then None else doc_why (doc_of vars o))
+-- why it can't stand there
+unfoldable pub input_doc_why : List TypeVarContent → BuiltInstruction → Operand → Option Why
+input_doc_why vars c o = if is_documented c o then doc_why (doc_of vars o) else None
 
 -- ---- the inputs
 
--- the input at the place: its name, which can't be it for this reason, its type and its documentation
-unfoldable pub input_refused : List TypeVarContent → Place → Option Why → ℕ × Operand → List RefusedName
-input_refused vars place why at =
+-- The input at the place: its name, which can't be it for this reason, its type and its documentation. The type is that of its own kind,
+-- which need not be that of the field: a format asks only for the field's name.
+unfoldable pub input_refused : List TypeVarContent → BuiltInstruction → Place → Option Why → ℕ × Operand → List RefusedName
+input_refused vars c place why at =
     refused place (Input at.0) why
-    ++ (refused place (InputType at.0) (input_type_why at.1)
-    ++ refused place (InputDoc at.0) (input_doc_why vars at.1))
+    ++ (refused place (InputType at.0) (type_why at.1.kind.rust_type)
+    ++ refused place (InputDoc at.0) (input_doc_why vars c at.1))
 
 -- the same, behind the inputs before it
 abbrev pub input_at : List TypeVarContent → BuiltInstruction → InstructionFormat → Place → List Operand → ℕ × Operand → List RefusedName
-input_at vars c f place inputs at = input_refused vars place (input_why c f (is_form (earlier_inputs inputs at.0)) at.1) at
+input_at vars c f place inputs at = input_refused vars c place (input_why c f (is_form (earlier_inputs inputs at.0)) at.1) at
 
 unfoldable pub inputs_refused : List TypeVarContent → BuiltInstruction → InstructionFormat → Place → List Operand → List RefusedName
 inputs_refused vars c f place inputs = flat_map (input_at vars c f place inputs) (enumerate_from 0 inputs)

@@ -16,7 +16,7 @@ use Rattle.meta_builder_text.specs.Operands.{variable_name}
 use Rattle.meta_builder_text.specs.Arguments.{asked_control}
 use Rattle.meta_rust_words.specs.declared.refused.Why.{Why}
 use Rattle.meta_rust_words.specs.declared.refused.Why.TheVariants.{Keyword, SelfType, FixedMethod, FormatName, ImmMethod}
-use Rattle.meta_rust_words.specs.declared.refused.Why.TheVariants.{ListLocal, OfInput}
+use Rattle.meta_rust_words.specs.declared.refused.Why.TheVariants.{ImmControl, ListLocal, OfInput}
 use Rattle.meta_rust_words.specs.declared.refused.Part.TheVariants.{Name, Output, OutputDoc, Doc, Control, ControlDoc}
 use Rattle.meta_rust_words.specs.declared.refused.RefusedName.{RefusedName}
 use Rattle.meta_rust_words.specs.Refused.{or_why, refused}
@@ -50,18 +50,25 @@ outputs_refused vars place outputs = flat_map (output_refused vars place) (enume
 
 -- ---- its control
 
--- The variable is the first argument. The list of values hides it, where it is named so, before it is passed on.
-unfoldable pub control_why : InstructionFormat → (List ℕ → Bool) → List ℕ → Option Why
-control_why f known name = or_why (word_why name) (
+-- the name is that of the list of values, which hides the argument before it is passed on, or that of an input
+unfoldable pub hidden_why : InstructionFormat → (List ℕ → Bool) → List ℕ → Option Why
+hidden_why f known name =
     if f.has_value_list && is_named (codes "vlist") name then Some ListLocal
     else (if meets known name then Some OfInput
-    else None))
+    else None)
+
+-- The variable is the first argument. The methods that take an immediate have no argument for it to pass on, whatever its name is.
+unfoldable pub control_why : BuiltInstruction → InstructionFormat → (List ℕ → Bool) → List ℕ → Option Why
+control_why c f known name =
+    if c.marks.inst_builder_imm_method then Some ImmControl
+    else or_why (word_why name) (hidden_why f known name)
 
 -- where the control is an argument
-abbrev pub control_refused : List TypeVarContent → InstructionFormat → Place → (List ℕ → Bool) → Option ℕ → List RefusedName
-control_refused vars f place known None = []
-control_refused vars f place known (Some tv) =
-    refused place Control (control_why f known (variable_name vars tv)) ++ refused place ControlDoc (doc_why (doc_at (slice_get vars tv)))
+abbrev pub control_refused : List TypeVarContent → BuiltInstruction → InstructionFormat → Place → (List ℕ → Bool) → Option ℕ
+    → List RefusedName
+control_refused vars c f place known None = []
+control_refused vars c f place known (Some tv) =
+    refused place Control (control_why c f known (variable_name vars tv)) ++ refused place ControlDoc (doc_why (doc_at (slice_get vars tv)))
 
 -- ---- all of an instruction
 
@@ -71,7 +78,7 @@ operands_refused vars c f place =
     inputs_refused vars c f place c.operands_in
     ++ (outputs_refused vars place c.operands_out
     ++ (refused place Doc (doc_why c.doc)
-    ++ control_refused vars f place (is_form (flat_map names_of_input c.operands_in)) (asked_control c.polymorphic_info)))
+    ++ control_refused vars c f place (is_form (flat_map names_of_input c.operands_in)) (asked_control c.polymorphic_info)))
 
 abbrev pub with_format : List TypeVarContent → BuiltInstruction → Place → Option InstructionFormat → List RefusedName
 with_format vars c place None = []

@@ -1,4 +1,5 @@
 pub mod Methods
+pub mod Variants
 pub mod Inputs
 pub mod Instructions
 pub mod Fields

@@ -6,8 +6,9 @@ ghost use Rattle.meta_rust_words.specs.Known.{known};
 ghost use Rattle.meta_rust_words.specs.Forms.{is_named, is_numbered};
 ghost use Rattle.meta_rust_names.specs.Fields.{is_table_constant, is_always_taken, asks_pool, is_mapped_field, holds_operands};
 ghost use Rattle.meta_rust_names.specs.Fields.{asks_mapper, is_method_variable, is_member, is_member_of, is_parameter_of};
-ghost use Rattle.meta_rust_names.specs.Fields.{is_of_format, field_name_why, field_type_why, field_refused, fields_refused};
+ghost use Rattle.meta_rust_names.specs.Fields.{is_of_format, taken_why, field_name_why, field_type_why, field_refused, fields_refused};
 
+use super::variants::variant_why;
 use meta_operands::{FormatField, InstructionFormat, OperandKindFields};
 use meta_rust_words::{
     Names, Part, RefusedName, Why, comment_why, is_named, is_numbered, or_why, push_refused,
@@ -179,19 +180,16 @@ fn is_of_format(alloc: Global, format: &InstructionFormat, name: &str) -> Result
     is_parameter_of(alloc, format, name)
 }
 
-/// Why a field can't have the name, where these are the names of earlier fields.
-#[tactic(auto, unfolding(crate::specs::Fields::field_name_why))]
-fn field_name_why(
+/// Whether something beside a field has the name, and what, where these are the names of earlier fields.
+#[tactic(auto, unfolding(crate::specs::Fields::taken_why))]
+fn taken_why(
     alloc: Global,
     format: &InstructionFormat,
     names: &Names,
     name: &str,
 ) -> Result<Option<Why>, AllocError>
-    ensures { IfOk result (λ why. why ≡ field_name_why format.now (known names.now) name.now) }
+    ensures { IfOk result (λ why. why ≡ taken_why format.now (known names.now) name.now) }
 {
-    if let Some(why) = word_why(name.as_bytes()) {
-        return Ok(Some(why));
-    }
     if is_table_constant(name.as_bytes()) {
         return Ok(Some(Why::InScope));
     }
@@ -202,6 +200,22 @@ fn field_name_why(
         return Ok(Some(Why::EarlierField));
     }
     Ok(None)
+}
+
+/// Why a field can't have its name, where these are the names of earlier fields.
+#[tactic(auto, unfolding(crate::specs::Fields::field_name_why))]
+fn field_name_why(
+    alloc: Global,
+    format: &InstructionFormat,
+    names: &Names,
+    field: &FormatField,
+) -> Result<Option<Why>, AllocError>
+    ensures { IfOk result (λ why. why ≡ field_name_why format.now (known names.now) field.now) }
+{
+    let name = field.member.as_str();
+    let taken = taken_why(alloc, format, names, name)?;
+    let variant = or_why(variant_why(&field.kind, name.as_bytes()), taken);
+    Ok(or_why(word_why(name.as_bytes()), variant))
 }
 
 /// Why a field's type isn't one.
@@ -226,7 +240,7 @@ fn push_field(
     ensures { OnOk result (out.new.items ≡ out.old.items ++ field_refused format.now place (known names.now) (number, field.now)) }
 {
     let number = number as u64;
-    let why = field_name_why(alloc, format, names, field.member.as_str())?;
+    let why = field_name_why(alloc, format, names, field)?;
     push_refused(out, place, Part::Field(number), why)?;
     push_refused(
         out,

@@ -21,6 +21,9 @@ fn format_name_why(methods: &Names, imm_methods: &Names, name: &str) -> Option<W
     if is_base_method(name.as_bytes()) {
         return Some(Why::FixedMethod);
     }
+    if name == "from" {
+        return Some(Why::FixedMethod);
+    }
     if methods.has(name) {
         return Some(Why::InstructionMethod);
     }

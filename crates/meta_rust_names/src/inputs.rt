@@ -7,9 +7,10 @@ ghost use Rattle.meta_rust_words.specs.Known.{known};
 ghost use Rattle.meta_rust_names.specs.Methods.{is_form, meets_some};
 ghost use Rattle.meta_rust_names.specs.Inputs.{block_names, names_of_input, block_why, operand_controls, is_listed};
 ghost use Rattle.meta_rust_names.specs.Inputs.{is_control_local, is_list_local, is_imm_local, local_why};
-ghost use Rattle.meta_rust_names.specs.Inputs.{earlier_why, input_why, input_type_why, input_doc_why, input_refused};
+ghost use Rattle.meta_rust_names.specs.Inputs.{earlier_why, input_why, is_documented, input_doc_why, input_refused};
 ghost use Rattle.meta_rust_names.specs.Inputs.{inputs_refused};
 
+use super::variants::variant_why;
 use meta_inst::{InstructionContent, PolymorphicInfo};
 use meta_operands::{InstructionFormat, Operand};
 use meta_rust_words::{
@@ -91,13 +92,16 @@ fn add_input(alloc: Global, names: &mut Names, input: &Operand) -> Result<(), Al
     names.add_forms(alloc, input.name.as_str())
 }
 
-/// Why a block without arguments can't have its name.
+/// Why a block can't have its name, or can't be an input.
 #[tactic(auto, unfolding(crate::specs::Inputs::block_why))]
-fn block_why(input: &Operand) -> Option<Why>
-    ensures { result ≡ block_why input.now }
+fn block_why(instruction: &InstructionContent, input: &Operand) -> Option<Why>
+    ensures { result ≡ block_why instruction.now input.now }
 {
     if input.kind.is_raw_block() && !is_named(b"block", input.name.as_bytes()) {
         return Some(Why::NotBlock);
+    }
+    if input.kind.is_block() && instruction.inst_builder_imm_method() {
+        return Some(Why::ImmBlock);
     }
     None
 }
@@ -191,34 +195,28 @@ fn input_why(
 {
     let earlier = earlier_why(alloc, names, input)?;
     let local = or_why(local_why(instruction, format, input), earlier);
-    let word = or_why(word_why(input.name.as_bytes()), local);
-    Ok(or_why(block_why(input), word))
+    let variant = or_why(variant_why(&input.kind, input.name.as_bytes()), local);
+    let word = or_why(word_why(input.name.as_bytes()), variant);
+    Ok(or_why(block_why(instruction, input), word))
 }
 
-/// Why the input's type isn't one.
-#[tactic(auto, unfolding(crate::specs::Inputs::input_type_why))]
-fn input_type_why(input: &Operand) -> Option<Why>
-    ensures { result ≡ input_type_why input.now }
+/// Whether the input's documentation stands in a comment.
+fn is_documented(instruction: &InstructionContent, input: &Operand) -> bool
+    ensures { result ≡ is_documented instruction.now input.now }
 {
-    if is_listed(input) {
-        return type_why(input.kind.rust_type.as_str());
+    instruction.inst_builder_imm_method() || !(input.kind.is_block() || input.kind.is_raw_block())
+}
+
+/// Why it can't stand there. The input's variable, where it is a value, is of the registry.
+#[tactic(auto, unfolding(crate::specs::Inputs::input_doc_why))]
+fn input_doc_why(vars: &TypeVars, instruction: &InstructionContent, input: &Operand) -> Option<Why>
+    requires { (tv : ℕ) → variable_of input.now ≡ Some tv → tv < length vars.now }
+    ensures { result ≡ input_doc_why vars.now instruction.now input.now }
+{
+    if is_documented(instruction, input) {
+        return doc_why(input.doc(vars));
     }
     None
-}
-
-/// Why the input's documentation can't stand in a comment. Its variable, where it is a value, is of the registry.
-#[tactic(auto, unfolding(crate::specs::Inputs::input_doc_why))]
-fn input_doc_why(vars: &TypeVars, input: &Operand) -> Option<Why>
-    requires { (tv : ℕ) → variable_of input.now ≡ Some tv → tv < length vars.now }
-    ensures { result ≡ input_doc_why vars.now input.now }
-{
-    if input.kind.is_block() {
-        return None;
-    }
-    if input.kind.is_raw_block() {
-        return None;
-    }
-    doc_why(input.doc(vars))
 }
 
 /// Adds what is refused of the input at this place among the inputs. Its variable, where it is a value, is of the registry.
@@ -226,13 +224,15 @@ fn input_doc_why(vars: &TypeVars, input: &Operand) -> Option<Why>
 fn push_input(
     out: &mut Vec<RefusedName>,
     vars: &TypeVars,
+    instruction: &InstructionContent,
     place: Place,
     number: usize,
     input: &Operand,
     why: Option<Why>,
 ) -> Result<(), AllocError>
     requires { (tv : ℕ) → variable_of input.now ≡ Some tv → tv < length vars.now }
-    ensures { OnOk result (out.new.items ≡ out.old.items ++ input_refused vars.now place why (number, input.now)) }
+    ensures { OnOk result (out.new.items ≡ out.old.items
+        ++ input_refused vars.now instruction.now place why (number, input.now)) }
 {
     let number_64 = number as u64;
     push_refused(out, place, Part::Input(number_64), why)?;
@@ -240,13 +240,13 @@ fn push_input(
         out,
         place,
         Part::InputType(number_64),
-        input_type_why(input),
+        type_why(input.kind.rust_type.as_str()),
     )?;
     push_refused(
         out,
         place,
         Part::InputDoc(number_64),
-        input_doc_why(vars, input),
+        input_doc_why(vars, instruction, input),
     )
 }
 
@@ -268,7 +268,7 @@ pub(crate) fn push_inputs(
     for number in 0..inputs.len() {
         let input = &inputs[number];
         let why = input_why(alloc, instruction, format, &names, input)?;
-        push_input(out, vars, place, number, input, why)?;
+        push_input(out, vars, instruction, place, number, input, why)?;
         add_input(alloc, &mut names, input)?;
     }
     Ok(names)

@@ -8,8 +8,8 @@ ghost use Rattle.meta_operands.specs.Operand.{doc_at};
 ghost use Rattle.meta_builder_text.specs.BuilderText.{HasVariablesOf, HaveVariablesOf};
 ghost use Rattle.meta_rust_words.specs.Known.{known};
 ghost use Rattle.meta_rust_names.specs.Methods.{method_name};
-ghost use Rattle.meta_rust_names.specs.Instructions.{own_name_why, output_refused, outputs_refused, control_why, control_refused};
-ghost use Rattle.meta_rust_names.specs.Instructions.{operands_refused, with_format, instruction_refused};
+ghost use Rattle.meta_rust_names.specs.Instructions.{own_name_why, output_refused, outputs_refused, hidden_why, control_why};
+ghost use Rattle.meta_rust_names.specs.Instructions.{control_refused, operands_refused, with_format, instruction_refused};
 
 use super::inputs::push_inputs;
 use super::methods::{is_base_method, method_name};
@@ -126,19 +126,16 @@ fn variable_doc(vars: &TypeVars, tv: TypeVar) -> &str
     vars.content(tv).doc.as_str()
 }
 
-/// Why the variable that controls can't have this name, where these are the names of the inputs.
-#[tactic(auto, unfolding(crate::specs::Instructions::control_why))]
-fn control_why(
+/// Whether something beside the variable that controls has this name, and what, where these are the names of the inputs.
+#[tactic(auto, unfolding(crate::specs::Instructions::hidden_why))]
+fn hidden_why(
     alloc: Global,
     format: &InstructionFormat,
     names: &Names,
     name: &str,
 ) -> Result<Option<Why>, AllocError>
-    ensures { IfOk result (λ why. why ≡ control_why format.now (known names.now) name.now) }
+    ensures { IfOk result (λ why. why ≡ hidden_why format.now (known names.now) name.now) }
 {
-    if let Some(why) = word_why(name.as_bytes()) {
-        return Ok(Some(why));
-    }
     if format.has_value_list && is_named(b"vlist", name.as_bytes()) {
         return Ok(Some(Why::ListLocal));
     }
@@ -148,22 +145,42 @@ fn control_why(
     Ok(None)
 }
 
+/// Why the variable that controls can't have this name, or can't be an argument, where these are the names of the inputs.
+#[tactic(auto, unfolding(crate::specs::Instructions::control_why))]
+fn control_why(
+    alloc: Global,
+    instruction: &InstructionContent,
+    format: &InstructionFormat,
+    names: &Names,
+    name: &str,
+) -> Result<Option<Why>, AllocError>
+    ensures { IfOk result (λ why. why ≡ control_why instruction.now format.now (known names.now) name.now) }
+{
+    if instruction.inst_builder_imm_method() {
+        return Ok(Some(Why::ImmControl));
+    }
+    let hidden = hidden_why(alloc, format, names, name)?;
+    Ok(or_why(word_why(name.as_bytes()), hidden))
+}
+
 /// Adds what is refused of the control, where it is an argument.
 fn push_control(
     alloc: Global,
     out: &mut Vec<RefusedName>,
     vars: &TypeVars,
+    instruction: &InstructionContent,
     format: &InstructionFormat,
     place: Place,
     names: &Names,
     control: Option<TypeVar>,
 ) -> Result<(), AllocError>
-    ensures { OnOk result (out.new.items ≡ out.old.items ++ control_refused vars.now format.now place (known names.now) control) }
+    ensures { OnOk result (out.new.items ≡ out.old.items
+        ++ control_refused vars.now instruction.now format.now place (known names.now) control) }
 {
     let Some(tv) = control else {
         return Ok(());
     };
-    let why = control_why(alloc, format, names, variable_name(vars, tv))?;
+    let why = control_why(alloc, instruction, format, names, variable_name(vars, tv))?;
     push_refused(out, place, Part::Control, why)?;
     push_refused(
         out,
@@ -191,7 +208,16 @@ fn push_operands(
     push_outputs(out, vars, instruction.operands_out(), place)?;
     push_refused(out, place, Part::Doc, doc_why(instruction.doc().as_str()))?;
     let control = asked_control(instruction.polymorphic_info());
-    push_control(alloc, out, vars, format, place, &names, control)
+    push_control(
+        alloc,
+        out,
+        vars,
+        instruction,
+        format,
+        place,
+        &names,
+        control,
+    )
 }
 
 /// Adds the same, where its format is of the table.

@@ -8,6 +8,7 @@ mod groups;
 mod inputs;
 mod instructions;
 mod methods;
+mod variants;
 
 pub use all::refused_names;
 pub use meta_rust_words::{Part, RefusedName, Why};

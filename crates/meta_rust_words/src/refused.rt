@@ -12,9 +12,10 @@ pub enum Part {
     Name,
     /// The name of an input.
     Input(u64),
-    /// The Rust type of an input that is a value or a variable number of values.
+    /// The Rust type of an input.
     InputType(u64),
-    /// The documentation of an input: its own, or that of its variable or its kind.
+    /// The documentation of an input: its own, or that of its variable or its kind. That of a block stands only with the methods that
+    /// take an immediate.
     InputDoc(u64),
     /// The name of an output.
     Output(u64),
@@ -53,7 +54,7 @@ pub enum Why {
     ErrType,
     /// Its camel case is that of a type which is written or named beside it.
     TypeBeside,
-    /// It is that of a method which is always there.
+    /// It is that of a method or of a function which is always there.
     FixedMethod,
     /// It is that of a format.
     FormatName,
@@ -69,6 +70,10 @@ pub enum Why {
     ListLocal,
     /// It is `imm_ty`, and there are methods that take an immediate.
     ImmLocal,
+    /// It is a block, and there are methods that take an immediate: they hand it on as one argument, where there are two for it.
+    ImmBlock,
+    /// It is an argument, and there are methods that take an immediate, which have none for it.
+    ImmControl,
     /// It is that of an argument for an earlier input.
     EarlierInput,
     /// It is that of an argument for an input.
@@ -77,6 +82,8 @@ pub enum Why {
     OfFormat,
     /// It is that of an earlier field.
     EarlierField,
+    /// It is that of a variant of its own type, an enum.
+    OwnVariant,
     /// It is `bvec`, a variable beside it.
     FixedLocal,
     /// It is no type: it has nothing but white space.

@@ -22,7 +22,7 @@ loop-number-preserved c =
       added = next_placed (input_at c.args.vars.now c.args.instruction.now c.args.format.now c.args.place c.args.inputs.now)
           c.args.inputs.now i input _ _ _ (omega (arith, c.loop-number-test.true)) c.index-inputs-number.is
           (c.in_ok-push_input.ensures
-          ∙ ap (λ w. c.loop-number.out.items ++ input_refused c.args.vars.now c.args.place w (i, input)) why)
+          ∙ ap (λ w. c.loop-number.out.items ++ input_refused c.args.vars.now c.args.instruction.now c.args.place w (i, input)) why)
           c.loop-number.invariant.added;
       known_names = λ text. known_more (λ name. has_form name text) names_of_input c.args.inputs.now i input _ _
           (omega (arith, c.loop-number-test.true)) c.index-inputs-number.is (c.in_ok-add_input.ensures text)

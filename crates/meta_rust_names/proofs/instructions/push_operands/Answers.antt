@@ -30,14 +30,14 @@ parts_added : (vars : List TypeVarContent) (i : BuiltInstruction) (f : Instructi
     → first ≡ out ++ inputs_refused vars i f place inputs
     → second ≡ first ++ outputs_refused vars place outputs
     → third ≡ second ++ refused place Doc why
-    → fourth ≡ third ++ control_refused vars f place is_known control
+    → fourth ≡ third ++ control_refused vars i f place is_known control
     → fourth ≡ out ++ operands_refused vars i f place
 unfolding operands_refused
 parts_added vars i f place inputs outputs why control is_known out first second third fourth
     of_inputs of_outputs of_doc of_control names with_inputs with_outputs with_doc with_control =
     let same_names : is_known ≡ is_form (flat_map names_of_input inputs) = fun_ext names in
     let parts = regrouped out (inputs_refused vars i f place inputs) (outputs_refused vars place outputs) (refused place Doc why)
-    (control_refused vars f place is_known control) in
+    (control_refused vars i f place is_known control) in
     cc
 
 pub returns : goal.returns
