@@ -1,8 +1,7 @@
 -- How much of each kind there is.
-use Rattle.std.proofs.Common.{◌≡◌, ℕ, ◌+◌, zero, suc, Bool, true, false, not, cond, List, [], ◌∷◌, ◌++◌, length, length-append, map, refl, sym, ap}
+use Rattle.std.proofs.Common.{◌≡◌, ℕ, ◌+◌, suc, Bool, true, false, not, cond, List, [], ◌∷◌, ◌++◌, length, length-append, map, refl, sym, ap}
 use Rattle.std.proofs.Common.{◌∙◌, arith}
-use Rattle.std.specs.List.{filter}
-use Rattle.meta_settings.specs.GroupDeclaration.{SettingDeclaration, PresetDeclaration, GroupDeclaration, is_bool, has_own_byte}
+use Rattle.meta_settings.specs.GroupDeclaration.{SettingDeclaration, PresetDeclaration, GroupDeclaration, is_bool}
 use Rattle.meta_settings.specs.GroupDeclaration.{booleans_among, others_among, start_of, entry_count}
 use Rattle.meta_settings.specs.Layout.{BuiltPreset}
 use Rattle.meta_settings.specs.LaidOut.{in_bytes, in_bits, built_of}

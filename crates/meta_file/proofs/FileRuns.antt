@@ -1,9 +1,9 @@
 -- From how a run over a file ended to what it did.
-use Rattle.std.proofs.Common.{◌≡◌, ◌<◌, ◌≤◌, inl, inr, ℕ, List, ◌++◌, length, length-append, Option, None, Some, refl}
+use Rattle.std.proofs.Common.{◌≡◌, ◌<◌, ◌≤◌, inl, inr, ℕ, List, [], ◌++◌, length, length-append, Option, None, Some, refl}
 use Rattle.std.proofs.Common.{sym, ap, ◌∙◌, subst, arith}
 use Rattle.std.proofs.lemmas.List.{append-nil}
 use Rattle.meta_types.specs.declared.fault.DefinitionError.{DefinitionError}
-use Rattle.meta_text.specs.Outside.{with_front, NothingLeft, longest_input, GaveMore}
+use Rattle.meta_text.specs.Outside.{with_front, NothingLeft, longest_input, GaveMore, GaveAtMost}
 use Rattle.meta_declared.specs.AllDeclared.{Declared, ShowsFirst, AreValid}
 use Rattle.meta_run.specs.Run.{IsReadWhole, AnswersInput, IsRun}
 use Rattle.meta_run.specs.declared.ending.Ending.{Ending}
@@ -11,7 +11,7 @@ use Rattle.meta_run.specs.declared.ending.Ending.TheVariants as ends
 use Rattle.meta_run.proofs.Programs as programs
 use Rattle.meta_file.specs.Tool.{AreToolWords, AskSomething, reads_input, texts_of}
 use Rattle.meta_file.specs.File.{Declares, IsRefusal}
-use Rattle.meta_file.specs.FileRun.{RanText, DidText, DidFile, RanFile, AnswersFile, RefusesFile, IsRefusedOnly}
+use Rattle.meta_file.specs.FileRun.{RanText, DidText, DidFile, RanFile, AnswersFile, RefusesFile, IsRefusedOnly, LeavesLongFile}
 use Rattle.meta_file.specs.declared.tool.Tool.{Tool}
 use Rattle.meta_file.specs.declared.file_ending.FileEnding.{FileEnding}
 use Rattle.meta_file.specs.declared.file_ending.FileEnding.TheVariants.{Ran, Refused, FileFault, FileTooLong}
@@ -37,6 +37,11 @@ gave_within input left left' told few h = within left' (sym told ∙ h.given)
         let whole : input ≡ h.bytes ++ rest = cc in
         let m = more in
         omega (arith, ap length whole, length-append h.bytes rest)
+
+-- what isn't read gives nothing
+pub gave_nothing : (left : Option (List ℕ)) → GaveAtMost longest_input left left
+gave_nothing None = record { bytes = []; given = refl; within = omega arith }
+gave_nothing (Some rest) = record { bytes = []; given = refl; within = omega arith }
 
 module _ {F S K : Type 0} (file_left : F → Option (List ℕ)) (file_reads : F → ℕ) (left : S → Option (List ℕ)) (reads : S → ℕ) (taken : K
     → Option (List ℕ)) (writes : K → ℕ) (words : List (List ℕ)) (path : List ℕ) (f f' : F) (s s' : S) (k k' : K)
@@ -103,6 +108,23 @@ module _ {F S K : Type 0} (file_left : F → Option (List ℕ)) (file_reads : F 
       by own =
           let texts = same_text text own.1.text given.0 own.1.read in
           not_refused path text message d (subst (λ (t : List ℕ). IsRefusal path t message) texts own.1.refusal) declares valid
+
+  -- no more than the limit is read whole
+  read_within : (text bytes : List ℕ) → file_left f ≡ Some text → longest_input < length text → IsReadWhole file_left f f' bytes → ⊥
+  read_within text bytes told more read =
+      let same : length bytes ≡ length text = ap length (same_text text bytes told read) in
+      let within = read.within in
+      omega (arith, same, within, more)
+
+  -- more than the limit is too long
+  pub too_long : (ending : FileEnding) → Did ending
+      → LeavesLongFile file_left file_reads left reads taken writes words path f f' s s' k k' ending
+  too_long (Ran ending) (inl ran) text told more no_fault asks memory = absurd (read_within text ran.text told more ran.read)
+  too_long (Ran ending) (inr (inl nothing)) text told more no_fault asks memory = absurd (nothing.0 asks)
+  too_long (Ran ending) (inr (inr out)) text told more no_fault asks memory = absurd (memory (ap Ran out.1))
+  too_long (Refused message) did text told more no_fault asks memory = absurd (read_within text did.1.text told more did.1.read)
+  too_long FileFault did text told more no_fault asks memory = absurd (no_fault did.1)
+  too_long FileTooLong did text told more no_fault asks memory = (refl, did.2)
 
   -- words that ask nothing end so, and no others
   pub asks_nothing : (ending : FileEnding) → Did ending → (AskSomething words → ⊥) → ending ≡ Ran ends.Usage

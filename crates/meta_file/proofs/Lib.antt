@@ -5,3 +5,5 @@ mod ToolsListed
 pub mod Texts
 mod OneMessage
 pub mod FileRuns
+mod OneOver
+mod OneShown

@@ -1,20 +1,18 @@
 -- The entries of a manual that list what words ask, and what their words ask.
-use Rattle.std.proofs.Common.{◌≡◌, ◌∙◌, ◌⊎◌, inl, inr, ℕ, zero, suc, Bool, true, false, List, [], ◌∷◌, length, take, Unit}
-use Rattle.std.proofs.Common.{refl, sym, ap, ap₂, subst, arith}
+use Rattle.std.proofs.Common.{◌≡◌, ◌∙◌, ◌⊎◌, inl, inr, ℕ, zero, suc, true, List, [], ◌∷◌, length, take}
+use Rattle.std.proofs.Common.{refl, sym, ap, ap₂, subst}
 use Rattle.std.proofs.lemmas.List.{nil_from_length}
-use Rattle.std.specs.Prelude.{codes, slice_get, Option, Some, None}
+use Rattle.std.specs.Prelude.{codes, slice_get, Some}
 use Rattle.std.specs.List.{list_all}
-use Rattle.meta_main.specs.Misuse.{AreCommandWords, AreTaken, AreNumbersIn, NamesNoneBefore}
+use Rattle.meta_main.specs.Misuse.{AreCommandWords, AreTaken, AreNumbersIn, IsNamed, NamesNoneBefore}
 use Rattle.meta_main.specs.declared.manual.CommandForm.{CommandForm}
 use Rattle.meta_query.specs.declared.command.Command.{Command}
-use Rattle.meta_query.specs.declared.command.Command.TheVariants.{Tables}
 use Rattle.meta_asm.specs.Form.{words_for}
 use Rattle.meta_file.specs.TablesIn.{version_words}
 use Rattle.meta_query.proofs.Listed.{is_other, no_numbers, others, some_same, HaveEntry, listed, IsEntry, of_entry}
 use Rattle.meta_file.specs.Tool.{AskSomething, BeginWithNameOf, HaveWordBehind, lone_name}
 use Rattle.meta_file.specs.declared.tool.Lone.{Lone}
 use Rattle.meta_file.specs.declared.tool.Lone.TheVariants as lone
-use Rattle.meta_file.specs.declared.tool.Tool.{Tool}
 use Rattle.meta_file.specs.declared.tool.Tool.TheVariants.{Run, TablesIn, Verify, Asm, Flags, Audit, Check, Describe}
 
 -- the entries have one of this name, behind which no number stands, and none before it has the name
@@ -54,19 +52,23 @@ all_listed entries commands lones words (Describe, h) = inl (taken entries (code
 begins : (entries : List CommandForm) (words : List (List ℕ)) → AreTaken entries words → BeginWithNameOf entries words
 begins entries words h = (h.are.named.place, h.are.command, h.are.behind, h.are.named.at, h.are.are)
 
--- the entries begin all words that ask something: one is that of `tables`, and one that of `asm`
-pub all_named : (entries : List CommandForm) → ((c : Command) → HaveEntry entries c)
-    → ((l : Lone) → HavePlainEntry entries (lone_name l)) → HavePlainEntry entries (codes "asm")
+-- words that are the name of an entry and what stands behind it begin so
+named : (entries : List CommandForm) (name : List ℕ) (entry : CommandForm) → IsNamed entries name entry → (words behind : List (List ℕ))
+    → words ≡ name ∷ behind → BeginWithNameOf entries words
+named entries name entry it words behind e = (it.place, entry, behind, it.at, e ∙ ap (λ n. n ∷ behind) (sym it.name_is))
+
+-- The entries begin all words that ask something: those that they list, and, where one is that of `asm` and one that of `tables`, those
+-- with another word behind the name.
+pub all_named : (entries : List CommandForm) (asm tables : CommandForm) → IsNamed entries (codes "asm") asm
+    → IsNamed entries (codes "tables") tables
+    → ((words : List (List ℕ)) → AskSomething words → AreTaken entries words ⊎ HaveWordBehind words)
     → (words : List (List ℕ)) → AskSomething words → BeginWithNameOf entries words
-all_named entries commands lones asm words h = of_listed (all_listed entries commands lones words h)
+all_named entries asm tables is_asm is_tables all words h = of_listed (all words h)
   where
     of_listed : AreTaken entries words ⊎ HaveWordBehind words → BeginWithNameOf entries words
     of_listed (inl it) = begins entries words it
-    of_listed (inr (inl (form, e))) =
-        (asm.place, asm.entry, words_for form, asm.at, e ∙ ap (λ n. n ∷ words_for form) (sym asm.name_is))
-    of_listed (inr (inr (version, e))) =
-        let it = commands Tables in
-        (it.place, it.entry, version_words version, it.at, e ∙ ap (λ n. n ∷ version_words version) (sym it.name))
+    of_listed (inr (inl (form, e))) = named entries (codes "asm") asm is_asm words (words_for form) e
+    of_listed (inr (inr (version, e))) = named entries (codes "tables") tables is_tables words (version_words version) e
 
 -- the entry is that of a command of `run`, of a tool whose words are its name, or of `asm`
 abbrev pub IsToolEntry : CommandForm → Type 0

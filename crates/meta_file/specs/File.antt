@@ -4,14 +4,14 @@
 use Rattle.std.specs.Prelude.{◌≡◌, ◌⊎◌, ℕ, List, Ok, Err, slice_get, Some}
 use Rattle.meta_types.specs.declared.fault.DefinitionError.{DefinitionError}
 use Rattle.meta_declared.specs.AllDeclared.{Declared, ShowsFirst}
+use Rattle.meta_tokens.specs.Encoding.{text_last_line}
 use Rattle.meta_tokens.specs.Squeezed.{read_in, read_lines}
 use Rattle.meta_items.specs.declared.items.Item.{Item}
 use Rattle.meta_items.specs.Spelling.{spelled_all}
-use Rattle.meta_items_reader.specs.declared.fault.ReadError.TheVariants as reads
 use Rattle.meta_items_reader.specs.declared.fault.Refusal.{Refusal}
 use Rattle.meta_items_reader.specs.ItemLines.{key_lines}
 use Rattle.meta_items_reader.specs.Reason.{reason_of}
-use Rattle.meta_items_reader.specs.Refused.{IsRefused, GivesItems, items_in}
+use Rattle.meta_items_reader.specs.Refused.{IsRefused, IsRefusalOf, items_in}
 use Rattle.meta_items_declared.specs.AllItems.{Declares as DeclaresItems, IsFirstWrong}
 use Rattle.meta_items_declared.specs.Places.{place_of_fault}
 use Rattle.meta_items_declared.specs.declared.refused.Reason.{Reason}
@@ -60,10 +60,10 @@ pub record IsFaultMessageOf (path : List ℕ) (items : List Item) (lines : List 
 
 -- ---- why a text is refused
 
--- it reads as no items: the message tells where that shows, and why; the items before that place are read, and none begins there
+-- it reads as no items, but as a fault: the message tells where that shows, and why; the items before it are read, and none begins there
 pub record IsUnread (path text message : List ℕ) : Type 0 where
   pub refusal : Refusal
-  pub gives : GivesItems (λ (items : List Item). items) text (Err (reads.Refused refusal)) (items_in text)
+  pub gives : (fault : _) × (items_in text ≡ Err fault) × IsRefusalOf (read_in text) (read_lines text) (text_last_line text) fault refusal
   pub refused : IsRefused text refusal
   pub is : message ≡ located path refusal.line (reason_of refusal)
 

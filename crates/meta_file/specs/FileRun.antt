@@ -1,7 +1,7 @@
 -- What a run over the declarations of a file does.
 --     DidFile .. ending                     what was read and written, by how it ended
---     AnswersFile, RefusesFile .. ending    what is done where nothing fails
-use Rattle.std.specs.Prelude.{◌≡◌, ◌≢◌, ◌⊎◌, ◌≤◌, ℕ, Bool, List, ◌++◌, length, Option, Some}
+--     AnswersFile, RefusesFile, LeavesLongFile .. ending    what is done where nothing fails
+use Rattle.std.specs.Prelude.{◌≡◌, ◌≢◌, ◌⊎◌, ◌<◌, ◌≤◌, ℕ, Bool, List, ◌++◌, length, Option, Some}
 use Rattle.meta_text.specs.Outside.{Rose, longest_input, GaveMore}
 use Rattle.meta_declared.specs.AllDeclared.{Declared, AreValid}
 use Rattle.meta_run.specs.Run.{IsReadWhole, IsGiven, Ran as RanOver}
@@ -95,3 +95,10 @@ module _ {F S K : Type 0} (file_left : F → Option (List ℕ)) (file_reads : F 
   abbrev pub IsRefusedOnly : FileEnding → Type 0
   IsRefusedOnly ending =
       (message text : List ℕ) (d : Declared) → ending ≡ Refused message → IsFileGiven text → Declares text d → AreValid d → ⊥
+
+  -- Where the file told more bytes than the limit, the words ask something, memory didn't run out and no read of the file failed, it is
+  -- too long, and nothing else was read or written.
+  abbrev pub LeavesLongFile : FileEnding → Type 0
+  LeavesLongFile ending =
+      (text : List ℕ) → file_left f ≡ Some text → longest_input < length text → (Rose (file_reads f) (file_reads f') → ⊥)
+      → AskSomething words → ending ≢ Ran ends.OutOfMemory → (ending ≡ FileTooLong) × LeavesAll

@@ -1,8 +1,9 @@
-ghost use Rattle.std.specs.Prelude.{◌≡◌, ◌↔◌};
+ghost use Rattle.std.specs.Prelude.{◌≡◌, ◌≢◌, ◌↔◌, ◌≤◌};
+ghost use Rattle.meta_text.specs.Outside.{longest_input, GaveAtMost};
 ghost use Rattle.meta_run.specs.declared.ending.Ending.TheVariants as ends;
 ghost use Rattle.meta_file.specs.Tool.{AskSomething};
-ghost use Rattle.meta_file.specs.FileRun.{DidText, DidFile, AnswersFile, RefusesFile, IsRefusedOnly};
-ghost use Rattle.meta_file.specs.declared.file_ending.FileEnding.TheVariants.{Ran};
+ghost use Rattle.meta_file.specs.FileRun.{DidText, DidFile, AnswersFile, RefusesFile, IsRefusedOnly, LeavesLongFile};
+ghost use Rattle.meta_file.specs.declared.file_ending.FileEnding.TheVariants.{Ran, FileTooLong};
 
 use super::file_ending::FileEnding;
 use super::laws::{a_text_declares_one_thing, one_tool};
@@ -44,8 +45,10 @@ fn run_read<F: Source, S: Source, K: Sink>(
     sink: &mut K,
 ) -> FileEnding
     requires { AskSomething words.now }
-    ensures { DidFile F.left F.faults S.left S.faults K.taken K.faults words.now path.now file.old file.new
+    ensures did { DidFile F.left F.faults S.left S.faults K.taken K.faults words.now path.now file.old file.new
         source.old source.new sink.old sink.new result }
+    ensures file_within { result ≢ FileTooLong → GaveAtMost longest_input (F.left file.old) (F.left file.new) }
+    ensures file_counted { F.faults file.old ≤ F.faults file.new }
 {
     match read_whole(alloc, file) {
         Ok(text) => run_over(alloc, words, path, &text, source, sink),
@@ -64,8 +67,10 @@ fn attempt<F: Source, S: Source, K: Sink>(
     source: &mut S,
     sink: &mut K,
 ) -> FileEnding
-    ensures { DidFile F.left F.faults S.left S.faults K.taken K.faults words.now path.now file.old file.new
+    ensures did { DidFile F.left F.faults S.left S.faults K.taken K.faults words.now path.now file.old file.new
         source.old source.new sink.old sink.new result }
+    ensures file_within { result ≢ FileTooLong → GaveAtMost longest_input (F.left file.old) (F.left file.new) }
+    ensures file_counted { F.faults file.old ≤ F.faults file.new }
 {
     match Tool::parse(words) {
         Some(_tool) => run_read(alloc, words, path, file, source, sink),
@@ -96,6 +101,12 @@ pub fn run_file<F: Source, S: Source, K: Sink>(
         source.old source.new sink.old sink.new result }
     ensures refused_only { IsRefusedOnly F.left F.faults S.left S.faults K.taken K.faults words.now path.now file.old file.new
         source.old source.new sink.old sink.new result }
+
+    // A file is too long exactly where it has more than the limit, and its count of faults never falls.
+    ensures too_long { LeavesLongFile F.left F.faults S.left S.faults K.taken K.faults words.now path.now file.old file.new
+        source.old source.new sink.old sink.new result }
+    ensures file_within { result ≢ FileTooLong → GaveAtMost longest_input (F.left file.old) (F.left file.new) }
+    ensures file_counted { F.faults file.old ≤ F.faults file.new }
 
     // Words that ask nothing, and only they, are a usage error, whatever the file is.
     ensures usage { (result ≡ Ran ends.Usage) ↔ (AskSomething words.now → ⊥) }

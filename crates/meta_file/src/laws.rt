@@ -1,7 +1,11 @@
-ghost use Rattle.std.specs.Prelude.{◌≡◌, ℕ, List};
+ghost use Rattle.std.specs.Prelude.{◌≡◌, ℕ, Bool, List};
 ghost use Rattle.meta_typevar.specs.Registry.{HoldTypeSets};
 ghost use Rattle.meta_declared.specs.AllDeclared.{Declared, AreValid};
+ghost use Rattle.meta_table_text.specs.declared.version.Version.{Version};
 ghost use Rattle.meta_file.specs.Counts.{IsCheckLine};
+ghost use Rattle.meta_file.specs.TablesIn.{IsShownIn};
+ghost use Rattle.meta_file.specs.Over.{IsOver, path_of, asked_of};
+ghost use Rattle.meta_file.specs.declared.over.Over.{Over as spec_Over};
 ghost use Rattle.meta_file.specs.Tool.{AreToolWords};
 ghost use Rattle.meta_file.specs.File.{Declares, IsRefusal};
 ghost use Rattle.meta_file.specs.declared.tool.Tool.{Tool as spec_Tool};
@@ -37,3 +41,20 @@ pub fn one_check_line()
 {
     one_table_of_declarations();
 }
+
+/// What `tables --version N` writes of declarations is one text, and it is an answer or a rejection, never both. The variables have sets of
+/// types, as those of `Declarations` always do.
+pub fn one_text_of_a_version()
+    ensures rejection { (version : Version) (d : Declared) (a b : Bool) (out other : List ℕ) → HoldTypeSets d.set.vars
+        → IsShownIn version d a out → IsShownIn version d b other → a ≡ b }
+    ensures text { (version : Version) (d : Declared) (a b : Bool) (out other : List ℕ) → HoldTypeSets d.set.vars
+        → IsShownIn version d a out → IsShownIn version d b other → out ≡ other }
+{
+    one_table_of_declarations();
+}
+
+/// Words are asked over one thing: over one file or over the shared declarations, and they ask one thing of that.
+pub fn one_over()
+    ensures path { (words : List (List ℕ)) (a b : spec_Over) → IsOver words a → IsOver words b → path_of a ≡ path_of b }
+    ensures asked { (words : List (List ℕ)) (a b : spec_Over) → IsOver words a → IsOver words b → asked_of a ≡ asked_of b }
+{}

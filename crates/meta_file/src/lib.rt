@@ -18,7 +18,9 @@ mod tool_list;
 
 pub use file_ending::FileEnding;
 pub use file_run::run_file;
-pub use laws::{a_text_declares_one_thing, one_check_line, one_tool};
+pub use laws::{
+    a_text_declares_one_thing, one_check_line, one_over, one_text_of_a_version, one_tool,
+};
 pub use loading::{LoadError, load};
 pub use over::Over;
 pub use running::{run_check, run_words};

@@ -1,5 +1,4 @@
-use Rattle.std.proofs.Common.{List}
-use Rattle.meta_file.proofs.Texts.{DeclareOne, one_declared, not_refused}
+use Rattle.meta_file.proofs.Texts.{one_declared, not_refused}
 use Rattle.meta_file.proofs.OneMessage.{one_message}
 use Rattle.meta_file.proofs.laws.a_text_declares_one_thing.Goals as goal
 

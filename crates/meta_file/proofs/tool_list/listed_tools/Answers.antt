@@ -25,22 +25,8 @@ returns-clause-listed c =
 
 pub returns-clause-named : goal.returns-clause-named
 returns-clause-named c =
-    all_named _ (elim [
-      | Query ↦ record { place = 5; entry = _; at = refl; name = refl; numbers = refl; first = refl }
-      | Recheck ↦ record { place = 6; entry = _; at = refl; name = refl; numbers = refl; first = refl }
-      | Tables ↦ record { place = 0; entry = _; at = refl; name = refl; numbers = refl; first = refl }
-      | Types ↦ record { place = 1; entry = _; at = refl; name = refl; numbers = refl; first = refl }
-      | Settings ↦ record { place = 2; entry = _; at = refl; name = refl; numbers = refl; first = refl }
-      | Instructions ↦ record { place = 3; entry = _; at = refl; name = refl; numbers = refl; first = refl }
-      | Builder ↦ record { place = 4; entry = _; at = refl; name = refl; numbers = refl; first = refl }
-      | (Synth n) ↦ record { place = 7; entry = _; at = refl; name = refl; numbers = refl; first = refl }
-    ]) (elim [
-      | lone.Verify ↦ record { place = 8; entry = _; at = refl; name_is = refl; none = refl; first = refl }
-      | lone.Flags ↦ record { place = 10; entry = _; at = refl; name_is = refl; none = refl; first = refl }
-      | lone.Audit ↦ record { place = 11; entry = _; at = refl; name_is = refl; none = refl; first = refl }
-      | lone.Check ↦ record { place = 12; entry = _; at = refl; name_is = refl; none = refl; first = refl }
-      | lone.Describe ↦ record { place = 13; entry = _; at = refl; name_is = refl; none = refl; first = refl }
-    ]) (record { place = 9; entry = _; at = refl; name_is = refl; none = refl; first = refl })
+    all_named _ _ _ (record { place = 9; at = refl; name_is = refl }) (record { place = 0; at = refl; name_is = refl })
+    (returns-clause-listed c)
 
 pub returns-clause-commands : goal.returns-clause-commands
 returns-clause-commands c =
