@@ -2,3 +2,4 @@ pub mod Places
 pub mod Told
 pub mod Asked
 pub mod Checked
+pub mod CheckAnswers

@@ -1,13 +1,17 @@
+ghost use Rattle.std.specs.Prelude.{◌≡◌, ◌≢◌, ◌≤◌};
+ghost use Rattle.meta_text.specs.Outside.{longest_input, GaveAtMost};
 ghost use Rattle.meta_declared.specs.AllDeclared.{AreValid};
 ghost use Rattle.meta_file.specs.File.{Declares};
 ghost use Rattle.meta_file_check.specs.Told.{AreTold};
 ghost use Rattle.meta_file_check.specs.Checked.{IsOutOfMemory, DidCheckText, DidCheck};
+ghost use Rattle.meta_file_check.specs.CheckAnswers.{AnswersCheck, RefusesFile, IsRefusedOnly, AreNamesRefusedOnly, Completes, WritesNothing};
+ghost use Rattle.meta_file_check.specs.declared.check_ending.CheckEnding.TheVariants.{FileTooLong};
 
 use super::asked::Names;
 use super::check_ending::CheckEnding;
 use super::told::names_told;
-use meta_declared::Declarations;
-use meta_file::{LoadError, load, run_check};
+use meta_declared::{Declarations, one_first_fault};
+use meta_file::{LoadError, a_text_declares_one_thing, load, run_check};
 use meta_run::Ending;
 use meta_text::{ReadError, Sink, Source, read_whole};
 use meta_tokens::Bytes;
@@ -90,11 +94,34 @@ fn check_text<S: Source, K: Sink>(
     }
 }
 
+/// Reads a file, and checks its text.
+fn attempt<F: Source, S: Source, K: Sink>(
+    alloc: Global,
+    path: &[u8],
+    names: Names,
+    file: &mut F,
+    source: &mut S,
+    sink: &mut K,
+) -> CheckEnding
+    ensures did { DidCheck F.left F.faults S.left S.faults K.taken K.faults path.now names file.old file.new
+        source.old source.new sink.old sink.new result }
+    ensures file_within { result ≢ FileTooLong → GaveAtMost longest_input (F.left file.old) (F.left file.new) }
+    ensures file_counted { F.faults file.old ≤ F.faults file.new }
+{
+    match read_whole(alloc, file) {
+        Ok(text) => check_text(alloc, path, names, &text, source, sink),
+        Err(ReadError::ReadFault) => CheckEnding::FileFault,
+        Err(ReadError::TooLong) => CheckEnding::FileTooLong,
+        Err(ReadError::OutOfMemory) => out_of_memory(alloc),
+    }
+}
+
 /// Reads a file, counts what it declares, as `run_file` does for `check`, and tells the names that Rust refuses; where they are to be
 /// refused and there are some, nothing is written (this project's own). The path stands in messages alone, and the source isn't read.
 ///
 /// The order is: the whole file; what it reads as and declares, which is refused by the first thing that is wrong, in the order of `load`;
-/// its names; the count, which is written. Memory may run out at any point.
+/// its names; the count, which is written. Memory may run out at any point. `FileTooLong` comes exactly where the file gave more than
+/// 1,048,576 bytes.
 pub fn check_file<F: Source, S: Source, K: Sink>(
     alloc: Global,
     path: &[u8],
@@ -106,11 +133,32 @@ pub fn check_file<F: Source, S: Source, K: Sink>(
     // What was read and written, and what is told, by how it ended.
     ensures did { DidCheck F.left F.faults S.left S.faults K.taken K.faults path.now names file.old file.new
         source.old source.new sink.old sink.new result }
+
+    // What a file declares without a fault is counted, and its names are told, or refused where that is asked.
+    ensures headline { AnswersCheck F.left F.faults S.left S.faults K.taken K.faults path.now names file.old file.new
+        source.old source.new sink.old sink.new result }
+    // Names are refused only there.
+    ensures names_refused_only { AreNamesRefusedOnly F.left F.faults S.left S.faults K.taken K.faults path.now names file.old file.new
+        source.old source.new sink.old sink.new result }
+
+    // Other files are refused, and only they.
+    ensures refuses { RefusesFile F.left F.faults S.left S.faults K.taken K.faults path.now names file.old file.new
+        source.old source.new sink.old sink.new result }
+    ensures refused_only { IsRefusedOnly F.left F.faults S.left S.faults K.taken K.faults path.now names file.old file.new
+        source.old source.new sink.old sink.new result }
+
+    // Where nothing fails there is an answer, whether bytes are told or not.
+    ensures complete { Completes F.left F.faults S.left S.faults K.taken K.faults path.now names file.old file.new
+        source.old source.new sink.old sink.new result }
+
+    // No more than the limit is read of the file, unless that is why it ended, and its count of faults never falls. The source isn't read.
+    // Nothing is written where memory runs out, the file isn't read whole, or it or its names are refused.
+    ensures file_within { result ≢ FileTooLong → GaveAtMost longest_input (F.left file.old) (F.left file.new) }
+    ensures file_counted { F.faults file.old ≤ F.faults file.new }
+    ensures unread { source.new ≡ source.old }
+    ensures untouched { WritesNothing result → sink.new ≡ sink.old }
 {
-    match read_whole(alloc, file) {
-        Ok(text) => check_text(alloc, path, names, &text, source, sink),
-        Err(ReadError::ReadFault) => CheckEnding::FileFault,
-        Err(ReadError::TooLong) => CheckEnding::FileTooLong,
-        Err(ReadError::OutOfMemory) => out_of_memory(alloc),
-    }
+    one_first_fault();
+    a_text_declares_one_thing();
+    attempt(alloc, path, names, file, source, sink)
 }
