@@ -1,1 +1,6 @@
 mod Within
+mod NamesThere
+mod LaidItems
+mod LaidDeclared
+mod SetNames
+mod NameItems

@@ -1,4 +1,5 @@
 pub mod Places
+pub mod NamedItems
 pub mod Told
 pub mod Asked
 pub mod Checked
