@@ -1,6 +1,6 @@
 -- The items that declare the settings of groups as these are built.
-use Rattle.std.proofs.Common.{◌≡◌, ◌≤◌, ◌<◌, ℕ, ◌+◌, List, [], ◌∷◌, ◌++◌, Some, length, map, take, drop, slice_get, refl, sym, ap, ◌∙◌}
-use Rattle.std.proofs.Common.{subst, append_assoc, take-add, arith}
+use Rattle.std.proofs.Common.{◌≡◌, ◌≤◌, ℕ, ◌+◌, List, [], ◌∷◌, ◌++◌, Some, map, take, drop, slice_get, refl, sym, ap, ◌∙◌}
+use Rattle.std.proofs.Common.{append_assoc, take-add, arith}
 use Rattle.std.specs.Prelude.{option_map, option_and_then}
 use Rattle.std.specs.List.{count_by, position_or_len}
 use Rattle.std.proofs.lemmas.List.{length-take}
@@ -9,10 +9,10 @@ use Rattle.meta_lists.proofs.Places.{get_taken, get_drop, take_next}
 use Rattle.meta_lists.proofs.Mapped.{get_mapped}
 use Rattle.meta_settings.specs.GroupDeclaration.{GroupDeclaration}
 use Rattle.meta_settings.specs.Layout.{PlacedSetting, Layout}
-use Rattle.meta_settings.specs.LaidOut.{laid_out, built_of}
+use Rattle.meta_settings.specs.LaidOut.{built_of}
 use Rattle.meta_items.specs.declared.items.Item.{Item}
 use Rattle.meta_items.specs.declared.items.Item.TheVariants as item
-use Rattle.meta_items_declared.specs.Places.{is_group, before_group, place_of_group}
+use Rattle.meta_items_declared.specs.Places.{is_group, before_group}
 use Rattle.meta_items_declared.specs.Said.{groups_of, group_with}
 use Rattle.meta_items_declared.proofs.NthPlaces.{nth_is}
 use Rattle.meta_items_declared.proofs.GroupItems.{IsOpened, opened, none_before, count_behind}

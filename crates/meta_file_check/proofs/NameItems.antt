@@ -1,12 +1,10 @@
 -- The names of what items declare that Rust refuses have their items.
-use Rattle.std.proofs.Common.{◌≡◌, ℕ, ◌+◌, List, All, Some, slice_get, map, sym, ap, ◌∙◌, subst}
+use Rattle.std.proofs.Common.{◌≡◌, ℕ, List, All, Some, slice_get, sym, ap, ◌∙◌}
 use Rattle.meta_types.specs.declared.fault.Place.{Place}
 use Rattle.meta_types.specs.declared.fault.Place.TheVariants.{Instruction, Format, Group, Entry}
 use Rattle.meta_settings.specs.declared.proto.ProtoSpecificSetting.{ProtoSpecificSetting}
 use Rattle.meta_settings.specs.declared.proto.ProtoSpecificSetting.TheVariants.{Bool as ABool, Enum as AnEnum, Num as ANum}
-use Rattle.meta_settings.specs.declared.setting.SpecificSetting.{SpecificSetting}
 use Rattle.meta_settings.specs.declared.setting.SpecificSetting.TheVariants.{Enum}
-use Rattle.meta_settings.specs.GroupDeclaration.{GroupDeclaration}
 use Rattle.meta_settings.specs.Layout.{PlacedSetting, Layout}
 use Rattle.meta_settings.specs.LaidOut.{placed_specific, built_of}
 use Rattle.meta_declared.specs.BuiltDeclarations.{BuiltDeclarations, AreBuilt}
