@@ -4,3 +4,4 @@ mod LaidItems
 mod LaidDeclared
 mod SetNames
 mod NameItems
+mod NameLines

@@ -1,5 +1,5 @@
 pub mod Places
-pub mod NamedItems
 pub mod Told
+pub mod NamedItems
 pub mod Asked
 pub mod Checked
