@@ -1,5 +1,5 @@
 -- The messages of names have the lines of their items.
-use Rattle.std.proofs.Common.{◌≡◌, ℕ, List, All, Contains, Option, Some, None, slice_get, refl, sym, ap, ◌∙◌, subst}
+use Rattle.std.proofs.Common.{◌≡◌, ℕ, List, All, Contains, Option, Some, None, slice_get, map, refl, sym, ap, ◌∙◌, subst}
 use Rattle.std.specs.Prelude.{option_map, option_and_then}
 use Rattle.std.proofs.lemmas.Option.{same_Some, slice_get_within, get_or_from_slice_get}
 use Rattle.meta_lists.proofs.Everywhere.{everywhere, at_place}
@@ -25,7 +25,8 @@ line_there : {X : Type 0} (f : ℕ → X) (o : Option ℕ) (x : X) → option_ma
 line_there f None x e = absurd (cc)
 line_there f (Some line) x e = (line, refl, same_Some (f line) x e)
 
-module _ (path : List ℕ) (names : Names) (text : List ℕ) (d : Declared) (messages : List (List ℕ)) (t : AreTold path names text d messages) where
+module _ (path : List ℕ) (names : Names) (text : List ℕ) (d : Declared) (messages : List (List ℕ))
+    (t : AreTold path names text d messages) where
   line_of : (name : RefusedName) (message : List ℕ) → Contains (refused_names t.built) name → NameHasItem t.items t.built name
       → told path names t.items t.lines name ≡ Some message → HasItsLine path names text d message
   line_of name message refused has e =
@@ -48,17 +49,18 @@ module _ (path : List ℕ) (names : Names) (text : List ℕ) (d : Declared) (mes
         is = sym found.2;
       }
 
-  message_line : (k : ℕ) (message : List ℕ) → All (NameHasItem t.items t.built) (refused_names t.built) → slice_get messages k ≡ Some message
-      → HasItsLine path names text d message
+  contained : (k : ℕ) (name : RefusedName) → slice_get (refused_names t.built) k ≡ Some name → Contains (refused_names t.built) name
+  contained k name at =
+      (k, slice_get_within (refused_names t.built) k name at, get_or_from_slice_get (refused_names t.built) k name name at)
+
+  message_line : (k : ℕ) (message : List ℕ) → All (NameHasItem t.items t.built) (refused_names t.built)
+      → slice_get messages k ≡ Some message → HasItsLine path names text d message
   message_line k message all at =
-      let f = told path names t.items t.lines in
-      let here = ap (λ (os : List (Option (List ℕ))). slice_get os k) (sym t.are) ∙ get_map (λ (m : List ℕ). Some m) messages k message at in
-      let from = get_mapped f (refused_names t.built) k (Some message) here in
-      line_of from.0 message (contained k from.0 from.1) (at_place (NameHasItem t.items t.built) (refused_names t.built) k from.0 all from.1) from.2
-    where
-      contained : (k : ℕ) (name : RefusedName) → slice_get (refused_names t.built) k ≡ Some name → Contains (refused_names t.built) name
-      contained k name at =
-          (k, slice_get_within (refused_names t.built) k name at, get_or_from_slice_get (refused_names t.built) k name name at)
+      let here : slice_get (map (told path names t.items t.lines) (refused_names t.built)) k ≡ Some (Some message) =
+      ap (λ (os : List (Option (List ℕ))). slice_get os k) (sym t.are) ∙ get_map (λ (m : List ℕ). Some m) messages k message at in
+      let from = get_mapped (told path names t.items t.lines) (refused_names t.built) k (Some message) here in
+      let has = at_place (NameHasItem t.items t.built) (refused_names t.built) k from.0 all from.1 in
+      line_of from.0 message (contained k from.0 from.1) has from.2
 
 pub messages_have_lines : (path text : List ℕ) (names : Names) (d : Declared) (messages : List (List ℕ)) → Declares text d
     → AreTold path names text d messages → All (HasItsLine path names text d) messages

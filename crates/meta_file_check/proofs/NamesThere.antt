@@ -129,7 +129,8 @@ module _ (b : BuiltDeclarations) where
     unfolding operands_refused
     of_operands vars c f = search (both, part_there, of_inputs, of_outputs, of_control)
 
-    of_formatted : (vars : List TypeVarContent) (c : BuiltInstruction) (f : Option InstructionFormat) → AreThere b (with_format vars c place f)
+    of_formatted : (vars : List TypeVarContent) (c : BuiltInstruction) (f : Option InstructionFormat)
+        → AreThere b (with_format vars c place f)
     of_formatted vars c None = none
     of_formatted vars c (Some f) = of_operands vars c f
 
