@@ -103,22 +103,14 @@ module _ (b : BuiltDeclarations) where
     part_there : (part : Part) (why : Option Why) → AreThere b (refused place part why)
     part_there part why = one place part why (there part)
 
-    of_input : (vars : List TypeVarContent) (why : Option Why) (at : ℕ × Operand) → AreThere b (input_refused vars place why at)
-    unfolding input_refused
-    of_input vars why at = search (both, part_there)
-
     of_inputs : (vars : List TypeVarContent) (c : BuiltInstruction) (f : InstructionFormat) (inputs : List Operand)
         → AreThere b (inputs_refused vars c f place inputs)
-    unfolding inputs_refused
-    of_inputs vars c f inputs = joined (input_at vars c f place inputs) (enumerate_from 0 inputs) (λ at. of_input vars _ at)
-
-    of_output : (vars : List TypeVarContent) (at : ℕ × Operand) → AreThere b (output_refused vars place at)
-    unfolding output_refused
-    of_output vars at = search (both, part_there)
+    unfolding inputs_refused input_refused
+    of_inputs vars c f inputs = joined (input_at vars c f place inputs) (enumerate_from 0 inputs) (λ at. search (both, part_there))
 
     of_outputs : (vars : List TypeVarContent) (outputs : List Operand) → AreThere b (outputs_refused vars place outputs)
-    unfolding outputs_refused
-    of_outputs vars outputs = joined (output_refused vars place) (enumerate_from 0 outputs) (of_output vars)
+    unfolding outputs_refused output_refused
+    of_outputs vars outputs = joined (output_refused vars place) (enumerate_from 0 outputs) (λ at. search (both, part_there))
 
     of_control : (vars : List TypeVarContent) (f : InstructionFormat) (known : List ℕ → Bool) (control : Option ℕ)
         → AreThere b (control_refused vars f place known control)
@@ -134,13 +126,9 @@ module _ (b : BuiltDeclarations) where
     of_formatted vars c None = none
     of_formatted vars c (Some f) = of_operands vars c f
 
-    of_field : (f : InstructionFormat) (known : List ℕ → Bool) (at : ℕ × FormatField) → AreThere b (field_refused f place known at)
-    unfolding field_refused
-    of_field f known at = search (both, part_there)
-
     of_fields : (f : InstructionFormat) (fields : List FormatField) → AreThere b (fields_refused f place fields)
-    unfolding fields_refused
-    of_fields f fields = joined (field_at f place fields) (enumerate_from 0 fields) (λ at. of_field f _ at)
+    unfolding fields_refused field_refused
+    of_fields f fields = joined (field_at f place fields) (enumerate_from 0 fields) (λ at. search (both, part_there))
 
     of_format_names : (is_method is_imm : List ℕ → Bool) (f : InstructionFormat) → AreThere b (of_format is_method is_imm f place)
     unfolding of_format
