@@ -2,6 +2,5 @@ mod Within
 mod NamesThere
 mod LaidItems
 mod LaidDeclared
-mod SetNames
 mod NameItems
 mod NameLines

@@ -9,9 +9,8 @@ use Rattle.meta_settings.specs.Layout.{PlacedSetting, Layout}
 use Rattle.meta_settings.specs.LaidOut.{placed_specific, built_of}
 use Rattle.meta_declared.specs.BuiltDeclarations.{BuiltDeclarations, AreBuilt}
 use Rattle.meta_items.specs.declared.items.Item.{Item}
-use Rattle.meta_items_declared.specs.Places.{place_of_inst}
 use Rattle.meta_items_declared.specs.AllItems.{Declares}
-use Rattle.meta_items_declared.proofs.OpenedEntries.{group_declared}
+use Rattle.meta_items_declared.proofs.FaultItems.{item_there}
 use Rattle.meta_lists.proofs.Everywhere.{everywhere, at_place}
 use Rattle.meta_lists.proofs.Mapped.{get_mapped}
 use Rattle.meta_rust_words.specs.declared.refused.Part.{Part}
@@ -22,7 +21,6 @@ use Rattle.meta_file_check.specs.Places.{setting_of, place_in_group, place_of_pa
 use Rattle.meta_file_check.specs.NamedItems.{DeclaresLaid, DeclaresValue, DeclaresInGroup, DeclaresNamed, NameHasItem}
 use Rattle.meta_file_check.proofs.NamesThere.{IsPartOf, IsThere, IsNamedThere, all_there}
 use Rattle.meta_file_check.proofs.LaidDeclared.{laid_declared}
-use Rattle.meta_file_check.proofs.SetNames.{inst_item, format_item}
 
 -- an enum is built of an enum with its values
 enum_of : (k : ℕ) (p : ProtoSpecificSetting) (values : List (List ℕ)) → placed_specific k p ≡ Enum values → p ≡ AnEnum values
@@ -57,7 +55,7 @@ module _ (items : List Item) (b : BuiltDeclarations) (declares : Declares items 
       → (k : ℕ) × (place_in_group items g (setting_of p) ≡ Some k) × DeclaresInGroup items b k g p
   in_group g x part.Name at h =
       let declared = get_mapped built_of b.declared.groups g x (ap (λ (ls : List Layout). slice_get ls g) (sym built.groups) ∙ at) in
-      group_declared items b.declared.groups g declared.0 declares.groups declared.1
+      item_there items b.declared declares (Group g) (declared.0, declared.1)
   in_group g x (part.Input n) at h = absurd h
   in_group g x (part.InputType n) at h = absurd h
   in_group g x (part.InputDoc n) at h = absurd h
@@ -77,10 +75,8 @@ module _ (items : List Item) (b : BuiltDeclarations) (declares : Declares items 
   item_of : (place : Place) (p : Part) → IsThere b place p
       → (k : ℕ) × (place_of_part items place (setting_of p) ≡ Some k) × DeclaresNamed items b k place p
   item_of (Instruction i) p h =
-      let of = built.instructions.each h.0 h.2 h.3 in
-      let found = inst_item items b.declared declares h.0 of.builder of.at in
-      (found.0, ap (place_of_inst items) h.1 ∙ found.1, (h.0, h.1, found.2))
-  item_of (Format f) p h = format_item items b.declared declares f h.0 h.1
+      let of = built.instructions.each h.0 h.2 h.3 in item_there items b.declared declares (Instruction i) (h.0, h.1, of.builder, of.at)
+  item_of (Format f) p h = item_there items b.declared declares (Format f) h
   item_of (Group g) p h = in_group g h.0 p h.1 h.2
   item_of (Entry g e) p h = absurd h
 
