@@ -6,10 +6,12 @@
 mod asked;
 mod check;
 mod check_ending;
+mod laws;
 mod places;
 mod told;
 
 pub use asked::Names;
 pub use check::check_file;
 pub use check_ending::CheckEnding;
+pub use laws::names_have_their_items;
 pub use told::names_told;

@@ -98,7 +98,8 @@ fn told_of(
 }
 
 /// The messages, in order, of all names that Rust refuses, of the declarations that a text makes and that show no fault: `PATH:LINE: WHY`,
-/// without a line feed, with the line of the item that declares what has the name; in front of why, a warning says `warning: ` (this project's own). The only error is want of memory.
+/// without a line feed, with the line of the item that declares what has the name (`names_have_their_items`); in front of why, a warning
+/// says `warning: ` (this project's own). The only error is want of memory.
 pub fn names_told(
     alloc: Global,
     path: &[u8],

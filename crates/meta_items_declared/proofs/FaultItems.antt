@@ -175,7 +175,7 @@ module _ (items : List Item) (d : Declared) (declares : Declares items d) where
         },
       )
 
-  item_there : (p : Place) → IsThere d p → (k : ℕ) × (item_of_place items p ≡ Some k) × DeclaresAt items d k p
+  pub item_there : (p : Place) → IsThere d p → (k : ℕ) × (item_of_place items p ≡ Some k) × DeclaresAt items d k p
   item_there (Instruction i) h =
       let found = inst_item h.0 h.2 h.3 in
       (found.0, ap (place_of_inst items) h.1 ∙ inst_place items h.0 ∙ found.1, (h.0, h.1, found.2))
