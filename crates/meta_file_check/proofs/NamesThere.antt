@@ -112,10 +112,10 @@ module _ (b : BuiltDeclarations) where
     unfolding outputs_refused output_refused
     of_outputs vars outputs = joined (output_refused vars place) (enumerate_from 0 outputs) (λ at. search (both, part_there))
 
-    of_control : (vars : List TypeVarContent) (f : InstructionFormat) (known : List ℕ → Bool) (control : Option ℕ)
-        → AreThere b (control_refused vars f place known control)
-    of_control vars f known None = none
-    of_control vars f known (Some tv) = search (both, part_there)
+    of_control : (vars : List TypeVarContent) (c : BuiltInstruction) (f : InstructionFormat) (known : List ℕ → Bool) (control : Option ℕ)
+        → AreThere b (control_refused vars c f place known control)
+    of_control vars c f known None = none
+    of_control vars c f known (Some tv) = search (both, part_there)
 
     of_operands : (vars : List TypeVarContent) (c : BuiltInstruction) (f : InstructionFormat) → AreThere b (operands_refused vars c f place)
     unfolding operands_refused
