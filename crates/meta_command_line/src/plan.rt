@@ -24,7 +24,7 @@ pub enum Plan<'w> {
 }
 
 /// Whether the words are `tables` and `--version`.
-fn are_for_version(name: &Text, option: &Text) -> bool
+pub(crate) fn are_for_version(name: &Text, option: &Text) -> bool
     ensures { IsTrue result ↔ ((name.now ≡ codes "tables") × (option.now ≡ codes "--version")) }
 {
     name.as_bytes() == b"tables".as_slice() && option.as_bytes() == b"--version".as_slice()
