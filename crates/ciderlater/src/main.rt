@@ -3,26 +3,20 @@
 
 mod manual;
 
-use manual::{ASM_MANUAL, MANUAL};
-use meta_file::{FileEnding, Over, Tool, run_file, run_words};
+use manual::MANUAL;
+use meta_command_line::{FileTrouble, Plan, about, wrong_line};
+use meta_file::{FileEnding, Over, Tool, listed_tools, run_file, run_words};
 use meta_file_check::{CheckEnding, Names, check_file};
-use meta_main::{answer_of_itself, tell, tell_wrong, words};
+use meta_main::{tell, words};
 use meta_run::Ending;
 use meta_shared_ops::define;
 use meta_text::{StdSink, StdSource};
 use meta_tokens::Bytes;
 use meta_types::Text;
+use std::alloc::AllocError;
 use std::fs::File;
 use std::io::{self, Write};
 use std::process::ExitCode;
-
-/// Whether the words ask for the tables in a version of their text: `tables --version` and a word.
-fn ask_a_version(words: &[Text]) -> bool {
-    match words {
-        [name, option, _, ..] => name.as_str() == "tables" && option.as_str() == "--version",
-        _ => false,
-    }
-}
 
 /// Says on standard error a line of the program's own.
 fn tell_line(rt: &HostRuntime, line: &str) {
@@ -30,20 +24,11 @@ fn tell_line(rt: &HostRuntime, line: &str) {
     let _ = eprintln!(rt; "{name}: {line}");
 }
 
-/// Says on standard error what an ending other than `Done` was about: of words that are no command, which of them is wrong.
-fn tell_ending(rt: &HostRuntime, ending: Ending, words: &[Text]) {
-    match (ending, words) {
-        (Ending::Usage, _) if ask_a_version(words) => {
-            tell_line(rt, "the versions of 'tables' are 1, 2 and 3")
-        }
-        (Ending::Rejected, _) if ask_a_version(words) => {
-            tell_line(rt, "the tables don't fit the version")
-        }
-        (Ending::Usage, [first, behind @ ..]) if first.as_str() == "asm" => {
-            tell_wrong(rt, &ASM_MANUAL, behind)
-        }
-        (Ending::Usage, _) => tell_wrong(rt, &MANUAL, words),
-        _ => tell(rt, &MANUAL, ending),
+/// Says a line that was made; where there was no room for it, what this ending is about.
+fn tell_made(rt: &HostRuntime, line: Result<String, AllocError>, instead: Ending) {
+    match line {
+        Ok(line) => tell_line(rt, &line),
+        Err(_) => tell(rt, &MANUAL, instead),
     }
 }
 
@@ -55,66 +40,95 @@ fn tell_message(rt: &HostRuntime, message: &[u8]) {
     }
 }
 
-/// Says that the file at the path could not be read.
-fn tell_unread(rt: &HostRuntime, path: &str) {
-    let name = MANUAL.name;
-    let _ = eprintln!(rt; "{name}: {path} could not be read");
-}
-
-/// Says that it is too long.
-fn tell_too_long(rt: &HostRuntime, path: &str) {
-    let name = MANUAL.name;
-    let _ = eprintln!(rt; "{name}: {path} is longer than 1048576 bytes");
-}
-
-/// Says on standard error what the ending of a run over a file was about.
-fn tell_file_ending(rt: &HostRuntime, ending: &FileEnding, path: &Text, words: &[Text]) {
-    match ending {
-        FileEnding::Ran(ending) => tell_ending(rt, *ending, words),
-        FileEnding::Refused(message) => tell_message(rt, message.as_slice()),
-        FileEnding::FileFault => tell_unread(rt, path.as_str()),
-        FileEnding::FileTooLong => tell_too_long(rt, path.as_str()),
-    }
-}
-
-/// Says on standard error the messages of names that Rust refuses.
+/// Says the messages of names that Rust refuses.
 fn tell_names(rt: &HostRuntime, messages: &[Bytes]) {
     for message in messages {
         tell_message(rt, message.as_slice());
     }
 }
 
-/// Says on standard error what a check of a file found, and what its ending was about.
+/// Says what is wrong with words that ask nothing. The status is that of a usage error.
+fn tell_wrong(rt: &HostRuntime, over: &Over<'_>) -> u8 {
+    tell_made(
+        rt,
+        wrong_line(rt.alloc(), listed_tools(), over),
+        Ending::Usage,
+    );
+    Ending::Usage.code()
+}
+
+/// Says what the ending of a run was about.
+fn tell_ending(rt: &HostRuntime, tool: Tool, ending: Ending) {
+    if let Some(about) = about(tool, ending) {
+        tell_line(rt, about);
+    }
+}
+
+/// Says why the file at the path wasn't read, if it wasn't.
+fn tell_trouble(rt: &HostRuntime, trouble: Option<FileTrouble>, path: &Text) {
+    if let Some(trouble) = trouble {
+        tell_made(rt, trouble.line(rt.alloc(), path), Ending::OutOfMemory);
+    }
+}
+
+/// Says what the ending of a run over a file was about.
+fn tell_file_ending(rt: &HostRuntime, tool: Tool, ending: &FileEnding, path: &Text) {
+    tell_trouble(rt, FileTrouble::of_run(ending), path);
+    match ending {
+        FileEnding::Ran(ending) => tell_ending(rt, tool, *ending),
+        FileEnding::Refused(message) => tell_message(rt, message.as_slice()),
+        FileEnding::FileFault | FileEnding::FileTooLong => {}
+    }
+}
+
+/// Says what a check of a file found, and what its ending was about.
 fn tell_check(rt: &HostRuntime, ending: &CheckEnding, path: &Text) {
+    tell_trouble(rt, FileTrouble::of_check(ending), path);
     match ending {
         CheckEnding::Ran(ending, messages) => {
             tell_names(rt, messages);
-            tell(rt, &MANUAL, *ending);
+            tell_ending(rt, Tool::Check, *ending);
         }
         CheckEnding::NamesRefused(messages) => tell_names(rt, messages),
         CheckEnding::Refused(message) => tell_message(rt, message.as_slice()),
-        CheckEnding::FileFault => tell_unread(rt, path.as_str()),
-        CheckEnding::FileTooLong => tell_too_long(rt, path.as_str()),
+        CheckEnding::FileFault | CheckEnding::FileTooLong => {}
     }
 }
 
-/// Runs the words over the shared declarations.
-fn run_shared(rt: &HostRuntime, words: &[Text]) -> u8 {
-    let mut source = StdSource::new(rt.reader());
-    let mut sink = StdSink::new(io::writer(rt));
-    let ending = match define(rt.alloc()) {
-        Ok(declarations) => run_words(rt.alloc(), words, &declarations, &mut source, &mut sink),
-        Err(_) => Ending::OutOfMemory,
+/// The status of a print, which says where it failed.
+fn printed(rt: &HostRuntime, outcome: io::Result<()>) -> u8 {
+    let ending = match outcome {
+        Ok(()) => Ending::Done,
+        Err(_) => Ending::WriteFault,
     };
-    tell_ending(rt, ending, words);
+    tell(rt, &MANUAL, ending);
     ending.code()
 }
 
-/// Runs the words over the declarations of the file at a path, which is opened only where they ask something.
-fn run_over(rt: &HostRuntime, path: &Text, words: &[Text]) -> FileEnding {
-    if Tool::parse(words).is_none() {
-        return FileEnding::Ran(Ending::Usage);
+/// Prints the help.
+fn print_help(rt: &HostRuntime) -> u8 {
+    let help = MANUAL.help;
+    printed(rt, println!(rt; "{help}"))
+}
+
+/// Prints the version.
+fn print_version(rt: &HostRuntime) -> u8 {
+    let (name, version) = (MANUAL.name, MANUAL.version);
+    printed(rt, println!(rt; "{name} {version}"))
+}
+
+/// Runs the words over the shared declarations.
+fn run_shared(rt: &HostRuntime, words: &[Text]) -> Ending {
+    let mut source = StdSource::new(rt.reader());
+    let mut sink = StdSink::new(io::writer(rt));
+    match define(rt.alloc()) {
+        Ok(declarations) => run_words(rt.alloc(), words, &declarations, &mut source, &mut sink),
+        Err(_) => Ending::OutOfMemory,
     }
+}
+
+/// Runs the words over the declarations of the file at a path.
+fn run_over(rt: &HostRuntime, path: &Text, words: &[Text]) -> FileEnding {
     let Ok(file) = File::open(rt, path.as_str()) else {
         return FileEnding::FileFault;
     };
@@ -149,49 +163,41 @@ fn check_over(rt: &HostRuntime, path: &Text, names: Names) -> CheckEnding {
     )
 }
 
-/// Does what the words ask over the declarations of the file at a path.
+/// Does what the words ask over the shared declarations.
+fn answer_shared(rt: &HostRuntime, words: &[Text]) -> u8 {
+    let Some(tool) = Tool::parse(words) else {
+        return tell_wrong(rt, &Over::Shared(words));
+    };
+    let ending = run_shared(rt, words);
+    tell_ending(rt, tool, ending);
+    ending.code()
+}
+
+/// Does what the words ask over the declarations of the file at a path, which is opened only where they ask something.
 fn answer_over(rt: &HostRuntime, path: &Text, words: &[Text]) -> u8 {
-    match Names::asked(words) {
-        Some(names) => {
-            let ending = check_over(rt, path, names);
-            tell_check(rt, &ending, path);
-            ending.code()
-        }
-        None => {
-            let ending = run_over(rt, path, words);
-            tell_file_ending(rt, &ending, path, words);
-            ending.code()
-        }
-    }
+    let Some(tool) = Tool::parse(words) else {
+        return tell_wrong(rt, &Over::File(path, words));
+    };
+    let ending = run_over(rt, path, words);
+    tell_file_ending(rt, tool, &ending, path);
+    ending.code()
 }
 
-/// Does what the words ask, and says what it was about where that isn't done. The status is that of the ending.
-fn answer(rt: &HostRuntime, words: &[Text]) -> u8 {
-    match Over::of(words) {
-        Over::File(path, words) => answer_over(rt, path, words),
-        Over::Shared(words) => run_shared(rt, words),
-    }
+/// Checks the file at a path, and says what was found.
+fn answer_check(rt: &HostRuntime, path: &Text, names: Names) -> u8 {
+    let ending = check_over(rt, path, names);
+    tell_check(rt, &ending, path);
+    ending.code()
 }
 
-/// The words of a command, without those that name a file.
-fn asked<'w>(words: &'w [Text]) -> &'w [Text] {
-    match Over::of(words) {
-        Over::File(_, asked) => asked,
-        Over::Shared(asked) => asked,
-    }
-}
-
-/// Does what the words ask: of the program itself, or over declarations. Behind `tables` a version is that of its text.
+/// Does what the words ask. The status is that of the ending.
 fn run(rt: &HostRuntime, words: &[Text]) -> u8 {
-    if ask_a_version(asked(words)) {
-        return answer(rt, words);
-    }
-    match answer_of_itself(rt, &MANUAL, words) {
-        Some(ending) => {
-            tell(rt, &MANUAL, ending);
-            ending.code()
-        }
-        None => answer(rt, words),
+    match Plan::of(words) {
+        Plan::Help => print_help(rt),
+        Plan::Version => print_version(rt),
+        Plan::Shared(words) => answer_shared(rt, words),
+        Plan::File(path, words) => answer_over(rt, path, words),
+        Plan::Check(path, names) => answer_check(rt, path, names),
     }
 }
 

@@ -1,5 +1,5 @@
 use meta_file::COMMANDS;
-use meta_main::{CommandForm, Manual};
+use meta_main::Manual;
 
 const HELP: &str = "\
 Answers by the declarations of an instruction set: those of Cranelift's shared instructions and settings, or those of a file.
@@ -39,23 +39,6 @@ Options:
 
 Status: 0 done, 1 declarations refused, 2 usage, 3 read fault, 4 write fault, 5 out of memory, 6 input or file too long,
         7 a line of the list is wrong, the tables don't fit the version, or no file declares the same, 8 the file can't be read";
-
-/// What the program says of itself, where `asm` is asked.
-pub(crate) const ASM_MANUAL: Manual = Manual {
-    name: "ciderlater",
-    version: "0.1.0",
-    help: HELP,
-    commands: &[
-        CommandForm {
-            name: "short",
-            numbers: &[],
-        },
-        CommandForm {
-            name: "explicit",
-            numbers: &[],
-        },
-    ],
-};
 
 /// What the program says of itself.
 pub(crate) const MANUAL: Manual = Manual {

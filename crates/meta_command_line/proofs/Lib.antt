@@ -1,0 +1,4 @@
+mod Asked
+mod Entries
+mod NotWrong
+mod OnePlan

@@ -1,0 +1,4 @@
+pub mod Plan
+pub mod Telling
+pub mod Trouble
+pub mod Wrong

@@ -1,0 +1,18 @@
+//! What the words of the program `ciderlater` ask for, and what it says of them and of how that ended.
+//!
+//! `Plan::of` says what is to be done. The program does it, and says what the other calls tell.
+#![tactic(auto)]
+
+mod file_trouble;
+mod laws;
+mod plan;
+mod saying;
+mod telling;
+mod wrong;
+
+pub use file_trouble::FileTrouble;
+pub use laws::one_plan;
+pub use plan::Plan;
+pub use saying::wrong_line;
+pub use telling::about;
+pub use wrong::Wrong;

@@ -1,0 +1,97 @@
+ghost use Rattle.std.specs.Prelude.{◌≡◌, ◌↔◌, IsTrue, codes};
+ghost use Rattle.meta_main.specs.declared.asked.Asked.TheVariants as spec_asked;
+ghost use Rattle.meta_file.specs.Over.{AskOverFile};
+ghost use Rattle.meta_command_line.specs.Plan.{BeginWithVersion, AskForVersion, AskOfItself, IsPlan};
+
+use meta_file::Over;
+use meta_file_check::Names;
+use meta_main::Asked;
+use meta_types::Text;
+
+/// What the words of the program ask for (this project's own).
+#[derive(Clone, Copy)]
+pub enum Plan<'w> {
+    /// The help of the program.
+    Help,
+    /// Its version.
+    Version,
+    /// What these words ask over the shared declarations.
+    Shared(&'w [Text]),
+    /// What these words ask over the declarations of the file at this path, where that is no check.
+    File(&'w Text, &'w [Text]),
+    /// A check of the file at this path, and what it does with names that Rust refuses.
+    Check(&'w Text, Names),
+}
+
+/// Whether the words are `tables` and `--version`.
+pub(crate) fn are_for_version(name: &Text, option: &Text) -> bool
+    ensures { IsTrue result ↔ ((name.now ≡ codes "tables") × (option.now ≡ codes "--version")) }
+{
+    name.as_bytes() == b"tables".as_slice() && option.as_bytes() == b"--version".as_slice()
+}
+
+/// Whether the words begin with `tables --version` and another word.
+fn begin_with_version(words: &[Text]) -> bool
+    ensures { IsTrue result ↔ BeginWithVersion words.now }
+{
+    match words {
+        [name, option, _version, _behind @ ..] => are_for_version(name, option),
+        _ => false,
+    }
+}
+
+/// Whether they do, or those that they ask of a file.
+fn ask_for_version(words: &[Text]) -> bool
+    ensures { IsTrue result ↔ AskForVersion words.now }
+{
+    match Over::of(words) {
+        Over::Shared(asked) => begin_with_version(asked),
+        Over::File(_path, asked) => begin_with_version(asked),
+    }
+}
+
+/// What the words ask of the program itself: behind `tables`, `--version` and a word ask for the tables in a version of their text.
+fn asked_of_itself(words: &[Text]) -> Asked
+    ensures { AskOfItself words.now result }
+{
+    if ask_for_version(words) {
+        return Asked::Work;
+    }
+    Asked::of(words)
+}
+
+impl<'w> Plan<'w> {
+    /// What the words ask for, which are all words behind the name of the program.
+    pub fn of(words: &'w [Text]) -> Plan<'w>
+        ensures { IsPlan words.now result }
+    {
+        match asked_of_itself(words) {
+            Asked::Help => Plan::Help,
+            Asked::Version => Plan::Version,
+            Asked::Work => Plan::of_work(words),
+        }
+    }
+
+    /// The same of words that ask nothing of the program itself.
+    fn of_work(words: &'w [Text]) -> Plan<'w>
+        requires { AskOfItself words.now spec_asked.Work }
+        ensures { IsPlan words.now result }
+    {
+        match Over::of(words) {
+            Over::Shared(asked) => Plan::Shared(asked),
+            Over::File(path, asked) => Plan::over_file(words, path, asked),
+        }
+    }
+
+    /// The same of words that ask this of the file at a path.
+    fn over_file(_words: &'w [Text], path: &'w Text, asked: &'w [Text]) -> Plan<'w>
+        requires work { AskOfItself _words.now spec_asked.Work }
+        requires over { AskOverFile _words.now path.now asked.now }
+        ensures { IsPlan _words.now result }
+    {
+        match Names::asked(asked) {
+            Some(names) => Plan::Check(path, names),
+            None => Plan::File(path, asked),
+        }
+    }
+}

@@ -1,0 +1,142 @@
+ghost use Rattle.std.specs.Prelude.{◌≡◌, ◌∷◌, [], IfOk, string_bytes};
+ghost use Rattle.meta_main.specs.Misuse.{AreTaken};
+ghost use Rattle.meta_main.specs.Usage.{IsUsageLine};
+ghost use Rattle.meta_file.specs.Tool.{AskSomething};
+ghost use Rattle.meta_command_line.specs.Wrong.{words_over, IsTooMany, BeginWithAsm, IsWrongIfAny, AskWhatIsListed};
+ghost use Rattle.meta_command_line.specs.Wrong.{SaysFileMissing, SaysTooMany, Says, IsWrongLine};
+
+use super::wrong::{Wrong, words_of};
+use meta_file::{Over, Tool};
+use meta_main::{CommandForm, Manual, usage_line};
+use meta_types::Text;
+use std::alloc::{AllocError, Global};
+
+/// The usage line of words that are none of these commands. It says nothing else of a program.
+fn usage_of(
+    alloc: Global,
+    commands: &'static [CommandForm],
+    words: &[Text],
+) -> Result<String, AllocError>
+    requires { AreTaken commands.now words.now → ⊥ }
+    ensures { IfOk result (λ line. IsUsageLine commands.now words.now (string_bytes line)) }
+{
+    let manual = Manual {
+        name: "",
+        version: "",
+        help: "",
+        commands,
+    };
+    usage_line(alloc, &manual, words)
+}
+
+/// A file is missing for the first word; where there is none, that is handled as want of memory.
+fn file_missing(alloc: Global, words: &[Text]) -> Result<String, AllocError>
+    ensures { IfOk result (λ line. SaysFileMissing words.now (string_bytes line)) }
+{
+    let Some(name) = words.get(0) else {
+        return Err(AllocError);
+    };
+    let name = name.as_str();
+    format!(in alloc; "a file is missing for '{name}'")
+}
+
+/// Copies of two words.
+fn both(alloc: Global, name: &Text, word: &Text) -> Result<Vec<Text>, AllocError>
+    ensures { IfOk result (λ words. words.items ≡ name.now ∷ (word.now ∷ [])) }
+{
+    let mut words = Vec::new(alloc);
+    words.push(name.copy(alloc)?)?;
+    words.push(word.copy(alloc)?)?;
+    Ok(words)
+}
+
+/// The usage line of the two words.
+fn usage_of_both(
+    alloc: Global,
+    commands: &'static [CommandForm],
+    name: &Text,
+    word: &Text,
+) -> Result<String, AllocError>
+    requires { AreTaken commands.now (name.now ∷ (word.now ∷ [])) → ⊥ }
+    ensures { IfOk result (λ line. IsUsageLine commands.now (name.now ∷ (word.now ∷ [])) (string_bytes line)) }
+{
+    let words = both(alloc, name, word)?;
+    usage_of(alloc, commands, &words)
+}
+
+/// The word at this place is too many; where there is none, that is handled as want of memory.
+fn word_too_many(
+    alloc: Global,
+    commands: &'static [CommandForm],
+    over: &Over<'_>,
+    words: &[Text],
+    place: usize,
+) -> Result<String, AllocError>
+    requires listed { AskWhatIsListed commands.now }
+    requires words { words.now ≡ words_over over.now }
+    requires place { IsTooMany over.now place }
+    ensures { IfOk result (λ line. SaysTooMany commands.now words.now place (string_bytes line)) }
+{
+    let Some(name) = words.get(0) else {
+        return Err(AllocError);
+    };
+    let Some(word) = words.get(place) else {
+        return Err(AllocError);
+    };
+    usage_of_both(alloc, commands, name, word)
+}
+
+/// The list of commands tells what is wrong.
+fn no_command(
+    alloc: Global,
+    commands: &'static [CommandForm],
+    words: &[Text],
+) -> Result<String, AllocError>
+    requires listed { AskWhatIsListed commands.now }
+    requires nothing { AskSomething words.now → ⊥ }
+    requires no_asm { BeginWithAsm words.now → ⊥ }
+    ensures { IfOk result (λ line. IsUsageLine commands.now words.now (string_bytes line)) }
+{
+    usage_of(alloc, commands, words)
+}
+
+/// What is wrong, if it is that.
+fn said(
+    alloc: Global,
+    commands: &'static [CommandForm],
+    over: &Over<'_>,
+    wrong: Option<Wrong>,
+) -> Result<String, AllocError>
+    requires listed { AskWhatIsListed commands.now }
+    requires nothing { AskSomething (words_over over.now) → ⊥ }
+    requires wrong { IsWrongIfAny over.now wrong }
+    ensures { IfOk result (λ line. Says commands.now (words_over over.now) wrong (string_bytes line)) }
+{
+    let words = words_of(over);
+    match wrong {
+        Some(Wrong::FileMissing) => file_missing(alloc, words),
+        Some(Wrong::WordTooMany(place)) => word_too_many(alloc, commands, over, words, place),
+        Some(Wrong::NoVersion) => {
+            String::from_str(alloc, "the versions of 'tables' are 1, 2 and 3")
+        }
+        Some(Wrong::NoForm) => String::from_str(alloc, "the forms of 'asm' are short and explicit"),
+        None => no_command(alloc, commands, words),
+    }
+}
+
+/// What is wrong with words that ask nothing over the shared declarations or a file, where these are the commands, as those of
+/// `listed_tools` are: one line, without its line feed (this project's own).
+pub fn wrong_line(
+    alloc: Global,
+    commands: &'static [CommandForm],
+    over: &Over<'_>,
+) -> Result<String, AllocError>
+    requires listed { AskWhatIsListed commands.now }
+    ensures { (AskSomething (words_over over.now) → ⊥)
+        → IfOk result (λ line. IsWrongLine commands.now over.now (string_bytes line)) }
+{
+    if Tool::parse(words_of(over)).is_some() {
+        return String::from_str(alloc, "no command");
+    }
+    said(alloc, commands, over, Wrong::of(over))
+}
