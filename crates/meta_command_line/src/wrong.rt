@@ -1,13 +1,12 @@
-ghost use Rattle.std.specs.Prelude.{◌≡◌, ◌↔◌, ◌∷◌, ℕ, IsTrue, IfSome, IfNone, codes};
+ghost use Rattle.std.specs.Prelude.{◌≡◌, ◌↔◌, ◌∷◌, ℕ, IsTrue, IfSome, IfNone};
 ghost use Rattle.meta_table_text.specs.declared.version.Version as spec_version;
-ghost use Rattle.meta_file.specs.Over.{IsOption, rust_word};
 ghost use Rattle.meta_file.specs.TablesIn.{version_word};
 ghost use Rattle.meta_command_line.specs.Wrong.{MissFile, CheckMore, CheckRustMore, RustMore, VersionMore, IsTooMany, NameNoVersion};
 ghost use Rattle.meta_command_line.specs.Wrong.{BeginWithAsm, IsFileMissing, IsWrong, words_over};
 ghost use Rattle.meta_command_line.specs.declared.wrong.Wrong as spec;
 
 use super::plan::are_for_version;
-use meta_file::Over;
+use meta_file::{Over, is_asm, is_check, is_option, is_rust};
 use meta_types::Text;
 
 /// What is wrong with words that ask nothing, beside what a list of commands tells (this project's own).
@@ -21,34 +20,6 @@ pub enum Wrong {
     NoVersion,
     /// What stands behind `asm` is no form.
     NoForm,
-}
-
-/// Whether the word says that a file follows.
-fn is_option(word: &Text) -> bool
-    ensures { IsTrue result ↔ IsOption word.now }
-{
-    word.as_bytes() == b"-d".as_slice() || word.as_bytes() == b"--declarations".as_slice()
-}
-
-/// Whether the word is `check`.
-fn is_check(word: &Text) -> bool
-    ensures { IsTrue result ↔ (word.now ≡ codes "check") }
-{
-    word.as_bytes() == b"check".as_slice()
-}
-
-/// Whether the word is `--rust`.
-fn is_rust(word: &Text) -> bool
-    ensures { IsTrue result ↔ (word.now ≡ rust_word) }
-{
-    word.as_bytes() == b"--rust".as_slice()
-}
-
-/// Whether the word is `asm`.
-fn is_asm(word: &Text) -> bool
-    ensures { IsTrue result ↔ (word.now ≡ codes "asm") }
-{
-    word.as_bytes() == b"asm".as_slice()
 }
 
 /// Whether the word is a version of the tables.

@@ -22,7 +22,7 @@ pub use laws::{
     a_text_declares_one_thing, one_check_line, one_over, one_text_of_a_version, one_tool,
 };
 pub use loading::{LoadError, load};
-pub use over::Over;
+pub use over::{Over, is_check, is_option, is_rust};
 pub use running::{run_check, run_words};
-pub use tool::Tool;
+pub use tool::{Tool, is_asm};
 pub use tool_list::{COMMANDS, listed_tools};

@@ -12,22 +12,22 @@ pub enum Over<'w> {
     File(&'w Text, &'w [Text]),
 }
 
-/// Whether the word says that a file follows.
-fn is_option(word: &Text) -> bool
+/// Whether the word says that a file follows: `-d` or `--declarations`.
+pub fn is_option(word: &Text) -> bool
     ensures { IsTrue result ↔ IsOption word.now }
 {
     word.as_bytes() == b"-d".as_slice() || word.as_bytes() == b"--declarations".as_slice()
 }
 
 /// Whether the word is `check`.
-fn is_check(word: &Text) -> bool
+pub fn is_check(word: &Text) -> bool
     ensures { IsTrue result ↔ (word.now ≡ codes "check") }
 {
     word.as_bytes() == b"check".as_slice()
 }
 
-/// Whether the word asks `check` to refuse names.
-fn is_rust(word: &Text) -> bool
+/// Whether the word asks `check` to refuse names: `--rust`.
+pub fn is_rust(word: &Text) -> bool
     ensures { IsTrue result ↔ (word.now ≡ rust_word) }
 {
     word.as_bytes() == b"--rust".as_slice()

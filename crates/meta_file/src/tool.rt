@@ -77,7 +77,7 @@ fn alone(words: &[Text]) -> Option<Lone>
 }
 
 /// Whether the word is `asm`.
-fn is_asm(word: &Text) -> bool
+pub fn is_asm(word: &Text) -> bool
     ensures { IsTrue result ↔ (word.now ≡ codes "asm") }
 {
     word.as_bytes() == b"asm".as_slice()

@@ -1,9 +1,9 @@
-ghost use Rattle.std.specs.Prelude.{◌≡◌, ◌≢◌, ◌↔◌, ◌∷◌, [], codes, IfSome, IfNone, IsTrue};
-ghost use Rattle.meta_file.specs.Over.{rust_word};
+ghost use Rattle.std.specs.Prelude.{◌≡◌, ◌≢◌, ◌↔◌, IfSome, IfNone, IsTrue};
 ghost use Rattle.meta_file_check.specs.Asked.{check_words};
 ghost use Rattle.meta_file_check.specs.declared.asked.Names as spec;
 ghost use Rattle.meta_file_check.specs.declared.asked.Names.TheVariants as spec_names;
 
+use meta_file::{is_check, is_rust};
 use meta_types::Text;
 
 /// What a check does with names that Rust refuses (this project's own).
@@ -13,20 +13,6 @@ pub enum Names {
     Warn,
     /// `check --rust`: it tells them, and refuses the file.
     Refuse,
-}
-
-/// Whether the word is `check`.
-fn is_check(word: &Text) -> bool
-    ensures { IsTrue result ↔ (word.now ≡ codes "check") }
-{
-    word.as_bytes() == b"check".as_slice()
-}
-
-/// Whether the word is `--rust`.
-fn is_rust(word: &Text) -> bool
-    ensures { IsTrue result ↔ (word.now ≡ rust_word) }
-{
-    word.as_bytes() == b"--rust".as_slice()
 }
 
 impl Names {
