@@ -53,13 +53,11 @@ awk -v start="$start" -v half="$half" -v whole="$whole" -v a="$half_time" -v b="
 }'
 
 command -v valgrind > /dev/null || exit 0
-defined=$(counted "$folder/none" "$program") || exit 1
 start=$(counted "$folder/none" "$program" query) || exit 1
 half_count=$(counted "$folder/half" "$program" query) || exit 1
 whole_count=$(counted "$folder/whole" "$program" query) || exit 1
-awk -v defined="$defined" -v start="$start" -v half="$half" -v whole="$whole" -v a="$half_count" -v b="$whole_count" 'BEGIN {
-    printf "to declare: %.0f instructions\n", defined
-    printf "to generate: %.0f instructions\n", start - defined
+awk -v start="$start" -v half="$half" -v whole="$whole" -v a="$half_count" -v b="$whole_count" 'BEGIN {
+    printf "no line: %.0f instructions\n", start
     printf "%d lines: %.0f instructions, %.0f a line\n", half, a - start, (a - start) / half
     printf "%d lines: %.0f instructions, %.0f a line\n", whole, b - start, (b - start) / whole
     printf "%.3f times the lines, %.3f times the instructions\n", whole / half, (b - start) / (a - start)
