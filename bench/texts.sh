@@ -81,7 +81,7 @@ text_of_tables() {
         print "%% declared\nnew\nformat S Seven vvvvvvv\nvar Int ints 8..128"
         for (k = 0; k < count; k++) print "inst i" k " S Int,Int,Int,Int,Int,Int,Int Int"
         print "text 3"
-    }' | "$rows" | sed 's/\\n/\n/g' | sed '$d'
+    }' | "$rows" | sed -e '1,/^> text 3$/d' -e 's/\\n/\n/g' | sed '$d'
 }
 
 # What it takes to read a text of the tables, and what `cat` takes, which copies the same bytes: for all of it, and a byte.
