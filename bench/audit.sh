@@ -6,12 +6,12 @@
 # the comparison. What one takes is the difference between a run of many and a run of one, shared out; of three runs of each the least
 # counts. The program `rows_audit` declares them.
 # Then come the instructions of the processor in a run of `ciderlater audit` over the text of the shared tables, and over some that other
-# programs wrote, and how many numbers were tested against a constraint: the calls of one function, as callgrind counts them. The last
-# line has an operand that is always of one type, under a control of 4 types, and under one of 4 and another of 2, where the text
-# names a function of the first control: 5 passes of 544 tests for each, one for each type of a control that a constraint reads, beside
-# one of the other, and one for the other, and not 8 for the second.
+# programs wrote. The last line tells how many numbers were tested against a constraint: the calls of one function in a run of
+# `rows_audit`, as callgrind counts them. It has an operand that is always of one type, under a control of 4 types, and under one of 4
+# and another of 2, where the text names a function of the first control: 5 passes of 544 tests for each, one for each type of a control
+# that a constraint reads, beside one of the other, and one for the other, and not 8 for the second.
 # The programs are proved and built first where that is still to be done. The status is 1 where a run fails, where an audit of 4,095
-# opcodes takes a second, or where the shared text takes 200,000 tests; and 125 where a program couldn't be built or there is no
+# opcodes takes a second, or one of a text 20 million instructions; and 125 where a program couldn't be built or there is no
 # valgrind.
 set -u
 
@@ -59,25 +59,23 @@ tests() {
          END { print sum + 0 }' "$1"
 }
 
-# What a run of a program, behind its name and so many tests, over the input does, with fewer tests than that.
-over() {
-    name=$1
-    most=$2
-    shift 2
-    valgrind --tool=callgrind --callgrind-out-file="$folder/calls" "$@" < "$folder/input" > "$folder/out" 2> "$folder/log" || return 1
-    count=$(tests "$folder/calls")
-    printf '%s: %s, %s instructions, %s tests of a number\n' "$name" "$(head -n 1 "$folder/out")" "$(awk '/Collected/ { print $NF }' "$folder/log")" "$count"
-    [ "$count" -lt "$most" ]
-}
-
-# The same over the text that the lines write, which are the other words.
+# What an audit of the text that the lines write, the other words, takes, behind a name. It fails where that is 20 million instructions.
 over_text() {
     name=$1
-    most=$2
-    shift 2
+    shift
     printf '%s\n' '%% shared' "$@" > "$folder/lines"
     "$rows" < "$folder/lines" > "$folder/input" || return 1
-    over "$name" "$most" "$audit" audit
+    count=$(counted "$folder/input" "$audit" audit) || return 1
+    printf '%s: %s, %s instructions\n' "$name" "$("$audit" audit < "$folder/input")" "$count"
+    [ "$count" -lt 20000000 ]
+}
+
+# What a run of the rows over the input does, behind a name, with fewer tests than so many.
+over_rows() {
+    valgrind --tool=callgrind --callgrind-out-file="$folder/calls" "$rows" < "$folder/input" > "$folder/out" 2> "$folder/log" || return 1
+    count=$(tests "$folder/calls")
+    printf '%s: %s, %s tests of a number\n' "$1" "$(head -n 1 "$folder/out")" "$count"
+    [ "$count" -gt 0 ] && [ "$count" -lt "$2" ]
 }
 
 # The lines that edit a text behind a comment of the stored rows.
@@ -89,11 +87,11 @@ processor
 status=0
 compare shared '163 opcodes' 1001 || status=1
 compare many '4,095 opcodes of two controls' 101 || status=1
-over_text 'the shared text' 200000 'edit 3' write || status=1
-over_text 'lists of its own' 200000 'edit 2' 'write 00' || status=1
-over_text 'one type as a type set' 200000 "$(edits '# One type as that type set, in the place of each constraint that names it.')" write || status=1
-over_text 'opcode 69 differs' 200000 'edit 3' 'write 05' || status=1
-over_text 'opcode 92 differs' 200000 'edit 2' 'write 10' || status=1
+over_text 'the shared text' 'edit 3' write || status=1
+over_text 'lists of its own' 'edit 2' 'write 00' || status=1
+over_text 'one type as a type set' "$(edits '# One type as that type set, in the place of each constraint that names it.')" write || status=1
+over_text 'opcode 69 differs' 'edit 3' 'write 05' || status=1
+over_text 'opcode 92 differs' 'edit 2' 'write 10' || status=1
 printf '%%%% two\nedit 3\nall Concrete(ir::types::I8) => AsTruthy\naudit\n' > "$folder/input"
-over 'a function of a control for one type' 5441 "$rows" || status=1
+over_rows 'a function of a control for one type' 5441 || status=1
 exit $status
