@@ -9,3 +9,4 @@ pub mod Meant
 mod OneInference
 pub mod OneReply
 mod OneOutput
+pub mod TableReplies

@@ -21,13 +21,6 @@ question_words name control results values = codes "accept" ∷ name ∷ control
 abbrev pub question_words_of : Question → List (List ℕ)
 question_words_of q = question_words q.name (control_text q.control q.second) (types_text q.results) (types_text q.values)
 
--- each type of q can be named
-pub record HasTypes (q : Question) : Type 0 where
-  pub control : IfSome q.control IsType
-  pub second : IfSome q.second IsType
-  pub results : All IsType q.results
-  pub values : All IsType q.values
-
 -- the line asks q: it is the words of q, and each type of q can be named
 pub record IsQuestion (line : List ℕ) (q : Question) : Type 0 where
   pub words : AreWords line (question_words_of q)

@@ -60,12 +60,12 @@ fn assemble<S: Source, K: Sink>(
 
 /// Writes a list of lines over declarations in another form (this project's own). The one word is `short` or `explicit`.
 ///
-/// For `short` the sink takes each line with the types left out that follow from what is written, and else `line N: REASON` of the
-/// first wrong line, as `verify` says. For `explicit` it takes, for each text so written, the line that reads so, with all types, and
-/// else `line N: bad` alone, of the first that reads as none. Each line has LF behind it. Empty lines are skipped, and counted in N.
+/// For `short` the sink takes each line with types left out that follow, and else `line N: REASON` of the first wrong line, as `verify`
+/// says. For `explicit` it takes, for each text so written, the line that reads so, with all types, and else `line N: bad` alone, of
+/// the first that reads as none. Each line has LF behind it. Empty lines are skipped, and counted in N.
 ///
 /// The order is: the words; the declarations, which are refused by the first fault that they show; the whole input; all that is
-/// answered, in memory; the writes. `AsmStatus` says how it ended, and `OutOfMemory` may come in any case.
+/// answered, in memory; the writes. `AsmStatus` says how it ended, and `OutOfMemory` may come in any case but `Usage`.
 pub fn asm<S: Source, K: Sink>(
     alloc: Global,
     words: &[Text],

@@ -11,7 +11,7 @@ use Rattle.meta_verify.specs.Statement.{TypedValue, Application, IsValue, IsType
 use Rattle.meta_verify.proofs.StatementLemmas.{one_written_value}
 use Rattle.meta_short.specs.Short.{Manner, ShortResult, shortened, short_results, type_part, short_result_text, joined, behind}
 use Rattle.meta_short.specs.Short.{control_written, values_written, results_part, short_application}
-use Rattle.meta_short.specs.Parts.{IsPlain, AreSameParts}
+use Rattle.meta_short.specs.Parts.{IsPlain}
 use Rattle.meta_short.proofs.SplitLemmas.{Lacks, one_split, lacks_joined, one_joined}
 
 -- ---- the same texts, each place where one may go on behind a byte
@@ -235,6 +235,13 @@ short_lacks byte opened rs mark other h =
     All-map (Lacks byte) short_result_text (short_results opened rs)
     (All-weaker CanBeShort (λ r. Lacks byte (short_result_text r)) (λ r is. result_lacks byte r mark other is)
     (short_results opened rs) (short_can opened rs h))
+
+-- what a text gives of the two applications that it may be of
+pub record AreSameParts (m n : Manner) (a b : Application) : Type 0 where
+  pub names : a.name ≡ b.name
+  pub controls : control_written m.leaves_out a.control a.second ≡ control_written n.leaves_out b.control b.second
+  pub results : short_results m.opened a.results ≡ short_results n.opened b.results
+  pub values : a.values ≡ b.values
 
 pub same_line_parts : (m n : Manner) (a b : Application) → IsPlain a.name → IsPlain b.name → CanApply a → CanApply b
     → short_application m a ≡ short_application n b → AreSameParts m n a b

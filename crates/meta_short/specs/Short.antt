@@ -12,7 +12,7 @@ pub record Manner : Type 0 where
   pub leaves_out : Bool
   pub opened : List Bool
 
--- a result as it is written: its type is left open
+-- a result as it is written: with its type, or without
 pub record ShortResult : Type 0 where
   pub value : ℕ
   pub type : Option TypeParts

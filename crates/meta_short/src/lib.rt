@@ -1,4 +1,4 @@
-//! Typed lines with the types left out that follow from what is written, as `v1 = iadd v0, v0`.
+//! Typed lines with types left out that follow, as `v1 = iadd v0, v0`.
 //!
 //! `print_line` writes the short form of a line. For one environment a text reads as one line at most, by the tables and as the
 //! declarations mean (`one_line_reads`).

@@ -39,8 +39,9 @@ fn push_applied(
     Ok(true)
 }
 
-/// Adds the short form of what is stated, by the tables. It is false, and nothing is added, exactly where no opcode has the name. It
-/// costs the length of the text and of a look-up (this project's own).
+/// Adds the short form of what is stated, by the tables. It is false, and nothing is added, exactly where no opcode has the name. Of
+/// what stands in the text after an error nothing is said, as `write!` says nothing of it. It costs the length of the text and of a
+/// look-up (this project's own).
 pub fn push_short(
     tables: &Tables,
     statement: &Statement<'_>,
@@ -61,7 +62,8 @@ pub fn push_short(
     }
 }
 
-/// As `print_line`, onto a text: it is false, and nothing is added, exactly where `print_line` answers `None` (this project's own).
+/// As `print_line`, onto a text: it is false, and nothing is added, exactly where `print_line` answers `None`. Of what stands in the
+/// text after an error nothing is said, as of `push_short` (this project's own).
 pub fn push_line(
     alloc: Global,
     tables: &Tables,

@@ -1,20 +1,25 @@
 -- What is wrong by the tables of declarations is wrong as they mean, and the other way round where they are valid.
 use Rattle.std.proofs.Common.{◌≡◌, ◌↔◌, inl, inr, ℕ, ◌==◌, cond, Bool, true, false, List, [], ◌∷◌, map, take, length, All, Option, Some}
-use Rattle.std.proofs.Common.{None, sym, subst}
+use Rattle.std.proofs.Common.{None, IfSome, sym, subst}
+use Rattle.std.specs.Option.{option_map}
 use Rattle.std.proofs.lemmas.List.Elements.{All-nil, All-cons, All-head, All-tail, All-map, All-weaker}
 use Rattle.meta_types.specs.TypeParts.{TypeParts, IsType}
+use Rattle.meta_types.specs.TypeNumber.{type_with, IsTypeNumber}
 use Rattle.meta_inst.specs.Faults.{IsValid}
 use Rattle.meta_inst.specs.InstructionSet.{InstructionSet}
 use Rattle.meta_meaning.specs.Tables.{TableContents, Allows}
 use Rattle.meta_opcode_tables.specs.TablesOf.{AreTablesOf, AcceptsOpcode}
 use Rattle.meta_words.specs.Lines.{lines_of}
-use Rattle.meta_answers.specs.Question.{Question, HasTypes}
+use Rattle.meta_answers.specs.Question.{Question}
 use Rattle.meta_answers.specs.Answer.{AllowedReply, AcceptedReply}
 use Rattle.meta_answers.specs.declared.reply.Reply.{Reply}
 use Rattle.meta_answers.specs.declared.reply.Reply.TheVariants as reply
-use Rattle.meta_answers.proofs.Meant.{accepted}
-use Rattle.meta_verify.specs.Statement.{TypedValue, Application, Statement, OfParameter, OfApplication, IsTyped, CanApply, CanBeStated}
-use Rattle.meta_verify.specs.Statement.{defined_by}
+use Rattle.meta_answers.proofs.Meant.{HasTypes, accepted}
+use Rattle.meta_verify.specs.Statement.{TypedValue, Application, Statement, OfParameter, OfApplication, IsTyped, CanBeStated}
+use Rattle.meta_verify.specs.Statement.{AppliesTypes, GivesTypes, defined_by}
+use Rattle.meta_verify.specs.Numbers.{typed_value_of, stated, IsTypedNumber, HasTypeNumbers}
+use Rattle.meta_verify.specs.declared.statement.Statement as held
+use Rattle.meta_verify.specs.declared.statement.Statement.TheVariants.{Parameter, Applied}
 use Rattle.meta_verify.specs.Environment.{Environment, nothing_defined, with_value, with_values, HaveTypes, HasNamedTypes}
 use Rattle.meta_verify.specs.Wrong.{Replies, question_of, LacksName, IsRepliedTo, IsAccepted, IsMistake, IsFaultless, IsWrong, AnswersLine}
 use Rattle.meta_verify.specs.Wrong.{Feeds}
@@ -51,13 +56,36 @@ pub results_typed : (s : Statement) → CanBeStated s → All IsTyped (defined_b
 results_typed (OfParameter r) can = All-cons IsTyped r [] can (All-nil IsTyped)
 results_typed (OfApplication a) can = can.results
 
+-- the types of what a line states can be named
+pub statable_types : (s : Statement) → CanBeStated s → GivesTypes s
+statable_types (OfParameter r) can = can.is_type
+statable_types (OfApplication a) can = record {
+  control = can.control;
+  second = can.second;
+  results = All-weaker IsTyped (λ (r : TypedValue). IsType r.type) (λ r is. is.is_type) a.results can.results;
+}
+
+-- a number of a type gives a type that can be named
+type_numbered : (n : Option ℕ) → IfSome n IsTypeNumber → IfSome (option_map type_with n) IsType
+type_numbered None h = tt
+type_numbered (Some n) h = h.is_type
+
+-- so can those of what the program holds
+pub numbered_types : (s : held.Statement) → HasTypeNumbers s → GivesTypes (stated s)
+numbered_types (Parameter r) h = h.number.is_type
+numbered_types (Applied a) h = record {
+  control = type_numbered a.control h.control;
+  second = type_numbered a.second h.second;
+  results = All-map (λ (r : TypedValue). IsType r.type) typed_value_of a.results.items
+      (All-weaker IsTypedNumber (λ r. IsType (type_with r.number)) (λ r is. is.number.is_type) a.results.items h.results);
+}
+
 -- what is asked of an application can be named, where the types of its values can
-pub question_typed : (a : Application) (types : List TypeParts) → CanApply a → All IsType types → HasTypes (question_of a types)
+pub question_typed : (a : Application) (types : List TypeParts) → AppliesTypes a → All IsType types → HasTypes (question_of a types)
 question_typed a types can h = record {
   control = can.control;
   second = can.second;
-  results = All-map IsType (λ (r : TypedValue). r.type) a.results
-      (All-weaker IsTyped (λ (r : TypedValue). IsType r.type) (λ r is. is.is_type) a.results can.results);
+  results = All-map IsType (λ (r : TypedValue). r.type) a.results can.results;
   values = h;
 }
 
@@ -88,20 +116,20 @@ module _ (R : Replies) where
 
 module _ (R S : Replies) (means : (q : Question) → HasTypes q → (r : Reply) → R q r → S q r) (unknown : (q : Question) → HasTypes q
     → S q reply.Unknown → R q reply.Unknown) where
-  lacks_back : (s : Statement) → CanBeStated s → LacksName S s → LacksName R s
+  lacks_back : (s : Statement) → GivesTypes s → LacksName S s → LacksName R s
   lacks_back (OfParameter r) can h = h
   lacks_back (OfApplication a) can h = unknown (question_of a []) (question_typed a [] can (All-nil IsType)) h
 
-  replied : (env : Environment) (a : Application) (answer : Reply) → HasNamedTypes env → CanApply a → IsRepliedTo R env a answer
+  replied : (env : Environment) (a : Application) (answer : Reply) → HasNamedTypes env → AppliesTypes a → IsRepliedTo R env a answer
       → IsRepliedTo S env a answer
   replied env a answer named can (types, have, h) =
       (types, have, means (question_of a types) (question_typed a types can (types_named env a.values types named have)) answer h)
 
-  accepts : (env : Environment) (s : Statement) → HasNamedTypes env → CanBeStated s → IsAccepted R env s → IsAccepted S env s
+  accepts : (env : Environment) (s : Statement) → HasNamedTypes env → GivesTypes s → IsAccepted R env s → IsAccepted S env s
   accepts env (OfParameter r) named can h = h
   accepts env (OfApplication a) named can h = replied env a reply.Accept named can h
 
-  pub mistake : (env : Environment) (s : Statement) (reason : Reason) → HasNamedTypes env → CanBeStated s → IsMistake R env s reason
+  pub mistake : (env : Environment) (s : Statement) (reason : Reason) → HasNamedTypes env → GivesTypes s → IsMistake R env s reason
       → IsMistake S env s reason
   mistake env s Bad named can h = h
   mistake env (OfParameter r) Unknown named can h = h
@@ -112,7 +140,7 @@ module _ (R S : Replies) (means : (q : Question) → HasTypes q → (r : Reply) 
   mistake env (OfApplication a) Refused named can (known, u, f, h) =
       (λ l. known (lacks_back (OfApplication a) can l), u, f, replied env a reply.Refuse named can h)
 
-  pub faultless : (env : Environment) (s : Statement) → HasNamedTypes env → CanBeStated s → IsFaultless R env s → IsFaultless S env s
+  pub faultless : (env : Environment) (s : Statement) → HasNamedTypes env → GivesTypes s → IsFaultless R env s → IsFaultless S env s
   faultless env s named can h = record {
     named = λ l. h.named (lacks_back s can l);
     defined = h.defined;
@@ -121,12 +149,12 @@ module _ (R S : Replies) (means : (q : Question) → HasTypes q → (r : Reply) 
   }
 
   wrong : (env : Environment) (line : List ℕ) (reason : Reason) → HasNamedTypes env → IsWrong R env line reason → IsWrong S env line reason
-  wrong env line reason named (inl (s, states, h)) = inl (s, states, mistake env s reason named states.can h)
+  wrong env line reason named (inl (s, states, h)) = inl (s, states, mistake env s reason named (statable_types s states.can) h)
   wrong env line reason named (inr h) = inr h
 
   answers : (env env' : Environment) (line : List ℕ) (answer : Option Reason) → HasNamedTypes env → AnswersLine R env line answer env'
       → AnswersLine S env line answer env'
-  answers env env' line None named (s, (states, h), e) = (s, (states, faultless env s named states.can h), e)
+  answers env env' line None named (s, (states, h), e) = (s, (states, faultless env s named (statable_types s states.can) h), e)
   answers env env' line (Some reason) named (h, e) = (wrong env line reason named h, e)
 
   feeds : (env env' : Environment) (line : List ℕ) (answer : Option Reason) → HasNamedTypes env → Feeds R env line answer env'
@@ -166,7 +194,7 @@ module _ (d : InstructionSet) (tables : TableContents) (made : AreTablesOf d tab
   -- and where the declarations are valid
   module _ (valid : IsValid d) where
     module _ (env : Environment) (named : HasNamedTypes env) where
-      pub mistake_means : (s : Statement) → CanBeStated s → (reason : Reason)
+      pub mistake_means : (s : Statement) → GivesTypes s → (reason : Reason)
           → (IsMistake (AllowedReply tables) env s reason ↔ IsMistake (AcceptedReply d) env s reason)
       mistake_means s can reason = (
         λ h. mistake (AllowedReply tables) (AcceptedReply d) (accepted d tables made means)
@@ -175,7 +203,7 @@ module _ (d : InstructionSet) (tables : TableContents) (made : AreTablesOf d tab
             (unknown_forth d tables made means) env s reason named can h,
       )
 
-      pub right_means : (s : Statement) → CanBeStated s → (IsFaultless (AllowedReply tables) env s ↔ IsFaultless (AcceptedReply d) env s)
+      pub right_means : (s : Statement) → GivesTypes s → (IsFaultless (AllowedReply tables) env s ↔ IsFaultless (AcceptedReply d) env s)
       right_means s can = (
         λ h. faultless (AllowedReply tables) (AcceptedReply d) (accepted d tables made means)
             (unknown_back d tables made) env s named can h,

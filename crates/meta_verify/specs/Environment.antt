@@ -25,7 +25,7 @@ abbrev pub first_undefined : Environment → List ℕ → Option ℕ
 first_undefined env [] = None
 first_undefined env (v ∷ vs) = if is_some (env v) then first_undefined env vs else Some v
 
--- the first of the values that is defined before, or twice
+-- the first of the values that is defined before, or further left in the list
 abbrev pub first_redefined : Environment → List TypedValue → Option ℕ
 first_redefined env [] = None
 first_redefined env (r ∷ rs) = if is_some (env r.value) then Some r.value else first_redefined (with_value env r) rs

@@ -37,7 +37,7 @@ pub(crate) fn defined_before(types: &KnownTypes, value: u32) -> Option<u32>
     types.get(value).is_some().then_some(value)
 }
 
-/// The first of the results that is defined before, or twice. One alone takes no memory.
+/// The first of the results that is defined before, or further left in the list. One alone takes no memory.
 pub(crate) fn redefined(
     alloc: Global,
     types: &KnownTypes,

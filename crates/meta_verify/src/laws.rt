@@ -7,6 +7,8 @@ ghost use Rattle.meta_declared.specs.AllDeclared.{Declared, AreValid};
 ghost use Rattle.meta_answers.specs.Answer.{AllowedReply, AcceptedReply};
 ghost use Rattle.meta_verify.specs.declared.reason.Reason.{Reason};
 ghost use Rattle.meta_verify.specs.Environment.{Environment, nothing_defined, HasNamedTypes};
+ghost use Rattle.meta_verify.specs.declared.statement.Statement.{Statement};
+ghost use Rattle.meta_verify.specs.Numbers.{stated, HasTypeNumbers};
 ghost use Rattle.meta_verify.specs.Statement as spec;
 ghost use Rattle.meta_verify.specs.Verdict.{LeadTo, IsAnsweredAt, IsVerdict};
 ghost use Rattle.meta_verify.specs.Verifier.{verdicts};
@@ -36,15 +38,17 @@ pub fn verdicts_mean()
 {}
 
 /// By tables of valid declarations what is stated is right, or wrong for a reason, exactly where the declarations mean it, behind lines
-/// that define values of types that can be named.
+/// that define values of types that can be named. The types that are stated can be named, too, as of each statement that
+/// `Checker::mistake` takes.
 pub fn mistakes_mean()
+    ensures types { (s : Statement) → HasTypeNumbers s → spec.GivesTypes (stated s) }
     ensures mistake { (d : InstructionSet) (t : TableContents) → IsValid d → AreTablesOf d t
         → ((op : ℕ) (c e : Option ℕ) (rs vs : List ℕ) → (Allows t op c e rs vs ↔ AcceptsOpcode d op c e rs vs))
-        → (env : Environment) → HasNamedTypes env → (s : spec.Statement) → spec.CanBeStated s → (reason : Reason)
+        → (env : Environment) → HasNamedTypes env → (s : spec.Statement) → spec.GivesTypes s → (reason : Reason)
         → (IsMistake (AllowedReply t) env s reason ↔ IsMistake (AcceptedReply d) env s reason) }
     ensures right { (d : InstructionSet) (t : TableContents) → IsValid d → AreTablesOf d t
         → ((op : ℕ) (c e : Option ℕ) (rs vs : List ℕ) → (Allows t op c e rs vs ↔ AcceptsOpcode d op c e rs vs))
-        → (env : Environment) → HasNamedTypes env → (s : spec.Statement) → spec.CanBeStated s
+        → (env : Environment) → HasNamedTypes env → (s : spec.Statement) → spec.GivesTypes s
         → (IsFaultless (AllowedReply t) env s ↔ IsFaultless (AcceptedReply d) env s) }
 {}
 

@@ -12,14 +12,15 @@ pub enum Reason {
     Unknown,
     /// The first of the values that isn't defined.
     Undefined(u32),
-    /// The first of the defined values that is defined before, or twice.
+    /// The first of the defined values that is defined by a line before, or further left in this line.
     Redefined(u32),
     /// The instruction doesn't accept the types.
     Refused,
 }
 
 impl Reason {
-    /// Adds the reason as it is written: `bad`, `unknown`, `undefined v9`, `redefined v0` or `refused`.
+    /// Adds the reason as it is written: `bad`, `unknown`, `undefined v9`, `redefined v0` or `refused`. Of what stands in the text
+    /// after an error nothing is said, as `write!` says nothing of it.
     pub fn push(self, out: &mut String) -> Result<(), AllocError>
         ensures { OnOk result (string_bytes out.new ≡ string_bytes out.old ++ reason_text self) }
     {

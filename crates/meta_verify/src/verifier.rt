@@ -60,7 +60,7 @@ fn check<S: Source, K: Sink>(
 /// `line N: REASON` of the first wrong one, whose number N counts from 1. There are no words.
 ///
 /// The order is: the words; the declarations, which are refused by the first fault that they show; the whole input; what is said of it,
-/// in memory; the writes. `VerifyStatus` says how it ended, and `OutOfMemory` may come in any case.
+/// in memory; the writes. `VerifyStatus` says how it ended, and `OutOfMemory` may come in any case but `Usage`.
 pub fn verify<S: Source, K: Sink>(
     alloc: Global,
     words: &[Text],
