@@ -35,7 +35,7 @@ fn run_words<S: Source, K: Sink>(
 /// words.
 ///
 /// The order is: the words; the declarations, which are refused by the first fault that they show; the whole text; the line, in memory;
-/// the writes. The status says how it ended, and `OutOfMemory` may come in any case.
+/// the writes. The status says how it ended, and `OutOfMemory` may come in any case but `Usage`.
 pub fn audit_run<S: Source, K: Sink>(
     alloc: Global,
     words: &[Text],

@@ -1,7 +1,11 @@
 mod Commands
 mod Marks
+mod Unmarked
+mod Endless
+mod LineTexts
+mod OpcodeLines
+mod TableLines
 mod Told
 mod Runs
-mod TableReplies
 mod OneOutput
 pub mod Listed

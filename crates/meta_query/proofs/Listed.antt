@@ -1,4 +1,4 @@
--- The entries of a manual that list the commands of `run`, and which commands their words are.
+-- The entries of a manual that list the commands of `run`, and which command the words of an entry are.
 use Rattle.std.proofs.Common.{◌≡◌, ◌≢◌, ◌∙◌, ◌<◌, ◌^◌, ◌⊎◌, inl, inr, ℕ, zero, suc, Bool, true, false, not, List, [], ◌∷◌, length, take}
 use Rattle.std.proofs.Common.{refl, sym, ap, ap₂, subst, arith}
 use Rattle.std.proofs.lemmas.Bool.{and_parts}
@@ -125,16 +125,6 @@ abbrev pub IsEntry : CommandForm → Type 0
 IsEntry entry = ((c : Command) × HasNumber c × (number_words c ≡ []) × (entry.name.now ≡ command_name c)
     × (entry.numbers.now ≡ [])) ⊎ ((entry.name.now ≡ codes "synth") × (entry.numbers.now ≡ range ∷ []))
 
-abbrev pub AreEntries : List CommandForm → Type 0
-AreEntries [] = Unit
-AreEntries (entry ∷ entries) = IsEntry entry × AreEntries entries
-
-entry_at : (entries : List CommandForm) → AreEntries entries → (k : ℕ) (entry : CommandForm)
-    → slice_get entries k ≡ Some entry → IsEntry entry
-entry_at [] all k entry e = absurd (cc)
-entry_at (x ∷ entries) all zero entry e = subst IsEntry (some_same x entry e) all.0
-entry_at (x ∷ entries) all (suc k) entry e = entry_at entries all.1 k entry e
-
 pub of_entry : (entries : List CommandForm) (words : List (List ℕ)) (h : AreCommandWords entries words) → IsEntry h.command → IsCommand words
 of_entry entries words h (inl (c, number, none, name, no_ranges)) =
     let behind : h.behind ≡ number_words c = nil_from_length h.behind (h.numbers.count ∙ ap length no_ranges) ∙ sym none in
@@ -142,7 +132,3 @@ of_entry entries words h (inl (c, number, none, name, no_ranges)) =
 of_entry entries words h (inr (name, one)) =
     let it = number_behind h.behind (subst (λ r. AreNumbersIn r h.behind) one h.numbers) in
     (Synth it.0, record { number = it.1; are = h.are ∙ ap₂ (λ n b. n ∷ b) name it.2 })
-
-pub commanded : (entries : List CommandForm) → AreEntries entries → (words : List (List ℕ))
-    → AreCommandWords entries words → IsCommand words
-commanded entries all words h = of_entry entries words h (entry_at entries all h.named.place h.command h.named.at)

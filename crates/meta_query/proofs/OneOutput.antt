@@ -12,23 +12,21 @@ use Rattle.meta_table_reader.specs.Readable.{Reads}
 use Rattle.meta_table_text.specs.TableText.{table_text}
 use Rattle.meta_table_text.specs.declared.version.Version.TheVariants.{Three}
 use Rattle.meta_words.specs.Lines.{lines_of}
-use Rattle.meta_answers.specs.Query.{Asked, Asks}
 use Rattle.meta_answers.specs.Answer.{IsOutput}
+use Rattle.meta_answers.proofs.TableReplies.{same_answers}
 use Rattle.meta_query.specs.declared.command.Command.{Command}
 use Rattle.meta_query.specs.declared.command.Command.TheVariants.{Query, Recheck, Tables, Types, Settings, Instructions, Builder, Synth}
 use Rattle.meta_query.specs.Recheck.{sameness_line, IsTold, IsAnswerBy, IsRecheckOf}
 use Rattle.meta_query.specs.Synthesis.{IsSynthOutput}
 use Rattle.meta_query.specs.Run.{IsBuiltText, IsOutputOf}
 use Rattle.meta_query.proofs.Marks.{same_cut}
-use Rattle.meta_query.proofs.TableReplies.{same_answers}
 
--- ---- `recheck`, where a line asks one thing at most, and a text reads as one
+-- ---- `recheck`, where a text reads as one
 
-module _ (one_asked : (line : List ℕ) (q p : Asked) → Asks line q → Asks line p
-    → q ≡ p) (one_read : (text : List ℕ) (t u : WholeTables) → Reads text t → Reads text u → t ≡ u) where
+module _ (one_read : (text : List ℕ) (t u : WholeTables) → Reads text t → Reads text u → t ≡ u) where
   one_told : (line : List ℕ) (t : WholeTables) (queries a b : List ℕ) → IsTold line t queries a → IsTold line t queries b → a ≡ b
   one_told line t queries a b h g = h.is
-      ∙ ap (λ x. line ++ x) (same_answers t one_asked (lines_of queries) h.answers g.answers h.are_answers g.are_answers) ∙ sym g.is
+      ∙ ap (λ x. line ++ x) (same_answers t (lines_of queries) h.answers g.answers h.are_answers g.are_answers) ∙ sym g.is
 
   one_answer_by : (tables : WholeTables) (text queries a b : List ℕ) → IsAnswerBy tables text queries a
       → IsAnswerBy tables text queries b → a ≡ b

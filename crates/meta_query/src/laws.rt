@@ -1,12 +1,16 @@
-ghost use Rattle.std.specs.Prelude.{◌≡◌, ℕ, List};
+ghost use Rattle.std.specs.Prelude.{◌≡◌, ◌++◌, ℕ, List, []};
 ghost use Rattle.meta_typevar.specs.Registry.{HoldTypeSets};
 ghost use Rattle.meta_declared.specs.AllDeclared.{Declared, AreValid};
+ghost use Rattle.meta_gen.specs.WholeTables.{WholeTables};
+ghost use Rattle.meta_gen.specs.WellFormed.{IsWellFormed};
+ghost use Rattle.meta_table_text.specs.TableText.{table_text};
+ghost use Rattle.meta_table_text.specs.declared.version.Version.{Version};
 ghost use Rattle.meta_query.specs.Command.{AreWordsOf};
-ghost use Rattle.meta_query.specs.Recheck.{IsCut};
+ghost use Rattle.meta_query.specs.Recheck.{mark, IsCut};
 ghost use Rattle.meta_query.specs.Run.{IsOutputOf};
 ghost use Rattle.meta_query.specs.declared.command.Command.{Command};
 
-use meta_answers::{asks_one_query, one_output};
+use meta_answers::one_output;
 use meta_declared::one_built;
 use meta_gen::one_table_of_declarations;
 use meta_synth::{one_summary, one_synth};
@@ -24,7 +28,6 @@ pub fn one_output_of_a_command()
         → IsOutputOf c d input a → IsOutputOf c d input b → a ≡ b }
 {
     one_output();
-    asks_one_query();
     a_text_reads_as_one();
     one_table_of_declarations();
     one_built();
@@ -36,4 +39,12 @@ pub fn one_output_of_a_command()
 pub fn one_cut()
     ensures { (input text queries other_text other_queries : List ℕ) → IsCut input text queries → IsCut input other_text other_queries
         → (text ≡ other_text) × (queries ≡ other_queries) }
+{}
+
+/// No line of the text of well-formed tables is the line before the queries, in any version: where that line and queries stand behind the
+/// text, the input is cut there, and the text alone has no queries.
+pub fn text_of_tables_stays_whole()
+    ensures behind { (v : Version) (t : WholeTables) (queries : List ℕ) → IsWellFormed t
+        → IsCut (table_text v t ++ (mark ++ queries)) (table_text v t) queries }
+    ensures alone { (v : Version) (t : WholeTables) → IsWellFormed t → IsCut (table_text v t) (table_text v t) [] }
 {}

@@ -1,12 +1,11 @@
 //! The commands over declarations: `run` reads the input of a command and writes its output.
 //!
 //! `query` answers each line of the input, `recheck` reads the text of tables and answers by them, `synth` tells of the tables of
-//! declarations that are made from a number, and the others write a text. What tables answer is of `meta_answers`, whose names stand
-//! here too.
+//! declarations that are made from a number, and the others write a text. What tables answer is of `meta_answers`, of whose names all
+//! but `answers_mean` stand here too.
 #![tactic(auto)]
 
 mod command;
-mod command_list;
 mod laws;
 mod output;
 mod queries;
@@ -15,8 +14,7 @@ mod running;
 mod synthesis;
 
 pub use command::Command;
-pub use command_list::{COMMANDS, listed_commands};
-pub use laws::{one_command, one_cut, one_output_of_a_command};
+pub use laws::{one_command, one_cut, one_output_of_a_command, text_of_tables_stays_whole};
 pub use meta_answers::{
     Inference, Lines, Query, Question, Reply, answer_line, asks_one_query, asks_one_question,
     one_output, push_answers,

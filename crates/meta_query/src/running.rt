@@ -32,13 +32,14 @@ fn run_words<S: Source, K: Sink>(
 }
 
 /// Runs a command over declarations: reads the source, and writes to the sink (this project's own). The words are those
-/// after the program's name: `query` answers each line of the input, by the tables alone; `recheck` reads the text of tables, says
+/// after the program's name: `query` answers each line of the input as the declarations mean; `recheck` reads the text of tables, says
 /// whether they are those of the declarations, and answers the queries behind it by the tables that were read; `tables` writes the
 /// text of the tables, `types` that of the types, `settings` that of the groups of settings, `instructions` that of the instructions,
 /// and `builder` that of their builder; `synth N` writes what the tables of the declarations hold that are made from the number.
 ///
 /// The order is: the words; the declarations, which are refused by the first fault that they show; for `query` and `recheck` the
-/// whole input; all that is answered, in memory; the writes. `Status` says how it ended, and `OutOfMemory` may come in any case.
+/// whole input; all that is answered, in memory; the writes. `Status` says how it ended, and `OutOfMemory` may come in any case but
+/// `Usage`.
 pub fn run<S: Source, K: Sink>(
     alloc: Global,
     words: &[Text],

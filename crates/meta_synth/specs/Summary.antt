@@ -36,7 +36,7 @@ pub record AcceptsEverywhere (n : ℕ) (allows : Option ℕ → List ℕ → Lis
   pub are_values : All (λ m. m ≡ n) values
   pub allowed : allows control results values
 
--- the tables accept the type with the number n everywhere for the opcode
+-- The tables accept the type with the number n everywhere for the opcode. An opcode with a second control isn't counted.
 abbrev pub TakesEverywhere : TableContents → ℕ → ℕ → Type 0
 TakesEverywhere t n op = AcceptsEverywhere n (λ c rs vs. Allows t op c None rs vs)
 

@@ -75,7 +75,8 @@ fn line(
 
 /// What the tables hold that are made of the declarations of `n`, in one line without its end: how many opcodes, type sets,
 /// operand constraints and slots there are, how many opcodes are found by their names, and how many accept `i64` as their control,
-/// where they have one, and as every result and value (this project's own).
+/// where they have one, and as every result and value. An opcode with a second control isn't counted among those that accept it (this
+/// project's own).
 pub fn summary(alloc: Global, n: u32, tables: &Tables) -> Result<String, AllocError>
     ensures line { IfOk result (λ line. IsSummary n tables.now.opcodes (string_bytes line)) }
     ensures of_synth { IfOk result (λ line. (d : Declared) → HoldTypeSets d.set.vars → IsSynth n d
