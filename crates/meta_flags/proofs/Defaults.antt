@@ -15,6 +15,7 @@ use Rattle.meta_setting_tables.specs.WellFormed.{HasValues, HasItsValues, IsWell
 use Rattle.meta_flags.specs.Served.{NumValue, EnumValue, State, default_of, kind_in}
 use Rattle.meta_flags.specs.Held.{AreHeld}
 use Rattle.meta_flags.proofs.Places.{defaults, counted, settings_first, setting_count}
+use Rattle.meta_flags.proofs.OfKinds.{default_kinds}
 
 -- behind the last there are no more
 pub all_defaults : (t : GroupContents) (ds : List Descriptor) (i : ℕ) (old all : State) → length ds ≤ i
@@ -32,6 +33,7 @@ held t state well few is =
       within = omega (arith, count, few);
       settings = λ e d at. let f = settings_first t well e d at
           in ((λ s. let l = f.0 s in omega (arith, l, count)), (λ l. f.1 (omega (arith, l, count))));
+      kinds = default_kinds t state well few is;
     }
 
 -- the values of an enum are some

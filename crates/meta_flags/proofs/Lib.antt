@@ -3,6 +3,7 @@ mod Places
 mod GetLemmas
 mod SetLemmas
 mod SameServed
+mod OfKinds
 mod Defaults
 mod TurningOn
 mod RequestLemmas

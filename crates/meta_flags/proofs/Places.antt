@@ -33,7 +33,7 @@ settings_first t well e d at = placed_setting (own_byte_count t.descriptors) (de
     (described_byte_count t.descriptors) e d.offset d.detail (well.placed e d at)
 
 -- a setting has one default
-one_default : (t : GroupContents) (offset : ℕ) (detail : Detail) → is_preset detail ≡ false
+pub one_default : (t : GroupContents) (offset : ℕ) (detail : Detail) → is_preset detail ≡ false
     → length (default_of (kind_in t offset detail)) ≡ 1
 one_default t offset (BoolDetail bit) is = refl
 one_default t offset (EnumDetail last place) is = refl
@@ -56,7 +56,7 @@ none_behind : (d : Descriptor) (ds : List Descriptor) → AreSettings (d ∷ ds)
 none_behind d ds first e x at = ((λ is. let l = (first (suc e) x at).0 is in absurd (omega (arith, l))), (λ l. absurd (omega (arith, l))))
 
 -- behind the first setting there is one less
-one_less : (d : Descriptor) (ds : List Descriptor) (n : ℕ) → AreSettings (d ∷ ds) (suc n) → AreSettings ds n
+pub one_less : (d : Descriptor) (ds : List Descriptor) (n : ℕ) → AreSettings (d ∷ ds) (suc n) → AreSettings ds n
 one_less d ds n first e x at =
     ((λ is. let l = (first (suc e) x at).0 is in omega (arith, l)), (λ l. (first (suc e) x at).1 (omega (arith, l))))
 

@@ -29,6 +29,13 @@ IsText (NumKind default) text v = (n : ℕ) × (n < 256) × (text ≡ decimal n)
 IsText (EnumKind values) text v = Contains values text × (v ≡ EnumValue text)
 IsText (PresetKind marks) text v = ⊥
 
+-- a setting of this kind can have the value: a boolean either truth value, a number one from 0 to 255, and an enum one of its values
+abbrev pub CanHave : EntryKind → SettingValue → Type 0
+CanHave (BoolKind default) v = (b : Bool) × (v ≡ BoolValue b)
+CanHave (NumKind default) v = (n : ℕ) × (n < 256) × (v ≡ NumValue n)
+CanHave (EnumKind values) v = (text : List ℕ) × Contains values text × (v ≡ EnumValue text)
+CanHave (PresetKind marks) v = ⊥
+
 -- the setting of the name has the value that is written, and the other values are as they were
 pub record IsSet (g : Served) (name text : List ℕ) (old new : State) : Type 0 where
   pub place : ℕ

@@ -4,7 +4,8 @@ use Rattle.std.specs.Option.{option_map, option_map_or}
 use Rattle.meta_setting_tables.specs.declared.descriptor.Descriptor.{Descriptor}
 use Rattle.meta_setting_tables.specs.GroupTables.{GroupContents}
 use Rattle.meta_setting_tables.specs.WellFormed.{is_preset}
-use Rattle.meta_flags.specs.Served.{SettingValue, BoolValue, NumValue, EnumValue, Served, State, served_in}
+use Rattle.meta_flags.specs.Served.{SettingValue, BoolValue, NumValue, EnumValue, Served, State, kind_in, served_in}
+use Rattle.meta_flags.specs.Changes.{CanHave}
 use Rattle.meta_flags.specs.declared.flag_value.FlagValue.{FlagValue}
 use Rattle.meta_flags.specs.declared.flag_value.FlagValue.TheVariants.{Bool, Num, Enum}
 use Rattle.meta_flags.specs.declared.flag_error.FlagError.{FlagError}
@@ -29,10 +30,16 @@ pub record FlagContents : Type 0 where
 abbrev pub AreSettings : List Descriptor → ℕ → Type 0
 AreSettings entries count = (e : ℕ) (d : Descriptor) → slice_get entries e ≡ Some d → ((is_preset d.detail ≡ false) ↔ (e < count))
 
--- there is one value a setting, in order
+-- each value is one that its setting can have
+abbrev pub AreOfKinds : GroupContents → State → Type 0
+AreOfKinds t state = (e : ℕ) (d : Descriptor) (v : SettingValue) → slice_get t.descriptors e ≡ Some d → slice_get state e ≡ Some v
+    → CanHave (kind_in t d.offset d.detail) v
+
+-- there is one value a setting, in order, and each is one that its setting can have
 pub record AreHeld (f : FlagContents) : Type 0 where
   pub within : length f.state ≤ length f.group.descriptors
   pub settings : AreSettings f.group.descriptors (length f.state)
+  pub kinds : AreOfKinds f.group f.state
 
 -- what is served where there may be no group, and the values, of which there are none then
 abbrev pub served_by : Option FlagContents → Option Served

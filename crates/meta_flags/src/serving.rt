@@ -75,7 +75,7 @@ fn run_words<S: Source, K: Sink>(
 /// Any other line is answered `bad`, and an empty one isn't answered. An answer other than `ok` leaves the values as they were.
 ///
 /// The order is: the words; the declarations, which are refused by the first fault that they show; the whole input; all answers, in
-/// memory; the writes. The status says how it ended, and `OutOfMemory` may come in any case.
+/// memory; the writes. The status says how it ended, and `OutOfMemory` may come in any case but `Usage`.
 pub fn flags<S: Source, K: Sink>(
     alloc: Global,
     words: &[Text],

@@ -7,10 +7,11 @@ use Rattle.meta_setting_tables.specs.declared.descriptor.Descriptor.{Descriptor}
 use Rattle.meta_setting_tables.specs.GroupTables.{IsPresetIn}
 use Rattle.meta_setting_tables.specs.WellFormed.{is_preset}
 use Rattle.meta_flags.specs.declared.flag_value.FlagValue.TheVariants.{Bool}
-use Rattle.meta_flags.specs.Served.{served_in, kind_in}
-use Rattle.meta_flags.specs.Changes.{HasNone, IsNamedEntry, IsOfNoSwitch, IsEnabled, Enabled}
-use Rattle.meta_flags.specs.Held.{FlagContents, value_of}
+use Rattle.meta_flags.specs.Served.{BoolValue, State, served_in, kind_in}
+use Rattle.meta_flags.specs.Changes.{CanHave, HasNone, IsNamedEntry, IsOfNoSwitch, IsEnabled, Enabled}
+use Rattle.meta_flags.specs.Held.{FlagContents, value_of, AreHeld}
 use Rattle.meta_flags.proofs.Entries.{has_none, is_entry}
+use Rattle.meta_flags.proofs.OfKinds.{held_set}
 use Rattle.meta_flags.proofs.held.Flags.enable.Goals as goal
 
 pub returns-in_default-clause-enabled : goal.returns-in_default-clause-enabled
@@ -33,6 +34,17 @@ index_mut-requires c =
     let less = (c.self.invariant.settings c.in-Some.index c.in-Some-descriptor.entry.now at).0 (ap is_preset c.in-Bool.is) in
     let mapped = length-map c.self.inside.values.items value_of in
     omega (arith, less, mapped)
+
+-- the boolean becomes true
+pub invariant_of-self : goal.invariant_of-self
+invariant_of-self c =
+    let t = c.self.inside.group.now in
+    let items = c.self.inside.values.items in
+    let index = c.in-Some.index in
+    let d = c.in-Some-descriptor.entry.now in
+    subst (λ (s : State). AreHeld (record { group = t; state = s })) (sym (map-set value_of items index (Bool true)))
+    (held_set t (map value_of items) index d (BoolValue true) c.self.invariant (sym c.in-Some-descriptor.ensures.entry)
+    (subst (λ (x : Detail). CanHave (kind_in t d.offset x) (BoolValue true)) (sym c.in-Bool.is) (true, refl)))
 
 pub returns-in-Bool-clause-enabled : goal.returns-in-Bool-clause-enabled
 returns-in-Bool-clause-enabled c =

@@ -4,11 +4,12 @@ use Rattle.std.proofs.lemmas.List.{length-map, map-set}
 use Rattle.std.proofs.lemmas.Option.{none-some}
 use Rattle.meta_lists.proofs.Mapped.{get_mapped}
 use Rattle.meta_setting_tables.specs.declared.descriptor.Descriptor.{Descriptor}
-use Rattle.meta_flags.specs.Served.{served_in, kind_in}
+use Rattle.meta_flags.specs.Served.{State, served_in, kind_in}
 use Rattle.meta_flags.specs.Changes.{HasNone, IsSet, IsOfPreset, IsNoValue}
-use Rattle.meta_flags.specs.Held.{FlagContents, value_of}
+use Rattle.meta_flags.specs.Held.{FlagContents, value_of, AreHeld}
 use Rattle.meta_flags.proofs.Entries.{has_none, is_entry}
 use Rattle.meta_flags.proofs.SetLemmas.{preset_kind, setting_detail, setting_kind}
+use Rattle.meta_flags.proofs.OfKinds.{text_kind, held_set}
 use Rattle.meta_flags.proofs.held.Flags.set.Goals as goal
 
 pub returns-in_default-clause-set : goal.returns-in_default-clause-set
@@ -60,6 +61,18 @@ index_mut-requires c =
     (setting_detail d.detail (λ e. false≢true (sym c.if-is_preset.false ∙ c.is_preset.ensures.1 e))) in
     let mapped = length-map c.self.inside.values.items value_of in
     omega (arith, less, mapped)
+
+-- the setting gets a value that it can have
+pub invariant_of-self : goal.invariant_of-self
+invariant_of-self c =
+    let t = c.self.inside.group.now in
+    let items = c.self.inside.values.items in
+    let index = c.in-Some.index in
+    let d = c.in-Some-descriptor.entry.now in
+    let v = c.in-Some-value_in.written in
+    subst (λ (s : State). AreHeld (record { group = t; state = s })) (sym (map-set value_of items index v))
+    (held_set t (map value_of items) index d (value_of v) c.self.invariant (sym c.in-Some-descriptor.ensures.entry)
+    (text_kind (kind_in t d.offset d.detail) c.args.value.now (value_of v) c.in-Some-value_in.ensures.some))
 
 pub returns-clause-set : goal.returns-clause-set
 returns-clause-set c =

@@ -8,9 +8,26 @@ use Rattle.meta_setting_tables.specs.GroupTables.{IsPresetIn}
 use Rattle.meta_flags.specs.declared.flag_value.FlagValue.{FlagValue}
 use Rattle.meta_flags.specs.Served.{marks_in}
 use Rattle.meta_flags.specs.Changes.{with_marked_true}
-use Rattle.meta_flags.specs.Held.{FlagContents, value_of}
+use Rattle.meta_flags.specs.Held.{FlagContents, value_of, AreHeld}
 use Rattle.meta_flags.proofs.TurningOn.{turned_by}
+use Rattle.meta_flags.proofs.OfKinds.{held_turned}
 use Rattle.meta_flags.proofs.held.Flags.turn_on_by.Goals as goal
+
+-- booleans alone become true
+pub invariant_of-self : goal.invariant_of-self
+invariant_of-self c =
+    let t = c.self.inside.group.now in
+    let items = c.self.inside.values.items in
+    let new = c.turn_on.new.values in
+    let same : length new ≡ c.self.inside.values.len = c.turn_on.auto.values ∙ c.deref_mut.ensures.len in
+    let whole = ap (λ n. take n (new ++ drop (length new) items)) (sym same) ∙ take-append_seam new (drop (length new) items) in
+    let count = c.len-count.ensures ∙ sym c.deref_mut.ensures.len ∙ ap length c.deref_mut.ensures.value ∙ sym (length-map items value_of) in
+    let some = take c.len-count.result c.descriptors.result.now in
+    let on = c.turn_on.ensures ∙ ap (λ (vs : List FlagValue). with_marked_true
+    (map (λ (x : Descriptor). is_on c.in-Some.masks.now x.offset x.detail) some) (map value_of vs)) c.deref_mut.ensures.value in
+    subst (λ (vs : List FlagValue). AreHeld (record { group = t; state = map value_of vs })) (sym whole)
+    (held_turned t (map value_of items) (map value_of new) c.in-Some.masks.now some c.self.invariant
+    (λ i. take (count i) (c.descriptors.ensures.entries i)) on)
 
 pub returns-clause-on : goal.returns-clause-on
 returns-clause-on c = λ d is.
