@@ -34,7 +34,7 @@ use Rattle.meta_items_reader.specs.Reading.{items_at}
 use Rattle.meta_items_reader.specs.Reading.{with_items}
 use Rattle.meta_items_reader.specs.Fits.{SetFits, SlotsFit, Fits, AllFit}
 use Rattle.meta_items_reader.specs.Apart.{Apart, LastApart}
-use Rattle.meta_items_reader.specs.Refused.{AreRefused}
+use Rattle.meta_items_reader.specs.Refused.{BeginItems}
 use Rattle.meta_items_reader.proofs.PartLaws.{bind_ok, ok_is, Shorter, longer, shorter_bind, left_of, name_again, name_takes}
 use Rattle.meta_items_reader.proofs.PartLaws.{name_within, docs_again, docs_takes, docs_within}
 use Rattle.meta_items_reader.proofs.ListLaws.{Keeps}
@@ -350,7 +350,8 @@ has_token i more =
     (token_more (docs_of i) (keyword_of_item i) (body_of i) more)
 
 -- where a token is, an item is read first
-items_first : (n : ℕ) (ts : List Token) → 0 < length ts → items_at (suc n) ts ≡ (item_at ts >>= λ x. items_at n x.1 >>= λ xs. Ok (x.0 ∷ xs))
+pub items_first : (n : ℕ) (ts : List Token) → 0 < length ts
+    → items_at (suc n) ts ≡ (item_at ts >>= λ x. items_at n x.1 >>= λ xs. Ok (x.0 ∷ xs))
 unfolding items_at
 items_first n [] some = absurd (omega arith)
 items_first n (t ∷ ts) some = refl
@@ -374,17 +375,17 @@ all_again (i ∷ is) (suc n) fit h =
     reads_on i n (spelled_all is) fit.0 (all_end is)
     ∙ ap (λ (r : Result (List Item) Fault). r >>= λ xs. Ok (i ∷ xs)) (all_again is n fit.1 few)
 
-abbrev failed : Fault → Result (List Item) Fault
+abbrev pub failed : Fault → Result (List Item) Fault
 failed f = Err f
 
-err_is : (g f : Fault) → failed g ≡ failed f → g ≡ f
+pub err_is : (g f : Fault) → failed g ≡ failed f → g ≡ f
 err_is g f e = cc
 
-then_err : (i : Item) (f : Fault) (read : Result (List Item) Fault) → (read >>= λ xs. Ok (i ∷ xs)) ≡ Err f → read ≡ Err f
+pub then_err : (i : Item) (f : Fault) (read : Result (List Item) Fault) → (read >>= λ xs. Ok (i ∷ xs)) ≡ Err f → read ≡ Err f
 then_err i f (Ok ys) e = absurd cc
 then_err i f (Err g) e = cc
 
-fewer : (ts : List Token) (x : Item × List Token) → item_at ts ≡ Ok x → length x.1 < length ts
+pub fewer : (ts : List Token) (x : Item × List Token) → item_at ts ≡ Ok x → length x.1 < length ts
 fewer ts x is = let e : length ts ≡ length (spelled x.0 ++ x.1) = ap length (item_takes ts x is) in let some = has_token x.0 x.1
     in omega arith
 
@@ -398,7 +399,7 @@ none_stands ts g (i ∷ is) more e fit apart s =
     absurd (cc)
 
 -- the longest items behind an item that was read are the longest with it
-abbrev Longest : List Token → List Token → Type 0
+abbrev pub Longest : List Token → List Token → Type 0
 Longest ts rest = (is : List Item) (more : List Token) → AllFit is → LastApart is more → ts ≡ spelled_all is ++ more
     → length rest ≤ length more
 
@@ -427,9 +428,22 @@ last_with : (ts : List Token) (x : Item × List Token) (front : List Item) (rest
 last_with ts x [] rest is e last = subst (Apart x.0) e (item_leaves ts x is)
 last_with ts x (j ∷ js) rest is e last = last
 
+-- the items in front of a fault at this place, and that what stands before it begins items
+pub record IsFault (ts : List Token) (place : ℕ) : Type 0 where
+  pub front : List Item
+  pub rest : List Token
+  pub fit : AllFit front
+  pub are : ts ≡ spelled_all front ++ rest
+  pub apart : LastApart front rest
+  pub longest : Longest ts rest
+  pub some : rest ≡ [] → ⊥
+  pub behind : length (spelled_all front) ≤ place
+  pub within : place ≤ length ts
+  pub begun : BeginItems (take place ts)
+
 -- with so many tokens left
 abbrev pub RefusedBefore : ℕ → List Token → Type 0
-RefusedBefore left ts = (left ≤ length ts) × AreRefused ts (length ts - left)
+RefusedBefore left ts = (left ≤ length ts) × IsFault ts (length ts - left)
 
 -- behind an item that was read
 refused_behind : (ts : List Token) (x : Item × List Token) (left : ℕ) → item_at ts ≡ Ok x → RefusedBefore left x.1 → RefusedBefore left ts

@@ -18,6 +18,9 @@ mod Refusals
 mod Rewritten
 mod SetLaws
 mod SettingLaws
+mod Stops
+mod Stuck
+mod StuckItems
 mod TypeLaws
 mod Writable
 mod Written

@@ -10,6 +10,7 @@ use Rattle.meta_items.specs.declared.items.Item.{Item}
 use Rattle.meta_items.specs.Spelling.{spelled_all}
 use Rattle.meta_items_reader.specs.declared.fault.Fault.{Fault}
 use Rattle.meta_items_reader.specs.declared.fault.Refusal.{Refusal}
+use Rattle.meta_items_reader.specs.declared.fault.Wanted.{Wanted}
 use Rattle.meta_items_reader.specs.declared.fault.ReadError.{ReadError}
 use Rattle.meta_items_reader.specs.declared.fault.ReadError.TheVariants as reads
 use Rattle.meta_items_reader.specs.ItemLines.{key_lines}
@@ -17,7 +18,8 @@ use Rattle.meta_items_reader.specs.Reading.{items_at}
 use Rattle.meta_items_reader.specs.Fits.{AllFit}
 use Rattle.meta_items_reader.specs.Refused.{AreRefused, IsRefusalOf, IsRefused, GivesItems, items_in}
 use Rattle.meta_items_reader.proofs.PartLaws.{ok_is}
-use Rattle.meta_items_reader.proofs.AllItems.{all_takes, all_fit, all_again, all_refused}
+use Rattle.meta_items_reader.proofs.AllItems.{all_takes, all_fit, all_again}
+use Rattle.meta_items_reader.proofs.Stops.{all_stuck}
 use Rattle.meta_items_reader.proofs.KeyCount.{a_line_each}
 use Rattle.meta_items_reader.proofs.Clean.{spelled_is_utf8}
 
@@ -45,15 +47,16 @@ exactly text is = (
 )
 
 -- where a text is refused
-pub where_refused : (text : List ℕ) (f : Fault) → items_in text ≡ Err f → AreRefused (read_in text) (length (read_in text) - f.left)
-where_refused text f e = (all_refused (length (read_in text)) (read_in text) f (omega arith) e).1
+pub where_refused : (text : List ℕ) (f : Fault) → items_in text ≡ Err f
+    → AreRefused (read_in text) f.wanted (length (read_in text) - f.left)
+where_refused text f e = all_stuck (read_in text) f e
 
 -- a refusal is told of that place
 pub refused_at : (text : List ℕ) (f : Fault) (r : Refusal) → items_in text ≡ Err f
     → IsRefusalOf (read_in text) (read_lines text) (text_last_line text) f r → IsRefused text r
 refused_at text f r e is = record {
   place = length (read_in text) - f.left;
-  are = where_refused text f e;
+  are = subst (λ (w : Wanted). AreRefused (read_in text) w (length (read_in text) - f.left)) (sym is.wanted) (where_refused text f e);
   line = is.line;
   found = is.found;
 }

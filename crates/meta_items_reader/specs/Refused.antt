@@ -1,16 +1,22 @@
 -- What is read of a text, and where a text is refused.
-use Rattle.std.specs.Prelude.{◌≡◌, ℕ, ◌-◌, ◌≤◌, List, [], ◌++◌, length, take, slice_get, Result, Ok, Err}
+use Rattle.std.specs.Prelude.{◌≡◌, ℕ, ◌+◌, ◌-◌, ◌<◌, ◌≤◌, List, [], ◌++◌, length, take, drop, true, slice_get, Result}
+use Rattle.std.specs.Prelude.{Ok, Err, None, ◌∷◌}
 use Rattle.meta_tokens.specs.declared.token.Token.{Token}
+use Rattle.meta_tokens.specs.declared.token.Token.TheVariants.{Word}
 use Rattle.meta_tokens.specs.TokenLines.{line_at}
 use Rattle.meta_tokens.specs.Encoding.{text_last_line}
 use Rattle.meta_tokens.specs.Squeezed.{read_in, read_lines}
 use Rattle.meta_items.specs.declared.items.Item.{Item}
 use Rattle.meta_items.specs.Spelling.{spelled_all}
+use Rattle.meta_items.specs.Words.{function_of}
 use Rattle.meta_items_reader.specs.declared.fault.Fault.{Fault}
 use Rattle.meta_items_reader.specs.declared.fault.Refusal.{Refusal}
+use Rattle.meta_items_reader.specs.declared.fault.Wanted.{Wanted}
+use Rattle.meta_items_reader.specs.declared.fault.Wanted.TheVariants as wanted
 use Rattle.meta_items_reader.specs.declared.fault.ReadError.{ReadError}
 use Rattle.meta_items_reader.specs.declared.fault.ReadError.TheVariants as reads
 use Rattle.meta_items_reader.specs.Fits.{AllFit}
+use Rattle.meta_items_reader.specs.Parts.{sign_first}
 use Rattle.meta_items_reader.specs.Apart.{LastApart}
 use Rattle.meta_items_reader.specs.Reading.{items_at}
 
@@ -21,10 +27,26 @@ pub record BeginItems (ts : List Token) : Type 0 where
   pub fit : AllFit is
   pub are : spelled_all is ≡ ts ++ more
 
+-- a word that is no function, and `(` behind it
+pub record CallNone (ts : List Token) : Type 0 where
+  pub word : List ℕ
+  pub behind : List Token
+  pub are : ts ≡ Word word ∷ behind
+  pub none : function_of word ≡ None
+  pub opens : sign_first 40 behind ≡ true
+
+-- The place of the token that can't stand there. It is the place that is told, unless a function is wanted: then a word is told that is
+-- none, and what can't stand there is the `(` behind it, since the word alone may be a type.
+abbrev pub stuck_at : Wanted → ℕ → ℕ
+stuck_at wanted.Function place = place + 1
+stuck_at w place = place
+
 -- The tokens are some items that fit, and then others, one at least, which don't go on with the last of them. No items that fit reach
 -- further, one behind the other, unless what stands behind them goes on with the last of them: so the items are these alone. The place is
--- that of one of the others, or the end, and what stands before it begins items.
-pub record AreRefused (ts : List Token) (place : ℕ) : Type 0 where
+-- that of one of the others, or the end.
+-- It is the right one: the tokens before the one that can't stand there begin some items that fit, and with this one they begin none. Where
+-- all tokens begin items, the place is the end, and they are none themselves.
+pub record AreRefused (ts : List Token) (w : Wanted) (place : ℕ) : Type 0 where
   pub front : List Item
   pub rest : List Token
   pub fit : AllFit front
@@ -34,8 +56,11 @@ pub record AreRefused (ts : List Token) (place : ℕ) : Type 0 where
       → length rest ≤ length more
   pub some : rest ≡ [] → ⊥
   pub behind : length (spelled_all front) ≤ place
-  pub within : place ≤ length ts
-  pub begun : BeginItems (take place ts)
+  pub within : stuck_at w place ≤ length ts
+  pub called : w ≡ wanted.Function → CallNone (drop place ts)
+  pub begun : BeginItems (take (stuck_at w place) ts)
+  pub stuck : stuck_at w place < length ts → BeginItems (take (stuck_at w place + 1) ts) → ⊥
+  pub ended : (is : List Item) → AllFit is → ts ≡ spelled_all is → ⊥
 
 -- the items of a text, or its first fault
 abbrev pub items_in : List ℕ → Result (List Item) Fault
@@ -50,7 +75,7 @@ pub record IsRefusalOf (tokens : List Token) (lines : List ℕ) (last : ℕ) (f 
 -- the tokens of the text are refused at a place: what stands there was found, in its line, and at the end nothing, in the last line
 pub record IsRefused (text : List ℕ) (r : Refusal) : Type 0 where
   pub place : ℕ
-  pub are : AreRefused (read_in text) place
+  pub are : AreRefused (read_in text) r.wanted place
   pub line : r.line ≡ line_at (read_lines text) (text_last_line text) place
   pub found : r.found ≡ slice_get (read_in text) place
 

@@ -76,9 +76,11 @@ pub enum Wanted {
 
 /// What isn't there, and how many tokens were left.
 #[derive(Clone, Copy)]
-pub(crate) struct Fault {
-    pub(crate) left: usize,
-    pub(crate) wanted: Wanted,
+pub struct Fault {
+    /// How many tokens were left: the one that stands there, and those behind it.
+    pub left: usize,
+    /// What was wanted.
+    pub wanted: Wanted,
 }
 
 /// Why a part of an item was not read.

@@ -1,5 +1,6 @@
 ghost use Rattle.std.specs.Prelude.{◌≡◌, ◌↔◌, ◌-◌, ℕ, List, ◌∷◌, ◌++◌, length, Ok, Err};
 ghost use Rattle.std.specs.Str.{IsUtf8};
+ghost use Rattle.meta_tokens.specs.declared.token.Token.{Token};
 ghost use Rattle.meta_tokens.specs.Scan.{tokens_in};
 ghost use Rattle.meta_tokens.specs.Encoding.{text_tokens};
 ghost use Rattle.meta_tokens.specs.Laid.{laid, CanWriteAll};
@@ -7,16 +8,26 @@ ghost use Rattle.meta_tokens.specs.Squeezed.{read_in};
 ghost use Rattle.meta_items.specs.Spelling.{spelled_all};
 ghost use Rattle.meta_items.specs.declared.items.Item.{Item};
 ghost use Rattle.meta_items_reader.specs.declared.fault.Fault.{Fault};
+ghost use Rattle.meta_items_reader.specs.declared.fault.Wanted.{Wanted};
 ghost use Rattle.meta_items_reader.specs.Fits.{AllFit};
-ghost use Rattle.meta_items_reader.specs.Refused.{AreRefused, items_in};
+ghost use Rattle.meta_items_reader.specs.Refused.{stuck_at, AreRefused, items_in};
 
 use meta_tokens::what_is_laid_is_read;
 
 /// A text reads as items exactly where they fit and its tokens are theirs, one item behind the other. Else it is some items, the longest
-/// that nothing goes on with, and then other tokens: it is refused at one of these or at the end, behind what begins items.
+/// that nothing goes on with, and then other tokens: it is refused at one of these or at the end, behind what begins items, where no items
+/// go on.
 pub fn what_is_read()
     ensures read { (text : List ℕ) (is : List Item) → (items_in text ≡ Ok is) ↔ (AllFit is × (read_in text ≡ spelled_all is)) }
-    ensures refused { (text : List ℕ) (f : Fault) → items_in text ≡ Err f → AreRefused (read_in text) (length (read_in text) - f.left) }
+    ensures refused { (text : List ℕ) (f : Fault) → items_in text ≡ Err f
+        → AreRefused (read_in text) f.wanted (length (read_in text) - f.left) }
+{}
+
+/// One token at most is the first that can't stand where it does. Its place is told, or that of the word before it, where a function is
+/// wanted there; so one place at most is told with what is wanted.
+pub fn one_refused_place()
+    ensures stuck { (ts : List Token) (v w : Wanted) (p q : ℕ) → AreRefused ts v p → AreRefused ts w q → stuck_at v p ≡ stuck_at w q }
+    ensures told { (ts : List Token) (w : Wanted) (p q : ℕ) → AreRefused ts w p → AreRefused ts w q → p ≡ q }
 {}
 
 /// A text reads as one list of items at most.

@@ -14,10 +14,10 @@ mod reason;
 mod settings;
 mod types;
 
-pub use fault::{ReadError, Refusal, Wanted};
+pub use fault::{Fault, ReadError, Refusal, Wanted};
 pub use laws::{
-    lines_are_read_alone, one_list_of_items, what_is_read, what_is_read_can_be_written,
-    what_is_written_is_read,
+    lines_are_read_alone, one_list_of_items, one_refused_place, what_is_read,
+    what_is_read_can_be_written, what_is_written_is_read,
 };
 pub use reading::{ReadItems, read_items};
 pub use reason::write_back_quoted;
