@@ -23,7 +23,8 @@ use Rattle.meta_items_declared.proofs.Folding.{groups_right}
 one_found : (known : Known) (k : ℕ) (n : Name) (later : Option ℕ) (meanings : List (Option PresetType)) (found : List PresetType)
     (o : Option PresetType)
     → meant known (name_bytes n) ≡ o → (later ≡ None → map (λ (a : PresetType). Some a) found ≡ meanings)
-    → cond (is_none o) (Some k) later ≡ None → map (λ (a : PresetType). Some a) (cons_option o found) ≡ meant known (name_bytes n) ∷ meanings
+    → cond (is_none o) (Some k) later ≡ None
+    → map (λ (a : PresetType). Some a) (cons_option o found) ≡ meant known (name_bytes n) ∷ meanings
 one_found known k n later meanings found None e rest h = cc
 one_found known k n later meanings found (Some a) e rest h =
     ap (λ (os : List (Option PresetType)). Some a ∷ os) (rest h) ∙ ap (λ (o : Option PresetType). o ∷ meanings) (sym e)
@@ -46,5 +47,6 @@ pub arguments_found : (items : List Item) (d : Declared) (k : ℕ) (i : PresetIt
     → map (λ (a : PresetType). Some a) (preset_of known i).args ≡ map (meant known) (names_in i.args)
 arguments_found items d k i known s at knows =
     let none = groups_right items k (item.Preset i) at (s.right k (slice_get_within items k (item.Preset i) at)) in
-    let here : wrong_with (Some known) (item.Preset i) ≡ None = ap (λ (o : Option Known). wrong_with o (item.Preset i)) (sym knows) ∙ none in
+    let here : wrong_with (Some known) (item.Preset i) ≡ None = ap (λ (o : Option Known). wrong_with o (item.Preset i)) (sym knows)
+    ∙ none in
     found_from known 0 i.args (sym (position_from-zero (λ (n : Name). is_none (meant known (name_bytes n))) i.args) ∙ right_names _ _ here)

@@ -29,7 +29,8 @@ set_held items t s d h vars formats insts =
     record {
       vars = subst (λ (r : Registered). IsRegistryOf r all.types.roots) same h.types.registry;
       formats = subst (λ (fs : List InstructionFormat). AllZip (IsFormatIn (registry_of items d.set)) (meant_formats all.insts.formats) fs)
-          (sym formats) (subst (λ (r : Registered). AllZip (IsFormatIn r) (meant_formats all.insts.formats) (formats_in s)) same h.insts.formats);
+          (sym formats) (subst (λ (r : Registered). AllZip (IsFormatIn r) (meant_formats all.insts.formats)
+          (formats_in s)) same h.insts.formats);
       instructions = subst (λ (bs : List Builder). AllZip (IsBuilderIn (registry_of items d.set)) all.insts.insts bs) (sym insts)
           (subst (λ (r : Registered). AllZip (IsBuilderIn r) all.insts.insts (insts_in s)) same h.insts.insts);
     }

@@ -10,7 +10,8 @@ use Rattle.meta_items.specs.declared.name.Name.{Name}
 use Rattle.meta_items.specs.declared.items.PresetItem.{PresetItem}
 use Rattle.meta_items.specs.declared.items.Item.{Item}
 use Rattle.meta_items.specs.declared.items.Item.TheVariants as item
-use Rattle.meta_settings.specs.GroupDeclaration.{SettingDeclaration, PresetDeclaration, GroupDeclaration, Entry, setting_entry, preset_entry}
+use Rattle.meta_settings.specs.GroupDeclaration.{SettingDeclaration, PresetDeclaration, GroupDeclaration, Entry, setting_entry}
+use Rattle.meta_settings.specs.GroupDeclaration.{preset_entry}
 use Rattle.meta_settings.specs.GroupDeclaration.{entries_of}
 use Rattle.meta_items_declared.specs.Named.{Known, known_below}
 use Rattle.meta_items_declared.specs.Places.{is_setting, is_preset, places_from, places_of, entry_places}
@@ -227,7 +228,8 @@ pub record IsEntryItem (name : Name) (items : List Item) (e : ℕ) (x : Entry) :
   pub number : number_below (group_with name items) (take place items) item ≡ Some e
   pub says : entry_below (take place items) item ≡ Some x
 
-setting_item : (name : Name) (items : List Item) (e : ℕ) (x : Entry) → slice_get (map setting_entry (filter_map setting_of items)) e ≡ Some x
+setting_item : (name : Name) (items : List Item) (e : ℕ) (x : Entry)
+    → slice_get (map setting_entry (filter_map setting_of items)) e ≡ Some x
     → IsEntryItem name items e x
 setting_item name items e x h =
     let declared = get_mapped setting_entry (filter_map setting_of items) e x h in

@@ -14,9 +14,11 @@ use Rattle.meta_types.specs.declared.fault.DefinitionError.{DefinitionError}
 use Rattle.meta_types.specs.declared.fault.DefinitionError.TheVariants.{TooManyOpcodes, TooManyTypeSets}
 use Rattle.meta_operands.specs.declared.format.InstructionFormat.{InstructionFormat}
 use Rattle.meta_inst.specs.Builder.{Builder}
-use Rattle.meta_inst.specs.InstructionFaults.{Rule, NameRule, DuplicateRule, OutputRule, MismatchRule, ControlRule, SecondRule, DerivationRule}
+use Rattle.meta_inst.specs.InstructionFaults.{Rule, NameRule, DuplicateRule, OutputRule, MismatchRule, ControlRule, SecondRule}
+use Rattle.meta_inst.specs.InstructionFaults.{DerivationRule}
 use Rattle.meta_inst.specs.InstructionFaults.{CountRule, MethodRule, Breaks}
-use Rattle.meta_inst.specs.Faults.{Position, OfOpcodes, OfInstruction, OfFormat, OfTypeSets, FormatRule, FormatNameRule, BlocksRule, ClashRule}
+use Rattle.meta_inst.specs.Faults.{Position, OfOpcodes, OfInstruction, OfFormat, OfTypeSets, FormatRule, FormatNameRule, BlocksRule}
+use Rattle.meta_inst.specs.Faults.{ClashRule}
 use Rattle.meta_inst.specs.Faults.{FormatBreaks, SharesNameAt, HasTooManyTypeSets, ShowsAt}
 use Rattle.meta_settings.specs.GroupDeclaration.{GroupDeclaration, Entry as AnEntry, entries_of}
 use Rattle.meta_settings.specs.GroupFaults.{EntryRule, EntryNameRule, EntryDuplicateRule, EnumRule, PresetRule, GroupPosition, OfGroupName}
@@ -48,7 +50,8 @@ record Names (d : Declared) (e : DefinitionError) : Type 0 where
   pub there : IsThere d place
 
 -- by an equation that tells the fault
-names : (d : Declared) (e f : DefinitionError) (p : Place) → e ≡ f → named_by (length d.set.instructions) f ≡ Some p → IsThere d p → Names d e
+names : (d : Declared) (e f : DefinitionError) (p : Place) → e ≡ f → named_by (length d.set.instructions) f ≡ Some p → IsThere d p
+    → Names d e
 names d e f p is named there = record {
   place = p;
   named = ap (named_by (length d.set.instructions)) is ∙ named;
@@ -139,8 +142,10 @@ module _ (items : List Item) (d : Declared) (declares : Declares items d) where
   inst_item : (n : ℕ) (b : Builder) → slice_get d.set.instructions n ≡ Some b
       → (k : ℕ) × (slice_get (places_of is_inst items) n ≡ Some k) × DeclaresInst items d.set k n
   inst_item n b at =
-      let meant = beside (IsBuilderIn (registry_of items d.set)) (said items).insts.insts d.set.instructions n b declares.set.instructions at in
-      let place = beside (IsInstAt items) (places_of is_inst items) (said items).insts.insts n meant.0 (all_insts items declares.right) meant.1 in (
+      let meant = beside (IsBuilderIn (registry_of items d.set))
+      (said items).insts.insts d.set.instructions n b declares.set.instructions at in
+      let place = beside (IsInstAt items) (places_of is_inst items) (said items).insts.insts n meant.0
+      (all_insts items declares.right) meant.1 in (
         place.0,
         place.1,
         record {

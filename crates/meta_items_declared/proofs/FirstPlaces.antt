@@ -41,7 +41,8 @@ place_more names a q =
     ∙ ap (λ (o : Option ℕ). option_or o (cond (t a) (Some (length names)) None)) (sym (position_from-zero t names))
 
 -- the map with the number of one more name
-pub leads_more : (old new : BTreeMap (Vec ℕ) ℕ) (names : List (List ℕ)) (a : List ℕ) (number : ℕ) → LeadsTo old names → number ≡ length names
+pub leads_more : (old new : BTreeMap (Vec ℕ) ℕ) (names : List (List ℕ)) (a : List ℕ) (number : ℕ) → LeadsTo old names
+    → number ≡ length names
     → ((q : List ℕ) → number_in new q ≡ or_of (number_in old q) q a number) → LeadsTo new (names ++ a ∷ [])
 leads_more old new names a number h is added q =
     added q ∙ ap (λ (o : Option ℕ). or_of o q a number) (h q)

@@ -129,7 +129,8 @@ last_behind [] i entries e none =
     ap (λ (o : Option (List Item)). option_or o (if is_group i then Some entries else None)) none
     ∙ ap (λ (b : Bool). if b then Some entries else None) e
 last_behind (x ∷ above) i entries e none =
-    ap (λ (o : Option (List Item)). option_or o (if is_group x then Some (above ++ i ∷ entries) else None)) (last_behind above i entries e none)
+    ap (λ (o : Option (List Item)). option_or o (if is_group x then Some (above ++ i ∷ entries) else None))
+    (last_behind above i entries e none)
 
 -- how many groups there are then
 pub count_behind : (above : List Item) (i : Item) (entries : List Item) → is_group i ≡ true → count_by is_group entries ≡ 0

@@ -240,7 +240,8 @@ entry_step done (Some g) (Some es) i rest e h =
 -- `group` closes the one that is open
 group_step : (done : List GroupDeclaration) (g : Option GroupDeclaration) (above : Option (List Item)) (n : Name) (rest : List Item)
     → AreKnown g above
-    → resumed (groups_after (groups_so_far done g) (item.Group n)).done (groups_after (groups_so_far done g) (item.Group n)).open_group (Some []) rest
+    → resumed (groups_after (groups_so_far done g) (item.Group n)).done (groups_after (groups_so_far done g) (item.Group n)).open_group
+    (Some []) rest
     ≡ resumed done g above (item.Group n ∷ rest)
 group_step done None above n rest h = refl
 group_step done (Some g) None n rest h = cc
@@ -286,7 +287,8 @@ one_more items place done g i new h at e =
           (subst (AreKnown (groups_after (groups_so_far done g) i).open_group) (sym last) known);
       groups = subst (λ (s : GroupsSoFar). resumed s.done s.open_group (last_entries (take (place + 1) items)) (drop (place + 1) items)
           ≡ groups_of items) (sym e)
-          (ap (λ (o : Option (List Item)). resumed (groups_after (groups_so_far done g) i).done (groups_after (groups_so_far done g) i).open_group o
+          (ap (λ (o : Option (List Item)). resumed (groups_after (groups_so_far done g) i).done
+          (groups_after (groups_so_far done g) i).open_group o
           (drop (place + 1) items)) last ∙ groups);
     }
 

@@ -16,3 +16,4 @@ pub mod SameKinds
 pub mod SameVariables
 pub mod SetItems
 pub mod SettingsAlone
+pub mod SomeDeclaration

@@ -77,7 +77,8 @@ module _ (is : Item → Bool) where
         | false ↦ rest
       ]
 
-  pub places_more : (items : List Item) (i : Item) → places_of is (items ++ i ∷ []) ≡ places_of is items ++ cond (is i) (length items ∷ []) []
+  pub places_more : (items : List Item) (i : Item)
+      → places_of is (items ++ i ∷ []) ≡ places_of is items ++ cond (is i) (length items ∷ []) []
   places_more items i =
       let e : 0 + length items ≡ length items = omega arith in
       from_more 0 items i ∙ ap (λ (n : ℕ). places_of is items ++ cond (is i) (n ∷ []) []) e

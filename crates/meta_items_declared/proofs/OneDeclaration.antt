@@ -63,7 +63,8 @@ module _ (r : Registered) (roots : List MeantRoot) (is : IsRegistryOf r roots) w
       let kinds = filter_map kind_in_field m.slots in
       let fields : f.imm_fields ≡ g.imm_fields =
       equal_pairs f.imm_fields g.imm_fields
-      (pairs_same (IsFieldIn r) (λ (x y : FormatField). x ≡ y) field_same kinds f.imm_fields g.imm_fields h.stores.fields i.stores.fields) in
+      (pairs_same (IsFieldIn r) (λ (x y : FormatField). x ≡ y) field_same kinds f.imm_fields g.imm_fields h.stores.fields
+      i.stores.fields) in
       format_is f g (h.name ∙ sym i.name) (h.stores.values ∙ sym i.stores.values) (h.stores.varargs ∙ sym i.stores.varargs) fields
       (h.stores.blocks ∙ sym i.stores.blocks) (h.stores.raw_blocks ∙ sym i.stores.raw_blocks) (h.designated ∙ sym i.designated)
 

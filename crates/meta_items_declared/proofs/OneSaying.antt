@@ -19,7 +19,8 @@ wrong_within : (items : List Item) (place : ℕ) (reason : Reason) → wrong_in 
 wrong_within items place reason h = within_by items place _ (slice_get items place) reason refl h
 
 -- what declares something has no wrong item
-pub declares_right : (items : List Item) (d : Declared) (place : ℕ) (reason : Reason) → Declares items d → IsFirstWrong items place reason → ⊥
+pub declares_right : (items : List Item) (d : Declared) (place : ℕ) (reason : Reason) → Declares items d → IsFirstWrong items place reason
+    → ⊥
 declares_right items d place reason h w =
     let never : None ≡ Some reason = sym (h.right place (wrong_within items place reason w.wrong)) ∙ w.wrong in
     cc

@@ -45,7 +45,8 @@ below_taken (x ∷ xs) (suc p) zero i h = omega arith
 below_taken (x ∷ xs) (suc p) (suc j) i h = let l = below_taken xs p j i h in omega (arith, l)
 
 -- up to an item behind a group
-parts : (xs : List Item) (k : ℕ) (x : Item) (j : ℕ) → slice_get xs k ≡ Some x → take (k + 1 + j) xs ≡ take k xs ++ x ∷ take j (drop (k + 1) xs)
+parts : (xs : List Item) (k : ℕ) (x : Item) (j : ℕ) → slice_get xs k ≡ Some x
+    → take (k + 1 + j) xs ≡ take k xs ++ x ∷ take j (drop (k + 1) xs)
 parts [] k x j h = absurd (cc)
 parts (y ∷ xs) zero x j h =
     let here : y ≡ x = cc in
@@ -58,7 +59,8 @@ parts (y ∷ xs) (suc k) x j h =
     ∙ ap (λ (n : ℕ). y ∷ take k xs ++ x ∷ take j (drop n (y ∷ xs))) (sym d)
 
 -- an entry is declared by the item that it is
-in_group : (items : List Item) (groups : List GroupDeclaration) (g e : ℕ) (x : Entry) (group : GroupDeclaration) (o : IsOpened items g group)
+in_group : (items : List Item) (groups : List GroupDeclaration) (g e : ℕ) (x : Entry) (group : GroupDeclaration)
+    (o : IsOpened items g group)
     → slice_get groups g ≡ Some group → slice_get (entries_of (group_with o.name (before_group (drop (o.place + 1) items)))) e ≡ Some x
     → IsEntryItem o.name (before_group (drop (o.place + 1) items)) e x
     → (k : ℕ) × (place_of_entry items g e ≡ Some k) × DeclaresEntry items groups k g e

@@ -83,10 +83,13 @@ module _ (roots : List MeantRoot) (symbols : List Symbol) (vars other : List Typ
       let mine : h.derived.parent ≡ same.content = same_Some _ _ (sym h.derived.kept ∙ same.one) in
       let yours : g.derived.parent ≡ same.content =
       same_Some _ _ (sym g.derived.kept ∙ ap (slice_get other) (sym parent) ∙ same.two) in
-      let coded : coded_at vars h.parent ≡ coded_at other h.parent = coded_same vars other h.parent same.content same.one same.two same.root in
+      let coded : coded_at vars h.parent ≡ coded_at other h.parent =
+      coded_same vars other h.parent same.content same.one same.two same.root in
       let content : h.content ≡ g.content =
       h.derived.is ∙ ap (λ (c : TypeVarContent). derived_content vars h.parent c h.last) mine
-      ∙ ap (λ (x : TypeSetParts). let r : TypeVarContent = record (derived_content vars h.parent same.content h.last) { type_set = x } in r) coded
+      ∙ ap
+      (λ (x : TypeSetParts). let r : TypeVarContent = record (derived_content vars h.parent same.content h.last) { type_set = x } in r)
+      coded
       ∙ ap (λ (f : _). derived_content other h.parent same.content f) last
       ∙ ap (λ (p : ℕ). derived_content other p same.content g.last) parent
       ∙ ap (λ (c : TypeVarContent). derived_content other g.parent c g.last) (sym yours) ∙ sym g.derived.is in
@@ -106,7 +109,8 @@ module _ (roots : List MeantRoot) (symbols : List Symbol) (vars other : List Typ
   by_functions s n m [] e l below h g = absurd (omega (arith, l))
   by_functions s n m (f ∷ fs) e l below h g = derived_same s n m (ap (λ (gs : List Function). length gs) e ∙ l) below h g
 
-  by_none : (s : Symbol) (n : ℕ) (fs : List Function) → length fs ≡ 0 → IsVariableAt (record { vars = vars; symbols = symbols }) roots s fs n
+  by_none : (s : Symbol) (n : ℕ) (fs : List Function) → length fs ≡ 0
+      → IsVariableAt (record { vars = vars; symbols = symbols }) roots s fs n
       → IsVariableAt (record { vars = other; symbols = symbols }) roots s fs n → IsSame vars other n
   by_none s n [] l h g = roots_same s.root n h g
   by_none s n (f ∷ fs) l h g = absurd (omega (arith, l))

@@ -11,7 +11,7 @@ use Rattle.meta_items.specs.declared.insts.InstItem.{InstItem}
 use Rattle.meta_items.specs.declared.items.Item.{Item}
 use Rattle.meta_items.specs.declared.items.Item.TheVariants as item
 use Rattle.meta_items_insts.specs.declared.refused.InstReason.{InstReason}
-use Rattle.meta_items_insts.specs.Telling.{reason_in}
+use Rattle.meta_items_types.specs.Telling.{reason_in}
 use Rattle.meta_items_insts.specs.Formats.{MeantFormat, FormatEntry, format_of}
 use Rattle.meta_items_insts.specs.Insts.{MeantInst, inst_of}
 use Rattle.meta_items_insts.specs.Said.{Above, with_format, with_inst, wrong_with, after, said}
@@ -73,7 +73,8 @@ module _ (items : List Item) (k : ℕ) where
   insts_step (item.Format i) ps at right h =
       same_insts ps _ (format_keeps (format_of (said (take k items)).types.words (said (take k items)).insts.formats i))
     where
-      format_keeps : (r : Result MeantFormat InstReason) → AllZip (IsInstAt items) ps (with_format (said (take k items)).insts i.word k r).insts
+      format_keeps : (r : Result MeantFormat InstReason)
+          → AllZip (IsInstAt items) ps (with_format (said (take k items)).insts i.word k r).insts
       format_keeps (Ok m) = h
       format_keeps (Err reason) = h
   insts_step (item.Inst i) ps at right h =
@@ -134,7 +135,8 @@ module _ (items : List Item) (right : AllRight items (length items)) where
       let there = get_there items k (omega (arith, l)) in
       let next : k + 1 ≡ suc k = omega arith in
       let wrong = insts_right items k there.0 there.1 (right k (omega (arith, l))) in
-      subst (λ (n : ℕ). AllZip (IsFormatAt items) (places_of is_format (take n items)) (meant_formats (said (take n items)).insts.formats)) next
+      subst (λ (n : ℕ). AllZip (IsFormatAt items) (places_of is_format (take n items))
+      (meant_formats (said (take n items)).insts.formats)) next
       (subst (λ (ps : List ℕ). AllZip (IsFormatAt items) ps (meant_formats (said (take (k + 1) items)).insts.formats))
       (sym (places_next is_format items k there.0 there.1))
       (subst (λ (a : Above). AllZip (IsFormatAt items) (places_of is_format (take k items) ++ cond (is_format there.0) (k ∷ []) [])
@@ -143,7 +145,8 @@ module _ (items : List Item) (right : AllRight items (length items)) where
 
   pub all_insts : AllZip (IsInstAt items) (places_of is_inst items) (said items).insts.insts
   all_insts =
-      subst (λ (is : List Item). AllZip (IsInstAt items) (places_of is_inst is) (said is).insts.insts) (take_all (length items) items (omega arith))
+      subst (λ (is : List Item). AllZip (IsInstAt items) (places_of is_inst is) (said is).insts.insts)
+      (take_all (length items) items (omega arith))
       (insts_so_far (length items) (omega arith))
 
   pub all_formats : AllZip (IsFormatAt items) (places_of is_format items) (meant_formats (said items).insts.formats)

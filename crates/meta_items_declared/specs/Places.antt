@@ -3,7 +3,8 @@
 --     named_by count e            what a fault names
 --     place_of_fault items e      the place of the item that declares what the fault names
 --     laid_places items           the places of the settings of one group, as the group is laid out
-use Rattle.std.specs.Prelude.{◌≡◌, ℕ, ◌+◌, ◌-◌, ◌==◌, Bool, true, false, List, [], ◌∷◌, ◌++◌, length, Option, Some, None, option_map, option_and_then, drop}
+use Rattle.std.specs.Prelude.{◌≡◌, ℕ, ◌+◌, ◌-◌, ◌==◌, Bool, true, false, List, [], ◌∷◌, ◌++◌, length, Option, Some, None, option_map}
+use Rattle.std.specs.Prelude.{option_and_then, drop}
 use Rattle.std.specs.Prelude.{slice_get, if◌then◌else◌}
 use Rattle.std.specs.List.{before_first}
 use Rattle.meta_types.specs.declared.fault.Place.{Place}

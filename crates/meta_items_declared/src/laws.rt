@@ -1,4 +1,4 @@
-ghost use Rattle.std.specs.Prelude.{◌≡◌, ℕ, List, [], Some, map, take, slice_get};
+ghost use Rattle.std.specs.Prelude.{◌≡◌, ℕ, List, [], length, Some, map, take, slice_get};
 ghost use Rattle.meta_types.specs.declared.fault.DefinitionError.{DefinitionError};
 ghost use Rattle.meta_declared.specs.AllDeclared.{Declared, ShowsFirst};
 ghost use Rattle.meta_items.specs.declared.items.PresetItem.{PresetItem};
@@ -9,7 +9,7 @@ ghost use Rattle.meta_items_declared.specs.Named.{Known, meant};
 ghost use Rattle.meta_items_declared.specs.Places.{AreOfGroups};
 ghost use Rattle.meta_items_declared.specs.Wrong.{known_behind};
 ghost use Rattle.meta_items_declared.specs.Said.{preset_of};
-ghost use Rattle.meta_items_declared.specs.AllItems.{IsFirstWrong, Declares};
+ghost use Rattle.meta_items_declared.specs.AllItems.{AllRight, IsFirstWrong, Declares};
 ghost use Rattle.meta_items_declared.specs.Faults.{HasItsItem};
 ghost use Rattle.meta_items_declared.specs.declared.refused.Reason.{Reason as spec_Reason};
 
@@ -17,12 +17,18 @@ ghost use Rattle.meta_items_declared.specs.declared.refused.Reason.{Reason as sp
 pub fn items_say_one_thing()
     ensures right { (items : List Item) (d : Declared) (place : ℕ) (reason : spec_Reason) → Declares items d
         → IsFirstWrong items place reason → ⊥ }
-    ensures first { (items : List Item) (p q : ℕ) (r s : spec_Reason) → IsFirstWrong items p r → IsFirstWrong items q s → (p ≡ q) × (r ≡ s) }
+    ensures first { (items : List Item) (p q : ℕ) (r s : spec_Reason) → IsFirstWrong items p r → IsFirstWrong items q s
+        → (p ≡ q) × (r ≡ s) }
 {}
 
 /// Items make the same declarations each time.
 pub fn one_declaration()
     ensures { (items : List Item) (d e : Declared) → Declares items d → Declares items e → d ≡ e }
+{}
+
+/// Items with which nothing is wrong declare something.
+pub fn right_items_declare()
+    ensures { (items : List Item) → AllRight items (length items) → (d : Declared) × Declares items d }
 {}
 
 /// Items that open groups or are entries of them declare no instruction set.

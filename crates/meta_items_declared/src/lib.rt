@@ -17,7 +17,7 @@ mod wrong;
 pub use declaring::declare;
 pub use laws::{
     each_name_has_its_argument, faults_have_their_items, items_say_one_thing, one_declaration,
-    settings_stand_alone,
+    right_items_declare, settings_stand_alone,
 };
 pub use places::{laid_setting, place_of_fault};
 pub use refused::{DeclareError, Reason};

@@ -1,6 +1,7 @@
 ghost use Rattle.std.specs.Prelude.{◌≡◌, ◌<◌, ◌≤◌, ◌++◌, IfSome, slice_get, length};
 ghost use Rattle.std.specs.List.{position};
-ghost use Rattle.meta_items_declared.specs.Places.{is_group, places_of, before_group, entry_places, laid_places, place_of_entry, place_of_inst, item_of_place, named_by};
+ghost use Rattle.meta_items_declared.specs.Places.{is_group, places_of, before_group, entry_places, laid_places, place_of_entry};
+ghost use Rattle.meta_items_declared.specs.Places.{place_of_inst, item_of_place, named_by};
 ghost use Rattle.meta_items_declared.specs.Places.{place_of_fault};
 ghost use Rattle.meta_items_declared.specs.Sorts.{is_of};
 

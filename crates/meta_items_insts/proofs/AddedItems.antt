@@ -14,7 +14,8 @@ use Rattle.meta_items_insts.specs.declared.refused.InstReason.{InstReason}
 use Rattle.meta_items_insts.specs.declared.refused.InstError.{InstError}
 use Rattle.meta_items_insts.specs.declared.refused.InstError.TheVariants.{Wrong}
 use Rattle.meta_items_insts.specs.declared.insts.Insts.{Insts}
-use Rattle.meta_items_insts.specs.Telling.{reason_in, Fails, Tells}
+use Rattle.meta_items_types.specs.Telling.{reason_in}
+use Rattle.meta_items_insts.specs.Telling.{Fails, Tells}
 use Rattle.meta_items_insts.specs.Formats.{MeantFormat, format_of}
 use Rattle.meta_items_insts.specs.Insts.{MeantInst, inst_of}
 use Rattle.meta_items_insts.specs.Mentioned.{after_inst}

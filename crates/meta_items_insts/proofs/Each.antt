@@ -6,7 +6,8 @@ use Rattle.meta_lists.proofs.Places.{drop_next}
 use Rattle.meta_items_insts.specs.declared.refused.InstReason.{InstReason}
 use Rattle.meta_items_insts.specs.declared.refused.InstError.{InstError}
 use Rattle.meta_items_insts.specs.declared.refused.InstError.TheVariants.{Memory, Wrong}
-use Rattle.meta_items_insts.specs.Telling.{◌>>=◌, each_from, Fails}
+use Rattle.meta_items_types.specs.Telling.{◌>>=◌}
+use Rattle.meta_items_insts.specs.Telling.{each_from, Fails}
 
 -- these are made of the elements before place k: with what is made of those that are left they are what is made of all
 pub record SoFar {A B : Type 0} (f : ℕ → A → Result B InstReason) (xs : List A) (k : ℕ) (P : List B → Type 0) : Type 0 where

@@ -18,7 +18,8 @@ use Rattle.meta_items_insts.specs.declared.refused.InstReason.TheVariants.{NotTe
 use Rattle.meta_items_insts.specs.declared.refused.InstError.{InstError}
 use Rattle.meta_items_insts.specs.declared.words.FormatWord.{FormatWord}
 use Rattle.meta_items_insts.specs.declared.operands.Side.TheVariants.{Inputs, Outputs}
-use Rattle.meta_items_insts.specs.Telling.{◌>>=◌, found_or, unless, Fails, IsMeant}
+use Rattle.meta_items_types.specs.Telling.{◌>>=◌, found_or, unless, IsMeant}
+use Rattle.meta_items_insts.specs.Telling.{Fails}
 use Rattle.meta_items_insts.specs.Texts.{format_texts, inst_texts, wrong_texts}
 use Rattle.meta_items_insts.specs.Formats.{MeantSlot, FormatEntry, format_named, declared_above, format_with, format_of, slots_of}
 use Rattle.meta_items_insts.specs.Formats.{marked_from}

@@ -1,5 +1,6 @@
 pub mod AddedItems
 pub mod Each
+pub mod Existing
 pub mod Items
 pub mod MadeOperands
 pub mod Mentioning

@@ -17,7 +17,8 @@ use Rattle.meta_items_types.specs.Registered.{Registered, Extends}
 use Rattle.meta_items_insts.specs.declared.refused.Spot.{Spot}
 use Rattle.meta_items_insts.specs.declared.refused.InstError.{InstError}
 use Rattle.meta_items_insts.specs.declared.operands.Side.{Side}
-use Rattle.meta_items_insts.specs.Telling.{◌>>=◌, Fails, IsMeant, in_spot}
+use Rattle.meta_items_types.specs.Telling.{◌>>=◌, IsMeant}
+use Rattle.meta_items_insts.specs.Telling.{Fails, in_spot}
 use Rattle.meta_items_insts.specs.Insts.{spot_at, operand_with, operand_at, operands_of}
 use Rattle.meta_items_insts.specs.Registered.{IsOperandIn, AreOperandsIn}
 use Rattle.meta_items_insts.proofs.Told.{fails_on}

@@ -1,9 +1,12 @@
 -- The second type that controls, mark by mark.
-use Rattle.std.proofs.Common.{◌≡◌, ◌∙◌, ◌≤◌, ◌+◌, ℕ, List, [], ◌∷◌, length, drop, sym, ap, refl, subst}
-use Rattle.std.specs.Prelude.{slice_get, false, is_some, Option, Some, None, Result, Ok, Err}
-use Rattle.std.proofs.lemmas.List.{drop_all}
-use Rattle.meta_lists.proofs.Places.{drop_next}
+use Rattle.std.proofs.Common.{◌≡◌, ◌∙◌, ◌<◌, ◌≤◌, ◌+◌, ℕ, List, [], ◌∷◌, ◌++◌, length, drop, take, sym, ap, refl, subst, arith}
+use Rattle.std.proofs.Common.{add-zero}
+use Rattle.std.specs.Prelude.{slice_get, true, false, is_some, Option, Some, None, Result, Ok, Err}
+use Rattle.std.proofs.lemmas.List.{take_all, take-append-drop, length-take-le}
+use Rattle.std.proofs.lemmas.Option.{slice_get_within}
+use Rattle.meta_lists.proofs.Places.{take_next}
 use Rattle.meta_items.specs.declared.types.TypeExpr.{TypeExpr}
+use Rattle.meta_items.specs.declared.insts.Property.{Property}
 use Rattle.meta_items.specs.declared.insts.Mark.{Mark}
 use Rattle.meta_items.specs.declared.insts.Mark.TheVariants as marks
 use Rattle.meta_items_types.specs.Meant.{MeantType}
@@ -17,13 +20,20 @@ use Rattle.meta_items_insts.specs.declared.refused.InstReason.{InstReason}
 use Rattle.meta_items_insts.specs.declared.refused.InstReason.TheVariants.{SecondTwice}
 use Rattle.meta_items_insts.specs.declared.refused.InstError.{InstError}
 use Rattle.meta_items_insts.specs.declared.refused.InstError.TheVariants.{Memory, Wrong}
-use Rattle.meta_items_insts.specs.Telling.{◌>>=◌, in_spot, Fails, IsMeant}
-use Rattle.meta_items_insts.specs.Insts.{seconds_from, second_by, second_of, second_behind}
+use Rattle.meta_items_types.specs.Telling.{◌>>=◌, IsMeant}
+use Rattle.meta_items_insts.specs.Telling.{in_spot, Fails}
+use Rattle.meta_items_insts.specs.Insts.{seconds_from, second_by, second_of}
 use Rattle.meta_items_insts.specs.Mentioned.{after_mark}
 use Rattle.meta_items_insts.specs.Registered.{IsSecondIn}
 
+-- the second type behind one more mark, which stands at a place, where it is this one behind those before, if they name one
+abbrev second_behind : List Entry → Option MeantType → ℕ → Mark → Result (Option MeantType) InstReason
+second_behind words m k (marks.Is property) = Ok m
+second_behind words None k (marks.Second t) = in_spot (spots.Mark k) (type_of words t) >>= λ m. Ok (Some m)
+second_behind words (Some m) k (marks.Second t) = Err (SecondTwice k)
+
 -- the second type behind more marks, where it is this one behind those before, if they name one
-abbrev pub second_from : List Entry → Option MeantType → ℕ → List Mark → Result (Option MeantType) InstReason
+abbrev second_from : List Entry → Option MeantType → ℕ → List Mark → Result (Option MeantType) InstReason
 second_from words m k [] = Ok m
 second_from words m k (x ∷ xs) = second_behind words m k x >>= λ m. second_from words m (k + 1) xs
 
@@ -54,41 +64,64 @@ with_none words k (marks.Second t ∷ xs) =
     begins words k xs (in_spot (spots.Mark k) (type_of words t))
     ∙ first_one words k t (in_spot (spots.Mark k) (type_of words t)) (seconds_from (k + 1) xs) refl
 
+-- ---- the marks before a place
+
+-- those behind others
+parts : (words : List Entry) (m : Option MeantType) (k : ℕ) (xs ys : List Mark)
+    → second_from words m k (xs ++ ys) ≡ (second_from words m k xs >>= λ m. second_from words m (k + length xs) ys)
+parts words m k [] ys = ap (λ (n : ℕ). second_from words m n ys) (sym (add-zero k))
+parts words m k (x ∷ xs) ys =
+    by (second_behind words m k x)
+    (λ n. parts words n (k + 1) xs ys ∙ ap (λ (j : ℕ). second_from words n (k + 1) xs >>= λ m. second_from words m j ys) (omega arith))
+  where
+    by : (a : Result (Option MeantType) InstReason)
+        → ((n : Option MeantType) → second_from words n (k + 1) (xs ++ ys)
+        ≡ (second_from words n (k + 1) xs >>= λ m. second_from words m (k + length (x ∷ xs)) ys))
+        → (a >>= λ m. second_from words m (k + 1) (xs ++ ys))
+        ≡ ((a >>= λ m. second_from words m (k + 1) xs) >>= λ m. second_from words m (k + length (x ∷ xs)) ys)
+    by (Ok n) more = more n
+    by (Err reason) more = refl
+
+split : (words : List Entry) (xs ys : List Mark)
+    → second_of words (xs ++ ys) ≡ (second_of words xs >>= λ m. second_from words m (length xs) ys)
+split words xs ys =
+    let place : 0 + length xs ≡ length xs = omega arith in
+    sym (with_none words 0 (xs ++ ys)) ∙ parts words None 0 xs ys
+    ∙ ap (λ (a : Result (Option MeantType) InstReason). a >>= λ m. second_from words m (0 + length xs) ys) (with_none words 0 xs)
+    ∙ ap (λ (j : ℕ). second_of words xs >>= λ m. second_from words m j ys) place
+
+same : (a : Result (Option MeantType) InstReason) → (a >>= λ m. Ok m) ≡ a
+same (Ok m) = refl
+same (Err reason) = refl
+
+-- one mark more
+pub second_next : (words : List Entry) (all : List Mark) (k : ℕ) (x : Mark) (m : Option MeantType) → slice_get all k ≡ Some x
+    → second_of words (take k all) ≡ Ok m → second_of words (take (k + 1) all) ≡ second_behind words m k x
+second_next words all k x m at is =
+    let within : k < length all = slice_get_within all k x at in
+    let place : length (take k all) ≡ k = length-take-le k all (omega arith) in
+    ap (second_of words) (take_next all k x at) ∙ split words (take k all) (x ∷ [])
+    ∙ ap (λ (a : Result (Option MeantType) InstReason). a >>= λ m. second_from words m (length (take k all)) (x ∷ [])) is
+    ∙ same (second_behind words m (length (take k all)) x) ∙ ap (λ (j : ℕ). second_behind words m j x) place
+
+-- where something is wrong with marks before a place it is the first thing that is wrong with all
+pub fails_here : (words : List Entry) (all : List Mark) (k : ℕ) (e : InstError) → Fails e (second_of words (take k all))
+    → Fails e (second_of words all)
+fails_here words all k Memory h = tt
+fails_here words all k (Wrong reason) h =
+    ap (second_of words) (sym (take-append-drop k all)) ∙ split words (take k all) (drop k all)
+    ∙ ap (λ (a : Result (Option MeantType) InstReason). a >>= λ m. second_from words m (length (take k all)) (drop k all)) h
+
 -- behind the marks before place k the second type is this one, if they name one, which is so by P
 pub record IsSecondSoFar (words : List Entry) (all : List Mark) (k : ℕ) (P : Option MeantType → Type 0) : Type 0 where
   pub meant : Option MeantType
-  pub rest : second_from words meant k (drop k all) ≡ second_of words all
+  pub so_far : second_of words (take k all) ≡ Ok meant
   pub is : P meant
-
-pub begun : (words : List Entry) (all : List Mark) (P : Option MeantType → Type 0) → P None → IsSecondSoFar words all 0 P
-begun words all P p = record { meant = None; rest = with_none words 0 all; is = p }
-
-left_from : (words : List Entry) (all : List Mark) (k : ℕ) (x : Mark) (m : Option MeantType) → slice_get all k ≡ Some x
-    → second_from words m k (drop k all) ≡ (second_behind words m k x >>= λ m. second_from words m (k + 1) (drop (k + 1) all))
-left_from words all k x m at = ap (second_from words m k) (drop_next all k x at)
-
-pub goes_on : (words : List Entry) (all : List Mark) (k : ℕ) (x : Mark) (P Q : Option MeantType → Type 0) → slice_get all k ≡ Some x
-    → (h : IsSecondSoFar words all k P) (m : Option MeantType) → second_behind words h.meant k x ≡ Ok m → Q m
-    → IsSecondSoFar words all (k + 1) Q
-goes_on words all k x P Q at h m e q = record {
-  meant = m;
-  rest = ap (λ a. a >>= λ m. second_from words m (k + 1) (drop (k + 1) all)) (sym e)
-      ∙ (sym (left_from words all k x h.meant at) ∙ h.rest);
-  is = q;
-}
-
-pub fails_here : (words : List Entry) (all : List Mark) (k : ℕ) (x : Mark) (P : Option MeantType → Type 0) (e : InstError)
-    → slice_get all k ≡ Some x → (h : IsSecondSoFar words all k P) → Fails e (second_behind words h.meant k x)
-    → Fails e (second_of words all)
-fails_here words all k x P Memory at h w = tt
-fails_here words all k x P (Wrong reason) at h w =
-    sym h.rest
-    ∙ (left_from words all k x h.meant at ∙ ap (λ a. a >>= λ m. second_from words m (k + 1) (drop (k + 1) all)) w)
 
 pub ended : (words : List Entry) (all : List Mark) (k : ℕ) (P : Option MeantType → Type 0) → length all ≤ k
     → (h : IsSecondSoFar words all k P)
     → second_of words all ≡ Ok h.meant
-ended words all k P past h = sym h.rest ∙ ap (second_from words h.meant k) (drop_all k all past)
+ended words all k P past h = ap (second_of words) (sym (take_all k all past)) ∙ h.so_far
 
 -- ---- one mark
 
@@ -97,14 +130,55 @@ none_meant r None second free h = refl
 none_meant r (Some m) None free h = absurd h
 none_meant r (Some m) (Some n) free h = absurd cc
 
-pub new_second : (old : Registered) (t : Types) (s : Said) (m : Option MeantType) (second : Option ℕ) (k : ℕ) (mark : Mark)
-    (type : TypeExpr)
-    (n : ℕ) → mark ≡ marks.Second type → false ≡ is_some second → IsSecondIn old m second
-    → IsMeant (IsTypeIn (registered t (after_type s type))) n (in_spot (spots.Mark k) (type_of s.words type))
-    → IsMeant (IsSecondIn (registered t (after_mark s mark))) (Some n) (second_behind s.words m k mark)
-new_second old t s m second k mark type n e free h f =
-    subst (λ mark. IsMeant (IsSecondIn (registered t (after_mark s mark))) (Some n) (second_behind s.words m k mark)) (sym e) (record {
-      meaning = Some f.meaning;
-      is = ap (λ o. second_behind s.words o k (marks.Second type)) (none_meant old m second free h) ∙ ap (λ a. a >>= λ x. Ok (Some x)) f.is;
-      by = f.by;
-    })
+some_meant : (r : Registered) (m : Option MeantType) (second : Option ℕ) → true ≡ is_some second → IsSecondIn r m second
+    → (x : MeantType) × (m ≡ Some x)
+some_meant r None None named h = absurd cc
+some_meant r None (Some n) named h = absurd h
+some_meant r (Some m) second named h = (m, refl)
+
+module _ (old : Registered) (s : Said) (all : List Mark) (k : ℕ) (mark : Mark) (m : Option MeantType)
+    (before : second_of s.words (take k all) ≡ Ok m) (at : slice_get all k ≡ Some mark) where
+  next : second_of s.words (take (k + 1) all) ≡ second_behind s.words m k mark
+  next = second_next s.words all k mark m at before
+
+  -- one that does something
+  pub same_second : (t : Types) (second : Option ℕ) (property : Property) → mark ≡ marks.Is property
+      → IsSecondIn (registered t s) m second
+      → IsMeant (IsSecondIn (registered t (after_mark s mark))) second (second_of s.words (take (k + 1) all))
+  same_second t second property e h = record {
+    meaning = m;
+    is = next ∙ ap (second_behind s.words m k) e;
+    by = subst (λ (x : Mark). IsSecondIn (registered t (after_mark s x)) m second) (sym e) h;
+  }
+
+  -- another that names a second type
+  pub second_twice : (second : Option ℕ) (type : TypeExpr) → mark ≡ marks.Second type → true ≡ is_some second → IsSecondIn old m second
+      → second_of s.words (take (k + 1) all) ≡ Err (SecondTwice k)
+  second_twice second type e named h =
+      let one = some_meant old m second named h in
+      next ∙ ap (second_behind s.words m k) e ∙ ap (λ (o : Option MeantType). second_behind s.words o k (marks.Second type)) one.1
+
+  -- the first one
+  abbrev told : TypeExpr → Result MeantType InstReason
+  told type = in_spot (spots.Mark k) (type_of s.words type)
+
+  first_second : (second : Option ℕ) (type : TypeExpr) → mark ≡ marks.Second type → false ≡ is_some second → IsSecondIn old m second
+      → second_of s.words (take (k + 1) all) ≡ (told type >>= λ m. Ok (Some m))
+  first_second second type e free h =
+      next ∙ ap (second_behind s.words m k) e
+      ∙ ap (λ (o : Option MeantType). second_behind s.words o k (marks.Second type)) (none_meant old m second free h)
+
+  pub new_second : (t : Types) (second : Option ℕ) (type : TypeExpr) (n : ℕ) → mark ≡ marks.Second type → false ≡ is_some second
+      → IsSecondIn old m second → IsMeant (IsTypeIn (registered t (after_type s type))) n (told type)
+      → IsMeant (IsSecondIn (registered t (after_mark s mark))) (Some n) (second_of s.words (take (k + 1) all))
+  new_second t second type n e free h f = record {
+    meaning = Some f.meaning;
+    is = first_second second type e free h ∙ ap (λ (a : Result MeantType InstReason). a >>= λ x. Ok (Some x)) f.is;
+    by = subst (λ (x : Mark). IsTypeIn (registered t (after_mark s x)) f.meaning n) (sym e) f.by;
+  }
+
+  pub new_fails : (second : Option ℕ) (type : TypeExpr) (e : InstError) → mark ≡ marks.Second type → false ≡ is_some second
+      → IsSecondIn old m second → Fails e (told type) → Fails e (second_of s.words (take (k + 1) all))
+  new_fails second type Memory e free h w = tt
+  new_fails second type (Wrong reason) e free h w =
+      first_second second type e free h ∙ ap (λ (a : Result MeantType InstReason). a >>= λ x. Ok (Some x)) w

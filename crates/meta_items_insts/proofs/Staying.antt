@@ -32,7 +32,7 @@ stores_stay old new e slots f h = record {
   fields = pairs_imply (IsFieldIn old) (IsFieldIn new) (field_stays old new e) (filter_map kind_in_field slots) f.imm_fields h.fields;
 }
 
-format_stays : (old new : Registered) → Extends old new → (m : MeantFormat) (f : InstructionFormat) → IsFormatIn old m f
+pub format_stays : (old new : Registered) → Extends old new → (m : MeantFormat) (f : InstructionFormat) → IsFormatIn old m f
     → IsFormatIn new m f
 format_stays old new e m f h = record { name = h.name; stores = stores_stay old new e m.slots f h.stores; designated = h.designated }
 
@@ -52,7 +52,7 @@ second_stays old new e None (Some n) h = h
 second_stays old new e (Some m) None h = h
 second_stays old new e (Some m) (Some n) h = type_stays old new m n e h
 
-builder_stays : (old new : Registered) → Extends old new → (m : MeantInst) (b : Builder) → IsBuilderIn old m b → IsBuilderIn new m b
+pub builder_stays : (old new : Registered) → Extends old new → (m : MeantInst) (b : Builder) → IsBuilderIn old m b → IsBuilderIn new m b
 builder_stays old new e m b h = record {
   name = h.name;
   doc = h.doc;

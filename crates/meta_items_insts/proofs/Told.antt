@@ -9,7 +9,8 @@ use Rattle.meta_items_insts.specs.declared.refused.Spot.{Spot}
 use Rattle.meta_items_insts.specs.declared.refused.InstReason.{InstReason}
 use Rattle.meta_items_insts.specs.declared.refused.InstError.{InstError}
 use Rattle.meta_items_insts.specs.declared.refused.InstError.TheVariants.{Memory, Wrong}
-use Rattle.meta_items_insts.specs.Telling.{◌>>=◌, Fails, IsMeant, in_spot, error_in}
+use Rattle.meta_items_types.specs.Telling.{◌>>=◌, IsMeant}
+use Rattle.meta_items_insts.specs.Telling.{Fails, in_spot, error_in}
 
 -- an error goes on
 pub fails_on : {A B : Type 0} (e : InstError) (a : Result A InstReason) (f : A → Result B InstReason) → Fails e a → Fails e (a >>= f)
@@ -26,6 +27,6 @@ fails_in spot errors.Memory a h = tt
 fails_in spot (errors.Wrong reason) a h = ap (in_spot spot) h
 
 -- and a meaning there
-pub meant_in : {X A : Type 0} (R : A → X → Type 0) (spot : Spot) (x : X) (a : Result A Reason) → types.IsMeant R x a
+pub meant_in : {X A : Type 0} (R : A → X → Type 0) (spot : Spot) (x : X) (a : Result A Reason) → IsMeant R x a
     → IsMeant R x (in_spot spot a)
 meant_in R spot x a h = record { meaning = h.meaning; is = ap (in_spot spot) h.is; by = h.by }

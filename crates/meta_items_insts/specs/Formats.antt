@@ -22,7 +22,8 @@ use Rattle.meta_items_insts.specs.declared.refused.InstReason.TheVariants.{Decla
 use Rattle.meta_items_insts.specs.declared.slots.SlotWord.{SlotWord}
 use Rattle.meta_items_insts.specs.declared.slots.SlotWord.TheVariants as word
 use Rattle.meta_items_insts.specs.declared.words.FormatWord.{FormatWord}
-use Rattle.meta_items_insts.specs.Telling.{◌>>=◌, unless, in_spot, each_from}
+use Rattle.meta_items_types.specs.Telling.{◌>>=◌, unless}
+use Rattle.meta_items_insts.specs.Telling.{in_spot, each_from}
 use Rattle.meta_items_insts.specs.Texts.{format_texts, wrong_texts}
 
 -- ---- slots

@@ -21,7 +21,8 @@ use Rattle.meta_items_insts.specs.declared.refused.InstReason.{InstReason}
 use Rattle.meta_items_insts.specs.declared.refused.InstReason.TheVariants.{UnknownFormat, SecondTwice}
 use Rattle.meta_items_insts.specs.declared.operands.Side.{Side}
 use Rattle.meta_items_insts.specs.declared.operands.Side.TheVariants.{Inputs, Outputs}
-use Rattle.meta_items_insts.specs.Telling.{◌>>=◌, found_or, unless, in_spot, each_from}
+use Rattle.meta_items_types.specs.Telling.{◌>>=◌, found_or, unless}
+use Rattle.meta_items_insts.specs.Telling.{in_spot, each_from}
 use Rattle.meta_items_insts.specs.Texts.{inst_texts, wrong_texts}
 use Rattle.meta_items_insts.specs.Formats.{FormatEntry, format_named}
 
@@ -99,12 +100,6 @@ second_by words (s ∷ (t ∷ more)) = in_spot (spots.Mark s.0) (type_of words s
 
 abbrev pub second_of : List Entry → List Mark → Result (Option MeantType) InstReason
 second_of words all = second_by words (seconds_from 0 all)
-
--- the second type behind one more mark, which stands at a place, where it is this one behind those before, if they name one
-abbrev pub second_behind : List Entry → Option MeantType → ℕ → Mark → Result (Option MeantType) InstReason
-second_behind words m k (marks.Is property) = Ok m
-second_behind words None k (marks.Second t) = in_spot (spots.Mark k) (type_of words t) >>= λ m. Ok (Some m)
-second_behind words (Some m) k (marks.Second t) = Err (SecondTwice k)
 
 -- ---- instructions
 

@@ -8,7 +8,7 @@ use Rattle.meta_items.specs.declared.items.Item.{Item}
 use Rattle.meta_items.specs.declared.items.Item.TheVariants as item
 use Rattle.meta_items_types.specs.Said as types
 use Rattle.meta_items_insts.specs.declared.refused.InstReason.{InstReason}
-use Rattle.meta_items_insts.specs.Telling.{reason_in}
+use Rattle.meta_items_types.specs.Telling.{reason_in}
 use Rattle.meta_items_insts.specs.Formats.{FormatEntry, MeantFormat, format_of}
 use Rattle.meta_items_insts.specs.Insts.{MeantInst, inst_of}
 use Rattle.meta_items_insts.specs.Mentioned.{after_inst}

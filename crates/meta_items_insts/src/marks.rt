@@ -1,11 +1,11 @@
-ghost use Rattle.std.specs.Prelude.{◌≡◌, ◌<◌, length, slice_get, Option, OnOk, None, Some};
+ghost use Rattle.std.specs.Prelude.{◌≡◌, ◌<◌, ◌+◌, length, take, slice_get, Option, OnOk, None, Some, Ok};
 ghost use Rattle.meta_items.specs.declared.insts.Mark.{Mark as spec_Mark};
 ghost use Rattle.meta_items_types.specs.Said.{Said};
 ghost use Rattle.meta_items_types.specs.Meant.{MeantType};
 ghost use Rattle.meta_items_types.specs.Registered.{Extends};
 ghost use Rattle.meta_items_types.specs.Held as held;
 ghost use Rattle.meta_items_insts.specs.Telling.{Tells};
-ghost use Rattle.meta_items_insts.specs.Insts.{with_property, with_mark, marks_added, marks_in, second_of, second_behind};
+ghost use Rattle.meta_items_insts.specs.Insts.{with_property, with_mark, marks_added, marks_in, second_of};
 ghost use Rattle.meta_items_insts.specs.Mentioned.{after_mark, after_marks};
 ghost use Rattle.meta_items_insts.specs.Registered.{IsSecondIn};
 
@@ -65,7 +65,7 @@ pub(crate) fn marks_in(item: &InstItem) -> &[Mark]
     }
 }
 
-/// The variable of the second type behind the mark at a place among these, where it is this one behind the marks before, if they name one.
+/// The variable of the second type that these marks name up to the one at a place, where it is this one up to there.
 fn second_at(
     alloc: Global,
     types: &mut Types,
@@ -76,9 +76,10 @@ fn second_at(
     ghost said: { Said }
     requires holds { held.Holds types.old said }
     requires within { place < length marks.now }
-    ensures means { (m : Option MeantType) (mark : spec_Mark) → IsSecondIn (held.registered types.old said) m second
-        → slice_get marks.now place ≡ Some mark
-        → Tells (IsSecondIn (held.registered types.new (after_mark said mark))) result (second_behind said.words m place mark) }
+    ensures means { (m : Option MeantType) (mark : spec_Mark) → second_of said.words (take place marks.now) ≡ Ok m
+        → IsSecondIn (held.registered types.old said) m second → slice_get marks.now place ≡ Some mark
+        → Tells (IsSecondIn (held.registered types.new (after_mark said mark))) result
+        (second_of said.words (take (place + 1) marks.now)) }
     ensures holds { (mark : spec_Mark) → slice_get marks.now place ≡ Some mark → OnOk result (held.Holds types.new (after_mark said mark)) }
     ensures extends { (mark : spec_Mark) → slice_get marks.now place ≡ Some mark
         → OnOk result (Extends (held.registered types.old said) (held.registered types.new (after_mark said mark))) }

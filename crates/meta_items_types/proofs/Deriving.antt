@@ -8,19 +8,18 @@ use Rattle.std.proofs.Math.Seq.{drop-length}
 use Rattle.std.proofs.lemmas.List.{length-append}
 use Rattle.std.proofs.lemmas.Option.{same_Some}
 use Rattle.std.proofs.lemmas.Result.{IfOk-at_ok}
-use Rattle.meta_lists.proofs.Places.{get_there, get_stays, drop_next}
-use Rattle.meta_lists.proofs.Pushed.{not_empty, get_end}
+use Rattle.meta_lists.proofs.Places.{get_there, drop_next}
+use Rattle.meta_lists.proofs.Pushed.{not_empty}
 use Rattle.meta_types.specs.Function.{Function}
 use Rattle.meta_types.specs.TypeParts.{TypeParts}
 use Rattle.meta_types.specs.DerivedFunc.{function_of}
 use Rattle.meta_types.specs.declared.derived_func.DerivedFunc.{DerivedFunc}
 use Rattle.meta_typevar.specs.Variable.{Variable, longer}
-use Rattle.meta_typevar.specs.Image.{image_of, can_derive}
-use Rattle.meta_typevar.specs.Registry.{variable_at, sets_of, coded_of, coded_at, derived_content, IsKept}
+use Rattle.meta_typevar.specs.Image.{can_derive}
+use Rattle.meta_typevar.specs.Registry.{variable_at, coded_at, derived_content, IsKept}
 use Rattle.meta_typevar.specs.Derivation.{Derives}
 use Rattle.meta_typevar.specs.TypeSetParts.{TypeSetParts}
 use Rattle.meta_typevar.specs.declared.content.TypeVarContent.{TypeVarContent}
-use Rattle.meta_typevar.proofs.Variables.{coded_last}
 use Rattle.meta_items.specs.declared.types.Function.{Function as Word}
 use Rattle.meta_items.specs.declared.types.TypeExpr.{TypeExpr}
 use Rattle.meta_items_types.specs.declared.plain.PlainRoot.{PlainRoot}
@@ -41,9 +40,9 @@ use Rattle.meta_items_types.specs.Registered.{Registered, IsNumberOf, IsRootAt, 
 use Rattle.meta_items_types.specs.Held.{registered, word_at, HoldsIn, Holds, IsMentioned}
 use Rattle.meta_items_types.proofs.SameSymbol.{known_or_new, with_known, with_new}
 use Rattle.meta_items_types.proofs.Mentioning.{with_derived}
-use Rattle.meta_items_types.proofs.Staying.{extends_same, extends_more, number_stays, variable_stays, coded_stays}
-use Rattle.meta_items_types.proofs.Registry.{IsOfSymbol, below, symbol_variable, variable_symbol, root_below, with_one, extends_one}
-use Rattle.meta_items_types.proofs.Registry.{content_stays, registry_same}
+use Rattle.meta_items_types.proofs.Staying.{extends_same, extends_more, variable_stays}
+use Rattle.meta_items_types.proofs.Registry.{below, symbol_variable, with_one, extends_one}
+use Rattle.meta_items_types.proofs.OneFunction.{derived_there, derived_back, known_type, made_registry, made_type}
 use Rattle.meta_items_types.proofs.Growing.{word_stays, plain_other}
 use Rattle.meta_items_types.proofs.Told.{fails_on}
 
@@ -66,12 +65,6 @@ room_meant t s m n h room e =
     let r = registered t (mentioning s (Ok m)) in
     let v = symbol_variable r s.roots h.holds.registry (symbol_of m) n h.type_is.number in
     ap (λ (w : Variable). nat_lt (length w.chain) most_functions) (sym v.variable) ∙ sym e
-
--- the set of what is derived
-coded_longer : (vars : List TypeVarContent) (n v : ℕ) (f : Function) → variable_at vars v ≡ longer (variable_at vars n) f
-    → coded_at vars v ≡ image_of f (coded_at vars n)
-coded_longer vars n v f e =
-    ap (coded_of vars) e ∙ coded_last (variable_at vars n).chain f (sets_of vars (variable_at vars n).root)
 
 -- what holds behind one function: what is kept, which type it is, and that the registry grew
 pub record IsStep (old new : Registered) (known : List PlainRoot) (words : Words) (roots : List MeantRoot) (entries : List Entry)
@@ -99,39 +92,20 @@ module _ (vars : List TypeVarContent) (symbols : List Symbol) (known : List Plai
   abbrev one : Symbol
   one = symbol_of made
 
-  rooted : IsOfSymbol now (symbol_of m) n
-  rooted = symbol_variable now roots h.registry (symbol_of m) n is.number
-
   -- the variable of the symbol is what is derived
   there : (k : ℕ) → IsNumberOf now one k → variable_at vars k ≡ longer (variable_at vars n) f
-  there k at =
-      let v = symbol_variable now roots h.registry one k at in
-      let root : v.root ≡ rooted.root = h.registry.apart (symbol m.root []) v.root rooted.root v.root_is rooted.root_is in
-      v.variable
-      ∙ (ap (λ (r : ℕ). record { root = r; chain = m.functions ++ f ∷ [] }) root
-      ∙ ap (λ (w : Variable). longer w f) (sym rooted.variable))
+  there k at = derived_there now roots h.registry m n is g k at
 
   -- and what is derived is the variable of the symbol
   back : (k : ℕ) → k < length vars → variable_at vars k ≡ longer (variable_at vars n) f → IsNumberOf now one k
-  back k l e =
-      variable_symbol now roots h.registry m.root rooted.root (m.functions ++ f ∷ []) k rooted.root_is l
-      (e ∙ ap (λ (w : Variable). longer w f) rooted.variable)
+  back k l e = derived_back now roots h.registry m n is g k l e
 
   abbrev IsStepTo : List TypeVarContent → List Symbol → ℕ → Type 0
   IsStepTo new ss v = IsStep now (record { vars = new; symbols = ss }) known words roots entries made v
 
   -- where it is there
   step_known : (k : ℕ) → IsNumberOf now one k → IsStepTo vars symbols k
-  step_known k at = record {
-    held = h;
-    is = record {
-      number = at;
-      of = below now roots h.registry one k at;
-      root_of = root_below now roots h.registry one k at;
-      set = coded_longer vars n k f (there k at) ∙ ap (image_of f) is.set;
-    };
-    extends = extends_same now;
-  }
+  step_known k at = record { held = h; is = known_type now roots h.registry m n is g k at; extends = extends_same now }
 
   -- where it is made
   module _ (new_one : (k : ℕ) → IsNumberOf now one k → ⊥) (c : TypeVarContent) (kept : IsKept vars n c) where
@@ -141,63 +115,19 @@ module _ (vars : List TypeVarContent) (symbols : List Symbol) (known : List Plai
     abbrev after : Registered
     after = with_one now content one
 
-    placed : IsVariableAt after roots one (m.functions ++ f ∷ []) (length vars)
-    placed = placed_by m.functions refl
-      where
-        at : (before : List Function) → before ++ f ∷ [] ≡ m.functions ++ f ∷ [] → IsDerivedAt after one (length vars)
-        at before e = record {
-          before = m.functions;
-          last = g;
-          parent = n;
-          content = content;
-          functions = refl;
-          parent_is = number_stays now after (extends_one now content one) (symbol_of m) n is.number;
-          derived = record {
-            parent = c;
-            kept = get_stays vars (content ∷ []) n c kept;
-            is = content_stays vars (content ∷ []) n c g is.of is.root_of;
-          };
-          kept = get_end vars content;
-        }
-
-        placed_by : (before : List Function) → before ≡ m.functions → IsVariableAt after roots one (before ++ f ∷ []) (length vars)
-        placed_by [] e = at [] (ap (λ (fs : List Function). fs ++ f ∷ []) e)
-        placed_by (x ∷ xs) e = at (x ∷ xs) (ap (λ (fs : List Function). fs ++ f ∷ []) e)
-
-    registry : IsRegistryOf after roots
-    registry = registry_same now roots content one h.registry new_one placed
-
     other : (t : TypeParts) → one ≡ symbol (Plain t) [] → ⊥
     other t e = not_empty m.functions f (ap (λ (s : Symbol). s.functions) e)
 
-    at_end : IsNumberOf after one (length vars)
-    at_end = subst (λ (k : ℕ). slice_get (symbols ++ one ∷ []) k ≡ Some one) (sym h.registry.count) (get_end symbols one)
-
-    made_set : (v : ℕ) → variable_at (vars ++ content ∷ []) v ≡ longer (variable_at vars n) f
-        → coded_at (vars ++ content ∷ []) v ≡ image_of f m.set
-    made_set v e =
-        coded_longer (vars ++ content ∷ []) n v f
-        (e ∙ ap (λ (w : Variable). longer w f) (sym (variable_stays vars (content ∷ []) n is.of)))
-        ∙ ap (image_of f) (coded_stays vars (content ∷ []) n is.of is.root_of ∙ is.set)
-
-    step_made : (v : ℕ) → v ≡ length vars → variable_at (vars ++ content ∷ []) v ≡ longer (variable_at vars n) f
-        → IsStepTo (vars ++ content ∷ []) (symbols ++ one ∷ []) v
-    step_made v e variable =
-        let at : IsNumberOf after one v = subst (λ (k : ℕ). IsNumberOf after one k) (sym e) at_end in
-        record {
-          held = record {
-            registry = registry;
-            plain_are = plain_other now known content one h.plain_are other;
-            words_are = λ w. word_stays now after (extends_one now content one) (entry_of entries w) (word_at words w) (h.words_are w);
-          };
-          is = record {
-            number = at;
-            of = below after roots registry one v at;
-            root_of = root_below after roots registry one v at;
-            set = made_set v variable;
-          };
-          extends = extends_one now content one;
-        }
+    step_made : (v : ℕ) → v ≡ length vars → IsStepTo (vars ++ content ∷ []) (symbols ++ one ∷ []) v
+    step_made v e = record {
+      held = record {
+        registry = made_registry now roots h.registry m n is g new_one c kept;
+        plain_are = plain_other now known content one h.plain_are other;
+        words_are = λ w. word_stays now after (extends_one now content one) (entry_of entries w) (word_at words w) (h.words_are w);
+      };
+      is = subst (IsTypeIn after made) (sym e) (made_type now roots h.registry m n is g new_one c kept);
+      extends = extends_one now content one;
+    }
 
   step_by : {E : Type 0} (new : List TypeVarContent) (result : Result ℕ E) (v : ℕ) → Derives vars n g result new → result ≡ Ok v
       → (((k : ℕ) × IsNumberOf now one k) ⊎ ((k : ℕ) → IsNumberOf now one k → ⊥)) → IsStepTo new (with_symbol symbols one) v
@@ -222,7 +152,7 @@ module _ (vars : List TypeVarContent) (symbols : List Symbol) (known : List Plai
       (step_made none c kept v
       (⊎_elim
       (λ (l : v < length vars). absurd (none v (back v l (sym (variable_stays vars (derived_content vars n c g ∷ []) v l) ∙ variable))))
-      (λ (l : length vars ≤ v). omega arith) (cases_lt v (length vars))) variable))
+      (λ (l : length vars ≤ v). omega arith) (cases_lt v (length vars)))))
 
 -- ---- what a function tells of one function
 

@@ -1,4 +1,4 @@
--- What a map of words has at a word, where one was put in.
+-- What a map has at a word, where a key with a text was put in.
 use Rattle.std.proofs.Common.{◌≡◌, ◌∙◌, ℕ, Bool, true, false, cond, List, [], ◌∷◌, sym, ap, refl}
 use Rattle.std.specs.Prelude.{Some}
 use Rattle.std.specs.declared.cmp.Ordering.{Ordering}
@@ -15,10 +15,12 @@ use Rattle.meta_items_types.specs.declared.words.Words.{Words}
 use Rattle.meta_items_types.specs.Plain.{same_word}
 use Rattle.meta_items_types.specs.Held.{word_at}
 
-abbrev test : {K : Type 0} → (K → List ℕ) → List ℕ → K → Bool
+-- whether the key of this text is the word
+abbrev pub test : {K : Type 0} → (K → List ℕ) → List ℕ → K → Bool
 test text w x = is_eq (slice_cmp nat_cmp w (text x))
 
-abbrev order : {K : Type 0} → (K → List ℕ) → K → K → Ordering
+-- the order of keys by their texts
+abbrev pub order : {K : Type 0} → (K → List ℕ) → K → K → Ordering
 order text x y = slice_cmp nat_cmp (text x) (text y)
 
 same_text : {K : Type 0} (text : K → List ℕ) (x y : K) → is_eq (order text x y) ≡ true → text x ≡ text y
@@ -57,7 +59,8 @@ inserted_by text w e es k v rest Greater is =
     ∙ swapped (test text w k) (test text w e.0) (Some v) (Some e.1) (lookup (test text w) es)
     (λ t u. false≢true (sym (ap is_eq is) ∙ same_test text w k e.0 t u))
 
-lookup_inserted : {K X : Type 0} (text : K → List ℕ) (w : List ℕ) (es : List (K × X)) (k : K) (v : X)
+-- what a map has at a word, where a key was put in
+pub lookup_inserted : {K X : Type 0} (text : K → List ℕ) (w : List ℕ) (es : List (K × X)) (k : K) (v : X)
     → lookup (test text w) (insert_entry (order text) es k v) ≡ cond (test text w k) (Some v) (lookup (test text w) es)
 lookup_inserted text w [] k v = refl
 lookup_inserted text w (e ∷ es) k v = inserted_by text w e es k v (lookup_inserted text w es k v) (order text k e.0) refl

@@ -1,6 +1,9 @@
 pub mod Behind
 pub mod Checked
 pub mod Deriving
+pub mod Existing
+pub mod ExistingItems
+pub mod ExistingOperands
 pub mod Fresh
 pub mod Growing
 pub mod Inserted
@@ -9,6 +12,7 @@ pub mod Known
 pub mod Mentioned
 pub mod Mentioning
 pub mod Naming
+pub mod OneFunction
 pub mod OneSet
 pub mod OperandKinds
 pub mod Parts

@@ -1,44 +1,61 @@
--- Meanings that may be refused.
---     a >>= f                   the meaning a, and then what f makes of it, or the first reason
---     Refuses result wrong      an error says what is wrong, if anything is
---     Tells R result meant      what a function returned is, by R, what is meant, or the reason why nothing is, unless memory ran out
+-- Meanings that may be refused, each for a reason.
+--     a >>= f                       the meaning a, and then what f makes of it, or the first reason
+--     TellsBy why By result meant   what a function returned is, by By, what is meant, or the reason why nothing is, if the error has one
+--     Tells By result meant         the same of types and kinds, where an error has a reason unless memory ran out
+--     Refuses result wrong          an error says what is wrong, if anything is
 use Rattle.std.specs.Prelude.{◌≡◌, Option, Some, None, Result, Ok, Err}
 use Rattle.meta_items_types.specs.declared.refused.Reason.{Reason}
 use Rattle.meta_items_types.specs.declared.refused.TypeError.{TypeError}
 use Rattle.meta_items_types.specs.declared.refused.TypeError.TheVariants.{Memory, Wrong}
 
+-- ---- reasons of any type
+
 infixl 10 ◌>>=◌
-abbrev pub ◌>>=◌ : {A B : Type 0} → Result A Reason → (A → Result B Reason) → Result B Reason
+abbrev pub ◌>>=◌ : {A B R : Type 0} → Result A R → (A → Result B R) → Result B R
 (Ok x) >>= f = f x
-(Err e) >>= f = Err e
+(Err reason) >>= f = Err reason
 
 -- what was found, or a reason
-abbrev pub found_or : {A : Type 0} → Reason → Option A → Result A Reason
+abbrev pub found_or : {A R : Type 0} → R → Option A → Result A R
 found_or reason None = Err reason
 found_or reason (Some x) = Ok x
 
 -- a reason, if there is one
-abbrev pub unless : {A : Type 0} → Option Reason → Result A Reason → Result A Reason
+abbrev pub unless : {A R : Type 0} → Option R → Result A R → Result A R
 unless None meant = meant
 unless (Some reason) meant = Err reason
 
-abbrev pub reason_in : {A : Type 0} → Result A Reason → Option Reason
+abbrev pub reason_in : {A R : Type 0} → Result A R → Option R
 reason_in (Ok x) = None
 reason_in (Err reason) = Some reason
 
-abbrev pub Fails : {M : Type 0} → TypeError → Result M Reason → Type 0
-Fails Memory meant = Unit {0}
-Fails (Wrong reason) meant = meant ≡ Err reason
+-- nothing is meant for this reason, if there is one
+abbrev pub IsWhy : {M R : Type 0} → Option R → Result M R → Type 0
+IsWhy None meant = Unit {0}
+IsWhy (Some reason) meant = meant ≡ Err reason
 
--- there is a meaning, and x is it by R
-pub record IsMeant {X M : Type 0} (R : M → X → Type 0) (x : X) (meant : Result M Reason) : Type 0 where
+-- there is a meaning, and x is it
+pub record IsMeant {X M R : Type 0} (By : M → X → Type 0) (x : X) (meant : Result M R) : Type 0 where
   pub meaning : M
   pub is : meant ≡ Ok meaning
-  pub by : R meaning x
+  pub by : By meaning x
+
+abbrev pub TellsBy : {X M E R : Type 0} → (E → Option R) → (M → X → Type 0) → Result X E → Result M R → Type 0
+TellsBy why By (Ok x) meant = IsMeant By x meant
+TellsBy why By (Err e) meant = IsWhy (why e) meant
+
+-- ---- types and kinds
+
+-- the reason that an error has
+abbrev pub reason_of : TypeError → Option Reason
+reason_of Memory = None
+reason_of (Wrong reason) = Some reason
+
+abbrev pub Fails : {M : Type 0} → TypeError → Result M Reason → Type 0
+Fails e meant = IsWhy (reason_of e) meant
 
 abbrev pub Tells : {X M : Type 0} → (M → X → Type 0) → Result X TypeError → Result M Reason → Type 0
-Tells R (Ok x) meant = IsMeant R x meant
-Tells R (Err e) meant = Fails e meant
+Tells By result meant = TellsBy reason_of By result meant
 
 -- nothing is wrong where something is returned, and otherwise the reason is what is wrong, unless memory ran out
 abbrev pub Refuses : {X : Type 0} → Result X TypeError → Option Reason → Type 0

@@ -12,7 +12,8 @@ pub enum Reason {
     DocumentedAlias,
     /// The part at this place is of a dimension that an earlier part of the set has.
     PartTwice(usize),
-    /// In the part at the first place, the number of the span at the second one, or the low end of its range, is none that the part may have.
+    /// In the part at the first place, the number of the span at the second one, or the low end of its range, is none that the part may
+    /// have.
     BadLow(usize, usize),
     /// The same of the high end.
     BadHigh(usize, usize),

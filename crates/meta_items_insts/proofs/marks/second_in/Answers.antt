@@ -1,4 +1,5 @@
-use Rattle.std.proofs.Common.{◌∙◌, List, sym, ap, subst}
+use Rattle.std.proofs.Common.{◌∙◌, ◌+◌, List, sym, ap, refl, subst}
+use Rattle.std.specs.Prelude.{None}
 use Rattle.std.proofs.lemmas.Result.{err_from_is_err_and, IfOk-from_err}
 use Rattle.meta_lists.proofs.Places.{get_there}
 use Rattle.meta_items.specs.declared.insts.Mark.{Mark}
@@ -10,7 +11,7 @@ use Rattle.meta_items_insts.specs.Telling.{Fails}
 use Rattle.meta_items_insts.specs.Insts.{second_of}
 use Rattle.meta_items_insts.specs.Mentioned.{after_marks}
 use Rattle.meta_items_insts.specs.Registered.{IsSecondIn}
-use Rattle.meta_items_insts.proofs.Seconds.{begun, goes_on, fails_here, ended}
+use Rattle.meta_items_insts.proofs.Seconds.{fails_here, ended}
 use Rattle.meta_items_insts.proofs.Mentioning.{marks_more, marks_all}
 use Rattle.meta_items_insts.proofs.marks.second_in.Goals as goal
 
@@ -18,7 +19,7 @@ pub loop-place-init : goal.loop-place-init
 loop-place-init g c = record {
   holds = c.requires;
   extends = extends_same (registered c.args.types.now g.said);
-  so_far = begun g.said.words c.marks_in-marks.result.now (λ m. IsSecondIn (registered c.args.types.now g.said) m _) tt;
+  so_far = record { meant = None; so_far = refl; is = tt };
 }
 
 pub loop-place-preserved : goal.loop-place-preserved
@@ -27,13 +28,16 @@ loop-place-preserved g c =
     let there = get_there all c.loop-place.place c.loop-place-test.true in
     let so_far = c.loop-place.invariant.so_far in
     let more = marks_more g.said all c.loop-place.place there.0 there.1 in
-    let m = c.in_ok-second.ensures.means so_far.meant there.0 so_far.is there.1 in
+    let m = c.in_ok-second.ensures.means so_far.meant there.0 so_far.so_far so_far.is there.1 in
     record {
       holds = subst (Holds c.second_at.new.types) more (c.in_ok-second.ensures.holds there.0 there.1);
       extends = subst (λ (s : Said). Extends (registered c.args.types.now g.said) (registered c.second_at.new.types s)) more
           (extends_more _ _ _ c.loop-place.invariant.extends (c.in_ok-second.ensures.extends there.0 there.1));
-      so_far = goes_on g.said.words all c.loop-place.place there.0 _ _ there.1 so_far m.meaning m.is
-          (subst (λ (s : Said). IsSecondIn (registered c.second_at.new.types s) m.meaning c.in_ok-second.second) more m.by);
+      so_far = record {
+        meant = m.meaning;
+        so_far = m.is;
+        is = subst (λ (s : Said). IsSecondIn (registered c.second_at.new.types s) m.meaning c.in_ok-second.second) more m.by;
+      };
     }
 
 pub returns-in_err-second-clause-means : goal.returns-in_err-second-clause-means
@@ -43,8 +47,8 @@ returns-in_err-second-clause-means g c =
     let there = get_there all c.loop-place.place c.loop-place-test.true in
     let so_far = c.loop-place.invariant.so_far in
     rw (p.1, p.2) (subst (λ (ms : List Mark). Fails c.in_err-second.field-0.0 (second_of g.said.words ms)) c.marks_in-marks.ensures
-    (fails_here g.said.words all c.loop-place.place there.0 _ c.in_err-second.field-0.0
-    there.1 so_far (c.in_err-second.ensures.means so_far.meant there.0 so_far.is there.1)))
+    (fails_here g.said.words all (c.loop-place.place + 1) c.in_err-second.field-0.0
+    (c.in_err-second.ensures.means so_far.meant there.0 so_far.so_far so_far.is there.1)))
 
 pub returns-in_err-second-clause-holds : goal.returns-in_err-second-clause-holds
 returns-in_err-second-clause-holds g c = IfOk-from_err c.from_residual.result _ c.from_residual.ensures.0

@@ -8,4 +8,5 @@ use Rattle.meta_items_declared.specs.OpenGroup.{known_of}
 use Rattle.meta_items_declared.proofs.open_group.OpenGroup.missing_in.Goals as goal
 
 pub loop-place-init : goal.loop-place-init
-loop-place-init c = sym (position_from-zero (λ (n : Name). is_none (meant (known_of c.args.self.now.builder) (name_bytes n))) c.args.names.now)
+loop-place-init c = sym (position_from-zero
+    (λ (n : Name). is_none (meant (known_of c.args.self.now.builder) (name_bytes n))) c.args.names.now)

@@ -4,7 +4,7 @@ use Rattle.std.proofs.lemmas.Result.{err_from_is_err_and}
 use Rattle.meta_items_types.specs.Held.{registered}
 use Rattle.meta_items_insts.specs.Formats.{format_with}
 use Rattle.meta_items_insts.specs.Held.{word_at}
-use Rattle.meta_items_insts.specs.Telling.{◌>>=◌}
+use Rattle.meta_items_types.specs.Telling.{◌>>=◌}
 use Rattle.meta_items_insts.proofs.Told.{fails_on, fails_same}
 use Rattle.meta_items_insts.proofs.Items.{format_no_text, format_declared, format_new}
 use Rattle.meta_items_insts.proofs.Naming.{format_more}
