@@ -1,6 +1,6 @@
 -- Words that no thing has yet, and that stay given.
-use Rattle.std.proofs.Common.{◌≡◌, ◌∙◌, ℕ, Bool, true, false, cond, eqb, List, [], refl, ap, sym, subst}
-use Rattle.std.specs.Prelude.{◌||◌, Option, Some, None, Result, Ok, Err, is_some}
+use Rattle.std.proofs.Common.{◌≡◌, ◌∙◌, ℕ, Bool, true, false, cond, eqb, List, [], refl, ap, subst}
+use Rattle.std.specs.Prelude.{◌||◌, Option, Some, None, Result, Ok, Err}
 use Rattle.std.specs.Cmp.Lexicographic.{pointwise, bytes_decides}
 use Rattle.meta_items.specs.declared.types.AliasItem.{AliasItem}
 use Rattle.meta_items.specs.declared.items.Item.{Item}

@@ -3,12 +3,19 @@
 --     HaveSameTexts d e        so are the texts of Rust source
 --     Describes items d        the items declare what has the same tables and the same texts
 --     IsDescription text d     the text is the canonical one of items that describe the declarations, and reads as them
-use Rattle.std.specs.Prelude.{◌≡◌, ℕ, List, Ok}
+--     AreBuiltAlike d e        the same is built of both
+--     HoldSettingsAlone d      the declarations are groups of settings
+use Rattle.std.specs.Prelude.{◌≡◌, ℕ, List, [], All, map}
+use Rattle.std.specs.Str.{IsUtf8}
 use Rattle.meta_tokens.specs.Laid.{laid}
+use Rattle.meta_tokens.specs.Squeezed.{read_in}
 use Rattle.meta_items.specs.declared.items.Item.{Item}
 use Rattle.meta_items.specs.Spelling.{spelled_all}
-use Rattle.meta_items_reader.specs.Refused.{items_in}
-use Rattle.meta_declared.specs.AllDeclared.{Declared}
+use Rattle.meta_items_reader.specs.Fits.{AllFit}
+use Rattle.meta_inst.specs.InstructionSet.{InstructionSet}
+use Rattle.meta_settings.specs.GroupDeclaration.{SettingDeclaration, GroupDeclaration}
+use Rattle.meta_settings.specs.LaidOut.{built_of}
+use Rattle.meta_declared.specs.AllDeclared.{Declared, AreValid}
 use Rattle.meta_declared.specs.BuiltDeclarations.{BuiltDeclarations, AreBuilt}
 use Rattle.meta_items_declared.specs.AllItems.{Declares}
 use Rattle.meta_gen.specs.WholeTables.{WholeTables, AreWholeTablesOf}
@@ -45,9 +52,21 @@ pub record Describes (items : List Item) (d : Declared) : Type 0 where
   pub tables : HaveSameTables d declared
   pub texts : HaveSameTexts d declared
 
--- the text is the canonical one of items, reads as these items, and they describe the declarations
+-- the text is the canonical one of items, which fit, its tokens are theirs, and they describe the declarations
 pub record IsDescription (text : List ℕ) (d : Declared) : Type 0 where
   pub items : List Item
   pub written : text ≡ laid (spelled_all items)
-  pub read : items_in text ≡ Ok items
+  pub fit : AllFit items
+  pub read : read_in text ≡ spelled_all items
   pub describes : Describes items d
+
+-- their instruction sets are one, the layouts of their groups are the same, and the other show no fault
+pub record AreBuiltAlike (d e : Declared) : Type 0 where
+  pub set : d.set ≡ e.set
+  pub groups : map built_of d.groups ≡ map built_of e.groups
+  pub valid : AreValid e
+
+-- the declarations have groups of settings and no instruction set, and the comment of each setting is UTF-8
+pub record HoldSettingsAlone (d : Declared) : Type 0 where
+  pub set : d.set ≡ (let none : InstructionSet = record { vars = []; formats = []; instructions = [] } in none)
+  pub comments : All (λ (g : GroupDeclaration). All (λ (s : SettingDeclaration). IsUtf8 s.comment) g.settings) d.groups

@@ -1,16 +1,17 @@
 ghost use Rattle.std.specs.Prelude.{◌≡◌, ◌↔◌, List, IfOk, IsTrue};
 ghost use Rattle.meta_items.specs.declared.items.Item.{Item as spec_Item};
+ghost use Rattle.meta_declared.specs.AllDeclared.{Declared};
 ghost use Rattle.meta_items_declared.specs.AllItems.{Declares};
 ghost use Rattle.meta_settings_text.specs.SettingsText.{settings_text};
 ghost use Rattle.meta_builder_text.specs.BuilderText.{builder_text};
 ghost use Rattle.meta_rust_text.specs.InstructionsText.{instructions_text};
-ghost use Rattle.meta_items_described.specs.Described.{HaveSameTables, HaveSameTexts, Describes};
+ghost use Rattle.meta_items_described.specs.Described.{HaveSameTables, HaveSameTexts, AreBuiltAlike, Describes};
 
 use meta_builder_text::builder_text;
-use meta_declared::{Built, Declarations, build_all};
-use meta_gen::tables_of;
+use meta_declared::{Built, Declarations, build_all, one_built, one_first_fault};
+use meta_gen::{one_table_of_declarations, tables_of};
 use meta_items::Item;
-use meta_items_declared::{DeclareError, declare};
+use meta_items_declared::{DeclareError, declare, items_say_one_thing, one_declaration};
 use meta_rust_text::instructions_text;
 use meta_settings_text::settings_text;
 use meta_types::DefinitionError;
@@ -24,10 +25,14 @@ pub(crate) fn are_same(one: &[u8], other: &[u8]) -> bool
 }
 
 /// Whether the tables of both are the same.
-#[tactic(auto, using(crate::proofs::Alike::same_tables))]
+#[tactic(auto, using(crate::proofs::Alike::same_tables, crate::proofs::Alike::tables_alike, crate::proofs::BuiltAlike::tables_stay))]
 fn have_same_tables(alloc: Global, built: &Built<'_>, other: &Built<'_>) -> Result<bool, AllocError>
-    ensures { IfOk result (λ same. IsTrue same → HaveSameTables built.now.declared other.now.declared) }
+    ensures same { IfOk result (λ same. IsTrue same ↔ HaveSameTables built.now.declared other.now.declared) }
+    ensures alike { AreBuiltAlike built.now.declared other.now.declared → IfOk result IsTrue }
 {
+    one_table_of_declarations();
+    // Their clauses say that the variables have sets of types.
+    let (_vars, _others) = (built.declarations().vars(), other.declarations().vars());
     let tables = tables_of(alloc, built)?;
     let others = tables_of(alloc, other)?;
     Ok(tables.same(&others))
@@ -39,7 +44,7 @@ fn have_same_settings(
     built: &Built<'_>,
     other: &Built<'_>,
 ) -> Result<bool, AllocError>
-    ensures { IfOk result (λ same. IsTrue same → settings_text built.now.groups ≡ settings_text other.now.groups) }
+    ensures { IfOk result (λ same. IsTrue same ↔ (settings_text built.now.groups ≡ settings_text other.now.groups)) }
 {
     let text = settings_text(alloc, built.groups())?;
     let others = settings_text(alloc, other.groups())?;
@@ -52,7 +57,7 @@ fn have_same_instructions(
     built: &Built<'_>,
     other: &Built<'_>,
 ) -> Result<bool, AllocError>
-    ensures { IfOk result (λ same. IsTrue same → instructions_text built.now ≡ instructions_text other.now) }
+    ensures { IfOk result (λ same. IsTrue same ↔ (instructions_text built.now ≡ instructions_text other.now)) }
 {
     let text = instructions_text(alloc, built)?;
     let others = instructions_text(alloc, other)?;
@@ -65,7 +70,7 @@ fn have_same_builder(
     built: &Built<'_>,
     other: &Built<'_>,
 ) -> Result<bool, AllocError>
-    ensures { IfOk result (λ same. IsTrue same → builder_text built.now ≡ builder_text other.now) }
+    ensures { IfOk result (λ same. IsTrue same ↔ (builder_text built.now ≡ builder_text other.now)) }
 {
     let text = builder_text(alloc, built)?;
     let others = builder_text(alloc, other)?;
@@ -73,10 +78,12 @@ fn have_same_builder(
 }
 
 /// Whether the texts of both are the same.
-#[tactic(auto, using(crate::proofs::Alike::same_texts))]
+#[tactic(auto, using(crate::proofs::Alike::same_texts, crate::proofs::Alike::texts_alike, crate::proofs::BuiltAlike::texts_of_both))]
 fn have_same_texts(alloc: Global, built: &Built<'_>, other: &Built<'_>) -> Result<bool, AllocError>
-    ensures { IfOk result (λ same. IsTrue same → HaveSameTexts built.now.declared other.now.declared) }
+    ensures same { IfOk result (λ same. IsTrue same ↔ HaveSameTexts built.now.declared other.now.declared) }
+    ensures alike { AreBuiltAlike built.now.declared other.now.declared → IfOk result IsTrue }
 {
+    one_built();
     // Their clauses say that the parts are what is built of the declarations.
     let (_declarations, _others) = (built.declarations(), other.declarations());
     let settings = have_same_settings(alloc, built, other)?;
@@ -86,15 +93,18 @@ fn have_same_texts(alloc: Global, built: &Built<'_>, other: &Built<'_>) -> Resul
 }
 
 /// Whether these declarations show no fault, and what is built of them has the same tables and texts.
-#[tactic(auto, using(crate::proofs::Alike::describes))]
+#[tactic(auto, using(crate::proofs::Alike::describes, crate::proofs::Alike::described))]
 fn are_declared_alike(
     alloc: Global,
     built: &Built<'_>,
     declarations: &Declarations,
 ) -> Result<bool, AllocError>
-    ensures { (items : List spec_Item) → Declares items declarations.now
-        → IfOk result (λ alike. IsTrue alike → Describes items built.now.declared) }
+    ensures describes { (items : List spec_Item) → Declares items declarations.now
+        → IfOk result (λ alike. IsTrue alike ↔ Describes items built.now.declared) }
+    ensures alike { AreBuiltAlike built.now.declared declarations.now → IfOk result IsTrue }
 {
+    one_declaration();
+    one_first_fault();
     match build_all(alloc, declarations) {
         Ok(other) => {
             let tables = have_same_tables(alloc, built, &other)?;
@@ -106,14 +116,15 @@ fn are_declared_alike(
     }
 }
 
-/// Whether the items declare what has the same tables and texts.
-pub(crate) fn is_described(
-    alloc: Global,
-    built: &Built<'_>,
-    items: &[Item],
-) -> Result<bool, AllocError>
-    ensures { IfOk result (λ described. IsTrue described → Describes items.now built.now.declared) }
+/// Whether the items describe the declarations, of which this is built: nothing is wrong with them, and what they declare has the same
+/// tables and the same texts of Rust source (this project's own).
+pub fn is_described(alloc: Global, built: &Built<'_>, items: &[Item]) -> Result<bool, AllocError>
+    ensures describes { IfOk result (λ described. IsTrue described ↔ Describes items.now built.now.declared) }
+    // Items that declare something of which the same is built describe them.
+    ensures alike { (e : Declared) → Declares items.now e → AreBuiltAlike built.now.declared e → IfOk result IsTrue }
 {
+    items_say_one_thing();
+    one_declaration();
     match declare(alloc, items) {
         Ok(declarations) => are_declared_alike(alloc, built, &declarations),
         Err(DeclareError::Memory) => Err(AllocError),

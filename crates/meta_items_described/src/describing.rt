@@ -1,5 +1,14 @@
-ghost use Rattle.std.specs.Prelude.{◌≡◌, IfOk, IfSome, IsTrue, string_bytes};
-ghost use Rattle.meta_items_described.specs.Described.{Describes, IsDescription};
+ghost use Rattle.std.specs.Prelude.{◌≡◌, ◌↔◌, List, [], Some, IfOk, OnOk, IfSome, IsTrue, option_map, string_bytes};
+ghost use Rattle.std.specs.Str.{IsUtf8};
+ghost use Rattle.meta_declared.specs.AllDeclared.{Declared};
+ghost use Rattle.meta_items.specs.declared.items.Item.{Item as spec_Item};
+ghost use Rattle.meta_items_declared.specs.AllItems.{Declares};
+ghost use Rattle.meta_items_reader.specs.Fits.{AllFit};
+ghost use Rattle.meta_tokens.specs.Laid.{laid};
+ghost use Rattle.meta_tokens.specs.Squeezed.{read_in};
+ghost use Rattle.meta_items.specs.Spelling.{spelled_all};
+ghost use Rattle.meta_items_described.specs.Described.{Describes, IsDescription, AreBuiltAlike, HoldSettingsAlone};
+ghost use Rattle.meta_items_described.specs.SettingItems.{items_of_groups, EndWith};
 
 use super::checking::{are_same, is_described};
 use super::formats::{FormatWords, are_formats_of, used_formats};
@@ -10,18 +19,30 @@ use super::settings::push_groups;
 use super::words::Words;
 use meta_declared::Built;
 use meta_items::{Item, write_items};
-use meta_items_reader::{ReadError, read_items};
+use meta_items_reader::{ReadError, one_list_of_items, read_items, what_is_written_is_read};
 use meta_operands::FormatId;
 use std::alloc::{AllocError, Global};
 use std::collections::BTreeSet;
 use std::str;
+
+/// The items for the groups.
+fn group_items(alloc: Global, built: &Built<'_>) -> Result<Vec<Item>, AllocError>
+    ensures says { IfOk result (λ v. v.items ≡ items_of_groups built.now.groups) }
+    ensures fit { OnOk result (AllFit (items_of_groups built.now.groups)) }
+{
+    let mut items = Vec::new(alloc);
+    push_groups(alloc, built.groups(), &mut items)?;
+    Ok(items)
+}
 
 /// The items for what is built of declarations: types and kinds, formats, instructions, and groups.
 fn items_for(
     alloc: Global,
     built: &Built<'_>,
     formats: &BTreeSet<FormatId>,
-) -> Result<Vec<Item>, AllocError> {
+) -> Result<Vec<Item>, AllocError>
+    ensures { IfOk result (λ v. EndWith v.items built.now.groups) }
+{
     let declarations = built.declarations();
     let mut items = Vec::new(alloc);
     let mut words = Words::new(alloc);
@@ -33,8 +54,16 @@ fn items_for(
     Ok(items)
 }
 
-/// The items for what is built of declarations, if they can say the kinds of the formats in use.
-fn tried_items(alloc: Global, built: &Built<'_>) -> Result<Option<Vec<Item>>, AllocError> {
+/// The items for what is built of declarations, if they can say the kinds of the formats in use. Without instructions none is.
+fn tried_items(alloc: Global, built: &Built<'_>) -> Result<Option<Vec<Item>>, AllocError>
+    ensures settings { built.now.instructions ≡ []
+        → IfOk result (λ o. option_map (λ v. v.items) o ≡ Some (items_of_groups built.now.groups)) }
+    ensures fit { built.now.instructions ≡ [] → OnOk result (AllFit (items_of_groups built.now.groups)) }
+    ensures groups { IfOk result (λ o. IfSome o (λ v. EndWith v.items built.now.groups)) }
+{
+    if built.instructions().is_empty() {
+        return Ok(Some(group_items(alloc, built)?));
+    }
     let formats = used_formats(alloc, built)?;
     if !are_formats_of(built.declarations(), &formats) {
         return Ok(None);
@@ -51,8 +80,15 @@ fn tried_items(alloc: Global, built: &Built<'_>) -> Result<Option<Vec<Item>>, Al
 /// type may have.
 pub fn describe(alloc: Global, built: &Built<'_>) -> Result<Option<Vec<Item>>, AllocError>
     // What the items declare has the same tables and the same texts.
-    ensures { IfOk result (λ o. IfSome o (λ v. Describes v.items built.now.declared)) }
+    ensures describes { IfOk result (λ o. IfSome o (λ v. Describes v.items built.now.declared)) }
+    // The last items are those of the groups, each setting's in the order of the layout.
+    ensures groups { IfOk result (λ o. IfSome o (λ v. EndWith v.items built.now.groups)) }
+    // Settings alone are described, by these items.
+    ensures settings { HoldSettingsAlone built.now.declared
+        → IfOk result (λ o. option_map (λ v. v.items) o ≡ Some (items_of_groups built.now.groups)) }
 {
+    // Its clauses say that the parts are what is built of the declarations.
+    let _declarations = built.declarations();
     let Some(items) = tried_items(alloc, built)? else {
         return Ok(None);
     };
@@ -62,11 +98,17 @@ pub fn describe(alloc: Global, built: &Built<'_>) -> Result<Option<Vec<Item>>, A
     Ok(None)
 }
 
-/// Whether a text is the canonical one of the items that it reads as, and these describe the declarations.
+/// Whether a text is the canonical one of the items that it reads as, and these describe the declarations, of which this is built (this
+/// project's own).
 #[tactic(auto, using(crate::proofs::Alike::description))]
-fn is_description(alloc: Global, built: &Built<'_>, text: &[u8]) -> Result<bool, AllocError>
-    ensures { IfOk result (λ described. IsTrue described → IsDescription text.now built.now.declared) }
+pub fn is_description(alloc: Global, built: &Built<'_>, text: &[u8]) -> Result<bool, AllocError>
+    ensures describes { IfOk result (λ described. IsTrue described ↔ IsDescription text.now built.now.declared) }
+    ensures utf8 { IfOk result (λ described. IsTrue described → IsUtf8 text.now) }
+    // The canonical text of items that declare something of which the same is built describes them.
+    ensures alike { (items : List spec_Item) (e : Declared) → text.now ≡ laid (spelled_all items) → AllFit items
+        → read_in text.now ≡ spelled_all items → Declares items e → AreBuiltAlike built.now.declared e → IfOk result IsTrue }
 {
+    one_list_of_items();
     match read_items(alloc, text) {
         Ok(read) => {
             let written = write_items(alloc, &read.items)?;
@@ -78,13 +120,14 @@ fn is_description(alloc: Global, built: &Built<'_>, text: &[u8]) -> Result<bool,
     }
 }
 
-/// These bytes as a text. Bytes that are no UTF-8 are handled as want of memory: what reads as items is.
+/// These bytes, which are UTF-8, as a text.
 fn text_of(alloc: Global, bytes: &[u8]) -> Result<String, AllocError>
+    requires { IsUtf8 bytes.now }
     ensures { IfOk result (λ text. string_bytes text ≡ bytes.now) }
 {
     match str::from_utf8(bytes) {
         Ok(text) => String::from_str(alloc, text),
-        Err(_) => Err(AllocError),
+        Err(_) => unreachable!(),
     }
 }
 
@@ -93,8 +136,14 @@ fn text_of(alloc: Global, bytes: &[u8]) -> Result<String, AllocError>
 /// The text is made, read, declared and compared. `None` comes where it would declare something else or be refused.
 pub fn write_description(alloc: Global, built: &Built<'_>) -> Result<Option<String>, AllocError>
     // The text reads as items that declare what has the same tables and the same texts.
-    ensures { IfOk result (λ o. IfSome o (λ text. IsDescription (string_bytes text) built.now.declared)) }
+    ensures describes { IfOk result (λ o. IfSome o (λ text. IsDescription (string_bytes text) built.now.declared)) }
+    // Settings alone are described, by the canonical text of their items.
+    ensures settings { HoldSettingsAlone built.now.declared
+        → IfOk result (λ o. option_map string_bytes o ≡ Some (laid (spelled_all (items_of_groups built.now.groups)))) }
 {
+    what_is_written_is_read();
+    // Its clauses say that the parts are what is built of the declarations.
+    let _declarations = built.declarations();
     let Some(items) = tried_items(alloc, built)? else {
         return Ok(None);
     };

@@ -20,4 +20,5 @@ mod used_kinds;
 mod used_roots;
 mod words;
 
-pub use describing::{describe, write_description};
+pub use checking::is_described;
+pub use describing::{describe, is_description, write_description};

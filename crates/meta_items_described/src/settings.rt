@@ -1,6 +1,8 @@
-ghost use Rattle.std.specs.Prelude.{◌≡◌, IfOk, map};
+ghost use Rattle.std.specs.Prelude.{◌≡◌, ◌++◌, IfOk, OnOk, map};
 ghost use Rattle.meta_settings.specs.PresetLayout.{names_turned_on};
-ghost use Rattle.meta_items.specs.Named.{name_bytes};
+ghost use Rattle.meta_items_reader.specs.Fits.{Fits, Every};
+ghost use Rattle.meta_items_described.specs.Wording.{name_for};
+ghost use Rattle.meta_items_described.specs.SettingItems.{item_of_setting, item_of_preset, items_of_group, items_of_groups};
 
 use super::texts::{docs_of, name_of, unless_same};
 use meta_items::{BoolItem, EnumItem, Item, Listed, Name, NumItem, PresetItem};
@@ -10,7 +12,7 @@ use std::alloc::{AllocError, Global};
 
 /// The names of values.
 fn names_of(alloc: Global, texts: &[Text]) -> Result<Vec<Name>, AllocError>
-    ensures { IfOk result (λ names. map name_bytes names.items ≡ texts.now) }
+    ensures { IfOk result (λ names. names.items ≡ map name_for texts.now) }
 {
     let mut names = Vec::new(alloc);
     for text in texts {
@@ -20,7 +22,10 @@ fn names_of(alloc: Global, texts: &[Text]) -> Result<Vec<Name>, AllocError>
 }
 
 /// The setting as items have it.
-fn setting_of(alloc: Global, setting: &Setting) -> Result<Item, AllocError> {
+fn setting_of(alloc: Global, setting: &Setting) -> Result<Item, AllocError>
+    ensures says { IfOk result (λ item. item ≡ item_of_setting setting.now) }
+    ensures fits { IfOk result (λ item. Fits item) }
+{
     let docs = docs_of(alloc, setting.description().as_bytes())?;
     let name = name_of(alloc, setting.name().as_bytes())?;
     let comment = unless_same(alloc, setting.comment().as_bytes(), b"")?;
@@ -48,7 +53,7 @@ fn setting_of(alloc: Global, setting: &Setting) -> Result<Item, AllocError> {
 
 /// The names of the booleans that a preset turns on. A preset that isn't of the group is handled as want of memory.
 fn args_of(alloc: Global, group: &SettingGroup, preset: &Preset) -> Result<Vec<Name>, AllocError>
-    ensures { IfOk result (λ names. map name_bytes names.items ≡ names_turned_on group.now preset.now) }
+    ensures { IfOk result (λ names. names.items ≡ map name_for (names_turned_on group.now preset.now)) }
 {
     if !group.has(preset) {
         return Err(AllocError);
@@ -61,7 +66,9 @@ fn args_of(alloc: Global, group: &SettingGroup, preset: &Preset) -> Result<Vec<N
 }
 
 /// The preset as items have it.
-fn preset_of(alloc: Global, group: &SettingGroup, preset: &Preset) -> Result<Item, AllocError> {
+fn preset_of(alloc: Global, group: &SettingGroup, preset: &Preset) -> Result<Item, AllocError>
+    ensures { IfOk result (λ item. item ≡ item_of_preset group.now preset.now) }
+{
     Ok(Item::Preset(PresetItem {
         docs: docs_of(alloc, preset.description().as_bytes())?,
         name: name_of(alloc, preset.name().as_bytes())?,
@@ -70,11 +77,10 @@ fn preset_of(alloc: Global, group: &SettingGroup, preset: &Preset) -> Result<Ite
 }
 
 /// Adds the items of a group, its settings in the order of its layout, and its presets.
-fn push_group(
-    alloc: Global,
-    group: &SettingGroup,
-    items: &mut Vec<Item>,
-) -> Result<(), AllocError> {
+fn push_group(alloc: Global, group: &SettingGroup, items: &mut Vec<Item>) -> Result<(), AllocError>
+    ensures adds { OnOk result (items.new.items ≡ items.old.items ++ items_of_group group.now) }
+    ensures fit { OnOk result (Every Fits (items_of_group group.now)) }
+{
     items.push(Item::Group(name_of(alloc, group.name().as_bytes())?))?;
     for setting in group.settings() {
         items.push(setting_of(alloc, setting)?)?;
@@ -90,7 +96,10 @@ pub(crate) fn push_groups(
     alloc: Global,
     groups: &[SettingGroup],
     items: &mut Vec<Item>,
-) -> Result<(), AllocError> {
+) -> Result<(), AllocError>
+    ensures adds { OnOk result (items.new.items ≡ items.old.items ++ items_of_groups groups.now) }
+    ensures fit { OnOk result (Every Fits (items_of_groups groups.now)) }
+{
     for group in groups {
         push_group(alloc, group, items)?;
     }

@@ -1,10 +1,11 @@
-ghost use Rattle.std.specs.Prelude.{◌≡◌, IsTrue, IfOk};
+ghost use Rattle.std.specs.Prelude.{◌≡◌, ◌==◌, IsTrue, IfOk, Some, None, if◌then◌else◌};
+ghost use Rattle.std.specs.Cmp.Lexicographic.{pointwise};
 ghost use Rattle.std.specs.Option.{unwrap_or};
 ghost use Rattle.std.specs.List.{list_all};
 ghost use Rattle.meta_tokens.specs.Scan.{is_word_byte};
 ghost use Rattle.meta_tokens.specs.Laid.{IsWord};
 ghost use Rattle.meta_items.specs.Named.{name_bytes, doc_text};
-ghost use Rattle.meta_items_described.specs.Wording.{are_word_bytes, begins_as_name};
+ghost use Rattle.meta_items_described.specs.Wording.{are_word_bytes, begins_as_name, is_plain_word, name_for, doc_lines};
 
 use meta_items::{Docs, Name};
 use meta_tokens::{Bytes, Keyword};
@@ -34,7 +35,8 @@ fn are_word_bytes(bytes: &[u8]) -> bool
 /// Whether the bytes are a word that is no keyword.
 #[tactic(auto, using(crate::proofs::Wording::is_word))]
 pub(crate) fn is_word(bytes: &[u8]) -> bool
-    ensures { IsTrue result → IsWord bytes.now }
+    ensures says { result ≡ is_plain_word bytes.now }
+    ensures word { IsTrue result → IsWord bytes.now }
 {
     are_word_bytes(bytes) && Keyword::of(bytes).is_none()
 }
@@ -58,7 +60,8 @@ pub(crate) fn bytes_of(alloc: Global, bytes: &[u8]) -> Result<Bytes, AllocError>
 
 /// The name that these bytes are, in quotes where they are no word or a keyword.
 pub(crate) fn name_of(alloc: Global, bytes: &[u8]) -> Result<Name, AllocError>
-    ensures { IfOk result (λ name. name_bytes name ≡ bytes.now) }
+    ensures says { IfOk result (λ name. name ≡ name_for bytes.now) }
+    ensures tells { IfOk result (λ name. name_bytes name ≡ bytes.now) }
 {
     let owned = bytes_of(alloc, bytes)?;
     if is_word(bytes) {
@@ -73,7 +76,8 @@ pub(crate) fn unless_same(
     text: &[u8],
     told: &[u8],
 ) -> Result<Option<Bytes>, AllocError>
-    ensures { IfOk result (λ o. unwrap_or o told.now ≡ text.now) }
+    ensures says { IfOk result (λ o. o ≡ (if pointwise ◌==◌ text.now told.now then None else Some text.now)) }
+    ensures tells { IfOk result (λ o. unwrap_or o told.now ≡ text.now) }
 {
     if text == told {
         return Ok(None);
@@ -83,7 +87,8 @@ pub(crate) fn unless_same(
 
 /// The lines of a documentation, none where it is empty.
 pub(crate) fn docs_of(alloc: Global, text: &[u8]) -> Result<Docs, AllocError>
-    ensures { IfOk result (λ docs. doc_text docs ≡ text.now) }
+    ensures says { IfOk result (λ docs. docs ≡ doc_lines text.now) }
+    ensures tells { IfOk result (λ docs. doc_text docs ≡ text.now) }
 {
     let mut lines = Vec::new(alloc);
     if text.is_empty() {

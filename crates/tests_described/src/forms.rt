@@ -1,5 +1,6 @@
 use super::expect::expect;
-use super::reading::is_described_by;
+use super::reading::{describe_those, is_described_by};
+use std::alloc::Global;
 use std::test::Fail;
 
 /// Names that are no words, shared names, keywords, words with a meaning of their own, texts with quotes, and what isn't in use.
@@ -157,5 +158,47 @@ bool b = true
 fn a_small_machine(rt: HostRuntime) -> Result<(), Fail> {
     let alloc = rt.alloc();
     expect(&rt, is_described_by(alloc, MACHINE, MACHINE_DESCRIBED), 1);
+    Ok(())
+}
+
+/// Settings in two orders that are laid out alike, in another layout of the text, and with another default.
+const SETTINGS: &[u8] = b"group g\nbool b = true\nnum n = 3\n";
+
+const SETTINGS_IN_ORDER: &[u8] = b"group g\nnum n = 3\nbool b = true\n";
+
+const SETTINGS_APART: &[u8] = b"group  g\nnum n = 3\nbool b = true\n";
+
+const OTHER_SETTINGS: &[u8] = b"group g\nnum n = 3\nbool b = false\n";
+
+/// Whether the items of a text describe those settings, and whether the text does.
+fn of_settings(alloc: Global, text: &[u8]) -> Option<(bool, bool)> {
+    describe_those(alloc, text, SETTINGS)
+}
+
+#[test]
+fn what_describes_settings(rt: HostRuntime) -> Result<(), Fail> {
+    let alloc = rt.alloc();
+    expect(&rt, is_described_by(alloc, SETTINGS, SETTINGS_IN_ORDER), 1);
+    expect(&rt, of_settings(alloc, SETTINGS) == Some((true, true)), 2);
+    expect(
+        &rt,
+        of_settings(alloc, SETTINGS_IN_ORDER) == Some((true, true)),
+        3,
+    );
+    expect(
+        &rt,
+        of_settings(alloc, SETTINGS_APART) == Some((true, false)),
+        4,
+    );
+    expect(
+        &rt,
+        of_settings(alloc, OTHER_SETTINGS) == Some((false, false)),
+        5,
+    );
+    expect(
+        &rt,
+        of_settings(alloc, b"group g") == Some((false, false)),
+        6,
+    );
     Ok(())
 }

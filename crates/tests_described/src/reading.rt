@@ -2,7 +2,7 @@ use meta_declared::{Built, Declarations, build_all};
 use meta_gen::tables_of;
 use meta_items::write_items;
 use meta_items_declared::declare;
-use meta_items_described::{describe, write_description};
+use meta_items_described::{describe, is_described, is_description, write_description};
 use meta_items_reader::read_items;
 use std::alloc::Global;
 
@@ -51,6 +51,25 @@ pub(crate) fn is_described_by(alloc: Global, text: &[u8], wanted: &[u8]) -> bool
         return false;
     };
     described.as_slice() == wanted
+}
+
+/// Whether the items of the one text describe the declarations that the other makes, and whether the text does; nothing where there are
+/// none.
+pub(crate) fn describe_those(alloc: Global, text: &[u8], of: &[u8]) -> Option<(bool, bool)> {
+    let declarations = declared(alloc, of)?;
+    let Ok(built) = build_all(alloc, &declarations) else {
+        return None;
+    };
+    let Ok(read) = read_items(alloc, text) else {
+        return None;
+    };
+    let Ok(items) = is_described(alloc, &built, &read.items) else {
+        return None;
+    };
+    let Ok(whole) = is_description(alloc, &built, text) else {
+        return None;
+    };
+    Some((items, whole))
 }
 
 /// Whether both have the same tables.

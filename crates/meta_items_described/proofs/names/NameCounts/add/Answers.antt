@@ -1,4 +1,3 @@
-use Rattle.std.proofs.Common.{◌∙◌}
 use Rattle.meta_items_described.proofs.Inserted.{counted}
 use Rattle.meta_items_described.proofs.names.NameCounts.add.Goals as goal
 
