@@ -11,6 +11,7 @@ use Rattle.meta_file.specs.declared.over.Over.TheVariants.{Shared, File}
 use Rattle.meta_file.specs.declared.tool.Tool.{Tool}
 use Rattle.meta_file.specs.declared.tool.Tool.TheVariants.{Run, TablesIn, Verify, Asm, Flags, Audit, Check, Describe}
 use Rattle.meta_command_line.specs.Wrong.{AskWhatIsListed, BeginWithAsm, IsTooMany, words_over}
+use Rattle.meta_command_line.proofs.Words.{first_letter, letter}
 
 -- words that ask nothing and don't begin with `asm` aren't taken
 pub none_taken : (commands : List CommandForm) (words : List (List ℕ)) → AskWhatIsListed commands
@@ -20,19 +21,9 @@ none_taken commands words listed nothing no_asm t =
 
 -- ---- two words
 
-abbrev first_of : List (List ℕ) → List ℕ
-first_of [] = []
-first_of (word ∷ words) = word
-
-abbrev first_letter : List ℕ → ℕ
-first_letter [] = 0
-first_letter (c ∷ cs) = c
-
-abbrev letter : List (List ℕ) → ℕ
-letter words = first_letter (first_of words)
-
 -- two words that ask something are `synth` and a number, or `asm` and a form
-two_words : (tool : Tool) (name word : List ℕ) → AreToolWords tool (name ∷ (word ∷ [])) → (first_letter name ≡ 115) ⊎ (first_letter name ≡ 97)
+two_words : (tool : Tool) (name word : List ℕ) → AreToolWords tool (name ∷ (word ∷ []))
+    → (first_letter name ≡ 115) ⊎ (first_letter name ≡ 97)
 two_words (Run Query) name word h = let clash : 2 ≡ 1 = ap length h.are in absurd (omega (arith, clash))
 two_words (Run Recheck) name word h = let clash : 2 ≡ 1 = ap length h.are in absurd (omega (arith, clash))
 two_words (Run Tables) name word h = let clash : 2 ≡ 1 = ap length h.are in absurd (omega (arith, clash))

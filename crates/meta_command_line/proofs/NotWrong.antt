@@ -1,5 +1,5 @@
 -- Nothing is wrong with words where no case holds.
-use Rattle.std.proofs.Common.{◌≡◌, ◌∙◌, ◌↔◌, ℕ, Bool, true, false, IsTrue, List, [], ◌∷◌, sym, ap, ap₂, subst}
+use Rattle.std.proofs.Common.{◌≡◌, ◌∙◌, ◌↔◌, ℕ, Bool, true, false, IsTrue, List, ◌∷◌, sym, ap, ap₂, subst}
 use Rattle.std.specs.Prelude.{codes, Option, None}
 use Rattle.meta_table_text.specs.declared.version.Version.{Version}
 use Rattle.meta_file.specs.TablesIn.{version_word}
@@ -7,6 +7,7 @@ use Rattle.meta_file.specs.declared.over.Over.{Over}
 use Rattle.meta_command_line.specs.Wrong.{IsFileMissing, IsTooMany, NameNoVersion, BeginWithAsm, words_over, IsWrong, IsWrongIfAny}
 use Rattle.meta_command_line.specs.declared.wrong.Wrong.{Wrong}
 use Rattle.meta_command_line.specs.declared.wrong.Wrong.TheVariants.{FileMissing, WordTooMany, NoVersion, NoForm}
+use Rattle.meta_command_line.proofs.Words.{first, second}
 
 pub not_wrong : (over : Over) → (IsFileMissing over → ⊥) → ((place : ℕ) → IsTooMany over place → ⊥)
     → (NameNoVersion (words_over over) → ⊥) → (BeginWithAsm (words_over over) → ⊥) → (wrong : Wrong) → IsWrong over wrong → ⊥
@@ -21,15 +22,6 @@ not_asm over wrong words is h e begin = (subst (IsWrongIfAny over) is h) NoForm 
 
 pub no_truth : false ≡ true → ⊥
 no_truth e = absurd (cc)
-
-abbrev first : List (List ℕ) → List ℕ
-first [] = []
-first (a ∷ words) = a
-
-abbrev second : List (List ℕ) → List ℕ
-second [] = []
-second (a ∷ []) = []
-second (a ∷ b ∷ words) = b
 
 -- whether the two words are those of a version tells whether the words name one that isn't
 pub is_no_version : (words : List (List ℕ)) (name option version : List ℕ) (behind : List (List ℕ)) (test : Bool)

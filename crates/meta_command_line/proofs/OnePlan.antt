@@ -1,5 +1,5 @@
 -- Words have one plan at most.
-use Rattle.std.proofs.Common.{◌≡◌, ◌∙◌, ℕ, inl, inr, List, [], ◌∷◌, length, refl, sym, ap, ap₂, arith}
+use Rattle.std.proofs.Common.{◌≡◌, ◌∙◌, ℕ, inl, inr, List, length, refl, sym, ap, ap₂, arith}
 use Rattle.std.specs.Prelude.{codes, None, Some}
 use Rattle.meta_main.specs.declared.asked.Asked.TheVariants as asks
 use Rattle.meta_file.specs.Over.{IsOption, AskOverFile}
@@ -7,26 +7,7 @@ use Rattle.meta_command_line.specs.Plan.{AskOfItself, IsPlan, Planned, planned}
 use Rattle.meta_command_line.specs.declared.plan.Plan.{Plan}
 use Rattle.meta_command_line.specs.declared.plan.Plan.TheVariants.{Help, Version, Shared, File, Check}
 use Rattle.meta_command_line.proofs.Asked.{one_asked}
-
-abbrev first : List (List ℕ) → List ℕ
-first [] = []
-first (a ∷ words) = a
-
-abbrev second : List (List ℕ) → List ℕ
-second [] = []
-second (a ∷ []) = []
-second (a ∷ b ∷ words) = b
-
-abbrev third : List (List ℕ) → List ℕ
-third [] = []
-third (a ∷ []) = []
-third (a ∷ b ∷ []) = []
-third (a ∷ b ∷ c ∷ words) = c
-
-abbrev behind_two : List (List ℕ) → List (List ℕ)
-behind_two [] = []
-behind_two (a ∷ []) = []
-behind_two (a ∷ b ∷ words) = words
+use Rattle.meta_command_line.proofs.Words.{first, second, third, behind_two}
 
 no_option : (word : List ℕ) → IsOption word → word ≡ codes "check" → ⊥
 no_option word (inl o) e = let clash : 2 ≡ 5 = ap length (sym o ∙ e) in absurd (omega (arith, clash))

@@ -11,7 +11,7 @@ mod telling;
 mod wrong;
 
 pub use file_trouble::FileTrouble;
-pub use laws::one_plan;
+pub use laws::{one_plan, one_wrong};
 pub use plan::Plan;
 pub use saying::wrong_line;
 pub use telling::about;

@@ -1,8 +1,8 @@
 ghost use Rattle.std.specs.Prelude.{◌≡◌, ◌∷◌, [], IfOk, string_bytes};
 ghost use Rattle.meta_main.specs.Misuse.{AreTaken};
-ghost use Rattle.meta_main.specs.Usage.{IsUsageLine};
+ghost use Rattle.meta_main.specs.Usage.{ArePlainlyNamed, IsPlain, IsUsageLine};
 ghost use Rattle.meta_file.specs.Tool.{AskSomething};
-ghost use Rattle.meta_command_line.specs.Wrong.{words_over, IsTooMany, BeginWithAsm, IsWrongIfAny, AskWhatIsListed};
+ghost use Rattle.meta_command_line.specs.Wrong.{words_over, MissFile, IsTooMany, BeginWithAsm, IsWrongIfAny, AskWhatIsListed};
 ghost use Rattle.meta_command_line.specs.Wrong.{SaysFileMissing, SaysTooMany, Says, IsWrongLine};
 
 use super::wrong::{Wrong, words_of};
@@ -18,7 +18,8 @@ fn usage_of(
     words: &[Text],
 ) -> Result<String, AllocError>
     requires { AreTaken commands.now words.now → ⊥ }
-    ensures { IfOk result (λ line. IsUsageLine commands.now words.now (string_bytes line)) }
+    ensures plain { ArePlainlyNamed commands.now → IfOk result (λ line. IsPlain (string_bytes line)) }
+    ensures line { IfOk result (λ line. IsUsageLine commands.now words.now (string_bytes line)) }
 {
     let manual = Manual {
         name: "",
@@ -31,7 +32,9 @@ fn usage_of(
 
 /// A file is missing for the first word; where there is none, that is handled as want of memory.
 fn file_missing(alloc: Global, words: &[Text]) -> Result<String, AllocError>
-    ensures { IfOk result (λ line. SaysFileMissing words.now (string_bytes line)) }
+    requires { MissFile words.now }
+    ensures plain { IfOk result (λ line. IsPlain (string_bytes line)) }
+    ensures line { IfOk result (λ line. SaysFileMissing words.now (string_bytes line)) }
 {
     let Some(name) = words.get(0) else {
         return Err(AllocError);
@@ -58,7 +61,8 @@ fn usage_of_both(
     word: &Text,
 ) -> Result<String, AllocError>
     requires { AreTaken commands.now (name.now ∷ (word.now ∷ [])) → ⊥ }
-    ensures { IfOk result (λ line. IsUsageLine commands.now (name.now ∷ (word.now ∷ [])) (string_bytes line)) }
+    ensures plain { ArePlainlyNamed commands.now → IfOk result (λ line. IsPlain (string_bytes line)) }
+    ensures line { IfOk result (λ line. IsUsageLine commands.now (name.now ∷ (word.now ∷ [])) (string_bytes line)) }
 {
     let words = both(alloc, name, word)?;
     usage_of(alloc, commands, &words)
@@ -75,7 +79,8 @@ fn word_too_many(
     requires listed { AskWhatIsListed commands.now }
     requires words { words.now ≡ words_over over.now }
     requires place { IsTooMany over.now place }
-    ensures { IfOk result (λ line. SaysTooMany commands.now words.now place (string_bytes line)) }
+    ensures plain { ArePlainlyNamed commands.now → IfOk result (λ line. IsPlain (string_bytes line)) }
+    ensures line { IfOk result (λ line. SaysTooMany commands.now words.now place (string_bytes line)) }
 {
     let Some(name) = words.get(0) else {
         return Err(AllocError);
@@ -95,7 +100,8 @@ fn no_command(
     requires listed { AskWhatIsListed commands.now }
     requires nothing { AskSomething words.now → ⊥ }
     requires no_asm { BeginWithAsm words.now → ⊥ }
-    ensures { IfOk result (λ line. IsUsageLine commands.now words.now (string_bytes line)) }
+    ensures plain { ArePlainlyNamed commands.now → IfOk result (λ line. IsPlain (string_bytes line)) }
+    ensures line { IfOk result (λ line. IsUsageLine commands.now words.now (string_bytes line)) }
 {
     usage_of(alloc, commands, words)
 }
@@ -110,7 +116,8 @@ fn said(
     requires listed { AskWhatIsListed commands.now }
     requires nothing { AskSomething (words_over over.now) → ⊥ }
     requires wrong { IsWrongIfAny over.now wrong }
-    ensures { IfOk result (λ line. Says commands.now (words_over over.now) wrong (string_bytes line)) }
+    ensures plain { ArePlainlyNamed commands.now → IfOk result (λ line. IsPlain (string_bytes line)) }
+    ensures line { IfOk result (λ line. Says commands.now (words_over over.now) wrong (string_bytes line)) }
 {
     let words = words_of(over);
     match wrong {
@@ -125,14 +132,16 @@ fn said(
 }
 
 /// What is wrong with words that ask nothing over the shared declarations or a file, where these are the commands, as those of
-/// `listed_tools` are: one line, without its line feed (this project's own).
+/// `listed_tools` are: one line, without its line feed. Where the names of the commands are plain, so is each byte of it (this
+/// project's own).
 pub fn wrong_line(
     alloc: Global,
     commands: &'static [CommandForm],
     over: &Over<'_>,
 ) -> Result<String, AllocError>
     requires listed { AskWhatIsListed commands.now }
-    ensures { (AskSomething (words_over over.now) → ⊥)
+    ensures plain { ArePlainlyNamed commands.now → IfOk result (λ line. IsPlain (string_bytes line)) }
+    ensures line { (AskSomething (words_over over.now) → ⊥)
         → IfOk result (λ line. IsWrongLine commands.now over.now (string_bytes line)) }
 {
     if Tool::parse(words_of(over)).is_some() {

@@ -23,8 +23,13 @@ read_all input bytes (Some rest) e end =
     let whole : input ≡ bytes ++ rest = cc in
     sym (whole ∙ ap (λ r. bytes ++ r) end ∙ append-nil bytes)
 
+-- the text that was read of a file is the one that was given
+pub same_text : {F : Type 0} (file_left : F → Option (List ℕ)) (f f' : F) (text bytes : List ℕ) → file_left f ≡ Some text
+    → IsReadWhole file_left f f' bytes → bytes ≡ text
+same_text file_left f f' text bytes told read = read_all text bytes (file_left f') (sym told ∙ read.read) read.end
+
 -- a source doesn't give more than it had
-gave_within : (input : List ℕ) (left left' : Option (List ℕ)) → left ≡ Some input → length input ≤ longest_input
+pub gave_within : (input : List ℕ) (left left' : Option (List ℕ)) → left ≡ Some input → length input ≤ longest_input
     → GaveMore longest_input left left' → ⊥
 gave_within input left left' told few h = within left' (sym told ∙ h.given)
   where
@@ -52,16 +57,12 @@ module _ {F S K : Type 0} (file_left : F → Option (List ℕ)) (file_reads : F 
   abbrev Did : FileEnding → Type 0
   Did ending = DidFile file_left file_reads left reads taken writes words path f f' s s' k k' ending
 
-  -- the text that was read is the one that was given
-  same_text : (text bytes : List ℕ) → file_left f ≡ Some text → IsReadWhole file_left f f' bytes → bytes ≡ text
-  same_text text bytes told read = read_all text bytes (file_left f') (sym told ∙ read.read) read.end
-
   -- what the words ask was answered over the declarations
   answered : (ending : Ending) → RanFile file_left file_reads left reads taken writes words path f f' s s' k k' ending
       → (text : List ℕ) (d : Declared) (tool : Tool) → file_left f ≡ Some text → Declares text d → AreToolWords tool words
       → AnswersInput left reads taken writes d s s' k k' (reads_input tool) (texts_of tool) ending
   answered ending ran text d tool told declares asks =
-      let texts = same_text text ran.text told ran.read in
+      let texts = same_text file_left f f' text ran.text told ran.read in
       let r = ran.ran in
       let same = one_declared text r.declared d (subst (λ (t : List ℕ). Declares t r.declared) texts r.declares) declares in
       let run : IsRun left reads taken writes r.declared s s' k k' (λ (t : Tool). AreToolWords t words) reads_input texts_of ending =
@@ -80,7 +81,7 @@ module _ {F S K : Type 0} (file_left : F → Option (List ℕ)) (file_reads : F 
   headline (Ran ending) (inr (inr out)) text d tool given declares valid asks memory input before g taken_is no_write =
       absurd (memory (ap Ran out.1))
   headline (Refused message) did text d tool given declares valid asks memory input before g taken_is no_write =
-      let texts = same_text text did.1.text given.0 did.1.read in
+      let texts = same_text file_left f f' text did.1.text given.0 did.1.read in
       absurd (not_refused path text message d (subst (λ (t : List ℕ). IsRefusal path t message) texts did.1.refusal) declares valid)
   headline FileFault did text d tool given declares valid asks memory input before g taken_is no_write = absurd (given.2 did.1)
   headline FileTooLong did text d tool given declares valid asks memory input before g taken_is no_write =
@@ -89,12 +90,12 @@ module _ {F S K : Type 0} (file_left : F → Option (List ℕ)) (file_reads : F 
   pub refuses : (ending : FileEnding) → Did ending
       → RefusesFile file_left file_reads left reads taken writes words path f f' s s' k k' ending
   refuses (Ran ending) (inl ran) text given asks none memory =
-      let texts = same_text text ran.text given.0 ran.read in
+      let texts = same_text file_left f f' text ran.text given.0 ran.read in
       absurd (none ran.ran.declared (subst (λ (t : List ℕ). Declares t ran.ran.declared) texts ran.ran.declares) ran.ran.valid)
   refuses (Ran ending) (inr (inl nothing)) text given asks none memory = absurd (nothing.0 asks)
   refuses (Ran ending) (inr (inr out)) text given asks none memory = absurd (memory (ap Ran out.1))
   refuses (Refused message) did text given asks none memory =
-      let texts = same_text text did.1.text given.0 did.1.read in
+      let texts = same_text file_left f f' text did.1.text given.0 did.1.read in
       (message, refl, subst (λ (t : List ℕ). IsRefusal path t message) texts did.1.refusal, did.2)
   refuses FileFault did text given asks none memory = absurd (given.2 did.1)
   refuses FileTooLong did text given asks none memory = absurd (gave_within text (file_left f) (file_left f') given.0 given.1 did.1)
@@ -106,13 +107,13 @@ module _ {F S K : Type 0} (file_left : F → Option (List ℕ)) (file_reads : F 
     where
       by : Did (Refused message) → ⊥
       by own =
-          let texts = same_text text own.1.text given.0 own.1.read in
+          let texts = same_text file_left f f' text own.1.text given.0 own.1.read in
           not_refused path text message d (subst (λ (t : List ℕ). IsRefusal path t message) texts own.1.refusal) declares valid
 
   -- no more than the limit is read whole
   read_within : (text bytes : List ℕ) → file_left f ≡ Some text → longest_input < length text → IsReadWhole file_left f f' bytes → ⊥
   read_within text bytes told more read =
-      let same : length bytes ≡ length text = ap length (same_text text bytes told read) in
+      let same : length bytes ≡ length text = ap length (same_text file_left f f' text bytes told read) in
       let within = read.within in
       omega (arith, same, within, more)
 

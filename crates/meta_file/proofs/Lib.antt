@@ -3,6 +3,7 @@ pub mod ToolRuns
 pub mod OneTool
 mod ToolsListed
 pub mod Texts
+pub mod ListRows
 mod OneMessage
 pub mod FileRuns
 mod OneOver

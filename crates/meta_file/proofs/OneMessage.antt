@@ -12,7 +12,7 @@ use Rattle.meta_items_declared.specs.AllItems.{Declares as DeclaresItems, IsFirs
 use Rattle.meta_items_declared.specs.declared.refused.Reason.{Reason}
 use Rattle.meta_refusals.specs.Why.{declare_why, fault_why, located}
 use Rattle.meta_file.specs.File.{AreReadOf, IsMessageOf, IsWrongMessage, IsFaultMessageOf, IsUnread, IsUndeclared, IsFaulty, IsRefusal}
-use Rattle.meta_file.proofs.Texts.{DeclareOne, DeclareNoneWhereWrong, one_reading}
+use Rattle.meta_file.proofs.Texts.{IsReadExactly, DeclareOne, DeclareNoneWhereWrong, read_as, one_reading}
 
 some_is : {A : Type 0} (o : Option A) (x y : A) → o ≡ Some x → o ≡ Some y → x ≡ y
 some_is o x y h g = let same = sym h ∙ g in cc
@@ -24,9 +24,9 @@ same_refusal r s line wanted found = λ i. record { line = line i; wanted = want
 
 unread_one : (path text m n : List ℕ) → IsUnread path text m → IsUnread path text n → m ≡ n
 unread_one path text m n h g =
-    let fault : h.gives.0 ≡ g.gives.0 = (let e = sym h.gives.1 ∙ g.gives.1 in cc) in
-    let also = subst (λ f. IsRefusalOf (read_in text) (read_lines text) (text_last_line text) f h.refusal) fault h.gives.2 in
-    let own = g.gives.2 in
+    let fault : h.fault ≡ g.fault = (let e = sym h.gives ∙ g.gives in cc) in
+    let also = subst (λ f. IsRefusalOf (read_in text) (read_lines text) (text_last_line text) f h.refusal) fault h.tells in
+    let own = g.tells in
     let refusal : h.refusal ≡ g.refusal = same_refusal h.refusal g.refusal (also.line ∙ sym own.line) (also.wanted ∙ sym own.wanted)
     (also.found ∙ sym own.found) in
     h.is ∙ ap (λ (r : Refusal). located path r.line (reason_of r)) refusal ∙ sym g.is
@@ -50,21 +50,23 @@ wrong_one : OneIsWrong → (path : List ℕ) (items : List Item) (lines m n : Li
     → IsWrongMessage path items lines n → m ≡ n
 wrong_one first path items lines m n h g =
     let same = first items h.place g.place h.reason g.reason h.wrong g.wrong in
-    let at : IsMessageOf path items lines g.place h.reason m = subst (λ (p : ℕ). IsMessageOf path items lines p h.reason m) same.0 h.tells in
-    let own : IsMessageOf path items lines g.place g.reason m = subst (λ (r : Reason). IsMessageOf path items lines g.place r m) same.1 at in
+    let at : IsMessageOf path items lines g.place h.reason m =
+    subst (λ (p : ℕ). IsMessageOf path items lines p h.reason m) same.0 h.tells in
+    let own : IsMessageOf path items lines g.place g.reason m =
+    subst (λ (r : Reason). IsMessageOf path items lines g.place r m) same.1 at in
     message_one path items lines g.place g.reason m n own g.tells
 
 -- a text reads as one list of items, which stand in the same lines
 module _ (text : List ℕ) {is js : List Item} {ls ks : List ℕ} (a : AreReadOf text is ls) (b : AreReadOf text js ks) where
-  same_items : is ≡ js
-  same_items = one_reading text is js a.reads b.reads
+  same_items : IsReadExactly → is ≡ js
+  same_items exactly = one_reading exactly text is js a.reads b.reads
 
   same_lines : ls ≡ ks
   same_lines = a.standing ∙ sym b.standing
 
-undeclared_one : OneIsWrong → (path text m n : List ℕ) → IsUndeclared path text m → IsUndeclared path text n → m ≡ n
-undeclared_one first path text m n h g =
-    let at = subst (λ (is : List Item). IsWrongMessage path is h.lines m) (same_items text h.read g.read) h.tells in
+undeclared_one : IsReadExactly → OneIsWrong → (path text m n : List ℕ) → IsUndeclared path text m → IsUndeclared path text n → m ≡ n
+undeclared_one exactly first path text m n h g =
+    let at = subst (λ (is : List Item). IsWrongMessage path is h.lines m) (same_items text h.read g.read exactly) h.tells in
     let own = subst (λ (ls : List ℕ). IsWrongMessage path g.items ls m) (same_lines text h.read g.read) at in
     wrong_one first path g.items g.lines m n own g.tells
 
@@ -77,14 +79,14 @@ fault_one path items lines fault m n h g =
     let line : h.line ≡ g.line = some_is _ h.line g.line h.stands (ap (λ (p : ℕ). slice_get lines p) place ∙ g.stands) in
     h.is ∙ ap (λ (l : ℕ). located path l (fault_why fault)) line ∙ sym g.is
 
-faulty_one : DeclareOne → ((d : Declared) (e f : DefinitionError) → ShowsFirst d e → ShowsFirst d f → e ≡ f) → (path text m n : List ℕ)
-    → IsFaulty path text m → IsFaulty path text n → m ≡ n
-faulty_one declare_one one_fault path text m n h g =
-    let items = same_items text h.read g.read in
+faulty_one : IsReadExactly → DeclareOne → ((d : Declared) (e f : DefinitionError) → ShowsFirst d e → ShowsFirst d f → e ≡ f)
+    → (path text m n : List ℕ) → IsFaulty path text m → IsFaulty path text n → m ≡ n
+faulty_one exactly declare_one one_fault path text m n h g =
+    let items = same_items text h.read g.read exactly in
     let declared : h.declared ≡ g.declared = declare_one g.items h.declared g.declared
     (subst (λ (is : List Item). DeclaresItems is h.declared) items h.declares) g.declares in
-    let fault : h.fault ≡ g.fault = one_fault g.declared h.fault g.fault (subst (λ (d : Declared). ShowsFirst d h.fault) declared h.first) g.first
-    in
+    let fault : h.fault ≡ g.fault =
+    one_fault g.declared h.fault g.fault (subst (λ (d : Declared). ShowsFirst d h.fault) declared h.first) g.first in
     let at = subst (λ (is : List Item). IsFaultMessageOf path is h.lines h.fault m) items h.tells in
     let there = subst (λ (ls : List ℕ). IsFaultMessageOf path g.items ls h.fault m) (same_lines text h.read g.read) at in
     let own = subst (λ (e : DefinitionError). IsFaultMessageOf path g.items g.lines e m) fault there in
@@ -92,14 +94,14 @@ faulty_one declare_one one_fault path text m n h g =
 
 -- ---- each of these excludes the others
 
-module _ (declare_one : DeclareOne) (right : DeclareNoneWhereWrong) (first : OneIsWrong)
+module _ (exactly : IsReadExactly) (declare_one : DeclareOne) (right : DeclareNoneWhereWrong) (first : OneIsWrong)
     (one_fault : (d : Declared) (e f : DefinitionError) → ShowsFirst d e → ShowsFirst d f → e ≡ f) (path text : List ℕ) where
   unread_never : {m : List ℕ} {is : List Item} {ls : List ℕ} → IsUnread path text m → AreReadOf text is ls → ⊥
-  unread_never h g = let never = sym h.gives.1 ∙ g.reads.is in cc
+  unread_never {m} {is} h g = let never = sym h.gives ∙ read_as exactly text is g.reads in cc
 
   wrong_never : {m n : List ℕ} → IsUndeclared path text m → IsFaulty path text n → ⊥
   wrong_never h g =
-      let items = same_items text g.read h.read in
+      let items = same_items text g.read h.read exactly in
       let declares : DeclaresItems h.items g.declared = subst (λ (is : List Item). DeclaresItems is g.declared) items g.declares in
       right h.items g.declared h.tells.place h.tells.reason declares h.tells.wrong
 
@@ -108,8 +110,8 @@ module _ (declare_one : DeclareOne) (right : DeclareNoneWhereWrong) (first : One
   one_message m n (inl h) (inr (inl g)) = absurd (unread_never h g.read)
   one_message m n (inl h) (inr (inr g)) = absurd (unread_never h g.read)
   one_message m n (inr (inl h)) (inl g) = absurd (unread_never g h.read)
-  one_message m n (inr (inl h)) (inr (inl g)) = undeclared_one first path text m n h g
+  one_message m n (inr (inl h)) (inr (inl g)) = undeclared_one exactly first path text m n h g
   one_message m n (inr (inl h)) (inr (inr g)) = absurd (wrong_never h g)
   one_message m n (inr (inr h)) (inl g) = absurd (unread_never g h.read)
   one_message m n (inr (inr h)) (inr (inl g)) = absurd (wrong_never g h)
-  one_message m n (inr (inr h)) (inr (inr g)) = faulty_one declare_one one_fault path text m n h g
+  one_message m n (inr (inr h)) (inr (inr g)) = faulty_one exactly declare_one one_fault path text m n h g

@@ -1,15 +1,17 @@
 -- The entries of a manual that list what words ask, and what their words ask.
-use Rattle.std.proofs.Common.{◌≡◌, ◌∙◌, ◌⊎◌, inl, inr, ℕ, zero, suc, true, List, [], ◌∷◌, length, take}
+use Rattle.std.proofs.Common.{◌≡◌, ◌∙◌, ◌⊎◌, inl, inr, ℕ, true, List, [], ◌∷◌, length, take}
 use Rattle.std.proofs.Common.{refl, sym, ap, ap₂, subst}
 use Rattle.std.proofs.lemmas.List.{nil_from_length}
+use Rattle.std.proofs.lemmas.List.Elements.{All-from_recursion}
 use Rattle.std.specs.Prelude.{codes, slice_get, Some}
-use Rattle.std.specs.List.{list_all}
+use Rattle.std.specs.List.{list_all, AllByRecursion}
+use Rattle.meta_lists.proofs.Everywhere.{at_place}
 use Rattle.meta_main.specs.Misuse.{AreCommandWords, AreTaken, AreNumbersIn, IsNamed, NamesNoneBefore}
 use Rattle.meta_main.specs.declared.manual.CommandForm.{CommandForm}
 use Rattle.meta_query.specs.declared.command.Command.{Command}
 use Rattle.meta_asm.specs.Form.{words_for}
 use Rattle.meta_file.specs.TablesIn.{version_words}
-use Rattle.meta_query.proofs.Listed.{is_other, no_numbers, others, some_same, HaveEntry, listed, IsEntry, of_entry}
+use Rattle.meta_query.proofs.Listed.{is_other, no_numbers, others, HaveEntry, listed, IsEntry, of_entry}
 use Rattle.meta_file.specs.Tool.{AskSomething, BeginWithNameOf, HaveWordBehind, lone_name}
 use Rattle.meta_file.specs.declared.tool.Lone.{Lone}
 use Rattle.meta_file.specs.declared.tool.Lone.TheVariants as lone
@@ -76,14 +78,7 @@ IsToolEntry entry = IsEntry entry ⊎ (((l : Lone) × (entry.name.now ≡ lone_n
     ⊎ ((entry.name.now ≡ codes "asm") × (entry.numbers.now ≡ [])))
 
 abbrev pub AreToolEntries : List CommandForm → Type 0
-AreToolEntries [] = Unit
-AreToolEntries (entry ∷ entries) = IsToolEntry entry × AreToolEntries entries
-
-entry_at : (entries : List CommandForm) → AreToolEntries entries → (k : ℕ) (entry : CommandForm)
-    → slice_get entries k ≡ Some entry → IsToolEntry entry
-entry_at [] all k entry e = absurd (cc)
-entry_at (x ∷ entries) all zero entry e = subst IsToolEntry (some_same x entry e) all.0
-entry_at (x ∷ entries) all (suc k) entry e = entry_at entries all.1 k entry e
+AreToolEntries entries = AllByRecursion IsToolEntry entries
 
 lone_words : (l : Lone) (words : List (List ℕ)) → words ≡ lone_name l ∷ [] → AskSomething words
 lone_words lone.Verify words e = (Verify, e)
@@ -108,4 +103,6 @@ of_tool_entry entries words h (inr (inr (name, none))) = inr (alone entries word
 
 pub all_asked : (entries : List CommandForm) → AreToolEntries entries → (words : List (List ℕ))
     → AreCommandWords entries words → AskSomething words ⊎ (words ≡ codes "asm" ∷ [])
-all_asked entries all words h = of_tool_entry entries words h (entry_at entries all h.named.place h.command h.named.at)
+all_asked entries all words h =
+    of_tool_entry entries words h
+    (at_place IsToolEntry entries h.named.place h.command (All-from_recursion IsToolEntry entries all) h.named.at)

@@ -1,7 +1,7 @@
 -- What the text of a file declares, and why it is refused.
 --     Declares text d                     the text reads as items, and these make the declarations
 --     IsRefusal path text message         the message tells the first thing that is wrong
-use Rattle.std.specs.Prelude.{◌≡◌, ◌⊎◌, ℕ, List, Ok, Err, slice_get, Some}
+use Rattle.std.specs.Prelude.{◌≡◌, ◌⊎◌, ℕ, List, Err, slice_get, Some}
 use Rattle.meta_types.specs.declared.fault.DefinitionError.{DefinitionError}
 use Rattle.meta_declared.specs.AllDeclared.{Declared, ShowsFirst}
 use Rattle.meta_tokens.specs.Encoding.{text_last_line}
@@ -9,17 +9,19 @@ use Rattle.meta_tokens.specs.Squeezed.{read_in, read_lines}
 use Rattle.meta_items.specs.declared.items.Item.{Item}
 use Rattle.meta_items.specs.Spelling.{spelled_all}
 use Rattle.meta_items_reader.specs.declared.fault.Refusal.{Refusal}
+use Rattle.meta_items_reader.specs.Fits.{AllFit}
 use Rattle.meta_items_reader.specs.ItemLines.{key_lines}
 use Rattle.meta_items_reader.specs.Reason.{reason_of}
+use Rattle.meta_items_reader.specs.declared.fault.Fault.{Fault}
 use Rattle.meta_items_reader.specs.Refused.{IsRefused, IsRefusalOf, items_in}
 use Rattle.meta_items_declared.specs.AllItems.{Declares as DeclaresItems, IsFirstWrong}
 use Rattle.meta_items_declared.specs.Places.{place_of_fault}
 use Rattle.meta_items_declared.specs.declared.refused.Reason.{Reason}
 use Rattle.meta_refusals.specs.Why.{declare_why, fault_why, located}
 
--- the text reads as these items: its tokens are those that spell them
+-- the text reads as these items: each of them fits, and the tokens of the text are those that spell them, one item behind the other
 pub record Reads (text : List ℕ) (items : List Item) : Type 0 where
-  pub is : items_in text ≡ Ok items
+  pub fit : AllFit items
   pub spelled : read_in text ≡ spelled_all items
 
 -- the text reads as items, and these make the declarations
@@ -63,7 +65,9 @@ pub record IsFaultMessageOf (path : List ℕ) (items : List Item) (lines : List 
 -- it reads as no items, but as a fault: the message tells where that shows, and why; the items before it are read, and none begins there
 pub record IsUnread (path text message : List ℕ) : Type 0 where
   pub refusal : Refusal
-  pub gives : (fault : _) × (items_in text ≡ Err fault) × IsRefusalOf (read_in text) (read_lines text) (text_last_line text) fault refusal
+  pub fault : Fault
+  pub gives : items_in text ≡ Err fault
+  pub tells : IsRefusalOf (read_in text) (read_lines text) (text_last_line text) fault refusal
   pub refused : IsRefused text refusal
   pub is : message ≡ located path refusal.line (reason_of refusal)
 

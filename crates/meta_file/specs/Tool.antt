@@ -1,9 +1,12 @@
 -- What one asks over declarations, and how.
 --     AreToolWords tool words       the words ask this
 --     BeginWithNameOf commands words    the first word is the name of one of the commands
+--     IsToolList commands           their names are plain and differ, and each begins words that ask something
 --     HaveWordBehind words          a word that is no number stands behind the name: a form of `asm`, or a version of the tables
 --     texts_of tool                 what it is answered with
-use Rattle.std.specs.Prelude.{◌≡◌, ◌⊎◌, ℕ, Bool, true, false, List, [], ◌∷◌, codes, slice_get, Some}
+use Rattle.std.specs.Prelude.{◌≡◌, ◌⊎◌, ℕ, Bool, true, false, List, [], ◌∷◌, codes, map, slice_get, Some}
+use Rattle.meta_types.specs.SharedNames.{AreDifferentNames}
+use Rattle.meta_main.specs.Usage.{ArePlainlyNamed}
 use Rattle.meta_main.specs.declared.manual.CommandForm.{CommandForm}
 use Rattle.meta_run.specs.Run.{Texts, Outputs, never_rejecting}
 use Rattle.meta_query.specs.Command.{AreWordsOf}
@@ -49,6 +52,13 @@ AskSomething words = (tool : Tool) × AreToolWords tool words
 abbrev pub BeginWithNameOf : List CommandForm → List (List ℕ) → Type 0
 BeginWithNameOf commands words = (k : ℕ) × (command : CommandForm) × (behind : List (List ℕ))
     × (slice_get commands k ≡ Some command) × (words ≡ command.name.now ∷ behind)
+
+-- the names of the commands are plain and differ, and each begins words that ask something
+pub record IsToolList (commands : List CommandForm) : Type 0 where
+  pub plain : ArePlainlyNamed commands
+  pub once : AreDifferentNames (map (λ (command : CommandForm). command.name.now) commands)
+  pub only : (k : ℕ) (command : CommandForm) → slice_get commands k ≡ Some command
+      → (behind : List (List ℕ)) × AskSomething (command.name.now ∷ behind)
 
 -- a word that is no number stands behind the name: a form of `asm`, or a version of the tables
 abbrev pub HaveWordBehind : List (List ℕ) → Type 0

@@ -14,6 +14,7 @@ use meta_asm::one_form;
 use meta_declared::one_first_fault;
 use meta_gen::one_table_of_declarations;
 use meta_items_declared::{items_say_one_thing, one_declaration};
+use meta_items_reader::what_is_read;
 use meta_query::one_command;
 
 /// Words ask one thing at most.
@@ -30,6 +31,7 @@ pub fn a_text_declares_one_thing()
     ensures refused { (path text message : List ℕ) (d : Declared) → IsRefusal path text message → Declares text d → AreValid d → ⊥ }
     ensures message { (path text m n : List ℕ) → IsRefusal path text m → IsRefusal path text n → m ≡ n }
 {
+    what_is_read();
     items_say_one_thing();
     one_declaration();
     one_first_fault();

@@ -1,6 +1,6 @@
 ghost use Rattle.std.specs.Prelude.{◌≡◌, ◌⊎◌, ◌∷◌, [], ℕ, List, codes};
 ghost use Rattle.meta_main.specs.Misuse.{AreCommandWords, AreTaken};
-ghost use Rattle.meta_file.specs.Tool.{AskSomething, BeginWithNameOf, HaveWordBehind};
+ghost use Rattle.meta_file.specs.Tool.{AskSomething, BeginWithNameOf, IsToolList, HaveWordBehind};
 
 use meta_main::{CommandForm, Range};
 
@@ -74,6 +74,7 @@ pub fn listed_tools() -> &'static [CommandForm]
     // Also these begin with a name of the list.
     ensures named { (words : List (List ℕ)) → AskSomething words → BeginWithNameOf result.now words }
     ensures commands { (words : List (List ℕ)) → AreCommandWords result.now words → AskSomething words ⊎ (words ≡ codes "asm" ∷ []) }
+    ensures rows { IsToolList result.now }
 {
     COMMANDS
 }

@@ -1,19 +1,18 @@
 -- From how a check of a file ended to what it did.
-use Rattle.std.proofs.Common.{◌≡◌, ◌≢◌, ◌<◌, ◌≤◌, inl, inr, ℕ, List, [], ◌++◌, length, length-append, Option, None, Some, refl}
-use Rattle.std.proofs.Common.{sym, ap, ◌∙◌, subst, arith}
-use Rattle.std.proofs.lemmas.List.{append-nil}
+use Rattle.std.proofs.Common.{◌≡◌, ◌≢◌, inl, inr, ℕ, List, [], ◌++◌, Option, Some, refl, subst}
 use Rattle.std.specs.Prelude.{◌⊎◌, ⊤, false}
 use Rattle.std.specs.Global.{Vec}
 use Rattle.meta_types.specs.declared.fault.DefinitionError.{DefinitionError}
-use Rattle.meta_text.specs.Outside.{Rose, with_front, NothingLeft, longest_input, GaveMore}
+use Rattle.meta_text.specs.Outside.{Rose, longest_input, GaveMore}
 use Rattle.meta_declared.specs.AllDeclared.{Declared, ShowsFirst, AreValid}
-use Rattle.meta_run.specs.Run.{IsReadWhole, IsRun, never_rejecting}
+use Rattle.meta_run.specs.Run.{IsRun, never_rejecting}
 use Rattle.meta_run.specs.declared.ending.Ending.{Ending}
 use Rattle.meta_run.specs.declared.ending.Ending.TheVariants as ends
 use Rattle.meta_run.proofs.Programs as programs
 use Rattle.meta_file.specs.Counts.{IsCheckLine}
 use Rattle.meta_file.specs.Tool.{says_counts}
 use Rattle.meta_file.specs.File.{Declares, IsRefusal}
+use Rattle.meta_file.proofs.FileRuns.{same_text, gave_within}
 use Rattle.meta_file_check.specs.Told.{AreTold}
 use Rattle.meta_file_check.specs.Checked.{IsChecked, DidCheckText, DidCheck}
 use Rattle.meta_file_check.specs.CheckAnswers as answers
@@ -21,28 +20,6 @@ use Rattle.meta_file_check.specs.declared.asked.Names.{Names}
 use Rattle.meta_file_check.specs.declared.asked.Names.TheVariants.{Warn, Refuse}
 use Rattle.meta_file_check.specs.declared.check_ending.CheckEnding.{CheckEnding}
 use Rattle.meta_file_check.specs.declared.check_ending.CheckEnding.TheVariants.{Ran, NamesRefused, Refused, FileFault, FileTooLong}
-
--- what was read is all that was left, where that was told and nothing is left now
-read_all : (input bytes : List ℕ) (left' : Option (List ℕ)) → Some input ≡ with_front bytes left' → NothingLeft left' → bytes ≡ input
-read_all input bytes None e end = absurd (cc)
-read_all input bytes (Some rest) e end =
-    let whole : input ≡ bytes ++ rest = cc in
-    sym (whole ∙ ap (λ r. bytes ++ r) end ∙ append-nil bytes)
-
--- a source doesn't give more than it had
-gave_within : (input : List ℕ) (left left' : Option (List ℕ)) → left ≡ Some input → length input ≤ longest_input
-    → GaveMore longest_input left left' → ⊥
-gave_within input left left' told few h = within left' (sym told ∙ h.given)
-  where
-    more : longest_input < length h.bytes
-    more = h.more
-
-    within : (rest : Option (List ℕ)) → Some input ≡ with_front h.bytes rest → ⊥
-    within None e = cc
-    within (Some rest) e =
-        let whole : input ≡ h.bytes ++ rest = cc in
-        let m = more in
-        omega (arith, ap length whole, length-append h.bytes rest)
 
 -- names are warned of, or there are none, where none are refused
 passed : (names : Names) (messages : List (List ℕ)) → (names ≡ Refuse → messages ≡ []) → (names ≡ Warn) ⊎ (messages ≡ [])
@@ -56,10 +33,6 @@ module _ {F S K : Type 0} (file_left : F → Option (List ℕ)) (file_reads : F 
     (not_refused : (p text message : List ℕ) (d : Declared) → IsRefusal p text message → Declares text d → AreValid d → ⊥) where
   abbrev Did : CheckEnding → Type 0
   Did ending = DidCheck file_left file_reads left reads taken writes path names f f' s s' k k' ending
-
-  -- the text that was read is the one that was given
-  same_text : (text bytes : List ℕ) → file_left f ≡ Some text → IsReadWhole file_left f f' bytes → bytes ≡ text
-  same_text text bytes told read = read_all text bytes (file_left f') (sym told ∙ read.read) read.end
 
   -- what it declares is what was declared
   same_declared : (text bytes : List ℕ) (d e : Declared) → bytes ≡ text → Declares bytes e → Declares text d → e ≡ d
@@ -93,7 +66,7 @@ module _ {F S K : Type 0} (file_left : F → Option (List ℕ)) (file_reads : F 
   headline (Ran ending messages) (inl h) text d given declares valid memory = by h.did
     where
       texts : h.text ≡ text
-      texts = same_text text h.text given.0 h.read
+      texts = same_text file_left f f' text h.text given.0 h.read
 
       by : DidCheckText left reads taken writes path names h.text s s' k k' (Ran ending messages)
           → (told : Vec (List ℕ)) × AreTold path names text d told.items
@@ -114,14 +87,14 @@ module _ {F S K : Type 0} (file_left : F → Option (List ℕ)) (file_reads : F 
   headline (Ran ending messages) (inr out) text d given declares valid memory = absurd (memory out.0.0)
   headline (NamesRefused messages) h text d given declares valid memory =
       let (asked, has, leaves) = h.did in
-      let texts = same_text text h.text given.0 h.read in
+      let texts = same_text file_left f f' text h.text given.0 h.read in
       let same = same_declared text h.text d has.declared texts has.declares declares in (
         messages,
         told_as text h.text d has.declared messages.items texts same has.told,
         inl (record { asked = asked; some = has.some; is = refl; leaves = leaves }),
       )
   headline (Refused message) h text d given declares valid memory =
-      let texts = same_text text h.text given.0 h.read in
+      let texts = same_text file_left f f' text h.text given.0 h.read in
       absurd (not_refused path text message d (subst (λ (t : List ℕ). IsRefusal path t message) texts h.did.0) declares valid)
   headline FileFault did text d given declares valid memory = absurd (given.2 did.0)
   headline FileTooLong did text d given declares valid memory =
@@ -133,17 +106,17 @@ module _ {F S K : Type 0} (file_left : F → Option (List ℕ)) (file_reads : F 
     where
       by : DidCheckText left reads taken writes path names h.text s s' k k' (Ran ending messages) → ⊥
       by (inl checked) =
-          let texts = same_text text h.text given.0 h.read in
+          let texts = same_text file_left f f' text h.text given.0 h.read in
           none checked.declared (subst (λ (t : List ℕ). Declares t checked.declared) texts checked.declares) checked.valid
       by (inr out) = memory out.0.0
   refuses (Ran ending messages) (inr out) text given none memory = absurd (memory out.0.0)
   refuses (NamesRefused messages) h text given none memory =
       let (asked, has, leaves) = h.did in
-      let texts = same_text text h.text given.0 h.read in
+      let texts = same_text file_left f f' text h.text given.0 h.read in
       absurd (none has.declared (subst (λ (t : List ℕ). Declares t has.declared) texts has.declares) has.valid)
   refuses (Refused message) h text given none memory =
       let (refusal, leaves) = h.did in
-      let texts = same_text text h.text given.0 h.read in
+      let texts = same_text file_left f f' text h.text given.0 h.read in
       (message, refl, subst (λ (t : List ℕ). IsRefusal path t message) texts refusal, leaves)
   refuses FileFault did text given none memory = absurd (given.2 did.0)
   refuses FileTooLong did text given none memory = absurd (gave_within text (file_left f) (file_left f') given.0 given.1 did.0)
@@ -155,7 +128,7 @@ module _ {F S K : Type 0} (file_left : F → Option (List ℕ)) (file_reads : F 
     where
       by : Did (Refused message) → ⊥
       by h =
-          let texts = same_text text h.text told h.read in
+          let texts = same_text file_left f f' text h.text told h.read in
           not_refused path text message d (subst (λ (t : List ℕ). IsRefusal path t message) texts h.did.0) declares valid
 
   -- names are refused only where they are to be, and there are some
@@ -167,7 +140,7 @@ module _ {F S K : Type 0} (file_left : F → Option (List ℕ)) (file_reads : F 
           × AreTold path names text d messages.items
       by h =
           let (asked, has, leaves) = h.did in
-          let texts = same_text text h.text told h.read in (
+          let texts = same_text file_left f f' text h.text told h.read in (
             asked,
             has.some,
             has.declared,

@@ -10,15 +10,12 @@ use Rattle.meta_items_declared.specs.AllItems.{Declares as DeclaresItems}
 use Rattle.meta_refusals.specs.Why.{located}
 use Rattle.meta_rust_words.specs.declared.refused.RefusedName.{RefusedName}
 use Rattle.meta_rust_names.specs.AllRefused.{refused_names}
-use Rattle.meta_file.specs.File.{Reads, Declares}
+use Rattle.meta_file.specs.File.{Declares}
+use Rattle.meta_file.proofs.Texts.{IsReadExactly, one_reading}
 use Rattle.meta_file_check.specs.Told.{why_said, told, AreTold}
 use Rattle.meta_file_check.specs.NamedItems.{NameHasItem, HasItsLine}
 use Rattle.meta_file_check.specs.declared.asked.Names.{Names}
 use Rattle.meta_file_check.proofs.NameItems.{names_have_items}
-
--- a text reads as one list of items
-same_items : (text : List ℕ) (items others : List Item) → Reads text items → Reads text others → items ≡ others
-same_items text items others h k = let e = sym h.is ∙ k.is in cc
 
 -- what was made of a line that is there
 line_there : {X : Type 0} (f : ℕ → X) (o : Option ℕ) (x : X) → option_map f o ≡ Some x → (line : ℕ) × (o ≡ Some line) × (f line ≡ x)
@@ -62,11 +59,11 @@ module _ (path : List ℕ) (names : Names) (text : List ℕ) (d : Declared) (mes
       let has = at_place (NameHasItem t.items t.built) (refused_names t.built) k from.0 all from.1 in
       line_of from.0 message (contained k from.0 from.1) has from.2
 
-pub messages_have_lines : (path text : List ℕ) (names : Names) (d : Declared) (messages : List (List ℕ)) → Declares text d
+pub messages_have_lines : IsReadExactly → (path text : List ℕ) (names : Names) (d : Declared) (messages : List (List ℕ)) → Declares text d
     → AreTold path names text d messages → All (HasItsLine path names text d) messages
-messages_have_lines path text names d messages h t =
+messages_have_lines exactly path text names d messages h t =
     let declares : DeclaresItems t.items d =
-    subst (λ (is : List Item). DeclaresItems is d) (same_items text h.items t.items h.reads t.read.reads) h.declared in
+    subst (λ (is : List Item). DeclaresItems is d) (one_reading exactly text h.items t.items h.reads t.read.reads) h.declared in
     let of_built = subst (λ (e : Declared). DeclaresItems t.items e) (sym t.of) declares in
     everywhere messages
     (λ k message at. message_line path names text d messages t k message (names_have_items t.items t.built of_built t.are_built) at)

@@ -61,8 +61,8 @@ module _ {F S K : Type 0} (file_left : F → Option (List ℕ)) (file_reads : F 
     pub is : ending ≡ NamesRefused messages
     pub leaves : LeavesAll
 
-  -- no names are to be refused, or there are none: these messages tell them, as warnings, and, unless a write failed, the check is done, and
-  -- the sink took exactly the line that counts what is declared
+  -- no names are to be refused, or there are none: these messages tell them, as warnings, and, unless a write failed, the check is done,
+  -- and the sink took exactly the line that counts what is declared
   pub record IsCounted (d : Declared) (messages : Vec (List ℕ)) (ending : CheckEnding) : Type 0 where
     pub passed : (names ≡ Warn) ⊎ (messages.items ≡ [])
     pub how : Ending

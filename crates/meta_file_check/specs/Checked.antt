@@ -15,7 +15,8 @@ use Rattle.meta_file_check.specs.declared.asked.Names.TheVariants.{Refuse}
 use Rattle.meta_file_check.specs.declared.check_ending.CheckEnding.{CheckEnding}
 use Rattle.meta_file_check.specs.declared.check_ending.CheckEnding.TheVariants.{Ran, NamesRefused, Refused, FileFault, FileTooLong}
 
--- the exit status of the process: that of the run; 1 where the file or its names are refused, 6 where it is too long, 8 where it can't be read
+-- the exit status of the process: that of the run; 1 where the file or its names are refused, 6 where it is too long, 8 where it can't
+-- be read
 abbrev pub check_code : CheckEnding → ℕ
 check_code (Ran ending messages) = code_of ending
 check_code (NamesRefused messages) = code_of ends.Refused

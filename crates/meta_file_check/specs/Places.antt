@@ -4,7 +4,8 @@ use Rattle.std.specs.Prelude.{◌≡◌, ℕ, ◌+◌, List, Option, Some, None,
 use Rattle.meta_types.specs.declared.fault.Place.{Place}
 use Rattle.meta_types.specs.declared.fault.Place.TheVariants.{Instruction, Format, Group, Entry}
 use Rattle.meta_items.specs.declared.items.Item.{Item}
-use Rattle.meta_items_declared.specs.Places.{is_inst, is_format, is_group, places_of, before_group, laid_places, place_of_inst, place_of_format}
+use Rattle.meta_items_declared.specs.Places.{is_inst, is_format, is_group, places_of, before_group, laid_places, place_of_inst}
+use Rattle.meta_items_declared.specs.Places.{place_of_format}
 use Rattle.meta_items_declared.specs.Places.{place_of_group}
 use Rattle.meta_rust_words.specs.declared.refused.Part.{Part}
 use Rattle.meta_rust_words.specs.declared.refused.Part.TheVariants as part

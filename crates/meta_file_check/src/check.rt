@@ -4,7 +4,8 @@ ghost use Rattle.meta_declared.specs.AllDeclared.{AreValid};
 ghost use Rattle.meta_file.specs.File.{Declares};
 ghost use Rattle.meta_file_check.specs.Told.{AreTold};
 ghost use Rattle.meta_file_check.specs.Checked.{IsOutOfMemory, DidCheckText, DidCheck};
-ghost use Rattle.meta_file_check.specs.CheckAnswers.{AnswersCheck, RefusesFile, IsRefusedOnly, AreNamesRefusedOnly, Completes, WritesNothing};
+ghost use Rattle.meta_file_check.specs.CheckAnswers.{AnswersCheck, RefusesFile, IsRefusedOnly, AreNamesRefusedOnly, Completes};
+ghost use Rattle.meta_file_check.specs.CheckAnswers.{WritesNothing};
 ghost use Rattle.meta_file_check.specs.declared.check_ending.CheckEnding.TheVariants.{FileTooLong};
 
 use super::asked::Names;

@@ -9,6 +9,8 @@ ghost use Rattle.meta_file_check.specs.Told.{AreTold};
 ghost use Rattle.meta_file_check.specs.NamedItems.{NameHasItem, HasItsLine};
 ghost use Rattle.meta_file_check.specs.declared.asked.Names.{Names as spec_Names};
 
+use meta_items_reader::what_is_read;
+
 /// Each name that Rust refuses, of what items declare, has an item: that in whose line it is told declares what has the name, which is
 /// an instruction, a format, a group, or a setting as its group is built. So each message of a check has the line of such an item.
 pub fn names_have_their_items()
@@ -16,4 +18,6 @@ pub fn names_have_their_items()
         → All (NameHasItem items b) (refused_names b) }
     ensures lines { (path text : List ℕ) (names : spec_Names) (d : Declared) (messages : List (List ℕ)) → Declares text d
         → AreTold path names text d messages → All (HasItsLine path names text d) messages }
-{}
+{
+    what_is_read();
+}

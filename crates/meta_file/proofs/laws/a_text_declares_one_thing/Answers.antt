@@ -3,12 +3,12 @@ use Rattle.meta_file.proofs.OneMessage.{one_message}
 use Rattle.meta_file.proofs.laws.a_text_declares_one_thing.Goals as goal
 
 pub returns-clause-same : goal.returns-clause-same
-returns-clause-same c = one_declared c.one_declaration.ensures
+returns-clause-same c = one_declared c.what_is_read.ensures.read c.one_declaration.ensures
 
 pub returns-clause-refused : goal.returns-clause-refused
-returns-clause-refused c = not_refused c.one_declaration.ensures
+returns-clause-refused c = not_refused c.what_is_read.ensures.read c.one_declaration.ensures
     c.items_say_one_thing.ensures.right (λ d e. c.one_first_fault.ensures.valid d e)
 
 pub returns-clause-message : goal.returns-clause-message
-returns-clause-message c = one_message c.one_declaration.ensures
+returns-clause-message c = one_message c.what_is_read.ensures.read c.one_declaration.ensures
     c.items_say_one_thing.ensures.right c.items_say_one_thing.ensures.first (λ d e f. c.one_first_fault.ensures.same d e f)

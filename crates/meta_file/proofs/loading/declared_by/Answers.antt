@@ -17,7 +17,8 @@ returns-in_ok-message-in-Err-Refused-clause-refused c = λ message e.
     record {
       place = place;
       reason = reason;
-      wrong = subst (λ (is : List Item). IsFirstWrong is place reason) c.deref.ensures.value (c.declare.ensures.refused place reason refused);
+      wrong = subst (λ (is : List Item). IsFirstWrong is place reason) c.deref.ensures.value
+          (c.declare.ensures.refused place reason refused);
       tells = subst (λ (m : List ℕ). IsMessageOf c.args.path.now items.items.items items.lines.items place reason m) same
           c.in_ok-message-in-Err-Refused.ensures;
     }

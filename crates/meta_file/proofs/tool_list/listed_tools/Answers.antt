@@ -1,7 +1,12 @@
-use Rattle.std.proofs.Common.{refl, inl, inr}
+use Rattle.std.proofs.Common.{[], refl, inl, inr, arith}
+use Rattle.meta_query.specs.Command.{number_words}
 use Rattle.meta_query.specs.declared.command.Command.TheVariants.{Query, Recheck, Tables, Types, Settings, Instructions, Builder, Synth}
+use Rattle.meta_asm.specs.Form.{words_for}
+use Rattle.meta_asm.specs.declared.form.Form.TheVariants.{Short}
 use Rattle.meta_file.specs.declared.tool.Lone.TheVariants as lone
+use Rattle.meta_file.specs.declared.tool.Tool.TheVariants.{Run, Verify, Asm, Flags, Audit, Check, Describe}
 use Rattle.meta_file.proofs.ToolsListed.{all_listed, all_named, all_asked}
+use Rattle.meta_file.proofs.ListRows.{tool_list}
 use Rattle.meta_file.proofs.tool_list.listed_tools.Goals as goal
 
 pub returns-clause-listed : goal.returns-clause-listed
@@ -73,3 +78,49 @@ returns-clause-commands c =
         ),
       ),
     )
+
+pub returns-clause-rows : goal.returns-clause-rows
+returns-clause-rows c =
+    tool_list _ (
+      ([], (Run Tables, record { number = tt; are = refl })),
+      (
+        ([], (Run Types, record { number = tt; are = refl })),
+        (
+          ([], (Run Settings, record { number = tt; are = refl })),
+          (
+            ([], (Run Instructions, record { number = tt; are = refl })),
+            (
+              ([], (Run Builder, record { number = tt; are = refl })),
+              (
+                ([], (Run Query, record { number = tt; are = refl })),
+                (
+                  ([], (Run Recheck, record { number = tt; are = refl })),
+                  (
+                    (number_words (Synth 0), (Run (Synth 0), record { number = omega arith; are = refl })),
+                    (
+                      ([], (Verify, refl)),
+                      (
+                        (words_for Short, (Asm Short, refl)),
+                        (
+                          ([], (Flags, refl)),
+                          (
+                            ([], (Audit, refl)),
+                            (
+                              ([], (Check, refl)),
+                              (
+                                ([], (Describe, refl)),
+                                tt,
+                              ),
+                            ),
+                          ),
+                        ),
+                      ),
+                    ),
+                  ),
+                ),
+              ),
+            ),
+          ),
+        ),
+      ),
+    ) refl refl

@@ -6,4 +6,4 @@ pub returns-clause-items : goal.returns-clause-items
 returns-clause-items c = names_have_items
 
 pub returns-clause-lines : goal.returns-clause-lines
-returns-clause-lines c = messages_have_lines
+returns-clause-lines c = messages_have_lines c.what_is_read.ensures.read

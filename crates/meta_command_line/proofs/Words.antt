@@ -1,0 +1,30 @@
+-- The first words of a list, and the first byte of a word.
+use Rattle.std.proofs.Common.{ℕ, List, [], ◌∷◌}
+
+abbrev pub first : List (List ℕ) → List ℕ
+first [] = []
+first (a ∷ words) = a
+
+abbrev pub second : List (List ℕ) → List ℕ
+second [] = []
+second (a ∷ []) = []
+second (a ∷ b ∷ words) = b
+
+abbrev pub third : List (List ℕ) → List ℕ
+third [] = []
+third (a ∷ []) = []
+third (a ∷ b ∷ []) = []
+third (a ∷ b ∷ c ∷ words) = c
+
+abbrev pub behind_two : List (List ℕ) → List (List ℕ)
+behind_two [] = []
+behind_two (a ∷ []) = []
+behind_two (a ∷ b ∷ words) = words
+
+abbrev pub first_letter : List ℕ → ℕ
+first_letter [] = 0
+first_letter (c ∷ cs) = c
+
+-- that of the first word
+abbrev pub letter : List (List ℕ) → ℕ
+letter words = first_letter (first words)
