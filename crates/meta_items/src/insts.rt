@@ -69,6 +69,20 @@ pub struct InstItem {
 ghost use Rattle.std.specs.Prelude.{◌≡◌};
 ghost use Rattle.meta_items.specs.Words.{property_text, property_of};
 
+/// All that an instruction may do.
+const PROPERTIES: [Property; 10] = [
+    Property::TerminatesBlock,
+    Property::Branches,
+    Property::Call,
+    Property::Returns,
+    Property::CanLoad,
+    Property::CanStore,
+    Property::CanTrap,
+    Property::OtherSideEffects,
+    Property::SideEffectsIdempotent,
+    Property::ImmMethod,
+];
+
 impl Property {
     /// The word that it is.
     pub fn as_slice(self) -> &'static [u8]
@@ -89,39 +103,13 @@ impl Property {
     }
 
     /// The mark that a word is, if it is one.
-    #[tactic(auto, unfolding(crate::specs::Words::property_of))]
     pub fn of(word: &[u8]) -> Option<Property>
         ensures { result ≡ property_of word.now }
     {
-        if word == b"terminates_block".as_slice() {
-            return Some(Property::TerminatesBlock);
-        }
-        if word == b"branches".as_slice() {
-            return Some(Property::Branches);
-        }
-        if word == b"call".as_slice() {
-            return Some(Property::Call);
-        }
-        if word == b"returns".as_slice() {
-            return Some(Property::Returns);
-        }
-        if word == b"can_load".as_slice() {
-            return Some(Property::CanLoad);
-        }
-        if word == b"can_store".as_slice() {
-            return Some(Property::CanStore);
-        }
-        if word == b"can_trap".as_slice() {
-            return Some(Property::CanTrap);
-        }
-        if word == b"other_side_effects".as_slice() {
-            return Some(Property::OtherSideEffects);
-        }
-        if word == b"side_effects_idempotent".as_slice() {
-            return Some(Property::SideEffectsIdempotent);
-        }
-        if word == b"imm_method".as_slice() {
-            return Some(Property::ImmMethod);
+        for property in PROPERTIES {
+            if word == property.as_slice() {
+                return Some(property);
+            }
         }
         None
     }

@@ -112,6 +112,19 @@ pub struct AliasItem {
 ghost use Rattle.std.specs.Prelude.{◌≡◌};
 ghost use Rattle.meta_items.specs.Words.{function_text, function_of, dimension_text, dimension_of};
 
+/// All functions.
+const FUNCTIONS: [Function; 9] = [
+    Function::LaneOf,
+    Function::AsTruthy,
+    Function::HalfWidth,
+    Function::DoubleWidth,
+    Function::SplitLanes,
+    Function::MergeLanes,
+    Function::DynamicToVector,
+    Function::Narrower,
+    Function::Wider,
+];
+
 impl Function {
     /// The word that it is.
     pub fn as_slice(self) -> &'static [u8]
@@ -131,40 +144,25 @@ impl Function {
     }
 
     /// The function that a word is, if it is one.
-    #[tactic(auto, unfolding(crate::specs::Words::function_of))]
     pub fn of(word: &[u8]) -> Option<Function>
         ensures { result ≡ function_of word.now }
     {
-        if word == b"lane_of".as_slice() {
-            return Some(Function::LaneOf);
-        }
-        if word == b"as_truthy".as_slice() {
-            return Some(Function::AsTruthy);
-        }
-        if word == b"half_width".as_slice() {
-            return Some(Function::HalfWidth);
-        }
-        if word == b"double_width".as_slice() {
-            return Some(Function::DoubleWidth);
-        }
-        if word == b"split_lanes".as_slice() {
-            return Some(Function::SplitLanes);
-        }
-        if word == b"merge_lanes".as_slice() {
-            return Some(Function::MergeLanes);
-        }
-        if word == b"dynamic_to_vector".as_slice() {
-            return Some(Function::DynamicToVector);
-        }
-        if word == b"narrower".as_slice() {
-            return Some(Function::Narrower);
-        }
-        if word == b"wider".as_slice() {
-            return Some(Function::Wider);
+        for function in FUNCTIONS {
+            if word == function.as_slice() {
+                return Some(function);
+            }
         }
         None
     }
 }
+
+/// All parts.
+const DIMENSIONS: [Dimension; 4] = [
+    Dimension::Lanes,
+    Dimension::Dynamic,
+    Dimension::Ints,
+    Dimension::Floats,
+];
 
 impl Dimension {
     /// The word that it is.
@@ -180,21 +178,13 @@ impl Dimension {
     }
 
     /// The part that a word is, if it is one.
-    #[tactic(auto, unfolding(crate::specs::Words::dimension_of))]
     pub fn of(word: &[u8]) -> Option<Dimension>
         ensures { result ≡ dimension_of word.now }
     {
-        if word == b"lanes".as_slice() {
-            return Some(Dimension::Lanes);
-        }
-        if word == b"dynamic".as_slice() {
-            return Some(Dimension::Dynamic);
-        }
-        if word == b"ints".as_slice() {
-            return Some(Dimension::Ints);
-        }
-        if word == b"floats".as_slice() {
-            return Some(Dimension::Floats);
+        for dimension in DIMENSIONS {
+            if word == dimension.as_slice() {
+                return Some(dimension);
+            }
         }
         None
     }

@@ -1,4 +1,5 @@
-ghost use Rattle.std.specs.Prelude.{◌≡◌, ◌<◌, ◌^◌, ◌++◌, ◌∷◌, [], OnOk, IfOk};
+ghost use Rattle.std.specs.Prelude.{◌≡◌, ◌≢◌, ℕ, ◌<◌, ◌^◌, ◌++◌, ◌∷◌, [], OnOk, IfOk};
+ghost use Rattle.meta_items_reader.specs.declared.fault.Wanted.TheVariants.{Sign};
 ghost use Rattle.meta_items_reader.specs.Reason.{back_quoted, wanted_text, hex_digit, flaw_text, wanted_found, reason_by, reason_of};
 
 use super::fault::{Refusal, Wanted};
@@ -14,54 +15,56 @@ pub fn write_back_quoted(text: &mut Vec<u8>, bytes: &[u8]) -> Result<(), AllocEr
     text.extend_from_slice(b"`")
 }
 
+/// What was wanted, in words. Of a sign they do not tell which it is.
+fn wanted_words(wanted: Wanted) -> &'static [u8]
+    ensures { ((sign : ℕ) → wanted ≢ Sign sign) → result.now ≡ wanted_text wanted }
+{
+    match wanted {
+        Wanted::Item => b"type, kind, format, inst, group, bool, num, enum or preset",
+        Wanted::Documented => b"behind documentation type, kind, inst, bool, num, enum or preset",
+        Wanted::GroupName => b"the name of the group",
+        Wanted::SettingName => b"the name of the setting",
+        Wanted::PresetName => b"the name of the preset",
+        Wanted::Value => b"a value",
+        Wanted::Argument => b"a boolean or a preset",
+        Wanted::TypeWord => b"a word that names the type",
+        Wanted::KindWord => b"a word that names the kind",
+        Wanted::FormatWord => b"a word that names the format",
+        Wanted::InstName => b"the name of the instruction",
+        Wanted::OperandName => b"the name of an operand",
+        Wanted::FieldName => b"the name of the field",
+        Wanted::Type => b"a type",
+        Wanted::Function =>
+            b"one of lane_of, as_truthy, half_width, double_width, split_lanes, merge_lanes, dynamic_to_vector, narrower, wider",
+        Wanted::Dimension => b"lanes, dynamic, ints or floats",
+        Wanted::Members => b"all, none or a number",
+        Wanted::PartNumber => b"a number from 0 to 256",
+        Wanted::Sort => b"entity, imm, imm_enum, varargs or value",
+        Wanted::Text => b"a text in quotes",
+        Wanted::Slot => b"value, designated value, block, raw_block, varargs, or a kind",
+        Wanted::ValueWord => b"value",
+        Wanted::FormatName => b"a format",
+        Wanted::Mark =>
+            b"terminates_block, branches, call, returns, can_load, can_store, can_trap, other_side_effects, \
+              side_effects_idempotent, imm_method or second",
+        Wanted::RustValue => b"the value in Rust",
+        Wanted::Sign(_) => b"a sign",
+        Wanted::ColonOrEquals => b"`:` or `=`",
+        Wanted::Arrow => b"`->`",
+        Wanted::CommaOrClose => b"`,` or `)`",
+        Wanted::CommaOrBracket => b"`,` or `]`",
+        Wanted::Truth => b"true or false",
+        Wanted::Byte => b"a number from 0 to 255",
+    }
+}
+
 /// Adds what was wanted.
 fn write_wanted(text: &mut Vec<u8>, wanted: Wanted) -> Result<(), AllocError>
     ensures { OnOk result (text.new.items ≡ text.old.items ++ wanted_text wanted) }
 {
     match wanted {
-        Wanted::Item => text.extend_from_slice(
-            b"type, kind, format, inst, group, bool, num, enum or preset",
-        ),
-        Wanted::Documented => text.extend_from_slice(
-            b"behind documentation type, kind, inst, bool, num, enum or preset",
-        ),
-        Wanted::GroupName => text.extend_from_slice(b"the name of the group"),
-        Wanted::SettingName => text.extend_from_slice(b"the name of the setting"),
-        Wanted::PresetName => text.extend_from_slice(b"the name of the preset"),
-        Wanted::Value => text.extend_from_slice(b"a value"),
-        Wanted::Argument => text.extend_from_slice(b"a boolean or a preset"),
-        Wanted::TypeWord => text.extend_from_slice(b"a word that names the type"),
-        Wanted::KindWord => text.extend_from_slice(b"a word that names the kind"),
-        Wanted::FormatWord => text.extend_from_slice(b"a word that names the format"),
-        Wanted::InstName => text.extend_from_slice(b"the name of the instruction"),
-        Wanted::OperandName => text.extend_from_slice(b"the name of an operand"),
-        Wanted::FieldName => text.extend_from_slice(b"the name of the field"),
-        Wanted::Type => text.extend_from_slice(b"a type"),
-        Wanted::Function => text.extend_from_slice(
-            b"one of lane_of, as_truthy, half_width, double_width, split_lanes, merge_lanes, dynamic_to_vector, narrower, wider",
-        ),
-        Wanted::Dimension => text.extend_from_slice(b"lanes, dynamic, ints or floats"),
-        Wanted::Members => text.extend_from_slice(b"all, none or a number"),
-        Wanted::PartNumber => text.extend_from_slice(b"a number from 0 to 256"),
-        Wanted::Sort => text.extend_from_slice(b"entity, imm, imm_enum, varargs or value"),
-        Wanted::Text => text.extend_from_slice(b"a text in quotes"),
-        Wanted::Slot => text.extend_from_slice(
-            b"value, designated value, block, raw_block, varargs, or a kind",
-        ),
-        Wanted::ValueWord => text.extend_from_slice(b"value"),
-        Wanted::FormatName => text.extend_from_slice(b"a format"),
-        Wanted::Mark => text.extend_from_slice(
-            b"terminates_block, branches, call, returns, can_load, can_store, can_trap, other_side_effects, \
-              side_effects_idempotent, imm_method or second",
-        ),
-        Wanted::RustValue => text.extend_from_slice(b"the value in Rust"),
         Wanted::Sign(sign) => write_back_quoted(text, &[sign]),
-        Wanted::ColonOrEquals => text.extend_from_slice(b"`:` or `=`"),
-        Wanted::Arrow => text.extend_from_slice(b"`->`"),
-        Wanted::CommaOrClose => text.extend_from_slice(b"`,` or `)`"),
-        Wanted::CommaOrBracket => text.extend_from_slice(b"`,` or `]`"),
-        Wanted::Truth => text.extend_from_slice(b"true or false"),
-        Wanted::Byte => text.extend_from_slice(b"a number from 0 to 255"),
+        _ => text.extend_from_slice(wanted_words(wanted)),
     }
 }
 

@@ -12,8 +12,6 @@ use Rattle.meta_tokens.specs.Encoding.{text_tokens}
 use Rattle.meta_tokens.specs.Laid.{escaped, escaped_byte, cr_more, doc_line, AreWordBytes, CanWrite, CanWriteAll, written, behind, laid}
 use Rattle.meta_tokens.specs.Laid.{separator, starts, is_doc, closes, opens}
 use Rattle.meta_tokens.specs.Keywords.{keyword_text}
-use Rattle.meta_tokens.specs.declared.keyword.Keyword.{Keyword}
-use Rattle.meta_tokens.specs.declared.keyword.Keyword.TheVariants as key
 use Rattle.meta_tokens.specs.declared.token.Token.{Token}
 use Rattle.meta_tokens.specs.declared.token.Token.TheVariants.{Key, Word, Quoted, Sign, Doc, Stray}
 use Rattle.meta_tokens.proofs.Laying.{key_bytes, by_sign, laid_reads}

@@ -1,6 +1,6 @@
-ghost use Rattle.std.specs.Prelude.{◌≡◌, ◌≢◌, ◌≤◌, length, IfSome, IfNone};
+ghost use Rattle.std.specs.Prelude.{◌≡◌, ◌≢◌, ◌≤◌, length, map, IfSome, IfNone};
 ghost use Rattle.meta_types.specs.TypeParts.{TypeParts, IsType, name_of};
-ghost use Rattle.meta_types.specs.TypeNumber.{IsNameOf, found_in, lane_codes, fixed_rows, dynamic_rows, row_of, lane_length};
+ghost use Rattle.meta_types.specs.TypeNumber.{IsNameOf, found_in, row_of, lane_length};
 
 use super::lane::LANE_BASE;
 
@@ -17,70 +17,63 @@ fn lane_len(name: &[u8]) -> usize
     }
 }
 
-/// The code of the lane that has the name: 4 to 12, in the order of the numbers of types.
-fn lane_code(name: &[u8]) -> Option<u16>
-    ensures code { result ≡ found_in lane_codes name.now }
-    ensures small { IfSome result (λ code. code ≤ 12) }
-{
-    match name {
-        b"i8" => Some(4),
-        b"i16" => Some(5),
-        b"i32" => Some(6),
-        b"i64" => Some(7),
-        b"i128" => Some(8),
-        b"f16" => Some(9),
-        b"f32" => Some(10),
-        b"f64" => Some(11),
-        b"f128" => Some(12),
-        _ => None,
-    }
-}
+/// The names of the lanes, and the codes beside them, in the order of the numbers of types.
+const LANE_CODES: [(&str, u8); 9] = [
+    ("i8", 4),
+    ("i16", 5),
+    ("i32", 6),
+    ("i64", 7),
+    ("i128", 8),
+    ("f16", 9),
+    ("f32", 10),
+    ("f64", 11),
+    ("f128", 12),
+];
 
-/// The row of the scalars and the fixed vectors whose names have this behind the lane's: 0, and 1 to 8.
-fn fixed_row(lanes: &[u8]) -> Option<u16>
-    ensures row { result ≡ found_in fixed_rows lanes.now }
-    ensures small { IfSome result (λ row. row ≤ 16) }
-{
-    match lanes {
-        b"" => Some(0),
-        b"x2" => Some(1),
-        b"x4" => Some(2),
-        b"x8" => Some(3),
-        b"x16" => Some(4),
-        b"x32" => Some(5),
-        b"x64" => Some(6),
-        b"x128" => Some(7),
-        b"x256" => Some(8),
-        _ => None,
-    }
-}
+/// What the names of scalars and fixed vectors have behind the lane's, and their rows.
+const FIXED_ROWS: [(&str, u8); 9] = [
+    ("", 0),
+    ("x2", 1),
+    ("x4", 2),
+    ("x8", 3),
+    ("x16", 4),
+    ("x32", 5),
+    ("x64", 6),
+    ("x128", 7),
+    ("x256", 8),
+];
 
-/// And that of the dynamic vectors: 9 to 16.
-fn dynamic_row(lanes: &[u8]) -> Option<u16>
-    ensures row { result ≡ found_in dynamic_rows lanes.now }
-    ensures small { IfSome result (λ row. row ≤ 16) }
+/// And those of dynamic vectors.
+const DYNAMIC_ROWS: [(&str, u8); 8] = [
+    ("x2xN", 9),
+    ("x4xN", 10),
+    ("x8xN", 11),
+    ("x16xN", 12),
+    ("x32xN", 13),
+    ("x64xN", 14),
+    ("x128xN", 15),
+    ("x256xN", 16),
+];
+
+/// The number beside the text.
+fn number_beside(rows: &[(&str, u8)], text: &[u8]) -> Option<u8>
+    ensures { result ≡ found_in (map (λ row. (row.0.now, row.1)) rows.now) text.now }
 {
-    match lanes {
-        b"x2xN" => Some(9),
-        b"x4xN" => Some(10),
-        b"x8xN" => Some(11),
-        b"x16xN" => Some(12),
-        b"x32xN" => Some(13),
-        b"x64xN" => Some(14),
-        b"x128xN" => Some(15),
-        b"x256xN" => Some(16),
-        _ => None,
+    for (name, number) in rows {
+        if text == name.as_bytes() {
+            return Some(*number);
+        }
     }
+    None
 }
 
 /// The row of the types whose names have this behind the lane's.
-fn lanes_row(lanes: &[u8]) -> Option<u16>
-    ensures row { result ≡ row_of lanes.now }
-    ensures small { IfSome result (λ row. row ≤ 16) }
+fn lanes_row(lanes: &[u8]) -> Option<u8>
+    ensures { result ≡ row_of lanes.now }
 {
-    match fixed_row(lanes) {
+    match number_beside(&FIXED_ROWS, lanes) {
         Some(row) => Some(row),
-        None => dynamic_row(lanes),
+        None => number_beside(&DYNAMIC_ROWS, lanes),
     }
 }
 
@@ -91,7 +84,7 @@ pub fn type_number(name: &[u8]) -> Option<u16>
     ensures none { IfNone result ((t : TypeParts) → IsType t → name_of t ≢ name.now) }
 {
     let (lane, lanes) = name.split_at(lane_len(name));
-    let code = lane_code(lane)?;
+    let code = number_beside(&LANE_CODES, lane)?;
     let row = lanes_row(lanes)?;
-    Some(LANE_BASE + code + 16 * row)
+    Some(LANE_BASE + u16::from(code) + 16 * u16::from(row))
 }
