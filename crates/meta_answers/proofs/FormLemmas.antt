@@ -8,7 +8,8 @@ use Rattle.meta_words.specs.Words.{IsWord, pieces_of}
 use Rattle.meta_words.specs.Control.{control_text}
 use Rattle.meta_words.specs.TypeList.{types_text}
 use Rattle.meta_words.proofs.WordLemmas.{pieces_of-words}
-use Rattle.meta_answers.specs.Question.{Question, IsQuestion, question_words}
+use Rattle.meta_gen.specs.Question.{Question}
+use Rattle.meta_answers.specs.Question.{IsQuestion, question_words}
 use Rattle.meta_answers.specs.Inference.{Inference, IsInference, inference_words}
 use Rattle.meta_answers.specs.Query.{Asked, OfQuestion, OfInference, OfSetting, setting_words, Asks}
 use Rattle.meta_answers.specs.Form.{command_text, command_named}

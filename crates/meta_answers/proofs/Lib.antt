@@ -5,8 +5,8 @@ mod QueryLemmas
 mod AnswerLemmas
 mod SettingLines
 mod LineParts
-pub mod Meant
+mod Meant
 mod OneInference
-pub mod OneReply
+mod OneList
 mod OneOutput
 pub mod TableReplies

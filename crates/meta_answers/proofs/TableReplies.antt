@@ -20,11 +20,12 @@ use Rattle.meta_answers.specs.Inference.{Inference, IsResultsLine}
 use Rattle.meta_answers.specs.Query.{Asked, OfQuestion, OfInference, OfSetting}
 use Rattle.meta_answers.specs.SettingLine.{line_in}
 use Rattle.meta_answers.specs.Answer.{GivesAsked, GivenReply, IsLineInTables, SettingReply, TablesReply, IsTableReply, AreWrittenAnswers}
-use Rattle.meta_answers.specs.declared.reply.Reply.{Reply}
-use Rattle.meta_answers.specs.declared.reply.Reply.TheVariants.{Accept, Refuse, Unknown, Bad, Results, Setting}
+use Rattle.meta_gen.specs.declared.reply.Reply.{Reply}
+use Rattle.meta_gen.specs.declared.reply.Reply.TheVariants.{Accept, Refuse, Unknown, Bad, Results, Setting}
 use Rattle.meta_answers.proofs.QueryLemmas.{one_query}
 use Rattle.meta_answers.proofs.InferenceLemmas.{one_results_line}
-use Rattle.meta_answers.proofs.OneReply.{one_allowed, one_list}
+use Rattle.meta_gen.proofs.OneReply.{one_allowed}
+use Rattle.meta_answers.proofs.OneList.{one_list}
 
 -- ---- a constraint gives one number
 

@@ -1,18 +1,10 @@
 -- The line that asks whether an instruction accepts types.
-use Rattle.std.specs.Prelude.{ℕ, List, [], ◌∷◌, All, Option, IfSome, codes}
-use Rattle.meta_types.specs.TypeParts.{TypeParts, IsType}
+use Rattle.std.specs.Prelude.{ℕ, List, [], ◌∷◌, All, IfSome, codes}
+use Rattle.meta_types.specs.TypeParts.{IsType}
+use Rattle.meta_gen.specs.Question.{Question}
 use Rattle.meta_words.specs.Words.{AreWords}
 use Rattle.meta_words.specs.Control.{control_text, IsBehind}
 use Rattle.meta_words.specs.TypeList.{types_text}
-
--- whether the instruction of this name accepts these types: of its control and of its second control, of its results and of its
--- value operands
-pub record Question : Type 0 where
-  pub name : List ℕ
-  pub control : Option TypeParts
-  pub second : Option TypeParts
-  pub results : List TypeParts
-  pub values : List TypeParts
 
 -- the words of the line that asks: `accept NAME CONTROL RESULTS VALUES`, where CONTROL gives both controlling types
 abbrev pub question_words : List ℕ → List ℕ → List ℕ → List ℕ → List (List ℕ)

@@ -14,7 +14,7 @@ use Rattle.meta_lists.proofs.Everywhere.{at_place}
 use Rattle.meta_words.specs.Lines.{lines_of, lines_of_pieces}
 use Rattle.meta_words.specs.Words.{pieces_of}
 use Rattle.meta_words.proofs.PieceLemmas.{slice_split_cons, first_piece}
-use Rattle.meta_answers.specs.Answer.{AllowedReply, AcceptedReply}
+use Rattle.meta_gen.specs.Reply.{AllowedReply, AcceptedReply}
 use Rattle.meta_verify.specs.Statement.{TypedValue, Application, Statement, OfParameter, OfApplication, IsTyped, CanApply, value_text}
 use Rattle.meta_verify.specs.Statement.{defined_by}
 use Rattle.meta_verify.specs.Environment.{Environment, nothing_defined, with_values}

@@ -3,7 +3,7 @@ use Rattle.std.proofs.Common.{◌↔◌, ℕ, Bool, true, false, List, [], ◌�
 use Rattle.meta_words.specs.Lines.{lines_of}
 use Rattle.meta_inst.specs.InstructionSet.{InstructionSet}
 use Rattle.meta_meaning.specs.Tables.{TableContents}
-use Rattle.meta_answers.specs.Answer.{AllowedReply, AcceptedReply}
+use Rattle.meta_gen.specs.Reply.{AllowedReply, AcceptedReply}
 use Rattle.meta_verify.specs.Statement.{defined_by}
 use Rattle.meta_verify.specs.Environment.{Environment, nothing_defined, with_values, HasNamedTypes}
 use Rattle.meta_verify.specs.Verdict.{IsVerdict}

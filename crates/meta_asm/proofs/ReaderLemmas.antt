@@ -31,7 +31,7 @@ use Rattle.meta_opcode_tables.specs.Contents.{IsOpcodeNamed}
 use Rattle.meta_opcode_tables.specs.WellFormed.{IsWellFormedOpcodes}
 use Rattle.meta_lists.proofs.Everywhere.{at_place}
 use Rattle.meta_words.specs.Control.{control_text, IsBehind}
-use Rattle.meta_answers.specs.Answer.{AllowedReply}
+use Rattle.meta_gen.specs.Reply.{AllowedReply}
 use Rattle.meta_verify.specs.Statement.{TypedValue, Application, Statement, OfParameter, OfApplication, IsStatement, value_text, typed_text}
 use Rattle.meta_verify.specs.Statement.{list_text}
 use Rattle.meta_verify.specs.Environment.{Environment, HaveTypes}
@@ -39,7 +39,7 @@ use Rattle.meta_verify.specs.Wrong.{IsRight, IsWrong}
 use Rattle.meta_verify.specs.declared.reason.Reason.{Reason}
 use Rattle.meta_verify.proofs.StatementLemmas.{pieces_are, name_has_bytes}
 use Rattle.meta_verify.proofs.OneAnswer.{not_wrong}
-use Rattle.meta_answers.proofs.OneReply.{one_allowed}
+use Rattle.meta_gen.proofs.OneReply.{one_allowed}
 use Rattle.meta_short.specs.Short.{Manner, control_written, short_application, short_text}
 use Rattle.meta_short.specs.Parts.{IsPlain}
 use Rattle.meta_short.specs.Manners.{is_open, is_control, value_constraints, manner_of, IsMannerIn}

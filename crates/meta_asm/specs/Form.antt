@@ -1,6 +1,6 @@
 -- The two forms that a list is written in.
 use Rattle.std.specs.Prelude.{ℕ, List, [], ◌∷◌, codes}
-use Rattle.meta_answers.specs.Answer.{AcceptedReply}
+use Rattle.meta_gen.specs.Reply.{AcceptedReply}
 use Rattle.meta_run.specs.Run.{Texts}
 use Rattle.meta_short.specs.Manners.{IsMannerDeclared}
 use Rattle.meta_asm.specs.Listing.{IsShortened, IsSpelled}

@@ -5,7 +5,7 @@ use Rattle.meta_lists.specs.First.{IsFirst}
 use Rattle.meta_types.specs.TypeParts.{TypeParts}
 use Rattle.meta_meaning.specs.Tables.{TableContents, OpcodeNumbers, at_opcode}
 use Rattle.meta_opcode_tables.specs.Contents.{IsOpcodeNamed}
-use Rattle.meta_answers.specs.Answer.{AllowsAsked}
+use Rattle.meta_gen.specs.Reply.{AllowsAsked}
 use Rattle.meta_verify.specs.Statement.{Application, CanApply}
 use Rattle.meta_verify.specs.Environment.{Environment, HaveTypes}
 use Rattle.meta_verify.specs.Wrong.{question_of}

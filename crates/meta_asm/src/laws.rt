@@ -5,7 +5,7 @@ ghost use Rattle.meta_meaning.specs.Tables.{TableContents};
 ghost use Rattle.meta_opcode_tables.specs.WellFormed.{IsWellFormedOpcodes};
 ghost use Rattle.meta_declared.specs.AllDeclared.{Declared, AreValid};
 ghost use Rattle.meta_words.specs.Lines.{lines_of};
-ghost use Rattle.meta_answers.specs.Answer.{AllowedReply, AcceptedReply};
+ghost use Rattle.meta_gen.specs.Reply.{AllowedReply, AcceptedReply};
 ghost use Rattle.meta_short.specs.Manners.{IsMannerIn, IsMannerDeclared};
 ghost use Rattle.meta_asm.specs.Listing.{text_of_lines, filled, IsShortened, IsSpelled};
 ghost use Rattle.meta_asm.specs.Form.{words_for, written_in};

@@ -1,6 +1,6 @@
 ghost use Rattle.std.specs.Prelude.{◌≡◌, ◌≢◌, ◌≤◌, ◌++◌, ℕ, List, [], ◌∷◌, true, false, None, length, IfOk, string_bytes};
 ghost use Rattle.meta_text.specs.Outside.{longest_input};
-ghost use Rattle.meta_answers.specs.Answer.{AllowedReply};
+ghost use Rattle.meta_gen.specs.Reply.{AllowedReply};
 ghost use Rattle.meta_verify.specs.Defined.{definitions};
 ghost use Rattle.meta_verify.specs.Wrong.{Feeds};
 ghost use Rattle.meta_verify.specs.Verdict.{wrong_text};

@@ -6,7 +6,7 @@ ghost use Rattle.meta_types.specs.TypeParts.{number_of};
 ghost use Rattle.meta_meaning.specs.Tables.{OpcodeNumbers, at_opcode};
 ghost use Rattle.meta_opcode_tables.specs.Constraint.{number_constraint_of, entry_of};
 ghost use Rattle.meta_opcode_tables.specs.Contents.{IsOpcodeNamed};
-ghost use Rattle.meta_answers.specs.Answer.{AllowedReply};
+ghost use Rattle.meta_gen.specs.Reply.{AllowedReply};
 ghost use Rattle.meta_verify.specs.Statement as spec;
 ghost use Rattle.meta_verify.specs.Defined.{definitions};
 ghost use Rattle.meta_verify.specs.Wrong.{IsRight};

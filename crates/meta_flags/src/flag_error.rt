@@ -1,14 +1,19 @@
 ghost use Rattle.std.specs.Prelude.{◌≡◌};
 ghost use Rattle.meta_flags.specs.Replies.{error_text};
 
+use thiserror::Error;
+
 /// Why a setting isn't set, enabled or told (this project's own).
-#[derive(Clone, Copy, Debug, PartialEq, Eq)]
+#[derive(Clone, Copy, Debug, Drop, PartialEq, Eq, Error)]
 pub enum FlagError {
     /// No entry has the name.
+    #[error("Unknown")]
     Unknown,
     /// The entry of the name is of a kind with which this can't be done.
+    #[error("Kind")]
     Kind,
     /// It is no value of the setting.
+    #[error("Value")]
     Value,
 }
 

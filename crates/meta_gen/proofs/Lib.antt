@@ -3,3 +3,5 @@ mod FoundIn
 mod GroupsOfParts
 mod OneWhole
 mod OneDeclared
+pub mod Meant
+pub mod OneReply

@@ -2,12 +2,13 @@
 //!
 //! `generate` refuses `Declarations` by their first fault, or makes `Tables` of what is built of them, as `tables_of` does, and
 //! `tables_from_parts` makes them of parts that are well-formed. `Tables::accepts2` is the decoding, and `Tables::infer_results2`
-//! gives the types that it leaves no choice for.
+//! gives the types that it leaves no choice for. A `Reply` is what is answered to a line that asks.
 #![tactic(auto)]
 
 mod generation;
 mod laws;
 mod parts;
+mod reply;
 mod same;
 mod tables;
 
@@ -25,4 +26,5 @@ pub use meta_setting_tables::{
     built_groups_have_well_formed_tables,
 };
 pub use parts::{TableParts, one_table_has_all_parts, tables_from_parts};
+pub use reply::Reply;
 pub use tables::Tables;

@@ -21,13 +21,13 @@ use Rattle.meta_meaning.proofs.Inferring.{result_inferred, only_inferred, design
 use Rattle.meta_opcode_tables.proofs.ValidNames.{is_name_where}
 use Rattle.meta_opcode_tables.proofs.Derivations.{no_bad_place}
 use Rattle.meta_words.specs.Control.{IsBehind}
-use Rattle.meta_answers.specs.Answer.{IsAskedFor, AcceptsAsked, AcceptedReply}
+use Rattle.meta_gen.specs.Reply.{IsAskedFor, AcceptsAsked, AcceptedReply}
 use Rattle.meta_inst.proofs.ValidControls.{good_second, well_derived}
 use Rattle.meta_verify.specs.Statement.{TypedValue, Application, OfApplication, CanApply}
 use Rattle.meta_verify.specs.Environment.{Environment, HaveTypes}
 use Rattle.meta_verify.specs.Wrong.{question_of, IsAccepted}
 use Rattle.meta_verify.proofs.OneAnswer.{same_found_types}
-use Rattle.meta_answers.proofs.OneReply.{one_asked}
+use Rattle.meta_gen.proofs.OneReply.{one_asked}
 use Rattle.meta_short.specs.Short.{Manner, short_results, control_written, short_application}
 use Rattle.meta_short.specs.Parts.{IsPlain}
 use Rattle.meta_short.specs.Manners.{ControlHasOne, IsMannerOf, IsMannerDeclared}

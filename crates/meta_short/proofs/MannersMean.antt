@@ -30,7 +30,7 @@ use Rattle.meta_meaning.specs.Inference.{EndsInRelation}
 use Rattle.meta_meaning.proofs.Candidates.{same_variable}
 use Rattle.meta_meaning.proofs.Fixedness.{fixed_from_one, one_from_fixed}
 use Rattle.meta_lists.proofs.Everywhere.{at_place}
-use Rattle.meta_answers.proofs.Meant.{opcode_is}
+use Rattle.meta_gen.proofs.Meant.{opcode_is}
 use Rattle.meta_verify.proofs.Allowed.{first_named}
 use Rattle.meta_short.specs.Short.{Manner}
 use Rattle.meta_short.specs.Manners.{is_open, is_control, result_constraints, value_constraints, manner_of, IsMannerIn}

@@ -2,7 +2,7 @@
 use Rattle.std.proofs.Common.{◌↔◌, List, ℕ}
 use Rattle.meta_inst.specs.InstructionSet.{InstructionSet}
 use Rattle.meta_meaning.specs.Tables.{TableContents}
-use Rattle.meta_answers.specs.Answer.{AllowedReply, AcceptedReply}
+use Rattle.meta_gen.specs.Reply.{AllowedReply, AcceptedReply}
 use Rattle.meta_verify.specs.Statement.{Statement, OfParameter, OfApplication, CanBeStated}
 use Rattle.meta_verify.specs.Environment.{Environment}
 use Rattle.meta_verify.specs.Wrong.{IsFaultless}

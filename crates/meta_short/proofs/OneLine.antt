@@ -18,7 +18,7 @@ use Rattle.meta_opcode_tables.specs.WellFormed.{IsWellFormedOpcodes}
 use Rattle.meta_lists.proofs.Everywhere.{at_place}
 use Rattle.meta_words.specs.Control.{control_text, IsBehind}
 use Rattle.meta_words.proofs.ControlLemmas.{same_controls}
-use Rattle.meta_answers.specs.Answer.{AllowedReply}
+use Rattle.meta_gen.specs.Reply.{AllowedReply}
 use Rattle.meta_verify.specs.Statement.{TypedValue, Application, Statement, OfParameter, OfApplication, IsValue, IsTyped, CanApply}
 use Rattle.meta_verify.specs.Statement.{CanBeStated, value_text, words_of}
 use Rattle.meta_verify.specs.Environment.{Environment, HaveTypes}

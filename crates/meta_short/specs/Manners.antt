@@ -17,7 +17,7 @@ use Rattle.meta_meaning.specs.Tables.{TableContents, OpcodeNumbers, NumberConstr
 use Rattle.meta_meaning.specs.Tables.{at_opcode, result_count, value_count, no_type_set, DesignatedControls}
 use Rattle.meta_meaning.specs.Inference.{EndsInRelation}
 use Rattle.meta_opcode_tables.specs.Contents.{IsOpcodeNamed}
-use Rattle.meta_answers.specs.Answer.{IsAskedFor}
+use Rattle.meta_gen.specs.Reply.{IsAskedFor}
 use Rattle.meta_short.specs.Short.{Manner}
 
 -- ---- by tables

@@ -6,7 +6,7 @@
 use Rattle.std.specs.Prelude.{◌≡◌, ⊤, ℕ, List}
 use Rattle.meta_inst.specs.InstructionSet.{InstructionSet}
 use Rattle.meta_meaning.specs.Tables.{TableContents}
-use Rattle.meta_answers.specs.Answer.{AllowedReply, AcceptedReply}
+use Rattle.meta_gen.specs.Reply.{AllowedReply, AcceptedReply}
 use Rattle.meta_verify.specs.Statement.{Statement, OfParameter, OfApplication}
 use Rattle.meta_verify.specs.Environment.{Environment}
 use Rattle.meta_verify.specs.Wrong.{Replies, IsRight}

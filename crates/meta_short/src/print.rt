@@ -1,5 +1,5 @@
 ghost use Rattle.std.specs.Prelude.{◌≡◌, ◌⊎◌, ◌++◌, ℕ, List, [], true, false, IfOk, IfSome, IfNone, string_bytes};
-ghost use Rattle.meta_answers.specs.Answer.{AllowedReply};
+ghost use Rattle.meta_gen.specs.Reply.{AllowedReply};
 ghost use Rattle.meta_verify.specs.Numbers.{stated, HasNumbers, HasTypeNumbers};
 ghost use Rattle.meta_verify.specs.Numbers as numbers;
 ghost use Rattle.meta_verify.specs.Statement as spec;

@@ -12,12 +12,12 @@ use Rattle.meta_opcode_tables.specs.Contents.{IsOpcodeNamed}
 use Rattle.meta_opcode_tables.specs.TablesOf.{AreTablesOf, AcceptsOpcode}
 use Rattle.meta_lists.proofs.Everywhere.{at_place}
 use Rattle.meta_declared.proofs.DifferentNames.{different_names}
-use Rattle.meta_answers.specs.Question.{Question}
-use Rattle.meta_answers.specs.Answer.{AllowsAsked, AllowedReply, AcceptsAsked, IsAskedFor, AcceptedReply}
-use Rattle.meta_answers.specs.declared.reply.Reply.{Reply}
-use Rattle.meta_answers.specs.declared.reply.Reply.TheVariants.{Accept, Refuse, Unknown, Bad, Results, Setting}
-use Rattle.meta_answers.proofs.Meant.{HasTypes, accepted, opcode_named, opcode_is}
-use Rattle.meta_answers.proofs.OneReply.{declared_name_at, one_asked}
+use Rattle.meta_gen.specs.Question.{Question}
+use Rattle.meta_gen.specs.Reply.{AllowsAsked, AllowedReply, AcceptsAsked, IsAskedFor, AcceptedReply}
+use Rattle.meta_gen.specs.declared.reply.Reply.{Reply}
+use Rattle.meta_gen.specs.declared.reply.Reply.TheVariants.{Accept, Refuse, Unknown, Bad, Results, Setting}
+use Rattle.meta_gen.proofs.Meant.{HasTypes, accepted, opcode_named, opcode_is}
+use Rattle.meta_gen.proofs.OneReply.{declared_name_at, one_asked}
 
 number_is : (t : Option TypeParts) → IfSome t IsType → IsNumberOf t (option_map number_of t)
 number_is None a = refl

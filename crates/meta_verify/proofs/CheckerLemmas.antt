@@ -15,7 +15,7 @@ use Rattle.meta_meaning.specs.Tables.{TableContents, at_opcode, Allows}
 use Rattle.meta_opcode_tables.specs.Contents.{IsOpcodeNamed}
 use Rattle.meta_types.specs.TypeNumber.{type_with, IsTypeNumber}
 use Rattle.meta_words.proofs.TypeListLemmas.{numbers_back}
-use Rattle.meta_answers.specs.Answer.{AllowsAsked, AllowedReply}
+use Rattle.meta_gen.specs.Reply.{AllowsAsked, AllowedReply}
 use Rattle.meta_verify.specs.Statement.{TypedValue, Statement, OfParameter, OfApplication}
 use Rattle.meta_verify.specs.Environment.{Environment, nothing_defined, with_values, first_undefined, first_redefined, HaveTypes}
 use Rattle.meta_verify.specs.Environment.{HasNamedTypes}

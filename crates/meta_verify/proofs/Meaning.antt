@@ -10,11 +10,11 @@ use Rattle.meta_inst.specs.InstructionSet.{InstructionSet}
 use Rattle.meta_meaning.specs.Tables.{TableContents, Allows}
 use Rattle.meta_opcode_tables.specs.TablesOf.{AreTablesOf, AcceptsOpcode}
 use Rattle.meta_words.specs.Lines.{lines_of}
-use Rattle.meta_answers.specs.Question.{Question}
-use Rattle.meta_answers.specs.Answer.{AllowedReply, AcceptedReply}
-use Rattle.meta_answers.specs.declared.reply.Reply.{Reply}
-use Rattle.meta_answers.specs.declared.reply.Reply.TheVariants as reply
-use Rattle.meta_answers.proofs.Meant.{HasTypes, accepted}
+use Rattle.meta_gen.specs.Question.{Question}
+use Rattle.meta_gen.specs.Reply.{AllowedReply, AcceptedReply}
+use Rattle.meta_gen.specs.declared.reply.Reply.{Reply}
+use Rattle.meta_gen.specs.declared.reply.Reply.TheVariants as reply
+use Rattle.meta_gen.proofs.Meant.{HasTypes, accepted}
 use Rattle.meta_verify.specs.Statement.{TypedValue, Application, Statement, OfParameter, OfApplication, IsTyped, CanBeStated}
 use Rattle.meta_verify.specs.Statement.{AppliesTypes, GivesTypes, defined_by}
 use Rattle.meta_verify.specs.Numbers.{typed_value_of, stated, IsTypedNumber, HasTypeNumbers}
@@ -25,7 +25,7 @@ use Rattle.meta_verify.specs.Wrong.{Replies, question_of, LacksName, IsRepliedTo
 use Rattle.meta_verify.specs.Wrong.{Feeds}
 use Rattle.meta_verify.specs.Verdict.{LeadTo, IsAnsweredAt, AreRightTo, IsVerdict}
 use Rattle.meta_verify.proofs.OneAnswer.{right_not_wrong}
-use Rattle.meta_answers.proofs.OneReply.{one_accepted}
+use Rattle.meta_gen.proofs.OneReply.{one_accepted}
 use Rattle.meta_verify.proofs.Allowed.{unknown_back, allowed, unknown_forth}
 use Rattle.meta_verify.specs.declared.reason.Reason.{Reason}
 use Rattle.meta_verify.specs.declared.reason.Reason.TheVariants.{Bad, Unknown, Undefined, Redefined, Refused}

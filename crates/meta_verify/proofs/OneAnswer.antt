@@ -5,9 +5,9 @@ use Rattle.std.proofs.lemmas.Bool.{cases_order}
 use Rattle.std.proofs.lemmas.Option.{same_Some, slice_get_within}
 use Rattle.meta_types.specs.TypeParts.{TypeParts}
 use Rattle.meta_words.specs.Lines.{lines_of}
-use Rattle.meta_answers.specs.Question.{Question}
-use Rattle.meta_answers.specs.declared.reply.Reply.{Reply}
-use Rattle.meta_answers.specs.declared.reply.Reply.TheVariants as reply
+use Rattle.meta_gen.specs.Question.{Question}
+use Rattle.meta_gen.specs.declared.reply.Reply.{Reply}
+use Rattle.meta_gen.specs.declared.reply.Reply.TheVariants as reply
 use Rattle.meta_verify.specs.Statement.{Statement, OfParameter, OfApplication, defined_by}
 use Rattle.meta_verify.specs.Environment.{Environment, nothing_defined, with_values, HaveTypes}
 use Rattle.meta_verify.specs.Wrong.{Replies, question_of, IsAccepted, IsRefused, IsMistake, IsFaultless, IsRight, IsWrong, AnswersLine}

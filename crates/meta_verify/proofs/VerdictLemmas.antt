@@ -5,14 +5,14 @@ use Rattle.std.specs.Fmt.{decimal}
 use Rattle.std.proofs.lemmas.Bool.{cases_order}
 use Rattle.meta_lists.proofs.Places.{take_next, drop_next}
 use Rattle.meta_meaning.specs.Tables.{TableContents}
-use Rattle.meta_answers.specs.Answer.{AllowedReply}
+use Rattle.meta_gen.specs.Reply.{AllowedReply}
 use Rattle.meta_verify.specs.Environment.{Environment, nothing_defined}
 use Rattle.meta_verify.specs.Reason.{reason_text}
 use Rattle.meta_verify.specs.Wrong.{Replies, Feeds}
 use Rattle.meta_verify.specs.Verdict.{LeadTo, IsAnsweredAt, AreRightTo, AreRight, IsFirstWrong, wrong_text}
 use Rattle.meta_verify.specs.declared.reason.Reason.{Reason}
 use Rattle.meta_verify.proofs.OneAnswer.{right_not_wrong}
-use Rattle.meta_answers.proofs.OneReply.{one_allowed}
+use Rattle.meta_gen.proofs.OneReply.{one_allowed}
 
 -- one more line leads further
 leads_on : (R : Replies) (env between env' : Environment) (lines : List (List ℕ)) (line : List ℕ)

@@ -4,7 +4,7 @@ use Rattle.std.specs.Prelude.{◌≡◌, ◌≢◌, ℕ, ◌+◌, ◌≤◌, ◌
 use Rattle.meta_text.specs.Outside.{Rose, longest_input}
 use Rattle.meta_declared.specs.AllDeclared.{Declared, AreValid}
 use Rattle.meta_words.specs.Lines.{lines_of}
-use Rattle.meta_answers.specs.Answer.{AcceptedReply}
+use Rattle.meta_gen.specs.Reply.{AcceptedReply}
 use Rattle.meta_run.specs.Run.{Texts}
 use Rattle.meta_run.specs.declared.ending.Ending.{Ending}
 use Rattle.meta_run.specs.declared.ending.Ending.TheVariants.{Done, OutOfMemory, Rejected}

@@ -1,5 +1,5 @@
 ghost use Rattle.std.specs.Prelude.{◌≡◌, None, Some, is_some, if◌then◌else◌, map, IfOk, IfSome, IfNone, OnOk};
-ghost use Rattle.meta_answers.specs.Answer.{AllowedReply};
+ghost use Rattle.meta_gen.specs.Reply.{AllowedReply};
 ghost use Rattle.meta_verify.specs.Defined.{environment_of, AreTypeNumbers};
 ghost use Rattle.meta_verify.specs.Numbers.{applied, stated, HasNumbers, HasTypeNumbers};
 ghost use Rattle.meta_verify.specs.Statement as spec;

@@ -1,14 +1,13 @@
 -- The pieces of a text between the bytes of one value.
-use Rattle.std.proofs.Common.{◌≡◌, ℕ, ◌+◌, ◌-◌, ◌<◌, ◌==◌, ◌≢◌, not, Bool, false, Option, None, Some, unwrap_or, inl, inr}
+use Rattle.std.proofs.Common.{◌≡◌, ℕ, ◌+◌, ◌-◌, ◌<◌, ◌==◌, ◌≢◌, not, Bool, true, false, cond, nat_lt, Option, None, Some, unwrap_or, inl, inr}
 use Rattle.std.proofs.Common.{List, [], ◌∷◌, ◌++◌, All, length, take, drop, refl, sym, ap, ◌∙◌, arith, rules, tests, eq-eqb}
-use Rattle.std.specs.List.{slice_split, onto_first, position_or_len, join_with_byte}
+use Rattle.std.specs.List.{slice_split, onto_first, position, position_or_len, join_with_byte}
 use Rattle.std.proofs.lemmas.List.Splits.{slice_split_first, slice_split_none, slice_split_at, slice_split-cons_yes, slice_split-cons_no}
 use Rattle.std.proofs.lemmas.List.Splits.{join_with_byte-slice_split}
 use Rattle.std.proofs.lemmas.List.{take_rest}
-use Rattle.std.proofs.lemmas.List.Sums.{prefix_len-le-length, fails_before_first, position_or_len_is}
+use Rattle.std.proofs.lemmas.List.Sums.{prefix_len-le-length, fails_before_first}
 use Rattle.std.proofs.lemmas.List.Elements.{All-nil, All-cons, All-head, All-tail, All-same, All-weaker}
-use Rattle.std.proofs.lemmas.Bool.{cases_Bool, false_from_ne_true}
-use Rattle.memchr.specs.Find.{IsFirstByte, is_byte}
+use Rattle.std.proofs.lemmas.Bool.{cases_Bool, ltb-false}
 use Rattle.meta_words.specs.Words.{pieces_of}
 
 -- the first piece ends at the first element that passes
@@ -85,15 +84,19 @@ pieces_of-join byte piece (next ∷ more) h =
     ∙ ap (λ ps. piece ∷ ps) (pieces_of-join byte next more (All-tail (λ x. All (λ b. b ≢ byte) x) piece (next ∷ more) h))
 
 -- the first place of a byte, and the length where there is none
-pub byte_or_len : (stop : ℕ) (xs : List ℕ) (r : Option ℕ) → IsFirstByte (is_byte stop) xs r
+pub place_or_len : (stop : ℕ) (xs : List ℕ) (r : Option ℕ) → r ≡ position (λ b. b == stop) xs
     → unwrap_or r (length xs) ≡ position_or_len (λ b. b == stop) xs
-byte_or_len stop xs None none =
-    sym (position_or_len_is (λ b. b == stop) xs (length xs) 0 (omega arith)
-    (λ k low. false_from_ne_true _ (none k (omega arith) low)) (λ low. absurd (omega (arith, low))))
-byte_or_len stop xs (Some k) (first, at) =
-    let high = first.high in
-    sym (position_or_len_is (λ b. b == stop) xs k 0 (omega (arith, high))
-    (λ j low. false_from_ne_true _ (first.before j (omega arith) low)) (λ low. at))
+place_or_len stop xs r e = ap (λ o. unwrap_or o (length xs)) e ∙ by_test (nat_lt n (length xs)) refl
+  where
+    n : ℕ
+    n = position_or_len (λ b. b == stop) xs
+
+    by_test : (b : Bool) → nat_lt n (length xs) ≡ b → unwrap_or (cond b (Some n) None) (length xs) ≡ n
+    by_test true low = refl
+    by_test false high =
+        let most = prefix_len-le-length (λ b. not (b == stop)) xs in
+        let least = ltb-false n (length xs) high in
+        omega (arith, most, least)
 
 -- where the first place is the length, the text is one piece
 pub no_place : (byte : ℕ) (text : List ℕ) (end : ℕ) → end ≡ position_or_len (λ b. b == byte) text → end ≡ length text

@@ -1,16 +1,22 @@
 ghost use Rattle.std.specs.Prelude.{◌≡◌, ◌≢◌, ◌==◌, ◌<◌, ℕ, List, [], ◌∷◌, true, false, length, drop, IfSome, IfNone};
-ghost use Rattle.std.specs.List.{position_or_len};
+ghost use Rattle.std.specs.List.{position, position_or_len};
 ghost use Rattle.std.specs.Option.{option_map_or};
 ghost use Rattle.meta_words.specs.Words.{pieces_of};
 
-use memchr::memchr;
 use std::marker::Model;
+
+/// The place of the first such byte, from 0.
+fn place_of(text: &[u8], byte: u8) -> Option<usize>
+    ensures { result ≡ position (λ c. c == byte) text.now }
+{
+    text.iter().position(|c| *c == byte)
+}
 
 /// The place of the first such byte, from 0, and the length of the text where it has none (this project's own).
 pub fn end_of(text: &[u8], stop: u8) -> usize
     ensures { result ≡ position_or_len (λ c. c == stop) text.now }
 {
-    memchr(stop, text).unwrap_or(text.len())
+    place_of(text, stop).unwrap_or(text.len())
 }
 
 /// What stands before the first such byte, and what stands after it, if the text has one (this project's own).

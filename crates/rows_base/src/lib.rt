@@ -1,18 +1,23 @@
-//! Answers cases of value types, derived functions, names, faults and texts, and of hashes, slots, lookups, interning and
-//! overlapping lists, one a line.
+//! Answers lines of value types, derived functions, names, faults and texts, and of hashes, slots, lookups, interning and overlapping
+//! lists.
 #![tactic(auto)]
 
-mod asked;
-mod case;
 mod faults;
 mod functions;
-mod interning;
-mod lanes;
+mod interned;
 mod lists;
 mod lookups;
+mod session;
 mod slots;
 mod texts;
 mod types;
-mod vectors;
 
-pub use case::add_answers;
+use rows_words::answer_lines;
+use session::Session;
+use std::alloc::{AllocError, Global};
+
+/// Adds the answers to the lines.
+pub fn add_answers(alloc: Global, lines: &str, answers: &mut String) -> Result<(), AllocError> {
+    let mut session = Session::new(alloc);
+    answer_lines(&mut session, lines, answers)
+}

@@ -1,6 +1,7 @@
+use super::slots::items_of;
 use meta_unique::UniqueSeqTable;
-use rows_words::{Case, Trouble, items_of, number};
-use std::alloc::{AllocError, Global};
+use rows_words::{Case, Trouble, number, numbers_of};
+use std::alloc::Global;
 
 /// What is neither a number nor a text.
 #[derive(Clone, PartialEq, Eq, Drop)]
@@ -11,45 +12,24 @@ struct Element {
 
 /// Tables of the same lists, as numbers, as texts and as elements.
 #[derive(Drop)]
-pub(crate) struct Lists<'a> {
+pub(crate) struct Lists<'l> {
     numbers: UniqueSeqTable<u16>,
-    texts: UniqueSeqTable<&'a str>,
+    texts: UniqueSeqTable<&'l str>,
     elements: UniqueSeqTable<Element>,
 }
 
-/// Adds the numbers that the items are.
-fn push_numbers(numbers: &mut Vec<u16>, items: &[&str]) -> Result<(), Trouble> {
-    for item in items {
-        numbers.push(number(item)?)?;
-    }
-    Ok(())
-}
-
-/// The numbers as elements.
-fn elements_of(alloc: Global, numbers: &[u16]) -> Result<Vec<Element>, AllocError> {
+/// The numbers of a list as elements.
+fn elements_of(alloc: Global, list: &str) -> Result<Vec<Element>, Trouble> {
     let mut elements = Vec::new(alloc);
-    for number in numbers {
-        elements.push(Element { number: *number })?;
+    for number in numbers_of(alloc, list, "")? {
+        elements.push(Element { number })?;
     }
     Ok(elements)
 }
 
-/// Whether the text and the element at a place stand for this number.
-fn is_at(texts: &[&str], elements: &[Element], place: usize, wanted: u16) -> bool {
-    let is_text = match texts.get(place) {
-        Some(text) => matches!(number::<u16>(text), Ok(found) if found == wanted),
-        None => false,
-    };
-    let is_element = match elements.get(place) {
-        Some(element) => element.number == wanted,
-        None => false,
-    };
-    is_text && is_element
-}
-
-impl<'a> Lists<'a> {
+impl<'l> Lists<'l> {
     /// Tables without a list.
-    pub(crate) fn new(alloc: Global) -> Lists<'a> {
+    pub(crate) fn new(alloc: Global) -> Lists<'l> {
         Lists {
             numbers: UniqueSeqTable::new(alloc),
             texts: UniqueSeqTable::new(alloc),
@@ -57,74 +37,50 @@ impl<'a> Lists<'a> {
         }
     }
 
-    /// Begins tables anew: how many elements there are then.
-    pub(crate) fn clear(&mut self, alloc: Global, out: &mut Case<'_>) {
+    /// Begins tables anew, and writes how many elements there are then.
+    pub(crate) fn begin(&mut self, alloc: Global, case: &mut Case<'_>) -> Result<(), Trouble> {
         *self = Lists::new(alloc);
-        out.shown(&self.numbers.len());
+        case.shown(&self.numbers.len());
+        Ok(())
     }
 
-    /// Adds a list: where it stands, and how many elements there are then.
-    pub(crate) fn add(&mut self, alloc: Global, out: &mut Case<'_>, list: &'a str) {
-        match items_of(alloc, list, "") {
-            Ok(items) => {
-                let place = self.add_items(alloc, items.as_slice());
-                self.write_added(out, place);
-            }
-            Err(trouble) => out.refuse(trouble),
-        }
-    }
-
-    /// Writes where a list stands, and how many elements there are then.
-    fn write_added(&self, out: &mut Case<'_>, place: Result<usize, Trouble>) {
-        match place {
-            Ok(place) => {
-                out.shown(&place);
-                out.field(" ", &self.texts.len());
-            }
-            Err(trouble) => out.refuse(trouble),
-        }
-    }
-
-    /// Adds the items of a list: where it stands, in all three tables.
-    fn add_items(&mut self, alloc: Global, items: &[&'a str]) -> Result<usize, Trouble> {
-        let place = self.texts.add(items)?;
-        let mut numbers = Vec::new(alloc);
-        push_numbers(&mut numbers, items)?;
-        self.add_numbers(alloc, place, numbers.as_slice())?;
-        Ok(place)
-    }
-
-    /// Adds a list as numbers and as elements, which has to stand where it does as texts.
-    fn add_numbers(&mut self, alloc: Global, place: usize, numbers: &[u16]) -> Result<(), Trouble> {
-        let elements = elements_of(alloc, numbers)?;
-        self.add_both(place, numbers, elements.as_slice())
-    }
-
-    /// Adds a list as numbers and as elements, which has to stand where it does as texts.
-    fn add_both(
-        &mut self,
-        place: usize,
-        numbers: &[u16],
-        elements: &[Element],
-    ) -> Result<(), Trouble> {
-        let places = (self.numbers.add(numbers)?, self.elements.add(elements)?);
+    /// Adds a list, and writes where it stands, and how many elements there are then.
+    pub(crate) fn add(&mut self, alloc: Global, case: &mut Case<'l>) -> Result<(), Trouble> {
+        let list = case.word();
+        let place = self.texts.add(&items_of(alloc, list)?)?;
         let len = self.texts.len();
-        if places == (place, place) && self.numbers.len() == len && self.elements.len() == len {
-            Ok(())
-        } else {
-            Err(Trouble::Differ)
+        if self.add_numbers(alloc, list)? != (place, len) {
+            return Err(Trouble::Differ);
         }
+        case.shown(&place);
+        case.field(" ", &len);
+        Ok(())
     }
 
-    /// All that the table holds.
-    pub(crate) fn all(&self, out: &mut Case<'_>) {
-        let (texts, elements) = (self.texts.iter(), self.elements.iter());
-        for (place, number) in self.numbers.iter().enumerate() {
-            if !is_at(texts.as_slice(), elements.as_slice(), place, *number) {
-                out.refuse(Trouble::Differ);
-            }
-            out.separate(',');
-            out.shown(number);
+    /// Adds a list as numbers and as elements: where both stand, and how many there are of each then.
+    fn add_numbers(&mut self, alloc: Global, list: &str) -> Result<(usize, usize), Trouble> {
+        let place = self.numbers.add(&numbers_of(alloc, list, "")?)?;
+        let len = self.numbers.len();
+        let elements = elements_of(alloc, list)?;
+        if self.elements.add(&elements)? != place || self.elements.len() != len {
+            return Err(Trouble::Differ);
         }
+        Ok((place, len))
+    }
+
+    /// Writes all that the tables hold, which has to be the same in each.
+    pub(crate) fn write_all(&self, case: &mut Case<'_>) -> Result<(), Trouble> {
+        let (mut texts, mut elements) = (self.texts.iter(), self.elements.iter());
+        for wanted in self.numbers.iter() {
+            let (Some(text), Some(element)) = (texts.next(), elements.next()) else {
+                return Err(Trouble::Differ);
+            };
+            if number::<u16>(text)? != *wanted || element.number != *wanted {
+                return Err(Trouble::Differ);
+            }
+            case.separate(',');
+            case.shown(wanted);
+        }
+        Ok(())
     }
 }

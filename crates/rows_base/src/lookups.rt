@@ -1,93 +1,76 @@
 ghost use Rattle.std.specs.Prelude.{◌≡◌, ℕ, length, Contains, None};
 ghost use Rattle.std.specs.Int.{IsPowerOfTwo};
 
-use super::slots::{slots_of_count, slots_of_names};
+use super::slots::{items_of, slots_of_count, slots_of_names};
 use meta_unique::{Steps, can_probe, probe, probe_counted, simple_hash};
-use rows_words::{Case, Trouble, items_of};
-use std::alloc::{AllocError, Global};
+use rows_words::{Case, Trouble, number};
+use std::alloc::Global;
 use std::cell::Cell;
 use std::marker::Brand;
 use std::sync::ledger::{Blank, Ledger};
 
 /// The slots of a list, in which `-` is a vacant one.
-fn listed(alloc: Global, out: &mut Case<'_>, list: &str) -> Result<Vec<Option<u16>>, AllocError> {
+fn listed(alloc: Global, list: &str) -> Result<Vec<Option<u16>>, Trouble> {
     let mut slots = Vec::new(alloc);
     if !list.is_empty() {
         for item in list.split(',') {
-            slots.push(slot_of(out, item))?;
+            let slot = if item == "-" {
+                None
+            } else {
+                Some(number(item)?)
+            };
+            slots.push(slot)?;
         }
     }
     Ok(slots)
 }
 
-/// The slot of this number, and a vacant one for `-`.
-fn slot_of(out: &mut Case<'_>, item: &str) -> Option<u16> {
-    if item == "-" {
+/// Writes whether slots can be looked through.
+pub(crate) fn write_can_probe(alloc: Global, case: &mut Case<'_>) -> Result<(), Trouble> {
+    let slots = listed(alloc, case.word())?;
+    case.yes_or_no(can_probe(slots.as_slice()));
+    Ok(())
+}
+
+/// Writes what is found in slots of the number wanted from a start on; `any` is every number.
+pub(crate) fn write_probed(alloc: Global, case: &mut Case<'_>) -> Result<(), Trouble> {
+    let slots = listed(alloc, case.word())?;
+    let (start, word) = (case.number(), case.word());
+    let wanted = if word == "any" {
         None
     } else {
-        Some(out.number_of(item))
-    }
-}
-
-/// Whether slots can be looked through.
-pub(crate) fn can(alloc: Global, out: &mut Case<'_>, list: &str) {
-    match listed(alloc, out, list) {
-        Ok(slots) => out.yes_or_no(can_probe(slots.as_slice())),
-        Err(_) => out.refuse(Trouble::OutOfMemory),
-    }
-}
-
-/// What is found of a number from a start on; `any` is every number.
-pub(crate) fn numbers(alloc: Global, out: &mut Case<'_>, words: &str) {
-    let (list, words) = words.split_once(' ').unwrap_or((words, ""));
-    match listed(alloc, out, list) {
-        Ok(slots) => write_probed(out, slots.as_slice(), words),
-        Err(_) => out.refuse(Trouble::OutOfMemory),
-    }
-}
-
-/// Writes what is found of the number wanted, or of every number, from a start on.
-fn write_probed(out: &mut Case<'_>, slots: &[Option<u16>], words: &str) {
-    let (start, wanted) = words.split_once(' ').unwrap_or((words, ""));
-    let start = out.number_of(start);
-    let wanted = if wanted == "any" {
-        None
-    } else {
-        slot_of(out, wanted)
+        Some(number(word)?)
     };
-    if !can_probe(slots) {
-        return out.no_case();
+    if !can_probe(slots.as_slice()) {
+        return Err(Trouble::NoCase);
     }
-    out.number_or_dash(probe(slots, start, |number| match wanted {
+    case.number_or_dash(probe(slots.as_slice(), start, |number| match wanted {
         Some(wanted) => number == wanted,
         None => true,
     }));
+    Ok(())
 }
 
-/// The place of each name among the names of a list, and how many names it was compared with.
-pub(crate) fn names(alloc: Global, out: &mut Case<'_>, words: &str) {
-    let (list, wanted) = words.split_once(' ').unwrap_or((words, ""));
-    match items_of(alloc, list, "") {
-        Ok(names) => match slots_of_names(alloc, names.as_slice()) {
-            Ok(slots) => write_finds(out, slots.as_slice(), names.as_slice(), wanted),
-            Err(trouble) => out.refuse(trouble),
-        },
-        Err(trouble) => out.refuse(trouble),
+/// Writes the place of each name among the names of a list, and how many names it was compared with.
+pub(crate) fn write_finds(alloc: Global, case: &mut Case<'_>) -> Result<(), Trouble> {
+    let names = items_of(alloc, case.word())?;
+    let slots = slots_of_names(alloc, names.as_slice())?;
+    for name in case.word().split(',') {
+        case.separate(' ');
+        write_find(slots.as_slice(), names.as_slice(), name, case)?;
     }
-}
-
-/// Writes the place of each name of a list, and how many names it was compared with.
-fn write_finds(out: &mut Case<'_>, slots: &[Option<u16>], names: &[&str], wanted: &str) {
-    for name in wanted.split(',') {
-        out.separate(' ');
-        write_find(out, slots, names, name);
-    }
+    Ok(())
 }
 
 /// Writes the place of one name, and how many names it was compared with.
-fn write_find(out: &mut Case<'_>, slots: &[Option<u16>], names: &[&str], wanted: &str) {
+fn write_find(
+    slots: &[Option<u16>],
+    names: &[&str],
+    wanted: &str,
+    case: &mut Case<'_>,
+) -> Result<(), Trouble> {
     if !can_probe(slots) {
-        return out.no_case();
+        return Err(Trouble::NoCase);
     }
     let compared = Cell::new(0u16);
     let place = probe(slots, simple_hash(wanted.as_bytes()), |place| {
@@ -97,30 +80,21 @@ fn write_find(out: &mut Case<'_>, slots: &[Option<u16>], names: &[&str], wanted:
             None => false,
         }
     });
-    out.number_or_dash(place);
-    out.field(":", &compared.get());
+    case.number_or_dash(place);
+    case.field(":", &compared.get());
+    Ok(())
 }
 
-/// How many items were looked at for each of so many items that all have the hash 0.
-pub(crate) fn colliding(alloc: Global, out: &mut Case<'_>, count: &str) {
-    let count = out.number_of(count);
-    match slots_of_count(alloc, count, 0) {
-        Ok(slots) => write_looked_at(out, slots.as_slice(), count),
-        Err(trouble) => out.refuse(trouble),
-    }
-}
-
-/// Writes how many slots there are, and how many items were looked at until each was found.
-fn write_looked_at(out: &mut Case<'_>, slots: &[Option<u16>], count: u16) {
-    out.shown(&slots.len());
-    out.text(" slots:");
+/// Writes how many slots so many items have that all have the hash 0, and how many items are looked at until each is found.
+pub(crate) fn write_colliding(alloc: Global, case: &mut Case<'_>) -> Result<(), Trouble> {
+    let count = case.number();
+    let slots = slots_of_count(alloc, count, 0)?;
+    case.shown(&slots.len());
+    case.text(" slots:");
     for item in 0..count {
-        out.letter(' ');
-        match looked_at(slots, item) {
-            Ok(looked_at) => out.shown(&looked_at),
-            Err(trouble) => out.refuse(trouble),
-        }
+        case.field(" ", &looked_at(slots.as_slice(), item)?);
     }
+    Ok(())
 }
 
 /// How many items were looked at until this one was found.

@@ -1,49 +1,50 @@
 use meta_unique::{generate_table, simple_hash};
-use rows_words::{Case, Trouble, items_of, number};
+use rows_words::{Case, Trouble, numbers_of};
 use std::alloc::{AllocError, Global};
 
 /// An item of a table of slots.
 #[derive(Clone, Copy)]
-pub(crate) struct Item {
+struct Item {
     /// Where it stands among the items.
     place: u16,
     /// Its hash.
     hash: usize,
 }
 
-/// Adds an item of this hash.
-fn add_item(items: &mut Vec<Item>, hash: usize) -> Result<(), Trouble> {
-    match u16::try_from(items.len()) {
-        Ok(place) => Ok(items.push(Item { place, hash })?),
-        Err(_) => Err(Trouble::NoCase),
+/// The items of a list, which are parted by commas.
+pub(crate) fn items_of<'t>(alloc: Global, list: &'t str) -> Result<Vec<&'t str>, AllocError> {
+    if list.is_empty() {
+        return Ok(Vec::new(alloc));
     }
+    list.split(',').collect(alloc)
 }
 
-/// The slots with the place of each item in place of it.
-fn places_of(alloc: Global, table: &[Option<&Item>]) -> Result<Vec<Option<u16>>, AllocError> {
+/// The slots of items of these hashes, in which each is named by its place.
+fn slots_of(alloc: Global, hashes: &[usize]) -> Result<Vec<Option<u16>>, Trouble> {
+    let mut items = Vec::new(alloc);
+    for (place, hash) in hashes.iter().enumerate() {
+        let Ok(place) = u16::try_from(place) else {
+            return Err(Trouble::NoCase);
+        };
+        items.push(Item { place, hash: *hash })?;
+    }
+    if items.len() > 65535 {
+        return Err(Trouble::NoCase);
+    }
     let mut slots = Vec::new(alloc);
-    for slot in table {
+    for slot in generate_table(alloc, items.as_slice(), |item| item.hash)? {
         slots.push(slot.map(|item| item.place))?;
     }
     Ok(slots)
 }
 
-/// The slots of the items, in which each is named by its place.
-fn slots_of(alloc: Global, items: &[Item]) -> Result<Vec<Option<u16>>, Trouble> {
-    if items.len() > 65535 {
-        return Err(Trouble::NoCase);
-    }
-    let table = generate_table(alloc, items, |item| item.hash)?;
-    Ok(places_of(alloc, table.as_slice())?)
-}
-
 /// The slots of names.
 pub(crate) fn slots_of_names(alloc: Global, names: &[&str]) -> Result<Vec<Option<u16>>, Trouble> {
-    let mut items = Vec::new(alloc);
+    let mut hashes = Vec::new(alloc);
     for name in names {
-        add_item(&mut items, simple_hash(name.as_bytes()))?;
+        hashes.push(simple_hash(name.as_bytes()))?;
     }
-    slots_of(alloc, items.as_slice())
+    slots_of(alloc, hashes.as_slice())
 }
 
 /// The slots of so many items, whose hashes are the multiples of a number.
@@ -52,63 +53,47 @@ pub(crate) fn slots_of_count(
     count: u16,
     factor: u16,
 ) -> Result<Vec<Option<u16>>, Trouble> {
-    let mut items = Vec::new(alloc);
+    let mut hashes = Vec::new(alloc);
     for number in 0..count {
-        add_item(&mut items, usize::from(number.wrapping_mul(factor)))?;
+        hashes.push(usize::from(number.wrapping_mul(factor)))?;
     }
-    slots_of(alloc, items.as_slice())
+    slots_of(alloc, hashes.as_slice())
 }
 
 /// Writes the items in the slots, `-` in a vacant one.
-fn write_slots(out: &mut Case<'_>, slots: &[Option<u16>]) {
+fn write_slots(slots: &[Option<u16>], case: &mut Case<'_>) {
     for slot in slots {
-        out.separate(',');
-        out.number_or_dash(*slot);
+        case.separate(',');
+        case.number_or_dash(*slot);
     }
 }
 
-/// Writes the slots of a table, if it could be made.
-fn write_made(out: &mut Case<'_>, slots: Result<Vec<Option<u16>>, Trouble>) {
-    match slots {
-        Ok(slots) => write_slots(out, slots.as_slice()),
-        Err(trouble) => out.refuse(trouble),
-    }
-}
-
-/// The hash of a name.
-pub(crate) fn hash(out: &mut Case<'_>, name: &str) {
-    out.shown(&simple_hash(name.as_bytes()));
-}
-
-/// The slots of the names of a list.
-pub(crate) fn named(alloc: Global, out: &mut Case<'_>, list: &str) {
-    match items_of(alloc, list, "") {
-        Ok(names) => write_made(out, slots_of_names(alloc, names.as_slice())),
-        Err(trouble) => out.refuse(trouble),
-    }
-}
-
-/// Adds items of these hashes.
-fn add_items(items: &mut Vec<Item>, hashes: &str) -> Result<(), Trouble> {
-    for hash in hashes.split(',') {
-        add_item(items, number(hash)?)?;
-    }
+/// Writes the hash of a name.
+pub(crate) fn write_hash(case: &mut Case<'_>) -> Result<(), Trouble> {
+    let name = case.word();
+    case.shown(&simple_hash(name.as_bytes()));
     Ok(())
 }
 
-/// The slots of items of these hashes.
-pub(crate) fn fill(alloc: Global, out: &mut Case<'_>, hashes: &str) {
-    let mut items = Vec::new(alloc);
-    match add_items(&mut items, hashes) {
-        Ok(()) => write_made(out, slots_of(alloc, items.as_slice())),
-        Err(trouble) => out.refuse(trouble),
-    }
+/// Writes the slots of the names of a list.
+pub(crate) fn write_slots_of_names(alloc: Global, case: &mut Case<'_>) -> Result<(), Trouble> {
+    let names = items_of(alloc, case.word())?;
+    let slots = slots_of_names(alloc, names.as_slice())?;
+    write_slots(slots.as_slice(), case);
+    Ok(())
 }
 
-/// How many slots there are for so many items.
-pub(crate) fn size(alloc: Global, out: &mut Case<'_>, count: &str) {
-    match slots_of_count(alloc, out.number_of(count), 1) {
-        Ok(slots) => out.shown(&slots.len()),
-        Err(trouble) => out.refuse(trouble),
-    }
+/// Writes the slots of items of the hashes of a list.
+pub(crate) fn write_slots_of_hashes(alloc: Global, case: &mut Case<'_>) -> Result<(), Trouble> {
+    let hashes = numbers_of(alloc, case.word(), "")?;
+    let slots = slots_of(alloc, hashes.as_slice())?;
+    write_slots(slots.as_slice(), case);
+    Ok(())
+}
+
+/// Writes how many slots there are for so many items.
+pub(crate) fn write_size(alloc: Global, case: &mut Case<'_>) -> Result<(), Trouble> {
+    let slots = slots_of_count(alloc, case.number(), 1)?;
+    case.shown(&slots.len());
+    Ok(())
 }

@@ -1,15 +1,24 @@
-//! Answers what lines ask of tables: what they hold of opcodes and of groups, their text, and what their parts make after changes. What
-//! this does is seen in the stored run of `rows`.
+//! Answers rows over tables. Lines make a file of declarations, and ask what `generate` makes of what it declares: what the tables hold,
+//! whether they are the same as others, what their parts make, and how a run ends. `session` has the words. What this does is seen in the stored
+//! run of `rows_calls`.
 #![tactic(auto)]
 
-mod asked;
-mod group_answers;
-mod of_tables;
-mod opcode_answers;
+mod generated;
+mod groups;
+mod items;
+mod lines;
+mod opcodes;
 mod parts;
-mod table_text;
-mod words;
+mod queries;
+mod session;
+mod written;
 
-pub use asked::Of;
-pub use of_tables::write_of_tables;
-pub use parts::write_made;
+use rows_words::answer_lines;
+use session::Session;
+use std::alloc::{AllocError, Global};
+
+/// Adds the answers to the lines.
+pub fn add_answers(alloc: Global, lines: &str, answers: &mut String) -> Result<(), AllocError> {
+    let mut session = Session::new(alloc);
+    answer_lines(&mut session, lines, answers)
+}

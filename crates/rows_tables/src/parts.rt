@@ -21,21 +21,16 @@ fn copies(alloc: Global, texts: &[Text]) -> Result<Vec<Text>, AllocError> {
     Ok(all)
 }
 
-/// A copy of an entry.
-fn copy_of(alloc: Global, entry: &Descriptor) -> Result<Descriptor, AllocError> {
-    Ok(Descriptor {
-        name: entry.name.copy(alloc)?,
-        description: entry.description.copy(alloc)?,
-        offset: entry.offset,
-        detail: entry.detail,
-    })
-}
-
 /// Copies of entries.
 fn entry_copies(alloc: Global, entries: &[Descriptor]) -> Result<Vec<Descriptor>, AllocError> {
     let mut all = Vec::new(alloc);
     for entry in entries {
-        all.push(copy_of(alloc, entry)?)?;
+        all.push(Descriptor {
+            name: entry.name.copy(alloc)?,
+            description: entry.description.copy(alloc)?,
+            offset: entry.offset,
+            detail: entry.detail,
+        })?;
     }
     Ok(all)
 }
@@ -61,45 +56,23 @@ fn group_parts(alloc: Global, tables: &Tables, group: usize) -> Result<GroupPart
     })
 }
 
-/// Adds the parts of an opcode.
-fn push_opcode(
-    parts: &mut TableParts,
-    alloc: Global,
-    tables: &Tables,
-    opcode: u16,
-) -> Result<(), Trouble> {
-    let found = (
-        tables.opcode_name(opcode),
-        tables.opcode_format(opcode),
-        tables.constraints(opcode),
-    );
-    let (Some(name), Some(format), Some(entry)) = found else {
-        return Err(Trouble::Differ);
-    };
-    parts.names.push(name.copy(alloc)?)?;
-    parts.formats.push(format.copy(alloc)?)?;
-    Ok(parts.constraints.push(entry)?)
-}
-
-/// No parts.
-fn no_parts(alloc: Global) -> TableParts {
-    TableParts {
-        names: Vec::new(alloc),
-        formats: Vec::new(alloc),
-        type_sets: Vec::new(alloc),
-        operand_constraints: Vec::new(alloc),
-        constraints: Vec::new(alloc),
-        groups: Vec::new(alloc),
-    }
-}
-
 /// Adds the parts of tables.
 fn push_parts(parts: &mut TableParts, alloc: Global, tables: &Tables) -> Result<(), Trouble> {
     parts.type_sets.extend_from_slice(tables.type_sets())?;
     let constraints = tables.operand_constraints();
     parts.operand_constraints.extend_from_slice(constraints)?;
     for opcode in 1..=tables.opcode_count() {
-        push_opcode(parts, alloc, tables, opcode)?;
+        let found = (
+            tables.opcode_name(opcode),
+            tables.opcode_format(opcode),
+            tables.constraints(opcode),
+        );
+        let (Some(name), Some(format), Some(entry)) = found else {
+            return Err(Trouble::Differ);
+        };
+        parts.names.push(name.copy(alloc)?)?;
+        parts.formats.push(format.copy(alloc)?)?;
+        parts.constraints.push(entry)?;
     }
     for group in 0..tables.group_count() {
         parts.groups.push(group_parts(alloc, tables, group)?)?;
@@ -107,10 +80,26 @@ fn push_parts(parts: &mut TableParts, alloc: Global, tables: &Tables) -> Result<
     Ok(())
 }
 
-/// The parts of tables.
-fn parts_of(alloc: Global, tables: &Tables) -> Result<TableParts, Trouble> {
-    let mut parts = no_parts(alloc);
+/// The parts of tables, changed by the words that are left.
+fn edited_parts(
+    alloc: Global,
+    tables: &Tables,
+    case: &mut Case<'_>,
+) -> Result<TableParts, Trouble> {
+    let mut parts = TableParts {
+        names: Vec::new(alloc),
+        formats: Vec::new(alloc),
+        type_sets: Vec::new(alloc),
+        operand_constraints: Vec::new(alloc),
+        constraints: Vec::new(alloc),
+        groups: Vec::new(alloc),
+    };
     push_parts(&mut parts, alloc, tables)?;
+    for _ in 0..MOST_EDITS {
+        if case.has_more() {
+            edit(alloc, &mut parts, case)?;
+        }
+    }
     Ok(parts)
 }
 
@@ -120,18 +109,6 @@ fn put<T: Drop>(list: &mut Vec<T>, place: usize, item: T, case: &mut Case<'_>) {
         Some(old) => *old = item,
         None => case.no_case(),
     }
-}
-
-/// Puts the next word in the place with the number, where there is one.
-fn put_text(
-    alloc: Global,
-    list: &mut Vec<Text>,
-    place: usize,
-    case: &mut Case<'_>,
-) -> Result<(), AllocError> {
-    let text = Text::new(alloc, case.word())?;
-    put(list, place, text, case);
-    Ok(())
 }
 
 /// Puts a byte in a place, the place first.
@@ -212,18 +189,6 @@ fn next_descriptor(alloc: Global, case: &mut Case<'_>) -> Result<Descriptor, All
     })
 }
 
-/// Puts an entry in a place, the place first.
-fn put_descriptor(
-    alloc: Global,
-    list: &mut Vec<Descriptor>,
-    case: &mut Case<'_>,
-) -> Result<(), AllocError> {
-    let place = case.number();
-    let entry = next_descriptor(alloc, case)?;
-    put(list, place, entry, case);
-    Ok(())
-}
-
 /// Changes a part of a group.
 fn edit_group(
     alloc: Global,
@@ -233,9 +198,17 @@ fn edit_group(
 ) -> Result<(), Trouble> {
     match word {
         "group" => group.name = Text::new(alloc, case.word())?,
-        "setting" => put_descriptor(alloc, &mut group.descriptors, case)?,
+        "setting" => {
+            let place = case.number();
+            let entry = next_descriptor(alloc, case)?;
+            put(&mut group.descriptors, place, entry, case);
+        }
         "settings" => group.descriptors.truncate(case.number()),
-        "value" => put_text(alloc, &mut group.enumerators, case.number(), case)?,
+        "value" => {
+            let place = case.number();
+            let value = Text::new(alloc, case.word())?;
+            put(&mut group.enumerators, place, value, case);
+        }
         "values" => resize_texts(alloc, &mut group.enumerators, case.number())?,
         "default" => put_byte(&mut group.defaults, case),
         "defaults" => resize(&mut group.defaults, case.number(), case),
@@ -246,27 +219,19 @@ fn edit_group(
     Ok(())
 }
 
-/// Changes a part of the group with this number, where there is one.
-fn edit_group_at(
-    alloc: Global,
-    groups: &mut Vec<GroupParts>,
-    number: usize,
-    word: &str,
-    case: &mut Case<'_>,
-) -> Result<(), Trouble> {
-    match groups.get_mut(number) {
-        Some(group) => edit_group(alloc, group, word, case),
-        None => Err(Trouble::NoCase),
-    }
-}
-
 /// Changes a part: one of the list that a word names, at a place, or how many the list has, or a part of a group.
 fn edit(alloc: Global, parts: &mut TableParts, case: &mut Case<'_>) -> Result<(), Trouble> {
     let (word, number) = (case.word(), case.number());
     match word {
-        "name" => put_text(alloc, &mut parts.names, number, case)?,
+        "name" => {
+            let name = Text::new(alloc, case.word())?;
+            put(&mut parts.names, number, name, case);
+        }
         "names" => resize_texts(alloc, &mut parts.names, number)?,
-        "format" => put_text(alloc, &mut parts.formats, number, case)?,
+        "format" => {
+            let format = Text::new(alloc, case.word())?;
+            put(&mut parts.formats, number, format, case);
+        }
         "formats" => resize_texts(alloc, &mut parts.formats, number)?,
         "set" => put(&mut parts.type_sets, number, next_masks(case), case),
         "sets" => resize(&mut parts.type_sets, number, case),
@@ -282,19 +247,12 @@ fn edit(alloc: Global, parts: &mut TableParts, case: &mut Case<'_>) -> Result<()
         "entry" => put(&mut parts.constraints, number, next_entry(case), case),
         "entries" => resize(&mut parts.constraints, number, case),
         "groups" => parts.groups.truncate(number),
-        _ => edit_group_at(alloc, &mut parts.groups, number, word, case)?,
+        _ => match parts.groups.get_mut(number) {
+            Some(group) => edit_group(alloc, group, word, case)?,
+            None => return Err(Trouble::NoCase),
+        },
     }
     Ok(())
-}
-
-/// Whether the tables of all these groups can be made.
-fn makes_groups(alloc: Global, groups: Vec<GroupParts>) -> Result<bool, AllocError> {
-    for group in groups {
-        if group_from_parts(alloc, group)?.is_none() {
-            return Ok(false);
-        }
-    }
-    Ok(true)
 }
 
 /// Whether the tables of the opcodes and those of each group can be made by themselves.
@@ -307,38 +265,31 @@ fn makes_each(alloc: Global, parts: TableParts) -> Result<bool, AllocError> {
         parts.operand_constraints,
         parts.constraints,
     )?;
-    let groups = makes_groups(alloc, parts.groups)?;
-    Ok(opcodes.is_some() && groups)
-}
-
-/// What stands for the tables of these parts: whether they are the same, or that there are none.
-fn made(alloc: Global, tables: &Tables, parts: TableParts) -> Result<&'static str, AllocError> {
-    match tables_from_parts(alloc, parts)? {
-        Some(made) if made.same(tables) && tables.same(&made) => Ok("same"),
-        Some(_) => Ok("other"),
-        None => Ok("not well-formed"),
+    let mut makes = opcodes.is_some();
+    for group in parts.groups {
+        makes = group_from_parts(alloc, group)?.is_some() && makes;
     }
+    Ok(makes)
 }
 
-/// The parts of tables, changed by the words that are left.
-fn edited_parts(
+/// Takes tables apart, changes the parts by the words that are left, and writes what the parts make, all together and each alone: the
+/// same tables, others, or none.
+pub(crate) fn write_made(
     alloc: Global,
     tables: &Tables,
     case: &mut Case<'_>,
-) -> Result<TableParts, Trouble> {
-    let mut parts = parts_of(alloc, tables)?;
-    for _ in 0..MOST_EDITS {
-        if case.has_more() {
-            edit(alloc, &mut parts, case)?;
-        }
-    }
-    Ok(parts)
-}
-
-/// Takes tables apart, changes the parts by the words that are left, and writes what the parts make, all together and each alone.
-pub fn write_made(alloc: Global, tables: &Tables, case: &mut Case<'_>) -> Result<(), Trouble> {
+) -> Result<(), Trouble> {
     let taken = case.taken();
-    let made = made(alloc, tables, edited_parts(alloc, tables, case)?)?;
+    let made = match tables_from_parts(alloc, edited_parts(alloc, tables, case)?)? {
+        Some(made) => {
+            if made.same(tables) && tables.same(&made) {
+                "same"
+            } else {
+                "other"
+            }
+        }
+        None => "not well-formed",
+    };
     case.go_back(taken);
     let each = makes_each(alloc, edited_parts(alloc, tables, case)?)?;
     if each == (made == "not well-formed") {

@@ -1,5 +1,5 @@
 use super::trouble::Trouble;
-use super::words::{number, yes_or_no};
+use super::words::number;
 use meta_types::Text;
 use std::alloc::{AllocError, Global};
 use std::fmt::{Debug, Display};
@@ -62,14 +62,14 @@ impl<'l> Case<'l> {
 
     /// Takes the next word where it is this one, and tells whether it was.
     pub fn takes(&mut self, word: &str) -> bool {
-        let is_next = match self.words.get(self.taken) {
-            Some(next) => *next == word,
-            None => false,
+        let Some(next) = self.words.get(self.taken) else {
+            return false;
         };
-        if is_next {
-            self.taken = self.taken.saturating_add(1);
+        if *next != word {
+            return false;
         }
-        is_next
+        self.taken = self.taken.saturating_add(1);
+        true
     }
 
     /// Ends the words of a line: one with words that aren't taken asks nothing.
@@ -101,16 +101,7 @@ impl<'l> Case<'l> {
     where
         N::Err: Drop,
     {
-        let word = self.word();
-        self.number_of(word)
-    }
-
-    /// The number that the word has to be.
-    pub fn number_of<N: FromStr + Default + Drop>(&mut self, word: &str) -> N
-    where
-        N::Err: Drop,
-    {
-        match number(word) {
+        match number(self.word()) {
             Ok(number) => number,
             Err(trouble) => {
                 self.refuse(trouble);
@@ -135,17 +126,6 @@ impl<'l> Case<'l> {
     pub fn note(&mut self, outcome: Result<(), AllocError>) {
         if outcome.is_err() {
             self.refuse(Trouble::OutOfMemory);
-        }
-    }
-
-    /// What there is, where there was no trouble.
-    pub fn kept<T: Drop>(&mut self, outcome: Result<T, Trouble>) -> Option<T> {
-        match outcome {
-            Ok(value) => Some(value),
-            Err(trouble) => {
-                self.refuse(trouble);
-                None
-            }
         }
     }
 
@@ -210,7 +190,7 @@ impl<'l> Case<'l> {
 
     /// Writes whether something is so.
     pub fn yes_or_no(&mut self, is_so: bool) {
-        self.text(yes_or_no(is_so));
+        self.text(if is_so { "yes" } else { "no" });
     }
 
     /// Writes a number, or `-` for none.
@@ -223,19 +203,16 @@ impl<'l> Case<'l> {
 
     /// Parts what comes next from what was written, where anything was.
     pub fn separate(&mut self, between: char) {
-        self.separate_from(0, between);
-    }
-
-    /// Parts the next item of a list that begins at `start` from the one before it, where there is one.
-    pub fn separate_from(&mut self, start: usize, between: char) {
-        if self.text.len() > start {
+        if !self.text.is_empty() {
             self.letter(between);
         }
     }
 
     /// Writes one more item of a list that begins at `start`, behind a comma where it isn't the first.
     pub fn item(&mut self, start: usize, item: &str) {
-        self.separate_from(start, ',');
+        if self.text.len() > start {
+            self.letter(',');
+        }
         self.text(item);
     }
 

@@ -4,80 +4,49 @@ use super::words::{number, pair_of};
 use std::alloc::Global;
 
 /// The byte that a name of one stands for: `n` is LF, `r` CR, `t` a tab, `s` a space, and `0` the byte 0. All else is itself.
-fn named(byte: u8) -> u8 {
-    match byte {
-        b'n' => b'\n',
-        b'r' => b'\r',
-        b't' => b'\t',
-        b's' => b' ',
-        b'0' => 0,
-        _ => byte,
-    }
-}
-
-/// The value of a small hexadecimal digit.
-fn digit(byte: u8) -> Result<u8, Trouble> {
-    match byte {
-        b'0'..=b'9' => Ok(byte - b'0'),
-        b'a'..=b'f' => Ok(byte - b'a' + 10),
-        _ => Err(Trouble::NoCase),
-    }
-}
-
-/// Adds a byte so many times.
-fn push_times(out: &mut Vec<u8>, count: usize, byte: u8) -> Result<(), Trouble> {
-    for _ in 0..count {
-        out.push(byte)?;
-    }
-    Ok(())
-}
-
-/// Adds the bytes of `COUNT BYTE`, and answers what stands behind the `}`.
-fn push_repeated<'t>(out: &mut Vec<u8>, text: &'t str) -> Result<&'t str, Trouble> {
-    let (inside, rest) = pair_of(text, '}')?;
-    let (count, byte) = pair_of(inside, ' ')?;
-    match byte.as_bytes() {
-        [byte, ..] => push_times(out, number(count)?, named(*byte))?,
-        [] => return Err(Trouble::NoCase),
-    }
-    Ok(rest)
-}
-
-/// Adds what an escape stands for, `{COUNT BYTE}`, `xHH`, or the name of a byte, and answers what follows it.
-fn push_escape<'t>(out: &mut Vec<u8>, text: &'t str) -> Result<&'t [u8], Trouble> {
-    if let Some(inside) = text.strip_prefix('{') {
-        return Ok(push_repeated(out, inside)?.as_bytes());
-    }
-    match text.as_bytes() {
-        [b'x', high, low, rest @ ..] => {
-            out.push(digit(*high)? << 4 | digit(*low)?)?;
-            Ok(rest)
-        }
-        [byte, rest @ ..] => {
-            out.push(named(*byte))?;
-            Ok(rest)
-        }
+fn named(name: &str) -> Result<u8, Trouble> {
+    match name.as_bytes() {
+        [b'n', ..] => Ok(b'\n'),
+        [b'r', ..] => Ok(b'\r'),
+        [b't', ..] => Ok(b'\t'),
+        [b's', ..] => Ok(b' '),
+        [b'0', ..] => Ok(0),
+        [byte, ..] => Ok(*byte),
         [] => Err(Trouble::NoCase),
     }
 }
 
-/// Adds the bytes that a text with escapes stands for.
-fn push_decoded(out: &mut Vec<u8>, text: &str) -> Result<(), Trouble> {
-    for (place, piece) in text.split('\\').enumerate() {
-        let plain = if place == 0 {
-            piece.as_bytes()
-        } else {
-            push_escape(out, piece)?
-        };
-        out.extend_from_slice(plain)?;
+/// What an escape stands for, a byte and how often, and the text that follows it. `{COUNT BYTE}` is so many bytes, `xHH` the byte of two
+/// hexadecimal digits, and any other sign the name of a byte.
+fn escape_of(text: &str) -> Result<(usize, u8, &str), Trouble> {
+    if let Some(inside) = text.strip_prefix('{') {
+        let (inside, rest) = pair_of(inside, '}')?;
+        let (count, byte) = pair_of(inside, ' ')?;
+        return Ok((number(count)?, named(byte)?, rest));
     }
-    Ok(())
+    let is_number = text.starts_with('x');
+    let Some((sign, rest)) = text.split_at_checked(if is_number { 3 } else { 1 }) else {
+        return Err(Trouble::NoCase);
+    };
+    let byte = match sign.strip_prefix('x') {
+        Some(digits) => u8::from_str_radix(digits, 16)?,
+        None => named(sign)?,
+    };
+    Ok((1, byte, rest))
 }
 
 /// The bytes that a text with escapes stands for.
 pub fn decoded(alloc: Global, text: &str) -> Result<Vec<u8>, Trouble> {
     let mut out = Vec::new(alloc);
-    push_decoded(&mut out, text)?;
+    for (place, piece) in text.split('\\').enumerate() {
+        if place == 0 {
+            out.extend_from_slice(piece.as_bytes())?;
+        } else {
+            let (count, byte, rest) = escape_of(piece)?;
+            out.resize(out.len().saturating_add(count), byte)?;
+            out.extend_from_slice(rest.as_bytes())?;
+        }
+    }
     Ok(out)
 }
 

@@ -1,18 +1,25 @@
-//! What the libraries of rows share: the words of their lines, bytes that are written with escapes, the answers that they write, and
-//! why a line has no answer. What these do is seen in the stored run of `rows`.
+//! What the crates of rows share: the words of their lines, the answers that they write, bytes that are written with escapes, texts
+//! that stand in files, sources and sinks that fail, a text that lines edit, and why a line has no answer. What these do is seen in the
+//! stored runs of `rows` and `rows_calls`.
 #![tactic(auto)]
 
 mod case;
+mod edited;
 mod escapes;
+mod files;
 mod lines;
+mod outside;
 mod trouble;
 mod words;
 
 pub use case::Case;
+pub use edited::Edited;
 pub use escapes::{decoded, write_bytes};
+pub use files::add_held;
 pub use lines::{Answering, answer_lines};
+pub use outside::{Outside, write_ended};
 pub use trouble::Trouble;
 pub use words::{
-    found, function_named, hash_of, items_of, named, number, pair_of, set_meaning, texts_of,
-    texts_of_words, type_of, yes_or_no,
+    found, function_named, hash_of, named, number, numbers_of, pair_of, texts_of, texts_of_words,
+    type_of,
 };

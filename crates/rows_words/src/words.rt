@@ -1,9 +1,8 @@
-ghost use Rattle.std.specs.Prelude.{◌≡◌, ◌≢◌, IfOk, IfErr, codes, true, false};
+ghost use Rattle.std.specs.Prelude.{◌≡◌, ◌≢◌, IfOk, IfErr};
 ghost use Rattle.meta_types.specs.DerivedFunc.{function_name, function_of as meant_by};
 ghost use Rattle.meta_types.specs.TypeParts.{TypeParts, IsType, name_of};
 ghost use Rattle.meta_types.specs.ValueTypes.{type_parts_of};
 
-use super::case::Case;
 use super::trouble::Trouble;
 use meta_types::{DERIVED_FUNCS, DerivedFunc, Text, ValueType};
 use std::alloc::{AllocError, Global};
@@ -28,18 +27,6 @@ pub fn found<T: Copy>(table: &[(&str, T)], word: &str) -> Result<T, Trouble> {
     }
 }
 
-/// Lets the word stand for something in the table, whatever it stood for before.
-pub fn set_meaning<'l, T: Drop>(
-    table: &mut Vec<(&'l str, T)>,
-    word: &'l str,
-    meaning: T,
-    case: &mut Case<'l>,
-) {
-    if table.push((word, meaning)).is_err() {
-        case.refuse(Trouble::OutOfMemory);
-    }
-}
-
 /// The number that the word is.
 pub fn number<N: FromStr + Drop>(word: &str) -> Result<N, Trouble>
 where
@@ -60,15 +47,25 @@ pub fn pair_of(words: &str, between: char) -> Result<(&str, &str), Trouble> {
     }
 }
 
-/// The items of a list, which are parted by commas. The word for none is no item.
-pub fn items_of<'t>(alloc: Global, list: &'t str, none: &str) -> Result<Vec<&'t str>, Trouble> {
-    if list == none {
-        return Ok(Vec::new(alloc));
+/// The numbers of a list, which are parted by commas. The word for none is no number.
+pub fn numbers_of<N: FromStr + Drop>(
+    alloc: Global,
+    list: &str,
+    none: &str,
+) -> Result<Vec<N>, Trouble>
+where
+    N::Err: Drop,
+{
+    let mut numbers = Vec::new(alloc);
+    if list != none {
+        for item in list.split(',') {
+            numbers.push(number::<N>(item)?)?;
+        }
     }
-    Ok(list.split(',').collect(alloc)?)
+    Ok(numbers)
 }
 
-/// The items of a list as texts.
+/// The items of a list, which are parted by commas, as texts. The word for none is no item.
 pub fn texts_of(alloc: Global, list: &str, none: &str) -> Result<Vec<Text>, Trouble> {
     let mut texts = Vec::new(alloc);
     if list != none {
@@ -109,14 +106,6 @@ pub fn type_of(name: &str) -> Result<ValueType, Trouble>
         Some(value_type) => Ok(value_type),
         None => Err(Trouble::BadLine),
     }
-}
-
-/// The answer to a question of yes or no.
-pub fn yes_or_no(is_so: bool) -> &'static str
-    ensures yes { is_so ≡ true → result.now ≡ codes "yes" }
-    ensures no { is_so ≡ false → result.now ≡ codes "no" }
-{
-    if is_so { "yes" } else { "no" }
 }
 
 /// The hash of a value.

@@ -1,6 +1,6 @@
 use Rattle.std.proofs.Common.{◌++◌, inr, refl, ap, ◌∙◌, string_bytes}
 use Rattle.std.proofs.lemmas.Result.{on_ok_weaker}
-use Rattle.meta_answers.specs.declared.reply.Reply.TheVariants.{Bad}
+use Rattle.meta_gen.specs.declared.reply.Reply.TheVariants.{Bad}
 use Rattle.meta_answers.proofs.AnswerLemmas.{of_inference, pushed}
 use Rattle.meta_answers.proofs.FormLemmas.{infer_alone}
 use Rattle.meta_answers.proofs.answer.push_inference.Goals as goal

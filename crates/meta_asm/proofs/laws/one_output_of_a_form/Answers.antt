@@ -1,6 +1,6 @@
 use Rattle.std.proofs.Common.{◌≡◌, Bool, List, ℕ}
 use Rattle.meta_declared.specs.AllDeclared.{Declared, AreValid}
-use Rattle.meta_answers.specs.Answer.{AllowedReply, AcceptedReply}
+use Rattle.meta_gen.specs.Reply.{AllowedReply, AcceptedReply}
 use Rattle.meta_short.specs.Manners.{IsMannerIn, IsMannerDeclared}
 use Rattle.meta_asm.specs.Form.{written_in}
 use Rattle.meta_asm.specs.declared.form.Form.{Form}

@@ -2,7 +2,7 @@ use Rattle.std.proofs.Common.{◌≡◌, Bool, Option, sym, ◌∙◌, subst, st
 use Rattle.std.proofs.lemmas.Result.{IfOk-weaker}
 use Rattle.meta_words.specs.Lines.{lines_of}
 use Rattle.meta_words.proofs.LineLemmas.{few_lines}
-use Rattle.meta_answers.specs.Answer.{AllowedReply}
+use Rattle.meta_gen.specs.Reply.{AllowedReply}
 use Rattle.meta_verify.specs.Environment.{Environment}
 use Rattle.meta_verify.specs.Defined.{definitions}
 use Rattle.meta_verify.specs.Wrong.{Feeds}

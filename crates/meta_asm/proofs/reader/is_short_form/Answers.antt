@@ -1,5 +1,5 @@
 use Rattle.std.proofs.Common.{◌≡◌, ◌⊎◌, List, [], ℕ, Option, IfSome, IfNone, sym, ◌∙◌, subst}
-use Rattle.meta_answers.specs.Answer.{AllowedReply}
+use Rattle.meta_gen.specs.Reply.{AllowedReply}
 use Rattle.meta_verify.specs.Wrong.{IsWrong}
 use Rattle.meta_verify.specs.declared.reason.Reason.{Reason}
 use Rattle.std.specs.Cmp.Lexicographic.{bytes_decides}

@@ -1,5 +1,5 @@
 use Rattle.std.proofs.Common.{IfSome, subst}
-use Rattle.meta_answers.specs.Answer.{AllowedReply}
+use Rattle.meta_gen.specs.Reply.{AllowedReply}
 use Rattle.meta_verify.specs.Statement.{IsStatement}
 use Rattle.meta_verify.specs.Numbers.{stated}
 use Rattle.meta_verify.specs.Defined.{definitions}

@@ -1,6 +1,6 @@
-use Rattle.meta_answers.specs.Answer.{AllowedReply, AcceptedReply}
+use Rattle.meta_gen.specs.Reply.{AllowedReply, AcceptedReply}
 use Rattle.meta_verify.proofs.OneAnswer.{one_said}
-use Rattle.meta_answers.proofs.OneReply.{one_allowed, one_accepted}
+use Rattle.meta_gen.proofs.OneReply.{one_allowed, one_accepted}
 use Rattle.meta_verify.proofs.laws.one_verdict.Goals as goal
 
 pub returns-clause-tables : goal.returns-clause-tables

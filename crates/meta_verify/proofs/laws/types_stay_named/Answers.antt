@@ -1,4 +1,4 @@
-use Rattle.meta_answers.specs.Answer.{AllowedReply, AcceptedReply}
+use Rattle.meta_gen.specs.Reply.{AllowedReply, AcceptedReply}
 use Rattle.meta_verify.proofs.Meaning.{nothing_named, leads_named}
 use Rattle.meta_verify.proofs.laws.types_stay_named.Goals as goal
 

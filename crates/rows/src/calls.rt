@@ -1,0 +1,136 @@
+use meta_flags::{FlagError, FlagValue, Flags};
+use meta_gen::Tables;
+use meta_short::print_line;
+use meta_verify::Checker;
+use rows_words::{Case, Outside, Trouble, number};
+use std::alloc::Global;
+use std::str;
+
+/// The lines of an input, without the line feed that ends the last one.
+fn lines_of(input: &[u8]) -> Result<&str, Trouble> {
+    match str::from_utf8(input) {
+        Ok(text) => Ok(text.strip_suffix('\n').unwrap_or(text)),
+        Err(_) => Err(Trouble::NoCase),
+    }
+}
+
+/// Writes what a change answered.
+fn write_change(case: &mut Case<'_>, outcome: Result<(), FlagError>) {
+    match outcome {
+        Ok(()) => case.text("Ok"),
+        Err(error) => case.debugged(&error),
+    }
+}
+
+/// Writes what a question answered.
+fn write_value(case: &mut Case<'_>, outcome: Result<FlagValue<'_>, FlagError>) {
+    match outcome {
+        Ok(FlagValue::Bool(truth)) => case.field("Bool ", &truth),
+        Ok(FlagValue::Num(number)) => case.field("Num ", &number),
+        Ok(FlagValue::Enum(text)) => case.field("Enum ", &text.as_str()),
+        Err(error) => case.debugged(&error),
+    }
+}
+
+/// Writes what `write_toml` answered, and what the sink took.
+fn write_toml(
+    alloc: Global,
+    outside: Outside,
+    flags: &Flags<'_>,
+    case: &mut Case<'_>,
+) -> Result<(), Trouble> {
+    let mut sink = outside.sink(alloc)?;
+    match flags.write_toml(alloc, &mut sink) {
+        Ok(()) => case.text("Ok"),
+        Err(error) => case.debugged(&error),
+    }
+    let taken = lines_of(sink.bytes())?;
+    if !taken.is_empty() {
+        case.field("\n", &taken);
+    }
+    Ok(())
+}
+
+/// Writes what a call answered that a line names.
+fn write_call(
+    alloc: Global,
+    outside: Outside,
+    flags: &mut Flags<'_>,
+    line: &str,
+    case: &mut Case<'_>,
+) -> Result<(), Trouble> {
+    let (call, after) = line.split_once(' ').unwrap_or((line, ""));
+    let (name, value) = after.split_once(' ').unwrap_or((after, ""));
+    match call {
+        "set" => write_change(case, flags.set(name.as_bytes(), value.as_bytes())),
+        "enable" => write_change(case, flags.enable(after.as_bytes())),
+        "get" => write_value(case, flags.get(after.as_bytes())),
+        "toml" => case.text(lines_of(flags.toml(alloc)?.as_bytes())?),
+        "write" => write_toml(alloc, outside, flags, case)?,
+        _ => return Err(Trouble::NoCase),
+    }
+    Ok(())
+}
+
+/// Writes what the calls answered that the lines of the input name, on the values of a group of the tables, or `None` where there is no
+/// such group. A call is `set NAME VALUE`, `enable NAME`, `get NAME`, `toml`, or `write`, which writes to a sink.
+pub(crate) fn write_calls(
+    alloc: Global,
+    outside: Outside,
+    tables: &Tables,
+    input: &[u8],
+    case: &mut Case<'_>,
+) -> Result<(), Trouble> {
+    let Some(mut flags) = Flags::new(alloc, tables, case.number())? else {
+        case.text("None");
+        return Ok(());
+    };
+    for line in lines_of(input)?.split('\n') {
+        case.separate('\n');
+        write_call(alloc, outside, &mut flags, line, case)?;
+    }
+    Ok(())
+}
+
+/// Feeds the lines of the input to a checker, and writes for each why it is wrong, or `-`. A line `type V` asks for the type of a value.
+pub(crate) fn write_fed(
+    alloc: Global,
+    tables: &Tables,
+    input: &[u8],
+    case: &mut Case<'_>,
+) -> Result<(), Trouble> {
+    let mut checker = Checker::new(alloc);
+    for line in lines_of(input)?.split('\n') {
+        case.separate('\n');
+        if let Some(value) = line.strip_prefix("type ") {
+            case.number_or_dash(checker.type_of(number(value)?));
+            continue;
+        }
+        let mut said = String::new(alloc);
+        match checker.feed(tables, line.as_bytes())? {
+            Some(reason) => reason.push(&mut said)?,
+            None => said.push('-')?,
+        }
+        case.text(said.as_str());
+    }
+    Ok(())
+}
+
+/// Writes for each line of the input its short form after the lines before it, or `none`.
+pub(crate) fn write_short(
+    alloc: Global,
+    tables: &Tables,
+    input: &[u8],
+    case: &mut Case<'_>,
+) -> Result<(), Trouble> {
+    let mut checker = Checker::new(alloc);
+    for line in lines_of(input)?.split('\n') {
+        case.separate('\n');
+        match print_line(alloc, tables, &checker, line.as_bytes())? {
+            Some(text) => case.text(text.as_str()),
+            None => case.text("none"),
+        }
+        let _reason = checker.feed(tables, line.as_bytes())?;
+    }
+    Ok(())
+}

@@ -1,0 +1,77 @@
+use crate::session::Session;
+use crate::words::write_prose;
+use meta_inst::InstructionContent;
+use rows_words::{Case, Trouble};
+
+/// Writes the numbers behind a word, with commas between them, or `-` for none.
+fn write_numbers(case: &mut Case<'_>, word: &str, numbers: &[usize]) {
+    case.text(word);
+    let start = case.written();
+    for number in numbers {
+        case.item(start, "");
+        case.shown(number);
+    }
+    case.end_list(start);
+}
+
+/// Writes the marks that are set, each by its letter, or `-` for none.
+fn write_marks(content: &InstructionContent, case: &mut Case<'_>) {
+    let marks = [
+        ('t', content.is_terminator()),
+        ('b', content.is_branch()),
+        ('c', content.is_call()),
+        ('r', content.is_return()),
+        ('l', content.can_load()),
+        ('s', content.can_store()),
+        ('p', content.can_trap()),
+        ('o', content.other_side_effects()),
+        ('i', content.side_effects_idempotent()),
+        ('m', content.inst_builder_imm_method()),
+    ];
+    for (letter, is_set) in marks {
+        if is_set {
+            case.letter(letter);
+        }
+    }
+    case.end_list(0);
+}
+
+impl<'l> Session<'l> {
+    /// A part of what is known of the instruction that was built last. `names`: as it is declared, in camel case and in the code that is
+    /// written, and its documentation; `places`: its format's number, how many operands it has, and the places of values, immediates
+    /// and results; `marks`; `control`: the variable that controls, and whether it is that of the designated operand, or `none`.
+    pub(crate) fn answer_on_built_instruction(
+        &self,
+        word: &str,
+        case: &mut Case<'l>,
+    ) -> Result<(), Trouble> {
+        let Some(content) = &self.content else {
+            return Err(Trouble::NoCase);
+        };
+        match word {
+            "names" => {
+                case.text(content.name().as_str());
+                case.field(" ", &content.camel_name().as_str());
+                case.field(" ", &content.snake_name());
+                write_prose(case, content.doc().as_str());
+            }
+            "places" => {
+                case.field("format ", &content.format().number());
+                case.field(" inputs ", &content.operands_in().len());
+                case.field(" outputs ", &content.operands_out().len());
+                write_numbers(case, " values ", content.value_opnums());
+                write_numbers(case, " immediates ", content.imm_opnums());
+                write_numbers(case, " results ", content.value_results());
+            }
+            "marks" => write_marks(content, case),
+            _ => match content.polymorphic_info() {
+                Some(info) => {
+                    case.text(self.name(Some(info.ctrl_typevar)));
+                    case.field(" designated ", &info.use_typevar_operand);
+                }
+                None => case.text("none"),
+            },
+        }
+        Ok(())
+    }
+}
