@@ -1,12 +1,12 @@
 #!/usr/bin/env python3
 """Measures the whole test from nothing, on a clean clone of what is committed: `bench/gate.py [FOLDER]`.
 
-It runs `./test` there, which is the gate `rt ci` and, where cargo is, the comparison behind it. It looks four times a second at the checks
+It runs `./test` there: `rt ci`, short tests beside it and, where cargo is, a comparison at last. It looks four times a second at the checks
 below it, and prints a line a crate: the processor minutes of its proof, of the proof of its tests, of its must-fail edits (with the check
 of the crate as it stands that belongs to them) and of building its programs. Then come the sum, the processor and wall minutes of the gate
-and of the comparison, the longest chain of proofs, by the wall minutes that each took, and the gate's last line. Run it with nothing else
-running, and as `taskset -c 0,1 bench/gate.py` for two processors. FOLDER keeps the clone and the log of the test, `gate.log`; without
-one they go.
+and of the comparison, the longest chain of proofs, by the wall minutes that each took, the gate's last line, and at the end how what isn't
+the proof of a library or of `ciderlater` compares with these proofs. Run it with nothing else running, and as
+`taskset -c 0,1 bench/gate.py` for two processors. FOLDER keeps the clone and the log of the test, `gate.log`; without one they go.
 
 A kit whose `rt ci` proves everything each time, as rattle-kit-13b, needs nothing more. With a kit that keeps what passed between runs, as
 rattle-kit-13f does in a folder `rattle-kept` beside its own, move that folder away first: else only what changed since is measured. Where
@@ -143,6 +143,12 @@ def table(below, found):
     print("| all crates | " + " | ".join(f"{it:.1f}" for it in [*sums, sum(sums)]) + " |")
 
 
+def is_product(folder, name):
+    """Returns whether the crate is a library that isn't for tests, or the program."""
+    is_library = not os.path.isfile(f"{folder}/crates/{name}/src/main.rt")
+    return name == "ciderlater" or is_library and not name.startswith(("rows", "tests_"))
+
+
 def run(folder):
     """Runs the test and prints what it took; returns its status."""
     gate, begun, before = Gate(), time.time(), resource.getrusage(resource.RUSAGE_CHILDREN)
@@ -166,6 +172,10 @@ def run(folder):
     if unseen:
         print(f"not from nothing, or not reached: no proof was seen of {', '.join(unseen)}")
     print("\n".join(dict.fromkeys([it for it in log if re.fullmatch(r"\d+ passed, \d+ failed", it)] + log[-1:])))
+    proofs = sum(of["proof"] for name, of in gate.minutes().items() if is_product(folder, name))
+    print(f"proofs of libraries and of ciderlater: {proofs:.1f} processor minutes")
+    times = f", {(total - proofs) / proofs:.2f} times these" if proofs else ""
+    print(f"all else (edits; proofs of rows and tests; programs, runs, the comparison): {total - proofs:.1f} processor minutes{times}")
     return ran.returncode
 
 

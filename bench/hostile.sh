@@ -2,34 +2,30 @@
 # Times what is declared or asked to be dear, at half of a size, at the size and at twice, and tells how that grows:
 #   bench/hostile.sh [CASE ..]
 # Where no more may be declared than the size, it is a quarter, a half and the size. The cases are
-#   inputs     an instruction of 100,000 inputs, each of a variable of its own, for each fault that it can show
+#   inputs     an instruction of 30,000 inputs, each of a variable of its own, in a file, for each fault that it can show
 #   sets       4,095 instructions of seven inputs, each of a set of its own, and no two of a set
-#   names      65,535 entries of a group whose names have one hash, and a megabyte of lines that ask for the last of them
+#   names      8,191 entries of a group whose names have one hash, and a megabyte of lines that ask for the last of them
 #   opcodes    4,095 instructions whose names have one hash
 #   formats    4,095 instructions that have a format each, of three immediates
-#   name       an instruction whose name has a million letters
+#   name       an instruction whose name has half a million letters
 #   values     an enum of 256 values of a thousand letters, asked for by a thousand lines, and, with 2 GB of memory, by a megabyte
 #   types      one line of a megabyte, of types that an instruction is to take
 #   lists      255 enums of 256 values each, which share none
 #   shared     a text of tables to be read, whose 255 enums share 256 values of so many letters
 # A line of what it prints is a case, its size, what is timed, the processor seconds, the instructions of the processor, the most memory
 # of the run, the size against the one before, and what it took against that. The seconds are the least of three runs, and the
-# instructions are counted by `valgrind --tool=callgrind` where the seconds are few; what takes the declarations alone is taken off
-# both. What takes more than the size times its logarithm is marked: `by a named case` where names collide or lists overlap, which
+# instructions are counted by `valgrind --tool=callgrind` where the seconds are few. All is declared in a file, which `ciderlater -d FILE`
+# reads; `generate` is a run of `query` over no input less one of `types`, and what else is timed is less that run. What takes more than the size times its logarithm is marked: `by a named case` where names collide or lists overlap, which
 # docs/PERFORMANCE.md names, and else `more than n log n`. Then the status is 1, as it is where a run fails; it is 125 where a program
 # couldn't be built.
 set -u
 
 . "$(dirname "$0")/programs.sh"
 
-built meta_bench tables 1 1
-bench=$program
-built rows
-rows=$program
 built ciderlater --version
 processor
 
-exec python3 - "$bench" "$rows" "$program" "$@" << 'END'
+exec python3 - "$program" "$@" << 'END'
 import math
 import os
 import random
@@ -39,7 +35,7 @@ import subprocess
 import sys
 import tempfile
 
-BENCH, ROWS, RUN, ASKED = *sys.argv[1:4], sys.argv[4:]
+RUN, ASKED = sys.argv[1], sys.argv[2:]
 
 # A run of more seconds isn't counted, which takes fifty times as long.
 MOST_COUNTED = 2
@@ -82,33 +78,37 @@ class Took:
         return self
 
 
-def rows(lines, **how):
-    """What a run of the rows over these lines, which declare, takes."""
-    return Took([ROWS], "".join(line + "\n" for line in ["%% declared", *lines]), **how)
+class Declared:
+    """A file of declarations, of which words are asked."""
+
+    def __init__(self, lines):
+        self.file = tempfile.NamedTemporaryFile("w", suffix=".isa")
+        self.file.write("".join(line + "\n" for line in lines))
+        self.file.flush()
+
+    def run(self, *words, text="", **how):
+        return Took([RUN, "-d", self.file.name, *words], text, **how)
 
 
-def over(lines, *asked, also_generate=True):
-    """What is asked, each behind these declarations: `generate`, or what comes behind it, which is another line."""
-    declared = rows(lines)
-    generated = rows([*lines, "generate"]).less(declared)
-    if also_generate:
-        yield "generate", generated
-    for name, line in asked:
-        yield name, rows([*lines, "sink 0 5000 0", line]).less(declared).less(generated)
-
-
-def texts(*commands):
-    """The commands that write these texts, to a sink that takes nothing: what is timed is to make them."""
-    return [(command, f"run {command}") for command in commands]
+def over(lines, *commands, asked=None):
+    """What is asked over these lines: to make the tables, to write texts, and to answer queries."""
+    declared = Declared(lines)
+    read, made = declared.run("types"), declared.run("query")
+    for command in commands:
+        yield command, declared.run(command).less(made)
+    if asked:
+        yield "query", declared.run("query", text=asked).less(made)
+    yield "generate", made.less(read)
 
 
 def inputs(size):
-    for fault in ("FormatMismatch", "NoControl", "TooManyOperands"):
-        one, three = Took([BENCH, fault, str(size), "1"], ""), Took([BENCH, fault, str(size), "3"], "")
-        three.less(one)
-        three.seconds /= 2
-        three.instructions = three.instructions and three.instructions // 2
-        yield fault, three
+    """The format has no inputs; the last variable stands at one input more, so that none controls; or there are too many."""
+    names = [f"t{k:x}" for k in range(size)]
+    types = [f"type {it}:ints all" for it in names]
+    shown = {"FormatMismatch": ("none", names), "NoControl": (None, [*names, names[-1]]), "TooManyOperands": (None, names)}
+    for fault, (slots, inputs) in shown.items():
+        slots = slots or ",".join(["value"] * len(inputs))
+        yield fault, Declared([*types, f"format W:{slots}", f"inst i:W({','.join(f'x:{it}' for it in inputs)})"]).run("tables")
 
 
 def sets(size):
@@ -118,13 +118,13 @@ def sets(size):
         return f"{low * 2 ** (digit // base)}..{high * 2 ** (digit % base)}"
 
     def types(k):
-        return (f"lanes {span(1, 16, k % 16, 4)} dynamic {span(2, 32, k // 16 % 16, 4)}"
-                f" ints {span(8, 64, k // 256 % 4, 2)} floats {span(16, 64, k // 1024 % 4, 2)}")
+        return (f"lanes {span(1, 16, k % 16, 4)}, dynamic {span(2, 32, k // 16 % 16, 4)},"
+                f" ints {span(8, 64, k // 256 % 4, 2)}, floats {span(16, 64, k // 1024 % 4, 2)}")
 
-    lines = ["new", "format S Seven vvvvvvv"]
-    lines += [f"var V{k} {types(k)}" for k in range(size)]
-    lines += [f"inst i{k} S {','.join(f'V{(k + j * 577) % size}' for j in range(7))} V{k}" for k in range(size)]
-    return over(lines, *texts("tables", "instructions", "builder"))
+    lines = [f"format S: {', '.join(['value'] * 7)}"]
+    lines += [f"type V{k}: {types(k)}" for k in range(size)]
+    lines += [f"inst i{k}: S({','.join(f'x: V{(k + j * 577) % size}' for j in range(7))}) -> a: V{k}" for k in range(size)]
+    return over(lines, "tables", "instructions", "builder")
 
 
 def hashed(start, name):
@@ -150,70 +150,64 @@ def alike(count):
     return ["".join(pair[k >> place & 1] for place, pair in enumerate(pairs)) for k in range(count)]
 
 
-ALIKE = alike(65_535) if not ASKED or {"names", "opcodes"} & set(ASKED) else []
+ALIKE = alike(8_191) if not ASKED or {"names", "opcodes"} & set(ASKED) else []
 
 
 def names(size):
-    lines = ["new", "group g", *(f"preset {name} -" for name in ALIKE[:size])]
-    question = f"setting {ALIKE[size - 1]}\\n"
-    asked = ("query", "run query < " + question * (MEGABYTE // (len(question) - 1)))
-    return over(lines, *texts("tables", "settings"), asked)
+    question = f"setting {ALIKE[size - 1]}\n"
+    lines = ["group g", *(f"preset {name}()" for name in ALIKE[:size])]
+    return over(lines, "tables", "settings", asked=question * (MEGABYTE // len(question)))
 
 
 def opcodes(size):
-    lines = ["new", "format F F -", *(f"inst {name} F - -" for name in ALIKE[:size])]
-    return over(lines, *texts("tables", "instructions", "builder"))
+    return over(["format F: none", *(f"inst {name}: F" for name in ALIKE[:size])], "tables", "instructions", "builder")
 
 
 def formats(size):
-    letters = "acdefghijklnopqs"
-    lines = ["new"]
+    lines = [f'kind {part}{k}: imm "i64"' for part in "pqr" for k in range(16)]
     for k in range(size):
-        a, b, c = letters[k % 16], letters[k // 16 % 16], letters[k // 256 % 16]
-        lines += [f"format k{k} F{k} {a}{b}{c}", f"inst i{k} k{k} {a},{b},{c} -"]
-    return over(lines, *texts("tables", "instructions", "builder"))
+        kinds = f"p{k % 16}", f"q{k // 16 % 16}", f"r{k // 256 % 16}"
+        lines += [f"format F{k}: {', '.join(kinds)}", f"inst i{k}: F{k}({', '.join(f'{it}: {it}' for it in kinds)})"]
+    return over(lines, "tables", "instructions", "builder")
 
 
 def name(size):
-    return over(["new", "format F F -", f"inst {'a' * size} F - -"], *texts("tables", "instructions", "builder"))
+    return over(["format F: none", f"inst {'a' * size}: F"], "tables", "instructions", "builder")
 
 
-ENUM = ["new", "group g", "enum e " + ",".join(f"v{k:0999}" for k in range(256))]
+ENUM = ["group g", "enum e(" + ",".join(f"v{k:0999}" for k in range(256)) + ")"]
 
 
 def values(size):
-    return over(ENUM, ("query", "run query < " + "setting e\\n" * size), also_generate=False)
+    return over(ENUM, asked="setting e\n" * size)
 
 
 def types(size):
     """An instruction of one variable, whose one line asks for as many values as there is room for."""
-    lines = ["new", "format S One v", "var V ints 8..64", "inst i S V -"]
     asked = "accept i - - " + "i8,i16,i32,i64," * (size // 15)
-    return over(lines, ("query", f"run query < {asked}i8\\n"), also_generate=False)
+    return over(["format One: value", "type V: ints 8..64", "inst i: One(x: V)"], asked=f"{asked}i8\n")
 
 
 def lists(size):
-    enums = [f"enum e{k} " + ",".join(f"v{k}_{j}" for j in range(256)) for k in range(size)]
-    return over(["new", "group g", *enums], *texts("tables"))
+    return over(["group g", *(f"enum e{k}(" + ",".join(f"v{k}_{j}" for j in range(256)) + ")" for k in range(size))], "tables")
 
 
 def shared(size):
     """The text of such enums with short values is made, and then its values are made longer: each stands there once."""
     values = ",".join(f"v{k:03}" for k in range(256))
-    lines = ["new", "group g", *(f"enum e{k} {values}" for k in range(255)), "text 3"]
-    text = rows(lines, is_counted=False).told[0].replace("\\n", "\n")
+    text = "\n".join(Declared(["group g", *(f"enum e{k}({values})" for k in range(255))]).run("tables", is_counted=False).told) + "\n"
     text = re.sub(r"\bv(\d{3})\b", lambda it: "v" + it[1].zfill(size - 1), text)
     yield "recheck", Took([RUN, "recheck"], text).less(Took([RUN, "recheck"], ""))
 
 
 # Each case: what it times, its sizes, and what grows by names that collide or lists that overlap.
 CASES = {
-    "inputs": (inputs, (50_000, 100_000, 200_000), ()),
+    "inputs": (inputs, (7_500, 15_000, 30_000), ()),
     "sets": (sets, (1_023, 2_047, 4_095), ("generate", "tables")),
-    "names": (names, (16_383, 32_767, 65_535), ("generate", "tables", "query")),
+    "names": (names, (2_047, 4_095, 8_191), ("generate", "tables", "query")),
     "opcodes": (opcodes, (1_023, 2_047, 4_095), ("generate", "tables")),
     "formats": (formats, (1_023, 2_047, 4_095), ()),
-    "name": (name, (500_000, 1_000_000, 2_000_000), ()),
+    "name": (name, (131_072, 262_144, 524_288), ()),
     "values": (values, (500, 1_000, 2_000), ()),
     "types": (types, (262_144, 524_288, 1_048_500), ()),
     "lists": (lists, (63, 127, 255), ("generate", "tables")),
@@ -252,8 +246,7 @@ for case in ASKED or CASES:
             is_well &= told(case, size, what, took, before.get(what), what in named)
             before[what] = (size, took)
     if case == "values":
-        asked = [*ENUM, "sink 0 5000 0", "run query < " + "setting e\\n" * (MEGABYTE // 10)]
-        took = rows(asked, memory=2_000_000_000, is_counted=False)
+        took = Declared(ENUM).run("query", text="setting e\n" * (MEGABYTE // 10), memory=2_000_000_000, is_counted=False)
         took.end = "no memory" if took.told == [""] else took.end
         told(case, MEGABYTE // 10, "query, 2 GB", took, None, False)
 sys.exit(0 if is_well else 1)

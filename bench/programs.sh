@@ -42,6 +42,14 @@ least() {
     done | sort -n | awk 'NR == 1 { best = $1 } END { if (NR != 3) exit 1; print best }'
 }
 
+# A file of declarations of so many instructions, each of seven inputs and one output, all of one variable.
+instructions_of() {
+    awk -v count="$1" 'BEGIN {
+        print "type I: ints all\nformat S: value, value, value, value, value, value, value"
+        for (k = 0; k < count; k++) print "inst i" k ": S(a: I, b: I, c: I, d: I, e: I, f: I, g: I) -> h: I"
+    }'
+}
+
 # The processor that all was measured on.
 processor() {
     lscpu | sed -n 's/^Model name: *//p'

@@ -2,12 +2,11 @@
 # Counts the instructions of the processor that the texts take to be made and to be read, at two sizes, of which one is about twice
 # the other, and those and the time of one run of each command over the shared declarations:
 #   bench/texts.sh
-# The programs `meta_bench`, `rows` and `ciderlater` are proved and built first where that is still to be done. Counted is by
-# `valgrind --tool=callgrind`.
+# The program `ciderlater` is proved and built first where that is still to be done. Counted is by `valgrind --tool=callgrind`.
 #
-# `meta_bench tables N TIMES` declares N instructions, makes their tables once, and their text so many times; what one text takes is
-# half the difference between a run of three and a run of one. The texts of Rust are those of N instructions of two values, which
-# `rows` reads: a run that writes the text, less one that builds the same and writes none. Read are the shared text, the
+# The text of tables is that of a file of instructions: a run that writes it, less one of `query` over no input, which makes the same tables
+# and writes nothing. The texts of Rust are those of a file of instructions of two values: a run that writes the text, less one of `check`,
+# which builds the same and writes a line. Read are the shared text, the
 # longest text of instructions of seven inputs that an input has room for, and that of half as many: a run of `recheck` over the text,
 # less one over nothing, beside a run of `cat` over it, less one over nothing. Of a command are told the instructions of a run over no
 # input, which declares and builds too, and for `query`, `tables` and `recheck` makes the tables, and the processor time of a run, of
@@ -18,20 +17,17 @@ set -u
 
 . "$(dirname "$0")/programs.sh"
 
-built meta_bench tables 1 1
-bench=$program
-built rows
-rows=$program
 built ciderlater --version
 folder=$(mktemp -d) || exit 1
 trap 'rm -rf "$folder"' EXIT
 processor
 
-# The instructions of one text of so many instructions.
+# The instructions of the text of the tables of so many instructions.
 text_of() {
-    one=$(counted /dev/null "$bench" tables "$1" 1) || return 1
-    three=$(counted /dev/null "$bench" tables "$1" 3) || return 1
-    printf '%.0f\n' "$(((three - one) / 2))"
+    instructions_of "$1" > "$folder/file"
+    made=$(counted /dev/null "$program" -d "$folder/file" query) || return 1
+    written=$(counted /dev/null "$program" -d "$folder/file" tables) || return 1
+    printf '%.0f\n' "$((written - made))"
 }
 
 few=2047
@@ -42,32 +38,21 @@ printf 'tables %s: %s instructions\ntables %s: %s instructions\n' "$few" "$small
 awk -v few="$few" -v many="$many" -v small="$small" -v large="$large" \
     'BEGIN { printf "tables: %.2f times the size, %.2f times the instructions\n", many / few, large / small }'
 
-# So many instructions of two values, as lines, and the texts that are asked for.
+# A file of so many instructions of two values.
 declared() {
-    awk -v count="$1" -v texts="$2" 'BEGIN {
-        print "%% instructions\nints N 8 64 1 | An integer.\nformat Two value value"
-        for (k = 0; k < count; k++) print "given i" k " Two N,N N - | An instruction."
-        print "texts " texts
+    awk -v count="$1" 'BEGIN {
+        print "/// An integer.\ntype N: ints 8..64\nformat Two: value, value"
+        for (k = 0; k < count; k++) print "/// An instruction.\ninst i" k ": Two(x: N, y: N) -> a: N"
     }'
-}
-
-# The instructions of a run of `rows` over such lines.
-counted_over() {
-    declared "$1" "$2" > "$folder/declared"
-    counted "$folder/declared" "$rows"
-}
-
-# The bytes that such a run writes.
-bytes_over() {
-    declared "$1" "$2" | "$rows" | wc -c
 }
 
 for text in instructions builder; do
     grown=
     for count in $few $many; do
-        none=$(counted_over "$count" "") || exit 1
-        all=$(counted_over "$count" $text) || exit 1
-        bytes=$(($(bytes_over "$count" $text) - $(bytes_over "$count" "")))
+        declared "$count" > "$folder/file"
+        none=$(counted /dev/null "$program" -d "$folder/file" check) || exit 1
+        all=$(counted /dev/null "$program" -d "$folder/file" $text) || exit 1
+        bytes=$("$program" -d "$folder/file" $text | wc -c)
         printf '%s %s: %s bytes, %s instructions\n' $text "$count" "$bytes" "$((all - none))"
         grown="$grown $((all - none))"
     done
@@ -77,11 +62,8 @@ done
 
 # The text of the tables of so many instructions of seven inputs and one output.
 text_of_tables() {
-    awk -v count="$1" 'BEGIN {
-        print "%% declared\nnew\nformat S Seven vvvvvvv\nvar Int ints 8..128"
-        for (k = 0; k < count; k++) print "inst i" k " S Int,Int,Int,Int,Int,Int,Int Int"
-        print "text 3"
-    }' | "$rows" | sed -e '1,/^> text 3$/d' -e 's/\\n/\n/g' | sed '$d'
+    instructions_of "$1" > "$folder/file"
+    "$program" -d "$folder/file" tables
 }
 
 # What it takes to read a text of the tables, and what `cat` takes, which copies the same bytes: for all of it, and a byte.

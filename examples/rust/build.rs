@@ -19,7 +19,7 @@ const TABLES: &str = "tables";
 const GROUP: &str = "// Settings group ";
 
 /// Where the finished program lies, from the folder of this crate.
-const DEFAULT_PROGRAM: &str = "../../crates/ciderlater/out/ciderlater";
+const DEFAULT_PROGRAM: &str = "../../out/ciderlater";
 
 /// What to do where the program isn't there.
 const HINT: &str = "./run makes the program, or CIDERLATER_PROGRAM names another";

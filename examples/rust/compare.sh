@@ -20,10 +20,10 @@ fail() {
 
 # The lines of stored runs and of the examples that ask something, whatever they are answered with there.
 stored_lines() {
-    cat "$top"/crates/rows_language/data/toy.in "$top"/examples/*.txt
+    cat "$top"/crates/rows/data/toy.in "$top"/examples/*.txt
     {
-        sed -n 's/^> //p' "$top"/crates/rows_language/stdin
-        awk '{ gsub(/\\r|\\n/, "\n"); print }' "$top"/crates/rows/stdin
+        sed -n 's/^> //p' "$top"/crates/rows/stdin
+        awk '{ gsub(/\\r|\\n/, "\n"); print }' "$top"/crates/rows/stdin "$top"/crates/rows_calls/stdin
     } | grep -E '^(accept|infer|setting) '
 }
 
@@ -100,7 +100,7 @@ differences() {
 
 [ $# -le 1 ] || fail 2 "one word at most, the path of the program"
 top=$(cd "$(dirname "$0")/../.." && pwd)
-program=${1:-$top/crates/ciderlater/out/ciderlater}
+program=${1:-$top/out/ciderlater}
 if ! [ -f "$program" ] || ! [ -x "$program" ]; then
     fail 2 "there is no program $program: ./run makes the one of this repository, or name another"
 fi

@@ -1,14 +1,15 @@
 #!/usr/bin/env python3
 """Reads what the service of settings writes as TOML by Python's own reader, and holds it against what was declared and set.
 
-    examples/toml/compare.py CIDERLATER ROWS_FLAGS
+    examples/toml/compare.py CIDERLATER
 
-The first program serves the shared settings: each name that it writes has the value that `get` tells, before and after values are
-set. The second serves twenty groups that are made here, whose values are known. The status is 0 where all are read as they should
+The program serves the shared settings: each name that it writes has the value that `get` tells, before and after values are set. And it
+serves twenty groups of files that are made here, whose values are known. The status is 0 where all are read as they should
 be, and 1 where one isn't."""
 import random
 import subprocess
 import sys
+import tempfile
 import tomllib
 
 
@@ -54,24 +55,24 @@ def made(seed):
         if kind == "bool":
             values[name] = chance.random() < 0.5
             booleans.append(name)
-            lines.append(f"bool {name} {told(values[name])}")
+            lines.append(f"bool {name} = {told(values[name])}")
         elif kind == "num":
             values[name] = chance.randrange(256)
-            lines.append(f"num {name} {values[name]}")
+            lines.append(f"num {name} = {values[name]}")
             if chance.random() < 0.5:
                 values[name] = chance.randrange(256)
                 asked.append(f"set {name} {values[name]}")
         else:
             texts = [f"v{n}" for n in range(chance.randrange(1, 12))]
             values[name] = texts[0]
-            lines.append(f"enum {name} {','.join(texts)}")
+            lines.append(f"enum {name}({', '.join(texts)})")
             if chance.random() < 0.5:
                 values[name] = chance.choice(texts)
                 asked.append(f"set {name} {values[name]}")
     for k in range(chance.randrange(4)):
         named = chance.sample(booleans, min(len(booleans), 3)) + chance.sample(list(turned), min(len(turned), 1))
         turned[f"p{k}"] = {b for n in named for b in turned.get(n, {n})}
-        lines.append(f"preset p{k} {','.join(named) or '-'}")
+        lines.append(f"preset p{k}({', '.join(named)})")
     for preset in turned:
         if chance.random() < 0.5:
             asked.append(f"enable {preset}")
@@ -84,17 +85,18 @@ def own(program):
     compared = 0
     for seed in range(20):
         name, lines, asked, values = made(seed)
-        rows = ["new", *lines, "declare", *(f"> {line}" for line in [*asked, "toml"]), "run"]
-        written = answers([program], "\n".join(rows) + "\n")
-        status, *rest = written.split("\n")
-        if status != "Done 0" or rest[:len(asked)] != ["ok"] * len(asked):
-            sys.exit(f"group {seed} is answered {written[:200]!r}")
-        if tomllib.loads("\n".join(rest[len(asked):])) != {name: values}:
+        with tempfile.NamedTemporaryFile("w", suffix=".isa") as file:
+            file.write("\n".join(lines) + "\n")
+            file.flush()
+            written = answers([program, "-d", file.name, "flags"], "\n".join([*asked, "toml"]) + "\n").split("\n")
+        if written[:len(asked)] != ["ok"] * len(asked):
+            sys.exit(f"group {seed} is answered {written[:len(asked)]}")
+        if tomllib.loads("\n".join(written[len(asked):])) != {name: values}:
             sys.exit(f"group {seed} is read otherwise than it was declared and set")
         compared += len(values)
     return compared
 
 
-if len(sys.argv) != 3:
+if len(sys.argv) != 2:
     sys.exit(__doc__)
-print(f"{shared(sys.argv[1])} values of the shared settings and {own(sys.argv[2])} of twenty groups are read as they are")
+print(f"{shared(sys.argv[1])} values of the shared settings and {own(sys.argv[1])} of twenty groups are read as they are")
