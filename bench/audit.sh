@@ -78,7 +78,7 @@ over_rows() {
     [ "$count" -gt 0 ] && [ "$count" -lt "$2" ]
 }
 
-# The lines behind a comment of the stored rows, up to the next run or comment.
+# The lines after a comment of the stored rows, up to the next run or comment.
 lines() {
     awk -v comment="$1" '$0 == comment { found = 1; next } found && /^(#|run|audited)/ { exit } found' ../stdin
 }

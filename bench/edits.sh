@@ -8,7 +8,7 @@
 # as they stand. A line tells of each edit that isn't refused, that can't be applied, or that is refused for a name alone, which says
 # nothing of a contract; the last line counts them.
 # The second tries none, and takes less than a second: it says which edits, those that the gate tries too, can't be applied. Each text
-# behind `old:` stands in its file once, and a later pair of an edit applies to what an earlier one made.
+# after `old:` stands in its file once, and a later pair of an edit applies to what an earlier one made.
 # The status is 1 where an edit isn't refused or can't be applied, and 2 where none was tried.
 set -u
 

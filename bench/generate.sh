@@ -36,7 +36,7 @@ settings_of() {
     }'
 }
 
-# An instruction with inputs of so many variables. It shows a fault: its format has no inputs (FormatMismatch); the last variable stands at
+# An instruction with inputs of so many variables. It has a fault: its format has no inputs (FormatMismatch); the last variable stands at
 # one input more, so that none controls (NoControl); or there are too many, and the first controls (TooManyOperands).
 inputs_of() {
     awk -v count="$2" -v fault="$1" "$names"'BEGIN {
@@ -58,7 +58,7 @@ seconds() {
     done | sort -n | awk 'NR == 1 { best = $1 } END { if (NR != 3) exit 1; print best }'
 }
 
-# What the tables of a file cost, in runs that end with the status, behind a name. It leaves the instructions in `all`.
+# What the tables of a file cost, in runs that end with the status, after a name. It leaves the instructions in `all`.
 measured() {
     taken=$(seconds "$1" "$folder/file") || return 1
     all=$(counted /dev/null "$program" -d "$folder/file" tables) || return 1
@@ -73,7 +73,7 @@ measured() {
     printf '\n'
 }
 
-# Measures files of two sizes, which the words make with a size behind them, in runs that end with the status.
+# Measures files of two sizes, which the words make with a size after them, in runs that end with the status.
 compare() {
     status=$1 what=$2 few=$3 many=$4
     shift 4

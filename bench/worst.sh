@@ -19,7 +19,7 @@ built ciderlater --version
 folder=$(mktemp -d) || exit 1
 trap 'rm -rf "$folder"' EXIT
 
-# A file of so many instructions of a kind, a line each, behind what they stand on.
+# A file of so many instructions of a kind, a line each, after what they stand on.
 declared() {
     awk -v kind="$1" -v count="$2" '
     # The digit with this number of k, from the last, in this base.
