@@ -77,7 +77,7 @@ fn tried_items(alloc: Global, built: &Built<'_>) -> Result<Option<Vec<Item>>, Al
 ///
 /// The items are made, declared and compared. `None` comes where they would declare something else or be refused, as where the kind of
 /// a format's field is of values whose variable is of another registry, or where a variable has more functions behind its root than a
-/// type may have.
+/// type may have, or has some where the root's name has more than 4,096 bytes.
 pub fn describe(alloc: Global, built: &Built<'_>) -> Result<Option<Vec<Item>>, AllocError>
     // What the items declare has the same tables and the same texts.
     ensures describes { IfOk result (λ o. IfSome o (λ v. Describes v.items built.now.declared)) }

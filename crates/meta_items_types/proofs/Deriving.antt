@@ -24,15 +24,15 @@ use Rattle.meta_items.specs.declared.types.Function.{Function as Word}
 use Rattle.meta_items.specs.declared.types.TypeExpr.{TypeExpr}
 use Rattle.meta_items_types.specs.declared.plain.PlainRoot.{PlainRoot}
 use Rattle.meta_items_types.specs.declared.refused.Reason.{Reason}
-use Rattle.meta_items_types.specs.declared.refused.Reason.TheVariants.{CannotDerive, TooDeep, LikeDerived}
+use Rattle.meta_items_types.specs.declared.refused.Reason.TheVariants.{CannotDerive, TooDeep, LongName, LikeDerived}
 use Rattle.meta_items_types.specs.declared.refused.TypeError.{TypeError}
 use Rattle.meta_items_types.specs.declared.refused.TypeError.TheVariants.{Memory, Wrong}
 use Rattle.meta_items_types.specs.declared.words.Words.{Words}
 use Rattle.meta_items_types.specs.Meant.{Root, Declared, Plain, MeantType, MeantRoot, is_underived, derived_by}
 use Rattle.meta_items_types.specs.Symbols.{Symbol, symbol, symbol_of, with_symbol, with_type}
-use Rattle.meta_items_types.specs.Words.{Entry, entry_of, function_meant, most_functions, may_be_derived_from, derive_at, derived_from}
-use Rattle.meta_items_types.specs.Words.{type_named, type_of, root_set, set_like}
-use Rattle.meta_items_types.specs.Depth.{depth_at}
+use Rattle.meta_items_types.specs.Words.{Entry, entry_of, function_meant, most_functions, may_be_derived_from, longest_name}
+use Rattle.meta_items_types.specs.Words.{has_long_name, derive_at, derived_from, type_named, type_of, root_set, set_like}
+use Rattle.meta_items_types.specs.Depth.{depth_at, root_name_at}
 use Rattle.meta_items_types.specs.Said.{Said, mentioning}
 use Rattle.meta_items_types.specs.declared.types.Types.{Types}
 use Rattle.meta_items_types.specs.Telling.{◌>>=◌, found_or, Fails, IsMeant, Tells}
@@ -48,15 +48,19 @@ use Rattle.meta_items_types.proofs.Told.{fails_on}
 
 -- ---- one function
 
--- what a function derives from a type, by whether it may have one function more, and whether its set allows the function
-abbrev derived_if : ℕ → Word → MeantType → Bool → Bool → Result MeantType Reason
-derived_if place f m room can =
-    cond room (found_or (CannotDerive place) (cond can (Some (derived_by (function_meant f) m)) None)) (Err (TooDeep place))
+-- what a function derives from a type, by whether it may have one function more, its root's name is long, and its set allows the function
+abbrev derived_if : ℕ → Word → MeantType → Bool → Bool → Bool → Result MeantType Reason
+derived_if place f m room long can =
+    cond room
+    (cond long (Err LongName) (found_or (CannotDerive place) (cond can (Some (derived_by (function_meant f) m)) None)))
+    (Err (TooDeep place))
 
-derive_by : (place : ℕ) (f : Word) (m : MeantType) (room can : Bool) → may_be_derived_from m ≡ room
-    → can_derive (function_meant f) m.set ≡ can → derive_at place f m ≡ derived_if place f m room can
-derive_by place f m room can r e =
-    ap (λ (b : Bool). derived_if place f m b (can_derive (function_meant f) m.set)) r ∙ ap (derived_if place f m room) e
+derive_by : (place : ℕ) (f : Word) (m : MeantType) (room long can : Bool) → may_be_derived_from m ≡ room → has_long_name m ≡ long
+    → can_derive (function_meant f) m.set ≡ can → derive_at place f m ≡ derived_if place f m room long can
+derive_by place f m room long can r l e =
+    ap (λ (b : Bool). derived_if place f m b (has_long_name m) (can_derive (function_meant f) m.set)) r
+    ∙ (ap (λ (b : Bool). derived_if place f m room b (can_derive (function_meant f) m.set)) l
+    ∙ ap (derived_if place f m room long) e)
 
 -- whether the type that a variable stands for may have one function more, by the variable
 room_meant : (t : Types) (s : Said) (m : MeantType) (n : ℕ) → IsMentioned t s m n → (room : Bool)
@@ -65,6 +69,11 @@ room_meant t s m n h room e =
     let r = registered t (mentioning s (Ok m)) in
     let v = symbol_variable r s.roots h.holds.registry (symbol_of m) n h.type_is.number in
     ap (λ (w : Variable). nat_lt (length w.chain) most_functions) (sym v.variable) ∙ sym e
+
+-- whether the name of its root is too long, by the variable
+long_meant : (t : Types) (s : Said) (m : MeantType) (n : ℕ) → IsMentioned t s m n → (long : Bool)
+    → long ≡ nat_lt longest_name (length (root_name_at t.vars n)) → has_long_name m ≡ long
+long_meant t s m n h long e = ap (λ (name : List ℕ). nat_lt longest_name (length name)) (sym h.type_is.name) ∙ sym e
 
 -- what holds behind one function: what is kept, which type it is, and that the registry grew
 pub record IsStep (old new : Registered) (known : List PlainRoot) (words : Words) (roots : List MeantRoot) (entries : List Entry)
@@ -165,16 +174,25 @@ set_meant t s m n h g w same can e =
 
 pub derive_deep : (t : Types) (s : Said) (m : MeantType) (n : ℕ) → IsMentioned t s m n → (place : ℕ) (w : Word)
     → false ≡ nat_lt (depth_at t.vars n) most_functions → derive_at place w m ≡ Err (TooDeep place)
-derive_deep t s m n h place w deep = derive_by place w m false _ (room_meant t s m n h false deep) refl
+derive_deep t s m n h place w deep = derive_by place w m false _ _ (room_meant t s m n h false deep) refl refl
+
+pub derive_long : (t : Types) (s : Said) (m : MeantType) (n : ℕ) → IsMentioned t s m n → (place : ℕ) (w : Word)
+    → true ≡ nat_lt (depth_at t.vars n) most_functions → true ≡ nat_lt longest_name (length (root_name_at t.vars n))
+    → derive_at place w m ≡ Err LongName
+derive_long t s m n h place w room long =
+    derive_by place w m true true _ (room_meant t s m n h true room) (long_meant t s m n h true long) refl
 
 pub derive_refused : (t : Types) (s : Said) (m : MeantType) (n : ℕ) → IsMentioned t s m n → (place : ℕ) (w : Word) (g : DerivedFunc)
     → function_of g ≡ function_meant w → true ≡ nat_lt (depth_at t.vars n) most_functions
-    → false ≡ can_derive (function_of g) (coded_at t.vars n) → derive_at place w m ≡ Err (CannotDerive place)
-derive_refused t s m n h place w g same room test =
-    derive_by place w m true false (room_meant t s m n h true room) (set_meant t s m n h g w same false test)
+    → false ≡ nat_lt longest_name (length (root_name_at t.vars n)) → false ≡ can_derive (function_of g) (coded_at t.vars n)
+    → derive_at place w m ≡ Err (CannotDerive place)
+derive_refused t s m n h place w g same room short test =
+    derive_by place w m true false false (room_meant t s m n h true room) (long_meant t s m n h false short)
+    (set_meant t s m n h g w same false test)
 
 module _ (old : Types) (new : List TypeVarContent) (s : Said) (m : MeantType) (n : ℕ) (h : IsMentioned old s m n) (g : DerivedFunc)
     (place : ℕ) (w : Word) (same : function_of g ≡ function_meant w) (room : true ≡ nat_lt (depth_at old.vars n) most_functions)
+    (short : false ≡ nat_lt longest_name (length (root_name_at old.vars n)))
     (test : true ≡ can_derive (function_of g) (coded_at old.vars n)) where
   abbrev grown : Types
   grown = record { vars = new; plain = old.plain; words = old.words }
@@ -184,7 +202,8 @@ module _ (old : Types) (new : List TypeVarContent) (s : Said) (m : MeantType) (n
 
   can : derive_at place w m ≡ Ok derived
   can =
-      derive_by place w m true true (room_meant old s m n h true room) (set_meant old s m n h g w same true test)
+      derive_by place w m true false true (room_meant old s m n h true room) (long_meant old s m n h false short)
+      (set_meant old s m n h g w same true test)
       ∙ ap (λ (f : Function). Ok (derived_by f m)) (sym same)
 
   step : {E : Type 0} (result : Result ℕ E) (v : ℕ) → Derives old.vars n g result new → result ≡ Ok v
@@ -361,15 +380,14 @@ module _ (old now : Types) (s : Said) (t : TypeExpr) (n : ℕ) (w : List ℕ) (w
 
 -- ---- roots
 
-no_functions : (fs : List Function) → fs ≡ [] → (root : Root) (set : TypeSetParts)
-    → is_underived (record { root = root; functions = fs; set = set }) ≡ true
-no_functions [] e root set = refl
-no_functions (f ∷ fs) e root set = absurd (cc)
+no_functions : (fs : List Function) → fs ≡ [] → (m : MeantType) → is_underived (record m { functions = fs }) ≡ true
+no_functions [] e m = refl
+no_functions (f ∷ fs) e m = absurd (cc)
 
-some_functions : (fs : List Function) (g : Function) (gs : List Function) → fs ≡ g ∷ gs → (root : Root) (set : TypeSetParts)
-    → is_underived (record { root = root; functions = fs; set = set }) ≡ false
-some_functions [] g gs e root set = absurd (cc)
-some_functions (f ∷ fs) g gs e root set = refl
+some_functions : (fs : List Function) (g : Function) (gs : List Function) → fs ≡ g ∷ gs → (m : MeantType)
+    → is_underived (record m { functions = fs }) ≡ false
+some_functions [] g gs e m = absurd (cc)
+some_functions (f ∷ fs) g gs e m = refl
 
 module _ (r : Registered) (roots : List MeantRoot) (h : IsRegistryOf r roots) (m : MeantType) (n : ℕ) (is : IsTypeIn r m n)
     (c : TypeVarContent)
@@ -389,8 +407,8 @@ module _ (r : Registered) (roots : List MeantRoot) (h : IsRegistryOf r roots) (m
   root_or_not = by m.functions refl (h.variables (symbol_of m) n is.number)
     where
       by : (fs : List Function) → m.functions ≡ fs → IsVariableAt r roots (symbol_of m) fs n → is_underived m ≡ not (is_some c.base)
-      by [] e v = no_functions m.functions e m.root m.set ∙ sym (ap not (root_base m.root v))
-      by (f ∷ fs) e v = some_functions m.functions f fs e m.root m.set ∙ sym (ap not (derived_base (symbol_of m) v))
+      by [] e v = no_functions m.functions e m ∙ sym (ap not (root_base m.root v))
+      by (f ∷ fs) e v = some_functions m.functions f fs e m ∙ sym (ap not (derived_base (symbol_of m) v))
 
 -- ---- the set of another
 

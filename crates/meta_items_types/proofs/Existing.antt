@@ -22,14 +22,14 @@ use Rattle.meta_items.specs.declared.types.Function.{Function as Word}
 use Rattle.meta_items.specs.declared.types.Function.TheVariants as words
 use Rattle.meta_items.specs.declared.types.TypeExpr.{TypeExpr}
 use Rattle.meta_items_types.specs.declared.refused.Reason.{Reason}
-use Rattle.meta_items_types.specs.declared.refused.Reason.TheVariants.{CannotDerive, TooDeep}
+use Rattle.meta_items_types.specs.declared.refused.Reason.TheVariants.{CannotDerive, TooDeep, LongName}
 use Rattle.meta_items_types.specs.declared.given.GivenKind.{GivenKind}
 use Rattle.meta_items_types.specs.declared.given.GivenKind.TheVariants as given
 use Rattle.meta_items_types.specs.Plain.{same_word, plain_type, given_kind}
 use Rattle.meta_items_types.specs.Meant.{Plain, MeantType, MeantRoot, Sense, TypeSense, KindSense, plain, kind_given}
 use Rattle.meta_items_types.specs.Meant.{MeantKind, derived_by}
 use Rattle.meta_items_types.specs.Symbols.{Symbol, symbol, symbol_of, with_symbol, with_type}
-use Rattle.meta_items_types.specs.Words.{Entry, entry_of, type_in, type_named, type_of, function_meant, may_be_derived_from}
+use Rattle.meta_items_types.specs.Words.{Entry, entry_of, type_in, type_named, type_of, function_meant, may_be_derived_from, has_long_name}
 use Rattle.meta_items_types.specs.Words.{derive_at, derived_from}
 use Rattle.meta_items_types.specs.Said.{with_meant}
 use Rattle.meta_items_types.specs.Telling.{◌>>=◌, found_or}
@@ -207,15 +207,16 @@ module _ (r : Registered) (roots : List MeantRoot) (entries : List Entry) (h : S
   mentions_derived : (place : ℕ) (f : Word) (a : Result MeantType Reason) → Mentions r roots entries a
       → Mentions r roots entries (a >>= derive_at place f)
   mentions_derived place f (Err reason) g = tt
-  mentions_derived place f (Ok m) g = by (may_be_derived_from m) (can_derive (function_meant f) m.set)
+  mentions_derived place f (Ok m) g = by (may_be_derived_from m) (has_long_name m) (can_derive (function_meant f) m.set)
     where
-      by : (room can : Bool) → Mentions r roots entries
-          (cond room (found_or (CannotDerive place) (cond can (Some (derived_by (function_meant f) m)) None)) (Err (TooDeep place)))
-      by true true =
+      by : (room long can : Bool) → Mentions r roots entries (cond room (cond long (Err LongName)
+          (found_or (CannotDerive place) (cond can (Some (derived_by (function_meant f) m)) None))) (Err (TooDeep place)))
+      by true false true =
           let w = func_meant f in
           subst (λ (x : _). Mentions r roots entries (Ok (derived_by x m))) w.1 (of_derived roots entries r m g w.0)
-      by true false = tt
-      by false can = tt
+      by true false false = tt
+      by true true can = tt
+      by false long can = tt
 
   mentions_along : (place : ℕ) (fs : List Word) (a : Result MeantType Reason) → Mentions r roots entries a
       → Mentions r roots entries (derived_from place fs a)

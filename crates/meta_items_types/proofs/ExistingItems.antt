@@ -85,7 +85,7 @@ module _ (vars : List TypeVarContent) (s : Said) (h : Serves (record { vars = va
     content = root_content root.name root.doc root.set (length g.vars)
 
     abbrev entry : Entry
-    entry = record { word = w; place = place; sense = TypeSense (root_type (Declared (length s.roots)) root.set) }
+    entry = record { word = w; place = place; sense = TypeSense (root_type (Declared (length s.roots)) root.name root.set) }
 
     undeclared : (n : ℕ) → IsNumberOf before one n → ⊥
     undeclared n at =
@@ -99,7 +99,7 @@ module _ (vars : List TypeVarContent) (s : Said) (h : Serves (record { vars = va
     registry : IsRegistryOf (with_one before content one) (s.roots ++ root ∷ [])
     registry = registry_one before s.roots (root ∷ []) content one g.serves.registry undeclared placed
 
-    is : IsTypeIn (with_one before content one) (root_type (Declared (length s.roots)) root.set) (length g.vars)
+    is : IsTypeIn (with_one before content one) (root_type (Declared (length s.roots)) root.name root.set) (length g.vars)
     is =
         root_in (with_one before content one) (s.roots ++ root ∷ []) (Declared (length s.roots)) (length g.vars) root.name root.doc root.set
         registry (number_one before s.roots (root ∷ []) content one g.serves.registry undeclared placed) (get_end g.vars content)

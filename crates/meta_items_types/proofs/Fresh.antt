@@ -164,7 +164,7 @@ module _ (vars : List TypeVarContent) (symbols : List Symbol) (known : List Plai
         (h.words_are w);
   }
 
-  declared_is : IsTypeIn with_declared (root_type (Declared (length roots)) root.set) (length vars)
+  declared_is : IsTypeIn with_declared (root_type (Declared (length roots)) root.name root.set) (length vars)
   declared_is =
       root_in with_declared (roots ++ root ∷ []) (Declared (length roots)) (length vars) root.name root.doc root.set declared_registry
       (number_one (record { vars = vars; symbols = symbols }) roots (root ∷ []) root_content_of root_symbol h.registry undeclared placed)
@@ -177,7 +177,7 @@ module _ (vars : List TypeVarContent) (symbols : List Symbol) (known : List Plai
   -- with its word
   pub declared_held : (new_vars : List TypeVarContent) (new_words : Words) (e : Entry) (kept : Word)
       → new_vars ≡ vars ++ root_content_of ∷ []
-      → e.sense ≡ TypeSense (root_type (Declared (length roots)) root.set) → entry_of entries e.word ≡ None
+      → e.sense ≡ TypeSense (root_type (Declared (length roots)) root.name root.set) → entry_of entries e.word ≡ None
       → ((w : List ℕ) → word_at new_words w ≡ cond (same_word w e.word) (Some kept) (word_at words w))
       → kept ≡ record { place = e.place; meaning = meanings.Type (length vars) }
       → HoldsIn (record { vars = new_vars; symbols = symbols ++ root_symbol ∷ [] }) known new_words (roots ++ root ∷ []) (entries ++ e ∷ [])

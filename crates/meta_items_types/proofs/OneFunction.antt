@@ -14,7 +14,8 @@ use Rattle.meta_typevar.proofs.Variables.{coded_last}
 use Rattle.meta_items_types.specs.Meant.{MeantType, MeantRoot, derived_by}
 use Rattle.meta_items_types.specs.Symbols.{Symbol, symbol, symbol_of}
 use Rattle.meta_items_types.specs.Registered.{Registered, IsNumberOf, IsDerivedAt, IsVariableAt, IsRegistryOf, IsTypeIn}
-use Rattle.meta_items_types.proofs.Staying.{number_stays, variable_stays, coded_stays}
+use Rattle.meta_items_types.specs.Depth.{name_from, root_name_at}
+use Rattle.meta_items_types.proofs.Staying.{number_stays, variable_stays, coded_stays, name_stays}
 use Rattle.meta_items_types.proofs.Registry.{IsOfSymbol, below, symbol_variable, variable_symbol, root_below, with_one, extends_one}
 use Rattle.meta_items_types.proofs.Registry.{content_stays, registry_same}
 
@@ -23,6 +24,11 @@ coded_longer : (vars : List TypeVarContent) (n v : ℕ) (f : Function) → varia
     → coded_at vars v ≡ image_of f (coded_at vars n)
 coded_longer vars n v f e =
     ap (coded_of vars) e ∙ coded_last (variable_at vars n).chain f (sets_of vars (variable_at vars n).root)
+
+-- and the name of its root
+named_longer : (vars : List TypeVarContent) (n v : ℕ) (f : Function) → variable_at vars v ≡ longer (variable_at vars n) f
+    → root_name_at vars v ≡ root_name_at vars n
+named_longer vars n v f e = ap (λ (w : Variable). name_from (slice_get vars w.root)) e
 
 module _ (now : Registered) (roots : List MeantRoot) (h : IsRegistryOf now roots) (m : MeantType) (n : ℕ) (is : IsTypeIn now m n)
     (g : DerivedFunc) where
@@ -59,6 +65,7 @@ module _ (now : Registered) (roots : List MeantRoot) (h : IsRegistryOf now roots
     number = at;
     of = below now roots h one k at;
     root_of = root_below now roots h one k at;
+    name = named_longer now.vars n k f (derived_there k at) ∙ is.name;
     set = coded_longer now.vars n k f (derived_there k at) ∙ ap (image_of f) is.set;
   }
 
@@ -111,10 +118,12 @@ module _ (now : Registered) (roots : List MeantRoot) (h : IsRegistryOf now roots
         ∙ (ap (λ (r : ℕ). record { root = r; chain = m.functions ++ f ∷ [] }) root
         ∙ ap (λ (w : Variable). longer w f) (sym rooted.variable))
 
+    made_longer : variable_at (now.vars ++ content ∷ []) (length now.vars) ≡ longer (variable_at (now.vars ++ content ∷ []) n) f
+    made_longer = made_variable ∙ ap (λ (w : Variable). longer w f) (sym (variable_stays now.vars (content ∷ []) n is.of))
+
     made_set : coded_at (now.vars ++ content ∷ []) (length now.vars) ≡ image_of f m.set
     made_set =
-        coded_longer (now.vars ++ content ∷ []) n (length now.vars) f
-        (made_variable ∙ ap (λ (w : Variable). longer w f) (sym (variable_stays now.vars (content ∷ []) n is.of)))
+        coded_longer (now.vars ++ content ∷ []) n (length now.vars) f made_longer
         ∙ ap (image_of f) (coded_stays now.vars (content ∷ []) n is.of is.root_of ∙ is.set)
 
     pub made_type : IsTypeIn after made (length now.vars)
@@ -122,5 +131,7 @@ module _ (now : Registered) (roots : List MeantRoot) (h : IsRegistryOf now roots
       number = made_number;
       of = below after roots made_registry one (length now.vars) made_number;
       root_of = root_below after roots made_registry one (length now.vars) made_number;
+      name = named_longer (now.vars ++ content ∷ []) n (length now.vars) f made_longer
+          ∙ (name_stays now.vars (content ∷ []) n is.of is.root_of ∙ is.name);
       set = made_set;
     }

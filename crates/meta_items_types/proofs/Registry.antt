@@ -16,6 +16,7 @@ use Rattle.meta_typevar.specs.declared.content.TypeVarContent.{TypeVarContent}
 use Rattle.meta_items_types.specs.Meant.{Root, Declared, Plain, MeantRoot, root_type}
 use Rattle.meta_items_types.specs.Symbols.{Symbol, symbol}
 use Rattle.meta_items_types.specs.Registered.{Registered, IsNumberOf, IsRootAt, IsDerivedAt, IsVariableAt, IsRegistryOf, IsTypeIn, Extends}
+use Rattle.meta_items_types.specs.Depth.{name_from}
 use Rattle.meta_items_types.proofs.Staying.{number_stays, coded_stays}
 
 -- a number is that of a variable
@@ -186,10 +187,11 @@ registry_same r roots c s h new at =
 
 -- what is kept as a root is the type that the root is
 pub root_in : (r : Registered) (roots : List MeantRoot) (a : Root) (n : ℕ) (name doc : List ℕ) (set : TypeSetParts) → IsRegistryOf r roots
-    → IsNumberOf r (symbol a []) n → IsKept r.vars n (root_content name doc set n) → IsTypeIn r (root_type a set) n
+    → IsNumberOf r (symbol a []) n → IsKept r.vars n (root_content name doc set n) → IsTypeIn r (root_type a name set) n
 root_in r roots a n name doc set h at kept = record {
   number = at;
   of = below r roots h (symbol a []) n at;
   root_of = root_below r roots h (symbol a []) n at;
+  name = ap (λ (v : Variable). name_from (slice_get r.vars v.root)) (ap (variable_from n) kept) ∙ ap name_from kept;
   set = ap (coded_of r.vars) (ap (variable_from n) kept) ∙ ap set_at kept;
 }

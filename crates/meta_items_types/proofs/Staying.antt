@@ -13,6 +13,7 @@ use Rattle.meta_items_types.specs.Meant.{KindSense}
 use Rattle.meta_items_types.specs.Symbols.{Symbol, symbol_of}
 use Rattle.meta_items_types.specs.Registered.{Registered, IsNumberOf, IsTypeIn, AreValuesIn, AreFieldsIn, IsKindIn, Extends}
 use Rattle.meta_items_types.specs.Operands.{IsOperandKindIn}
+use Rattle.meta_items_types.specs.Depth.{name_from, root_name_at}
 
 -- ---- growing
 
@@ -49,6 +50,12 @@ coded_stays vars more n l root =
     ∙ ap (λ (o : Option TypeVarContent). coded_along (variable_at vars n).chain (set_at o)) (get_left vars more
     (variable_at vars n).root root)
 
+pub name_stays : (vars more : List TypeVarContent) (n : ℕ) → n < length vars → (variable_at vars n).root < length vars
+    → root_name_at (vars ++ more) n ≡ root_name_at vars n
+name_stays vars more n l root =
+    ap (λ (v : Variable). name_from (slice_get (vars ++ more) v.root)) (variable_stays vars more n l)
+    ∙ ap name_from (get_left vars more (variable_at vars n).root root)
+
 type_in_more : (vars more : List TypeVarContent) (symbols : List Symbol) (m : MeantType) (n : ℕ)
     → IsTypeIn (record { vars = vars; symbols = symbols }) m n → IsTypeIn (record { vars = vars ++ more; symbols = symbols }) m n
 type_in_more vars more symbols m n h =
@@ -60,6 +67,7 @@ type_in_more vars more symbols m n h =
       number = h.number;
       of = omega (arith, length-append vars more);
       root_of = omega (arith, length-append vars more);
+      name = name_stays vars more n of root ∙ h.name;
       set = coded_stays vars more n of root ∙ h.set;
     }
 
@@ -72,6 +80,7 @@ type_stays old new m n e h =
       number = number_stays old new e (symbol_of m) n h.number;
       of = h.of;
       root_of = h.root_of;
+      name = h.name;
       set = h.set;
     }
 

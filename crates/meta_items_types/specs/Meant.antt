@@ -1,11 +1,11 @@
 -- What types and kinds are, whichever numbers a registry gives them.
---     MeantType              a root, the functions that derive a type from it, and the coded set
+--     MeantType              a root, its name, the functions that derive a type from it, and the coded set
 --     derive f m             what f derives from m, where it can
 --     MeantKind              a kind of operand
 --     Sense                  what a word stands for: a type, or a kind
 use Rattle.std.specs.Prelude.{ℕ, Bool, true, false, List, [], ◌∷◌, ◌++◌, Option, Some, None, codes, if◌then◌else◌}
 use Rattle.meta_types.specs.Function.{Function}
-use Rattle.meta_types.specs.TypeParts.{TypeParts}
+use Rattle.meta_types.specs.TypeParts.{TypeParts, name_of}
 use Rattle.meta_typevar.specs.TypeSetParts.{TypeSetParts}
 use Rattle.meta_typevar.specs.Image.{image_of, can_derive}
 use Rattle.meta_typevar.specs.Derivation.{singleton_sets}
@@ -20,18 +20,19 @@ pub data Root : Type 0 where
   Declared : (k : ℕ) → Root
   Plain : (t : TypeParts) → Root
 
--- a type: its root, the functions that derive it from there, from the root outwards, and its coded set
+-- a type: its root, the name of that, the functions that derive it from there, from the root outwards, and its coded set
 pub record MeantType : Type 0 where
   pub root : Root
+  pub root_name : List ℕ
   pub functions : List Function
   pub set : TypeSetParts
 
 -- a root itself
-abbrev pub root_type : Root → TypeSetParts → MeantType
-root_type root set = record { root = root; functions = []; set = set }
+abbrev pub root_type : Root → List ℕ → TypeSetParts → MeantType
+root_type root name set = record { root = root; root_name = name; functions = []; set = set }
 
 abbrev pub plain : TypeParts → MeantType
-plain t = root_type (Plain t) (singleton_sets t)
+plain t = root_type (Plain t) (name_of t) (singleton_sets t)
 
 -- whether it is a root
 abbrev pub is_underived : MeantType → Bool
@@ -43,7 +44,7 @@ is_underived m = has_none m.functions
 
 -- what is derived by the function
 abbrev pub derived_by : Function → MeantType → MeantType
-derived_by f m = record { root = m.root; functions = m.functions ++ f ∷ []; set = image_of f m.set }
+derived_by f m = record { root = m.root; root_name = m.root_name; functions = m.functions ++ f ∷ []; set = image_of f m.set }
 
 -- the same, where the coded set allows it
 abbrev pub derive : Function → MeantType → Option MeantType

@@ -19,6 +19,7 @@ use Rattle.meta_operands.specs.declared.kind.OperandKindFields.TheVariants as fi
 use Rattle.meta_items_types.specs.Meant.{Root, Declared, Plain, MeantType, MeantSort, Entity, Imm, ImmEnum, VariableArgs, Value, MeantKind}
 use Rattle.meta_items_types.specs.Meant.{MeantRoot}
 use Rattle.meta_items_types.specs.Symbols.{Symbol, symbol, symbol_of}
+use Rattle.meta_items_types.specs.Depth.{root_name_at}
 
 -- the variables of a registry, and what each stands for, by its number
 pub record Registered : Type 0 where
@@ -66,11 +67,12 @@ pub record IsRegistryOf (r : Registered) (roots : List MeantRoot) : Type 0 where
 
 -- ---- types
 
--- the type m has the number n, under which there is a variable with a root, and with the set of m
+-- the type m has the number n, under which there is a variable with a root that has the root's name of m, and with the set of m
 pub record IsTypeIn (r : Registered) (m : MeantType) (n : ℕ) : Type 0 where
   pub number : IsNumberOf r (symbol_of m) n
   pub of : n < length r.vars
   pub root_of : (variable_at r.vars n).root < length r.vars
+  pub name : root_name_at r.vars n ≡ m.root_name
   pub set : coded_at r.vars n ≡ m.set
 
 -- ---- kinds

@@ -109,7 +109,7 @@ abbrev pub with_root : Said → List ℕ → ℕ → Result MeantRoot Reason →
 with_root s w place (Err reason) = s
 with_root s w place (Ok root) =
     record {
-      words = (with_word s w place (TypeSense (root_type (Declared (length s.roots)) root.set))).words;
+      words = (with_word s w place (TypeSense (root_type (Declared (length s.roots)) root.name root.set))).words;
       roots = s.roots ++ root ∷ [];
       symbols = s.symbols ++ symbol (Declared (length s.roots)) [] ∷ [];
     }

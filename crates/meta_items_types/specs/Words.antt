@@ -27,8 +27,8 @@ use Rattle.meta_items_types.specs.Meant.{MeantSort, Entity, Imm, ImmEnum, Variab
 use Rattle.meta_items_types.specs.Sets.{wrong_parts, set_of_parts}
 use Rattle.meta_items_types.specs.Telling.{◌>>=◌, found_or, unless}
 use Rattle.meta_items_types.specs.declared.refused.Reason.{Reason}
-use Rattle.meta_items_types.specs.declared.refused.Reason.TheVariants.{LikeDerived, Unknown, NoType, CannotDerive, TooDeep, ValueTwice}
-use Rattle.meta_items_types.specs.declared.refused.Reason.TheVariants.{OwnMeaning, Declared}
+use Rattle.meta_items_types.specs.declared.refused.Reason.TheVariants.{LikeDerived, Unknown, NoType, CannotDerive, TooDeep, LongName}
+use Rattle.meta_items_types.specs.declared.refused.Reason.TheVariants.{ValueTwice, OwnMeaning, Declared}
 
 -- ---- words
 
@@ -89,10 +89,21 @@ most_functions = 64
 abbrev pub may_be_derived_from : MeantType → Bool
 may_be_derived_from m = nat_lt (length m.functions) most_functions
 
+-- how many bytes the name of a root may have from which a type is derived
+abbrev pub longest_name : ℕ
+longest_name = 4096
+
+-- whether the name of a type's root has more
+abbrev pub has_long_name : MeantType → Bool
+has_long_name m = nat_lt longest_name (length m.root_name)
+
+-- what a function derives from a type whose root's name is short enough; the function stands at a place
+abbrev pub derive_short : ℕ → Word → MeantType → Result MeantType Reason
+derive_short place f m = if has_long_name m then Err LongName else found_or (CannotDerive place) (derive (function_meant f) m)
+
 -- what the function at a place derives from a type
 abbrev pub derive_at : ℕ → Word → MeantType → Result MeantType Reason
-derive_at place f m =
-    if may_be_derived_from m then found_or (CannotDerive place) (derive (function_meant f) m) else Err (TooDeep place)
+derive_at place f m = if may_be_derived_from m then derive_short place f m else Err (TooDeep place)
 
 -- what functions derive from a type, the last one first; the first of them stands at a place
 abbrev pub derived_from : ℕ → List Word → Result MeantType Reason → Result MeantType Reason

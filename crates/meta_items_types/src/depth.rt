@@ -1,15 +1,13 @@
-ghost use Rattle.std.specs.Prelude.{◌≡◌, ◌<◌, ◌≤◌, ◌↔◌, length, nat_lt, IsTrue, IfSome, IfNone};
-ghost use Rattle.meta_typevar.specs.Registry.{IsKept};
-ghost use Rattle.meta_typevar.specs.declared.content.TypeVarContent.{TypeVarContent};
-ghost use Rattle.meta_items_types.specs.Words.{most_functions};
-ghost use Rattle.meta_items_types.specs.Depth.{depth_at, IsBehind};
+ghost use Rattle.std.specs.Prelude.{◌≡◌, ◌<◌, length, nat_lt, IfSome, IfNone};
+ghost use Rattle.meta_items_types.specs.Words.{most_functions, longest_name};
+ghost use Rattle.meta_items_types.specs.Depth.{depth_at, IsBehind, root_name_at};
 
 use meta_typevar::{TypeVar, TypeVars};
 
 /// How many functions a type may have behind its root.
 const MOST_FUNCTIONS: usize = 64;
 
-/// How many bytes the name of a variable may have from which another is derived.
+/// How many bytes the name of a root may have from which a type is derived.
 const LONGEST_NAME: usize = 4_096;
 
 /// The variable from which one of this registry is derived, if it is derived.
@@ -40,11 +38,11 @@ pub(crate) fn may_be_derived_from(vars: &TypeVars, variable: TypeVar) -> bool
     false
 }
 
-/// Whether the name of a variable is short enough for another one to be derived from it. Each variable keeps its whole name, so a word of
-/// half a megabyte, with 64 functions behind it, would take 32 megabytes; to refuse it as want of memory leaves its meaning as it is.
-pub(crate) fn has_short_name(vars: &TypeVars, variable: TypeVar) -> bool
+/// Whether the root of a variable has a name that is too long for a type to be derived. Each variable keeps its whole name: with 64
+/// functions, a name of half a megabyte would take 32 megabytes.
+pub(crate) fn has_long_name(vars: &TypeVars, variable: TypeVar) -> bool
     requires { variable < length vars.now }
-    ensures { (c : TypeVarContent) → IsKept vars.now variable c → IsTrue result ↔ (length c.name ≤ 4096) }
+    ensures { result ≡ nat_lt longest_name (length (root_name_at vars.now variable)) }
 {
-    vars.content(variable).name.as_bytes().len() <= LONGEST_NAME
+    vars.content(variable.root(vars)).name.as_bytes().len() > LONGEST_NAME
 }

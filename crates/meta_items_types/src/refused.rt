@@ -31,6 +31,8 @@ pub enum Reason {
     CannotDerive(usize),
     /// The function at this place would be the 65th behind the root of a type.
     TooDeep(usize),
+    /// A type is to be derived whose root has a name of more than 4,096 bytes.
+    LongName,
     /// The name of the enum's value at this place is that of an earlier value.
     ValueTwice(usize),
     /// The word that the item declares has a meaning of its own.

@@ -9,7 +9,7 @@ ghost use Rattle.meta_items_types.specs.Telling.{Tells};
 ghost use Rattle.meta_items_types.specs.Registered.{IsTypeIn, Extends};
 ghost use Rattle.meta_items_types.specs.Held.{StandsFor, registered, vars_in, Holds, IsMentioned};
 
-use super::depth::{has_short_name, may_be_derived_from};
+use super::depth::{has_long_name, may_be_derived_from};
 use super::given::GivenKind;
 use super::plain::{PlainRoot, plain_type, variable_for};
 use super::refused::{Reason, TypeError};
@@ -146,7 +146,7 @@ impl Types {
     }
 
     /// What the function, which stands at a place, derives from a type whose variable this is.
-    #[tactic(auto, using(crate::proofs::Deriving::derive_refused, crate::proofs::Deriving::derive_deep))]
+    #[tactic(auto, using(crate::proofs::Deriving::derive_refused, crate::proofs::Deriving::derive_deep, crate::proofs::Deriving::derive_long))]
     fn derive(
         &mut self,
         alloc: Global,
@@ -165,10 +165,10 @@ impl Types {
         if !may_be_derived_from(&self.vars, variable) {
             return Err(TypeError::Wrong(Reason::TooDeep(place)));
         }
-        if !self.vars.has_room() {
-            return Err(TypeError::Memory);
+        if has_long_name(&self.vars, variable) {
+            return Err(TypeError::Wrong(Reason::LongName));
         }
-        if !has_short_name(&self.vars, variable) {
+        if !self.vars.has_room() {
             return Err(TypeError::Memory);
         }
         let function = derived_func(function);
@@ -207,7 +207,7 @@ impl Types {
 
     /// The variable of a type. It is made, and those from which it is derived, where it isn't there. `Wrong` comes exactly where something
     /// is wrong with the type, and says what is first: its word stands for nothing above, or for a kind, or a function, from the last one
-    /// on, can't be applied.
+    /// on, can't be applied, is one too many, or is applied where the name of the root is too long.
     #[tactic(auto, using(crate::proofs::Deriving::type_fails))]
     pub fn type_var(&mut self, alloc: Global, means: &TypeExpr) -> Result<TypeVar, TypeError>
         ghost said: { Said }

@@ -127,6 +127,8 @@ type_why lines i t type_reasons.NoType = back_quoted t.word ++ codes " is a kind
 type_why lines i t type_reasons.NoKind = back_quoted t.word ++ codes " is a type: a format has value"
 type_why lines i t (type_reasons.CannotDerive k) = not_derived (drop k t.functions) t.word
 type_why lines i t (type_reasons.TooDeep k) = option_map_or (too_deep t.word) (slice_get t.functions k) []
+type_why lines i t type_reasons.LongName = codes "nothing can be derived from "
+    ++ (back_quoted t.word ++ codes ": the name of its root has more than 4,096 bytes")
 type_why lines i t (type_reasons.ValueTwice k) = option_map_or value_twice (slice_get (values_in i) k) []
 type_why lines i t type_reasons.OwnMeaning = back_quoted (word_in i) ++ codes " has a meaning of its own"
 type_why lines i t (type_reasons.Declared place) = declared_in lines (word_in i) place

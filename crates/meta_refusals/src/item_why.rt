@@ -340,6 +340,10 @@ pub(crate) fn write_type_why(
             write_not_derived(out, behind(found.functions, place), found.word)
         }
         Reason::TooDeep(place) => write_deep_at(out, found.functions, found.word, place),
+        Reason::LongName => {
+            let why = b": the name of its root has more than 4,096 bytes";
+            write_about(out, b"nothing can be derived from ", found.word, why)
+        }
         Reason::ValueTwice(place) => write_value_twice(out, values_in(item), place),
         Reason::OwnMeaning => write_about(out, b"", word_in(item), b" has a meaning of its own"),
         Reason::Declared(place) => write_declared(out, lines, word_in(item), place),
