@@ -1,14 +1,8 @@
 -- Words that are given to things, to each one of its own.
-use Rattle.std.specs.Prelude.{ℕ, Bool, List, [], codes, is_some}
-use Rattle.meta_items.specs.declared.items.Item.{Item}
-use Rattle.meta_items.specs.declared.items.Item.TheVariants as items
+use Rattle.std.specs.Prelude.{ℕ, Bool, List, is_some}
 use Rattle.meta_items_described.specs.declared.words.Words.{Words}
 use Rattle.meta_items_described.specs.Counted.{kept_at}
 
 -- whether the word is given, or is a name behind which numbers stand
 abbrev pub is_given : Words → List ℕ → Bool
 is_given words word = is_some (kept_at words.given word)
-
--- the item that declares another word for `i8`
-abbrev pub other_word : List ℕ → Item
-other_word word = items.Alias (record { docs = []; word = word; means = record { functions = []; word = codes "i8" } })

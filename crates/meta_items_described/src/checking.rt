@@ -92,6 +92,17 @@ fn have_same_texts(alloc: Global, built: &Built<'_>, other: &Built<'_>) -> Resul
     Ok(settings && instructions && builder)
 }
 
+/// Whether the tables and the texts of both are the same.
+fn are_alike(alloc: Global, built: &Built<'_>, other: &Built<'_>) -> Result<bool, AllocError>
+    ensures same { let d = built.now.declared in let e = other.now.declared in
+        IfOk result (λ same. IsTrue same ↔ (HaveSameTables d e × HaveSameTexts d e)) }
+    ensures alike { AreBuiltAlike built.now.declared other.now.declared → IfOk result IsTrue }
+{
+    let tables = have_same_tables(alloc, built, other)?;
+    let texts = have_same_texts(alloc, built, other)?;
+    Ok(tables && texts)
+}
+
 /// Whether these declarations show no fault, and what is built of them has the same tables and texts.
 #[tactic(auto, using(crate::proofs::Alike::describes, crate::proofs::Alike::described))]
 fn are_declared_alike(
@@ -106,11 +117,7 @@ fn are_declared_alike(
     one_declaration();
     one_first_fault();
     match build_all(alloc, declarations) {
-        Ok(other) => {
-            let tables = have_same_tables(alloc, built, &other)?;
-            let texts = have_same_texts(alloc, built, &other)?;
-            Ok(tables && texts)
-        }
+        Ok(other) => are_alike(alloc, built, &other),
         Err(DefinitionError::OutOfMemory) => Err(AllocError),
         Err(_) => Ok(false),
     }

@@ -35,6 +35,21 @@ fn group_items(alloc: Global, built: &Built<'_>) -> Result<Vec<Item>, AllocError
     Ok(items)
 }
 
+/// Adds the items for types and kinds, formats, and instructions.
+fn push_before_groups(
+    alloc: Global,
+    built: &Built<'_>,
+    formats: &BTreeSet<FormatId>,
+    items: &mut Vec<Item>,
+) -> Result<(), AllocError> {
+    let declarations = built.declarations();
+    let mut words = Words::new(alloc);
+    let roots = Roots::of(alloc, declarations, &mut words, items)?;
+    let kinds = Kinds::of(alloc, declarations, formats, roots, &mut words, items)?;
+    let format_words = FormatWords::of(alloc, declarations, formats, &kinds, items)?;
+    push_insts(alloc, built, &kinds, &format_words, items)
+}
+
 /// The items for what is built of declarations: types and kinds, formats, instructions, and groups.
 fn items_for(
     alloc: Global,
@@ -43,13 +58,8 @@ fn items_for(
 ) -> Result<Vec<Item>, AllocError>
     ensures { IfOk result (λ v. EndWith v.items built.now.groups) }
 {
-    let declarations = built.declarations();
     let mut items = Vec::new(alloc);
-    let mut words = Words::new(alloc);
-    let roots = Roots::of(alloc, declarations, &mut words, &mut items)?;
-    let kinds = Kinds::of(alloc, declarations, formats, roots, &mut words, &mut items)?;
-    let format_words = FormatWords::of(alloc, declarations, formats, &kinds, &mut items)?;
-    push_insts(alloc, built, &kinds, &format_words, &mut items)?;
+    push_before_groups(alloc, built, formats, &mut items)?;
     push_groups(alloc, built.groups(), &mut items)?;
     Ok(items)
 }

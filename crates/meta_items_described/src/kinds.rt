@@ -24,6 +24,12 @@ fn given_kind(alloc: Global, word: &[u8]) -> Result<OperandKind, AllocError> {
     }
 }
 
+/// What tells the kind that has this word from others.
+fn given_key(alloc: Global, roots: &Roots<'_>, word: &[u8]) -> Result<Vec<u8>, AllocError> {
+    let kind = given_kind(alloc, word)?;
+    key_of(alloc, roots, &kind)
+}
+
 /// The word for a kind: the name of its field where no other kind in use has that, and else one that is made of its Rust type.
 fn word_for(
     alloc: Global,
@@ -70,8 +76,7 @@ impl<'d> Kinds<'d> {
     /// Keeps the words of the kinds that are there before any item.
     fn add_given(&mut self, alloc: Global) -> Result<(), AllocError> {
         for word in GIVEN_WORDS {
-            let kind = given_kind(alloc, word)?;
-            let key = key_of(alloc, &self.roots, &kind)?;
+            let key = given_key(alloc, &self.roots, word)?;
             self.given.insert(key, bytes_of(alloc, word)?)?;
         }
         Ok(())

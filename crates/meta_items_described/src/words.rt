@@ -2,51 +2,13 @@ ghost use Rattle.std.specs.Prelude.{◌≡◌, ◌==◌, ◌||◌, ℕ, List, No
 ghost use Rattle.std.specs.Cmp.Lexicographic.{pointwise};
 ghost use Rattle.meta_tokens.specs.Laid.{IsWord};
 ghost use Rattle.meta_items_types.specs.Plain.{has_own_meaning};
-ghost use Rattle.meta_items_types.specs.Said.{nothing_said, wrong_with};
-ghost use Rattle.meta_items_described.specs.GivenWords.{other_word, is_given};
+ghost use Rattle.meta_items_described.specs.GivenWords.{is_given};
 
 use super::texts::{bytes_of, is_word};
-use meta_items::{AliasItem, Docs, Item, Listed, TypeExpr};
-use meta_items_types::{TypeError, Types};
+use meta_items_types::has_own_meaning;
 use meta_tokens::Bytes;
 use std::alloc::{AllocError, Global};
 use std::collections::BTreeMap;
-
-/// Another word for a type that is always there.
-fn alias_of(alloc: Global, word: &[u8]) -> Result<Item, AllocError>
-    ensures { IfOk result (λ item. item ≡ other_word word.now) }
-{
-    let means = TypeExpr {
-        functions: Listed::of(Vec::new(alloc)),
-        word: bytes_of(alloc, b"i8")?,
-    };
-    Ok(Item::Alias(AliasItem {
-        docs: Docs::of(Vec::new(alloc)),
-        word: bytes_of(alloc, word)?,
-        means,
-    }))
-}
-
-/// Whether nothing is wrong with the item as the first of a file.
-fn is_right(alloc: Global, item: &Item) -> Result<bool, AllocError>
-    ensures { IfOk result (λ right. IsTrue right → wrong_with nothing_said item.now ≡ None) }
-{
-    let mut types = Types::new(alloc);
-    match types.add(alloc, 0, item) {
-        Ok(()) => Ok(true),
-        Err(TypeError::Wrong(_)) => Ok(false),
-        Err(TypeError::Memory) => Err(AllocError),
-    }
-}
-
-/// Whether the first item of a file may declare the word: it has no meaning of its own.
-#[tactic(auto, using(crate::proofs::FreeWords::no_meaning))]
-fn has_no_meaning(alloc: Global, word: &[u8]) -> Result<bool, AllocError>
-    ensures { IfOk result (λ free. IsTrue free → has_own_meaning word.now ≡ false) }
-{
-    let item = alias_of(alloc, word)?;
-    is_right(alloc, &item)
-}
 
 /// The name with a number behind it, and `_` between two digits.
 fn with_number(alloc: Global, name: &[u8], number: usize) -> Result<Vec<u8>, AllocError> {
@@ -86,15 +48,12 @@ impl Words {
     }
 
     /// Whether the word can be given.
-    fn is_free(&self, alloc: Global, word: &[u8]) -> Result<bool, AllocError>
-        ensures word { IfOk result (λ free. IsTrue free → IsWord word.now) }
-        ensures new { IfOk result (λ free. IsTrue free → is_given self.now word.now ≡ false) }
-        ensures meaning { IfOk result (λ free. IsTrue free → has_own_meaning word.now ≡ false) }
+    fn is_free(&self, word: &[u8]) -> bool
+        ensures word { IsTrue result → IsWord word.now }
+        ensures new { IsTrue result → is_given self.now word.now ≡ false }
+        ensures meaning { IsTrue result → has_own_meaning word.now ≡ false }
     {
-        if !is_word(word) || self.has(word) {
-            return Ok(false);
-        }
-        has_no_meaning(alloc, word)
+        is_word(word) && !self.has(word) && !has_own_meaning(word)
     }
 
     /// Keeps the word, or the name, with the greatest number behind it.
@@ -123,7 +82,7 @@ impl Words {
     {
         for before in self.last_number(name)..usize::MAX {
             let word = with_number(alloc, name, before + 1)?;
-            if self.is_free(alloc, &word)? {
+            if self.is_free(&word) {
                 return Ok((before + 1, word));
             }
         }
@@ -160,7 +119,7 @@ impl Words {
         ensures given { IfOk result (λ word. is_given self.new word ≡ true) }
         ensures kept { OnOk result ((other : List ℕ) → is_given self.old other ≡ true → is_given self.new other ≡ true) }
     {
-        if is_alone && self.is_free(alloc, name)? {
+        if is_alone && self.is_free(name) {
             self.keep(alloc, name, 0)?;
             return bytes_of(alloc, name);
         }

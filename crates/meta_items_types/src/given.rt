@@ -83,8 +83,8 @@ fn is_own_word(word: &[u8]) -> bool
         || word == b"none".as_slice()
 }
 
-/// Whether no item can declare the word.
-pub(crate) fn has_own_meaning(word: &[u8]) -> bool
+/// Whether no item can declare the word: it names a plain type, or a place of a file gives it a meaning.
+pub fn has_own_meaning(word: &[u8]) -> bool
     ensures { result ≡ has_own_meaning word.now }
 {
     plain_type(word).is_some() || is_own_word(word)

@@ -16,6 +16,7 @@ mod texts;
 mod types;
 mod words;
 
+pub use given::has_own_meaning;
 pub use laws::what_is_meant_stays;
 pub use plain::PlainRoot;
 pub use refused::{Reason, TypeError};
