@@ -1,3 +1,4 @@
+use super::lines::push_line;
 use super::trouble::Trouble;
 use super::words::number;
 use meta_types::Text;
@@ -79,6 +80,14 @@ impl<'l> Case<'l> {
         }
     }
 
+    /// Ends the words of a line, with the trouble that answering it ran into.
+    pub fn close(&mut self, answered: Result<(), Trouble>) {
+        if let Err(trouble) = answered {
+            self.refuse(trouble);
+        }
+        self.end_words();
+    }
+
     /// Takes the next word. Without one the line asks nothing.
     pub fn word(&mut self) -> &'l str {
         let Some(word) = self.words.get(self.taken).copied() else {
@@ -101,13 +110,8 @@ impl<'l> Case<'l> {
     where
         N::Err: Drop,
     {
-        match number(self.word()) {
-            Ok(number) => number,
-            Err(trouble) => {
-                self.refuse(trouble);
-                N::default()
-            }
-        }
+        let word = self.word();
+        self.value(number(word))
     }
 
     /// Keeps the first trouble.
@@ -126,6 +130,20 @@ impl<'l> Case<'l> {
     pub fn note(&mut self, outcome: Result<(), AllocError>) {
         if outcome.is_err() {
             self.refuse(Trouble::OutOfMemory);
+        }
+    }
+
+    /// What was found, or the default value where there was trouble, which is kept.
+    pub fn value<T: Default + Drop, E>(&mut self, outcome: Result<T, E>) -> T
+    where
+        Trouble: From<E>,
+    {
+        match outcome {
+            Ok(value) => value,
+            Err(error) => {
+                self.refuse(error.into());
+                T::default()
+            }
         }
     }
 
@@ -231,7 +249,6 @@ impl<'l> Case<'l> {
             Some(Trouble::Differ) => "differ",
             Some(Trouble::OutOfMemory) => return Err(AllocError),
         };
-        answers.push_str(text)?;
-        answers.push('\n')
+        push_line(text, answers)
     }
 }

@@ -1,7 +1,7 @@
 use super::escapes::decoded;
 use super::trouble::Trouble;
 use super::words::{number, pair_of};
-use std::alloc::Global;
+use std::alloc::{AllocError, Global};
 use std::mem;
 
 /// A text that lines edit, one after another, before it is the input of a run.
@@ -22,15 +22,14 @@ fn around<'b>(bytes: &'b [u8], part: &[u8]) -> Result<(&'b [u8], &'b [u8]), Trou
     Err(Trouble::NoCase)
 }
 
-/// The bytes with the new part in the place of each old one, or of so many.
-fn replaced(
-    alloc: Global,
+/// Adds the bytes with the new part in the place of each old one, or of so many.
+fn add_replaced(
+    out: &mut Vec<u8>,
     bytes: &[u8],
     old: &[u8],
     new: &[u8],
     most: usize,
-) -> Result<Vec<u8>, Trouble> {
-    let mut out = Vec::new(alloc);
+) -> Result<(), AllocError> {
     let mut rest = bytes;
     for _ in 0..most.min(bytes.len()) {
         let Ok((before, behind)) = around(rest, old) else {
@@ -40,8 +39,7 @@ fn replaced(
         out.extend_from_slice(new)?;
         rest = behind;
     }
-    out.extend_from_slice(rest)?;
-    Ok(out)
+    out.extend_from_slice(rest)
 }
 
 impl Edited {
@@ -69,9 +67,12 @@ impl Edited {
         let Some((old, new)) = parts.split_once(" => ") else {
             return Err(Trouble::BadLine);
         };
-        let (old, new) = (decoded(self.alloc, old)?, decoded(self.alloc, new)?);
+        let old = decoded(self.alloc, old)?;
         around(self.as_bytes(), &old)?;
-        self.bytes = replaced(self.alloc, self.as_bytes(), &old, &new, most)?;
+        let new = decoded(self.alloc, new)?;
+        let mut replaced = Vec::new(self.alloc);
+        add_replaced(&mut replaced, self.as_bytes(), &old, &new, most)?;
+        self.bytes = replaced;
         Ok(())
     }
 
@@ -101,8 +102,8 @@ impl Edited {
 
     /// Takes the text, and puts these bytes behind it.
     pub fn input(&mut self, behind: &str) -> Result<Vec<u8>, Trouble> {
-        let mut input = mem::replace(&mut self.bytes, Vec::new(self.alloc));
-        input.extend_from_slice(&decoded(self.alloc, behind)?)?;
-        Ok(input)
+        let behind = decoded(self.alloc, behind)?;
+        self.bytes.extend_from_slice(&behind)?;
+        Ok(mem::replace(&mut self.bytes, Vec::new(self.alloc)))
     }
 }

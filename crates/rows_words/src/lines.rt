@@ -6,6 +6,12 @@ pub trait Answering<'l> {
     fn answer_line(&mut self, line: &'l str, answers: &mut String) -> Result<(), AllocError>;
 }
 
+/// Adds a line.
+pub(crate) fn push_line(line: &str, answers: &mut String) -> Result<(), AllocError> {
+    answers.push_str(line)?;
+    answers.push('\n')
+}
+
 /// Adds the answers to the lines. One that begins with `#` goes through unchanged.
 pub fn answer_lines<'l, A: Answering<'l>>(
     answering: &mut A,
@@ -14,11 +20,10 @@ pub fn answer_lines<'l, A: Answering<'l>>(
 ) -> Result<(), AllocError> {
     for line in lines.lines() {
         if line.starts_with('#') {
-            answers.push_str(line)?;
-            answers.push('\n')?;
+            push_line(line, answers)
         } else {
-            answering.answer_line(line, answers)?;
-        }
+            answering.answer_line(line, answers)
+        }?;
     }
     Ok(())
 }

@@ -66,14 +66,12 @@ where
 }
 
 /// The items of a list, which are parted by commas, as texts. The word for none is no item.
-pub fn texts_of(alloc: Global, list: &str, none: &str) -> Result<Vec<Text>, Trouble> {
-    let mut texts = Vec::new(alloc);
-    if list != none {
-        for item in list.split(',') {
-            texts.push(Text::new(alloc, item)?)?;
-        }
+pub fn texts_of(alloc: Global, list: &str, none: &str) -> Result<Vec<Text>, AllocError> {
+    if list == none {
+        return Ok(Vec::new(alloc));
     }
-    Ok(texts)
+    let items: Vec<&str> = list.split(',').collect(alloc)?;
+    texts_of_words(alloc, &items)
 }
 
 /// Words, a text each.
