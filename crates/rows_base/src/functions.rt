@@ -1,4 +1,4 @@
-use meta_types::{DerivedFunc, ValueType};
+use meta_types::{DerivedFunc, LaneType, ValueType};
 use rows_words::{Case, Trouble, function_named, number, pair_of, type_of};
 use std::alloc::Global;
 
@@ -15,40 +15,48 @@ pub(crate) fn write_row(
     let func = function_named(name)?;
     for lane in ValueType::all_lane_types() {
         case.separate(' ');
-        let from = format!(in alloc; "{lane}{ending}")?;
-        write_related(func, type_of(from.as_str())?, case)?;
+        write_related(func, type_of_lane(alloc, lane, ending)?, case);
     }
     Ok(())
 }
 
+/// The type whose name is a lane and this ending.
+fn type_of_lane(alloc: Global, lane: LaneType, ending: &str) -> Result<ValueType, Trouble> {
+    let name = format!(in alloc; "{lane}{ending}")?;
+    type_of(name.as_str())
+}
+
 /// Writes the types that the function relates to the type. They are the one that it leads to, but for the two relations, which
 /// lead nowhere. By the types and by their numbers it has to do the same.
-fn write_related(func: DerivedFunc, from: ValueType, case: &mut Case<'_>) -> Result<(), Trouble> {
+fn write_related(func: DerivedFunc, from: ValueType, case: &mut Case<'_>) {
     let led_to = func.apply(from);
-    if func.apply_number(from.number()) != led_to.map(|to| to.number()) {
-        return Err(Trouble::Differ);
-    }
     let leads = !matches!(func, DerivedFunc::Narrower | DerivedFunc::Wider) || led_to.is_some();
+    let mut agree = func.apply_number(from.number()) == led_to.map(|to| to.number());
     let start = case.written();
     for number in 0..NUMBERS {
         let to = ValueType::from_number(number);
-        let related = match to {
-            Some(to) if func.relates(from, to) => Some(to),
-            _ => None,
+        let is_related = match to {
+            Some(to) => func.relates(from, to),
+            None => false,
         };
-        if related.is_some() != func.relates_number(from.number(), number) {
-            return Err(Trouble::Differ);
+        if is_related != func.relates_number(from.number(), number) {
+            agree = false;
         }
-        if leads && to.is_some() && related.is_some() != (led_to == to) {
-            return Err(Trouble::Differ);
+        let Some(to) = to else {
+            continue;
+        };
+        if leads && is_related != (led_to == Some(to)) {
+            agree = false;
         }
-        if let Some(to) = related {
+        if is_related {
             case.item(start, "");
             case.shown(&to);
         }
     }
     case.end_list(start);
-    Ok(())
+    if !agree {
+        case.refuse(Trouble::Differ);
+    }
 }
 
 /// Writes where the function of the first word leads from each of the numbers.
@@ -56,8 +64,9 @@ pub(crate) fn apply_number(words: &str, case: &mut Case<'_>) -> Result<(), Troub
     let (name, numbers) = pair_of(words, ' ')?;
     let func = function_named(name)?;
     for from in numbers.split(' ') {
+        let from = case.value(number(from));
         case.separate(' ');
-        case.number_or_dash(func.apply_number(number(from)?));
+        case.number_or_dash(func.apply_number(from));
     }
     Ok(())
 }
@@ -67,9 +76,10 @@ pub(crate) fn relates_number(words: &str, case: &mut Case<'_>) -> Result<(), Tro
     let (name, pairs) = pair_of(words, ' ')?;
     let func = function_named(name)?;
     for pair in pairs.split(' ') {
-        let (from, to) = pair_of(pair, ',')?;
+        let (from, to) = pair.split_once(',').unwrap_or((pair, ""));
+        let (from, to) = (case.value(number(from)), case.value(number(to)));
         case.separate(' ');
-        case.yes_or_no(func.relates_number(number(from)?, number(to)?));
+        case.yes_or_no(func.relates_number(from, to));
     }
     Ok(())
 }

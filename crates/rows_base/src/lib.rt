@@ -1,8 +1,6 @@
-//! Answers lines of value types, derived functions, names, faults and texts, and of hashes, slots, lookups, interning and overlapping
-//! lists.
+//! Answers lines of value types, derived functions, names and texts, and of hashes, slots, lookups, interning and overlapping lists.
 #![tactic(auto)]
 
-mod faults;
 mod functions;
 mod interned;
 mod lists;

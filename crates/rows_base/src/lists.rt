@@ -75,7 +75,7 @@ impl<'l> Lists<'l> {
             let (Some(text), Some(element)) = (texts.next(), elements.next()) else {
                 return Err(Trouble::Differ);
             };
-            if number::<u16>(text)? != *wanted || element.number != *wanted {
+            if case.value(number::<u16>(text)) != *wanted || element.number != *wanted {
                 return Err(Trouble::Differ);
             }
             case.separate(',');

@@ -3,50 +3,32 @@ ghost use Rattle.std.specs.Int.{IsPowerOfTwo};
 
 use super::slots::{items_of, slots_of_count, slots_of_names};
 use meta_unique::{Steps, can_probe, probe, probe_counted, simple_hash};
-use rows_words::{Case, Trouble, number};
-use std::alloc::Global;
+use rows_words::{Case, Trouble};
+use std::alloc::{AllocError, Global};
 use std::cell::Cell;
 use std::marker::Brand;
 use std::sync::ledger::{Blank, Ledger};
 
-/// The slots of a list, in which `-` is a vacant one.
-fn listed(alloc: Global, list: &str) -> Result<Vec<Option<u16>>, Trouble> {
+/// The slots of a list, in which what is no number, as `-`, is a vacant one.
+fn listed(alloc: Global, list: &str) -> Result<Vec<Option<u16>>, AllocError> {
     let mut slots = Vec::new(alloc);
     if !list.is_empty() {
         for item in list.split(',') {
-            let slot = if item == "-" {
-                None
-            } else {
-                Some(number(item)?)
-            };
-            slots.push(slot)?;
+            slots.push(item.parse().ok())?;
         }
     }
     Ok(slots)
 }
 
-/// Writes whether slots can be looked through.
-pub(crate) fn write_can_probe(alloc: Global, case: &mut Case<'_>) -> Result<(), Trouble> {
-    let slots = listed(alloc, case.word())?;
-    case.yes_or_no(can_probe(slots.as_slice()));
-    Ok(())
-}
-
-/// Writes what is found in slots of the number wanted from a start on; `any` is every number.
+/// Writes what is found in slots of the number wanted from a start on. A word that is no number, as `any`, is every number.
 pub(crate) fn write_probed(alloc: Global, case: &mut Case<'_>) -> Result<(), Trouble> {
     let slots = listed(alloc, case.word())?;
-    let (start, word) = (case.number(), case.word());
-    let wanted = if word == "any" {
-        None
-    } else {
-        Some(number(word)?)
-    };
-    if !can_probe(slots.as_slice()) {
+    let (start, wanted) = (case.number(), case.word().parse::<u16>().ok());
+    if !can_probe(&slots) {
         return Err(Trouble::NoCase);
     }
-    case.number_or_dash(probe(slots.as_slice(), start, |number| match wanted {
-        Some(wanted) => number == wanted,
-        None => true,
+    case.number_or_dash(probe(&slots, start, |number| {
+        wanted.is_none() || wanted == Some(number)
     }));
     Ok(())
 }
@@ -54,16 +36,12 @@ pub(crate) fn write_probed(alloc: Global, case: &mut Case<'_>) -> Result<(), Tro
 /// Writes the place of each name among the names of a list, and how many names it was compared with.
 pub(crate) fn write_finds(alloc: Global, case: &mut Case<'_>) -> Result<(), Trouble> {
     let names = items_of(alloc, case.word())?;
-    let slots = slots_of_names(alloc, names.as_slice())?;
-    for name in case.word().split(',') {
-        case.separate(' ');
-        write_find(slots.as_slice(), names.as_slice(), name, case)?;
-    }
-    Ok(())
+    let slots = slots_of_names(alloc, &names)?;
+    find_each(&slots, &names, case.word(), case)
 }
 
-/// Writes the place of one name, and how many names it was compared with.
-fn write_find(
+/// Writes the place of each of the wanted names, and how many names it was compared with.
+fn find_each(
     slots: &[Option<u16>],
     names: &[&str],
     wanted: &str,
@@ -72,16 +50,16 @@ fn write_find(
     if !can_probe(slots) {
         return Err(Trouble::NoCase);
     }
-    let compared = Cell::new(0u16);
-    let place = probe(slots, simple_hash(wanted.as_bytes()), |place| {
-        compared.set(compared.get().saturating_add(1));
-        match names.get(usize::from(place)) {
-            Some(name) => *name == wanted,
-            None => false,
-        }
-    });
-    case.number_or_dash(place);
-    case.field(":", &compared.get());
+    for wanted in wanted.split(',') {
+        let compared = Cell::new(0u16);
+        let place = probe(slots, simple_hash(wanted.as_bytes()), |place| {
+            compared.set(compared.get().saturating_add(1));
+            names.get(usize::from(place)) == Some(&wanted)
+        });
+        case.separate(' ');
+        case.number_or_dash(place);
+        case.field(":", &compared.get());
+    }
     Ok(())
 }
 
@@ -92,7 +70,8 @@ pub(crate) fn write_colliding(alloc: Global, case: &mut Case<'_>) -> Result<(), 
     case.shown(&slots.len());
     case.text(" slots:");
     for item in 0..count {
-        case.field(" ", &looked_at(slots.as_slice(), item)?);
+        let looked_at = case.value(looked_at(slots.as_slice(), item));
+        case.field(" ", &looked_at);
     }
     Ok(())
 }

@@ -1,6 +1,7 @@
 use super::lists::Lists;
-use super::{faults, functions, interned, lookups, slots, texts, types};
-use meta_types::{LaneTypeIterator, ValueType};
+use super::{functions, interned, lookups, slots, texts, types};
+use meta_types::{DefinitionError, LaneTypeIterator, ValueType};
+use meta_unique::simple_hash;
 use rows_words::{Answering, Case, Trouble};
 use std::alloc::{AllocError, Global};
 
@@ -32,7 +33,6 @@ impl<'l> Session<'l> {
             "number" => types::write_number(case),
             "numbers" => types::write_numbers(case),
             "debug" => types::write_debug(case),
-            "lane" => types::write_lane_named(self.alloc, case),
             "int" | "float" => types::write_scalar(self.alloc, asked, case),
             "by" => types::write_by(self.alloc, case),
             "to_dynamic" => types::write_dynamic(self.alloc, case),
@@ -56,11 +56,12 @@ impl<'l> Session<'l> {
         case: &mut Case<'_>,
     ) -> Result<(), Trouble> {
         match asked {
-            "hash" => slots::write_hash(case),
-            "slots" => slots::write_slots_of_names(self.alloc, case),
-            "fill" => slots::write_slots_of_hashes(self.alloc, case),
+            "hash" => {
+                case.shown(&simple_hash(words.as_bytes()));
+                Ok(())
+            }
+            "slots" | "fill" => slots::write_slots(self.alloc, asked == "slots", case),
             "size" => slots::write_size(self.alloc, case),
-            "can_probe" => lookups::write_can_probe(self.alloc, case),
             "probe" => lookups::write_probed(self.alloc, case),
             "find" => lookups::write_finds(self.alloc, case),
             "collide" => lookups::write_colliding(self.alloc, case),
@@ -80,8 +81,10 @@ impl<'l> Session<'l> {
             "is_name" => texts::write_is_name(self.alloc, words, case),
             "earlier_names" => texts::write_earlier(self.alloc, case),
             "texts" => texts::write_pair(self.alloc, words, case),
-            "place" => faults::write_place(case),
-            "fault" => faults::write_fault(self.alloc, case),
+            "out_of_memory" => {
+                case.made(DefinitionError::OutOfMemory.line(self.alloc));
+                Ok(())
+            }
             _ => self.answer_on_tables(asked, words, case),
         }
     }

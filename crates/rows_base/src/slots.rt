@@ -2,15 +2,6 @@ use meta_unique::{generate_table, simple_hash};
 use rows_words::{Case, Trouble, numbers_of};
 use std::alloc::{AllocError, Global};
 
-/// An item of a table of slots.
-#[derive(Clone, Copy)]
-struct Item {
-    /// Where it stands among the items.
-    place: u16,
-    /// Its hash.
-    hash: usize,
-}
-
 /// The items of a list, which are parted by commas.
 pub(crate) fn items_of<'t>(alloc: Global, list: &'t str) -> Result<Vec<&'t str>, AllocError> {
     if list.is_empty() {
@@ -19,23 +10,31 @@ pub(crate) fn items_of<'t>(alloc: Global, list: &'t str) -> Result<Vec<&'t str>,
     list.split(',').collect(alloc)
 }
 
+/// The hash of the item at a place.
+fn hash_at(hashes: &[usize], place: u16) -> usize {
+    hashes.get(usize::from(place)).copied().unwrap_or(0)
+}
+
+/// The same slots with the places themselves.
+fn copied(alloc: Global, slots: &[Option<&u16>]) -> Result<Vec<Option<u16>>, AllocError> {
+    let mut copied = Vec::new(alloc);
+    for slot in slots {
+        copied.push(slot.copied())?;
+    }
+    Ok(copied)
+}
+
 /// The slots of items of these hashes, in which each is named by its place.
 fn slots_of(alloc: Global, hashes: &[usize]) -> Result<Vec<Option<u16>>, Trouble> {
-    let mut items = Vec::new(alloc);
-    for (place, hash) in hashes.iter().enumerate() {
-        let Ok(place) = u16::try_from(place) else {
-            return Err(Trouble::NoCase);
-        };
-        items.push(Item { place, hash: *hash })?;
-    }
-    if items.len() > 65535 {
+    let Ok(count) = u16::try_from(hashes.len()) else {
+        return Err(Trouble::NoCase);
+    };
+    let places: Vec<u16> = (0..count).collect(alloc)?;
+    if places.len() > 65535 {
         return Err(Trouble::NoCase);
     }
-    let mut slots = Vec::new(alloc);
-    for slot in generate_table(alloc, items.as_slice(), |item| item.hash)? {
-        slots.push(slot.map(|item| item.place))?;
-    }
-    Ok(slots)
+    let slots = generate_table(alloc, &places, |place| hash_at(hashes, *place))?;
+    Ok(copied(alloc, &slots)?)
 }
 
 /// The slots of names.
@@ -44,7 +43,7 @@ pub(crate) fn slots_of_names(alloc: Global, names: &[&str]) -> Result<Vec<Option
     for name in names {
         hashes.push(simple_hash(name.as_bytes()))?;
     }
-    slots_of(alloc, hashes.as_slice())
+    slots_of(alloc, &hashes)
 }
 
 /// The slots of so many items, whose hashes are the multiples of a number.
@@ -57,37 +56,25 @@ pub(crate) fn slots_of_count(
     for number in 0..count {
         hashes.push(usize::from(number.wrapping_mul(factor)))?;
     }
-    slots_of(alloc, hashes.as_slice())
+    slots_of(alloc, &hashes)
 }
 
-/// Writes the items in the slots, `-` in a vacant one.
-fn write_slots(slots: &[Option<u16>], case: &mut Case<'_>) {
-    for slot in slots {
+/// Writes the items in the slots, `-` in a vacant one: of the names of a list, or of items of the hashes of a list.
+pub(crate) fn write_slots(
+    alloc: Global,
+    are_names: bool,
+    case: &mut Case<'_>,
+) -> Result<(), Trouble> {
+    let list = case.word();
+    let slots = if are_names {
+        slots_of_names(alloc, &items_of(alloc, list)?)?
+    } else {
+        slots_of(alloc, &numbers_of(alloc, list, "")?)?
+    };
+    for slot in slots.as_slice() {
         case.separate(',');
         case.number_or_dash(*slot);
     }
-}
-
-/// Writes the hash of a name.
-pub(crate) fn write_hash(case: &mut Case<'_>) -> Result<(), Trouble> {
-    let name = case.word();
-    case.shown(&simple_hash(name.as_bytes()));
-    Ok(())
-}
-
-/// Writes the slots of the names of a list.
-pub(crate) fn write_slots_of_names(alloc: Global, case: &mut Case<'_>) -> Result<(), Trouble> {
-    let names = items_of(alloc, case.word())?;
-    let slots = slots_of_names(alloc, names.as_slice())?;
-    write_slots(slots.as_slice(), case);
-    Ok(())
-}
-
-/// Writes the slots of items of the hashes of a list.
-pub(crate) fn write_slots_of_hashes(alloc: Global, case: &mut Case<'_>) -> Result<(), Trouble> {
-    let hashes = numbers_of(alloc, case.word(), "")?;
-    let slots = slots_of(alloc, hashes.as_slice())?;
-    write_slots(slots.as_slice(), case);
     Ok(())
 }
 

@@ -1,6 +1,6 @@
 use meta_types::{EarlierNames, Text, camel_case, is_name};
 use rows_words::{Case, Trouble, hash_of, pair_of, texts_of};
-use std::alloc::Global;
+use std::alloc::{AllocError, Global};
 use std::cmp::Ordering;
 
 /// Writes the camel case of a name.
@@ -27,7 +27,7 @@ pub(crate) fn write_earlier(alloc: Global, case: &mut Case<'_>) -> Result<(), Tr
     let mut names = EarlierNames::new(alloc);
     for name in &texts {
         case.separate(',');
-        match names.add(alloc, name)? {
+        match case.value(names.add(alloc, name)) {
             Some(place) => case.shown(&place),
             None => case.letter('-'),
         }
@@ -39,12 +39,18 @@ pub(crate) fn write_earlier(alloc: Global, case: &mut Case<'_>) -> Result<(), Tr
 /// equal, whether the first has the hash of its `str`, and whether the two have one hash.
 pub(crate) fn write_pair(alloc: Global, pair: &str, case: &mut Case<'_>) -> Result<(), Trouble> {
     let (text, other) = pair_of(pair, ',')?;
-    let (text, other) = (Text::new(alloc, text)?, Text::new(alloc, other)?);
+    let text = Text::new(alloc, text)?;
+    write_copied(alloc, &text, case)?;
+    write_compared(&text, &Text::new(alloc, other)?, case);
+    Ok(())
+}
+
+/// Writes a copy of a text, and whether it equals the text.
+fn write_copied(alloc: Global, text: &Text, case: &mut Case<'_>) -> Result<(), AllocError> {
     let copy = text.copy(alloc)?;
     case.text(copy.as_str());
     case.letter('|');
-    case.yes_or_no(text == copy);
-    write_compared(&text, &other, case);
+    case.yes_or_no(*text == copy);
     Ok(())
 }
 
