@@ -1,7 +1,7 @@
-use crate::session::Session;
+use crate::variables::Variables;
 use crate::words::write_prose;
 use meta_inst::InstructionContent;
-use rows_words::{Case, Trouble};
+use rows_words::Case;
 
 /// Writes the numbers behind a word, with commas between them, or `-` for none.
 fn write_numbers(case: &mut Case<'_>, word: &str, numbers: &[usize]) {
@@ -36,42 +36,37 @@ fn write_marks(content: &InstructionContent, case: &mut Case<'_>) {
     case.end_list(0);
 }
 
-impl<'l> Session<'l> {
-    /// A part of what is known of the instruction that was built last. `names`: as it is declared, in camel case and in the code that is
-    /// written, and its documentation; `places`: its format's number, how many operands it has, and the places of values, immediates
-    /// and results; `marks`; `control`: the variable that controls, and whether it is that of the designated operand, or `none`.
-    pub(crate) fn answer_on_built_instruction(
-        &self,
-        word: &str,
-        case: &mut Case<'l>,
-    ) -> Result<(), Trouble> {
-        let Some(content) = &self.content else {
-            return Err(Trouble::NoCase);
-        };
-        match word {
-            "names" => {
-                case.text(content.name().as_str());
-                case.field(" ", &content.camel_name().as_str());
-                case.field(" ", &content.snake_name());
-                write_prose(case, content.doc().as_str());
-            }
-            "places" => {
-                case.field("format ", &content.format().number());
-                case.field(" inputs ", &content.operands_in().len());
-                case.field(" outputs ", &content.operands_out().len());
-                write_numbers(case, " values ", content.value_opnums());
-                write_numbers(case, " immediates ", content.imm_opnums());
-                write_numbers(case, " results ", content.value_results());
-            }
-            "marks" => write_marks(content, case),
-            _ => match content.polymorphic_info() {
-                Some(info) => {
-                    case.text(self.name(Some(info.ctrl_typevar)));
-                    case.field(" designated ", &info.use_typevar_operand);
-                }
-                None => case.text("none"),
-            },
+/// A part of what is known of an instruction. `names`: as it is declared, in camel case and in the code that is written, and its
+/// documentation; `places`: its format's number, how many operands it has, and the places of values, immediates and results; `marks`;
+/// `control`: the variable that controls, and whether it is that of the designated operand, or `none`.
+pub(crate) fn write_part(
+    content: &InstructionContent,
+    part: &str,
+    variables: &Variables<'_>,
+    case: &mut Case<'_>,
+) {
+    match part {
+        "names" => {
+            case.text(content.name().as_str());
+            case.field(" ", &content.camel_name().as_str());
+            case.field(" ", &content.snake_name());
+            write_prose(case, content.doc().as_str());
         }
-        Ok(())
+        "places" => {
+            case.field("format ", &content.format().number());
+            case.field(" inputs ", &content.operands_in().len());
+            case.field(" outputs ", &content.operands_out().len());
+            write_numbers(case, " values ", content.value_opnums());
+            write_numbers(case, " immediates ", content.imm_opnums());
+            write_numbers(case, " results ", content.value_results());
+        }
+        "marks" => write_marks(content, case),
+        _ => match content.polymorphic_info() {
+            Some(info) => {
+                case.text(variables.name(Some(info.ctrl_typevar)));
+                case.field(" designated ", &info.use_typevar_operand);
+            }
+            None => case.text("none"),
+        },
     }
 }

@@ -1,7 +1,11 @@
-use crate::session::Session;
-use meta_operands::{FormatId, FormatStructure, InstructionFormat, InstructionFormatBuilder};
-use meta_types::Text;
-use rows_words::{Case, Trouble, found, number};
+use crate::kinds::write_kind;
+use crate::variables::Variables;
+use meta_operands::{
+    FormatId, FormatStructure, FormatTable, InstructionFormat, InstructionFormatBuilder,
+};
+use rows_words::{Case, Trouble, found};
+use std::alloc::Global;
+use std::collections::HashSet;
 
 /// Writes what the structure of a format shows: its counts, its value list, and the names and types of its immediate fields.
 fn write_structure(structure: &FormatStructure, case: &mut Case<'_>) {
@@ -18,67 +22,73 @@ fn write_structure(structure: &FormatStructure, case: &mut Case<'_>) {
     case.end_list(start);
 }
 
-impl<'l> Session<'l> {
-    /// The format with one more part, for which the word stands: `imm:KIND` and `designate:PLACE` are two.
-    fn with_part(
-        &self,
+/// Writes how many fields a format has, and all as they are written; and a line for each with its member, the text of the field, and its
+/// kind.
+fn write_fields(format: &InstructionFormat, variables: &Variables<'_>, case: &mut Case<'_>) {
+    let fields = &format.imm_fields;
+    case.shown(&fields.len());
+    case.field(" (", fields);
+    case.letter(')');
+    for field in fields.as_slice() {
+        case.field("\nmember ", &field.member.as_str());
+        case.field(" text ", field);
+        case.text(" kind ");
+        write_kind(&field.kind, variables, case);
+    }
+}
+
+/// A table of formats.
+#[derive(Drop)]
+pub(crate) struct Formats<'l> {
+    alloc: Global,
+    pub(crate) table: FormatTable,
+    /// Formats by their names. A name outlives its table.
+    ids: Vec<(&'l str, FormatId)>,
+    /// The structures that were inserted.
+    structures: HashSet<FormatStructure>,
+}
+
+impl<'l> Formats<'l> {
+    /// No format.
+    pub(crate) fn new(alloc: Global) -> Formats<'l> {
+        Formats {
+            alloc,
+            table: FormatTable::new(alloc),
+            ids: Vec::new(alloc),
+            structures: HashSet::new(alloc),
+        }
+    }
+
+    /// `formats`: another table without a format, and how many it has.
+    pub(crate) fn begin(&mut self, case: &mut Case<'_>) {
+        self.table = FormatTable::new(self.alloc);
+        case.field("formats ", &self.table.len());
+    }
+
+    /// Adds a format to the table.
+    fn add(
+        &mut self,
+        name: &'l str,
         builder: InstructionFormatBuilder,
-        part: &str,
-    ) -> Result<InstructionFormatBuilder, Trouble> {
-        if let Some(place) = part.strip_prefix("designate:") {
-            let place = number(place)?;
-            if !builder.can_designate(place) {
-                return Err(Trouble::NoCase);
-            }
-            return Ok(builder.typevar_operand(place));
-        }
-        if !builder.has_room() {
+    ) -> Result<FormatId, Trouble> {
+        if !self.table.has_room() {
             return Err(Trouble::NoCase);
         }
-        match part {
-            "value" => Ok(builder.value()),
-            "block" => Ok(builder.block()),
-            "raw_block" => Ok(builder.raw_block()),
-            "varargs" => Ok(builder.varargs()),
-            _ => {
-                let kind = self.kind_named(part.strip_prefix("imm:").unwrap_or(""))?;
-                Ok(builder.imm(&kind)?)
-            }
-        }
-    }
-
-    /// The format of this name with these parts, one by one.
-    fn format_of(&self, name: &str, parts: &[&str]) -> Result<InstructionFormatBuilder, Trouble> {
-        let name = Text::new(self.alloc, name)?;
-        let mut builder = InstructionFormatBuilder::new(self.alloc, name);
-        for part in parts {
-            builder = self.with_part(builder, part)?;
-        }
-        Ok(builder)
-    }
-
-    /// `can PLACES PARTS`: whether the value inputs at these places can be designated behind the parts, with commas between them.
-    pub(crate) fn can_designate(&self, case: &mut Case<'l>) -> Result<(), Trouble> {
-        let places = case.word();
-        let builder = self.format_of("F", case.rest())?;
-        for place in places.split(',') {
-            let can = builder.can_designate(number(place)?);
-            case.item(0, if can { "yes" } else { "no" });
-        }
-        Ok(())
-    }
-
-    /// `format NAME PARTS`: adds a format to the table: its number, its text, whether it has a value list, and what it designates.
-    pub(crate) fn declare_format(&mut self, case: &mut Case<'l>) -> Result<(), Trouble> {
-        let name = case.word();
-        let builder = self.format_of(name, case.rest())?;
-        if !self.formats.has_room() {
-            return Err(Trouble::NoCase);
-        }
-        let id = builder.build(&mut self.formats)?;
+        let id = builder.build(&mut self.table)?;
         if self.ids.push((name, id)).is_err() {
             return Err(Trouble::OutOfMemory);
         }
+        Ok(id)
+    }
+
+    /// Adds a format to the table, and writes its number, its text, whether it has a value list, and what it designates.
+    pub(crate) fn declare(
+        &mut self,
+        name: &'l str,
+        builder: InstructionFormatBuilder,
+        case: &mut Case<'_>,
+    ) -> Result<(), Trouble> {
+        let id = self.add(name, builder)?;
         let format = self.format_at(id)?;
         case.shown(&id.number());
         case.field(" ", format);
@@ -92,71 +102,66 @@ impl<'l> Session<'l> {
     }
 
     /// The number for whose name the next word stands.
-    pub(crate) fn next_id(&self, case: &mut Case<'l>) -> Result<FormatId, Trouble> {
-        found(self.ids.as_slice(), case.word())
+    pub(crate) fn next_id(&self, case: &mut Case<'_>) -> Result<FormatId, Trouble> {
+        found(&self.ids, case.word())
     }
 
     /// The format of this number, where the table has it.
     fn format_at(&self, id: FormatId) -> Result<&InstructionFormat, Trouble> {
-        if !self.formats.is_of(id) {
+        if !self.table.is_of(id) {
             return Err(Trouble::NoCase);
         }
-        Ok(self.formats.get(id))
+        Ok(self.table.get(id))
     }
 
-    /// `fields NAME`: how many fields a format has, and all as they are written; and a line for each with its member, the text of
-    /// the field, and its kind.
-    fn write_fields(&self, case: &mut Case<'l>) -> Result<(), Trouble> {
-        let fields = &self.format_at(self.next_id(case)?)?.imm_fields;
-        case.shown(&fields.len());
-        case.field(" (", fields);
-        case.letter(')');
-        for field in fields.as_slice() {
-            case.field("\nmember ", &field.member.as_str());
-            case.field(" text ", field);
-            case.text(" kind ");
-            self.write_kind(&field.kind, case);
-        }
+    /// The format for whose name the next word stands.
+    fn next(&self, case: &mut Case<'_>) -> Result<&InstructionFormat, Trouble> {
+        self.format_at(self.next_id(case)?)
+    }
+
+    /// `alike ONE OTHER`: whether two formats have one structure.
+    fn write_alike(&self, case: &mut Case<'_>) -> Result<(), Trouble> {
+        let (one, other) = (self.next(case)?, self.next(case)?);
+        let structure = one.structure(self.alloc)?;
+        case.shown(&(structure == other.structure(self.alloc)?));
         Ok(())
     }
 
-    /// The structure of the format for whose name the next word stands.
-    fn next_structure(&self, case: &mut Case<'l>) -> Result<FormatStructure, Trouble> {
-        let format = self.format_at(self.next_id(case)?)?;
-        Ok(format.structure(self.alloc)?)
+    /// `insert_structure NAME`: whether the structure of a format is new among those that were inserted, or known.
+    pub(crate) fn insert_structure(&mut self, case: &mut Case<'_>) -> Result<(), Trouble> {
+        let structure = self.next(case)?.structure(self.alloc)?;
+        let is_new = self.structures.insert(structure)?;
+        case.text(if is_new { "new" } else { "known" });
+        Ok(())
+    }
+
+    /// `order ONE OTHER`: whether the number of a format is less than another, and whether it is equal.
+    fn write_order(&self, case: &mut Case<'_>) -> Result<(), Trouble> {
+        let (one, other) = (self.next_id(case)?, self.next_id(case)?);
+        case.field("less ", &(one < other));
+        case.field(" equal ", &(one == other));
+        Ok(())
     }
 
     /// Writes the answer to `fields NAME`; `structure NAME`, what the structure of a format shows; `alike ONE OTHER`, whether two
-    /// formats have one structure; `insert_structure NAME`, whether the structure is new among those that were inserted, or known; `order
-    /// ONE OTHER`, whether the number of a format is less than another, and whether it is equal; and `has NAME`, how many formats the table
-    /// has, and whether the number is that of one.
-    pub(crate) fn answer_on_formats(
-        &mut self,
+    /// formats have one structure; `order ONE OTHER`; and `has NAME`, how many formats the table has, and whether it has the one of this
+    /// number.
+    pub(crate) fn write_asked(
+        &self,
         word: &str,
-        case: &mut Case<'l>,
+        variables: &Variables<'_>,
+        case: &mut Case<'_>,
     ) -> Result<(), Trouble> {
         match word {
-            "fields" => self.write_fields(case)?,
-            "structure" => write_structure(&self.next_structure(case)?, case),
-            "alike" => {
-                let (one, other) = (self.next_structure(case)?, self.next_structure(case)?);
-                case.shown(&(one == other));
-            }
-            "insert_structure" => {
-                let structure = self.next_structure(case)?;
-                let is_new = self.structures.insert(structure)?;
-                case.text(if is_new { "new" } else { "known" });
-            }
-            "order" => {
-                let (one, other) = (self.next_id(case)?, self.next_id(case)?);
-                case.field("less ", &(one < other));
-                case.field(" equal ", &(one == other));
-            }
+            "fields" => write_fields(self.next(case)?, variables, case),
+            "structure" => write_structure(&self.next(case)?.structure(self.alloc)?, case),
+            "alike" => return self.write_alike(case),
+            "order" => return self.write_order(case),
             "has" => {
                 let id = self.next_id(case)?;
-                case.shown(&self.formats.len());
+                case.shown(&self.table.len());
                 case.letter(' ');
-                case.yes_or_no(self.formats.is_of(id));
+                case.yes_or_no(self.table.is_of(id));
             }
             _ => return Err(Trouble::BadLine),
         }

@@ -87,3 +87,14 @@ pub(crate) fn preset_of<'g>(group: &'g SettingGroup, name: &str) -> Result<&'g P
     }
     Err(Trouble::NoCase)
 }
+
+/// Writes the names that a preset turns on, of which there are at most three, and what comes after them.
+pub(crate) fn write_names(group: &SettingGroup, case: &mut Case<'_>) -> Result<(), Trouble> {
+    let preset = preset_of(group, case.word())?;
+    if !group.has(preset) {
+        return Err(Trouble::NoCase);
+    }
+    let mut names = preset.setting_names(group);
+    case.debugged(&[names.next(), names.next(), names.next(), names.next()]);
+    Ok(())
+}

@@ -1,67 +1,91 @@
 use crate::compared::{write_alike, write_which};
-use crate::group::{preset_of, write_bytes, write_presets, write_setting};
+use crate::group::{preset_of, write_bytes, write_names, write_presets, write_setting};
 use crate::named::{named_in_order, nothing_named};
-use crate::session::Session;
-use crate::words::text_of;
-use meta_settings::{PresetType, SettingGroup, SettingGroupBuilder, TargetIsa};
+use crate::words::{text_of, texts};
+use meta_settings::{
+    BoolSettingIndex, PresetIndex, PresetType, SettingGroup, SettingGroupBuilder, TargetIsa,
+};
 use meta_types::Text;
-use rows_words::{Case, Trouble, named, number, texts_of};
-use std::alloc::Global;
+use rows_words::{Answering, Case, Trouble, named, number, texts_of};
+use std::alloc::{AllocError, Global};
 
-/// What an entry of a group is declared as.
-#[derive(Drop)]
-enum Kind {
-    Bool(bool),
-    Num(u8),
-    Enum(Vec<Text>),
-    Preset(Vec<PresetType>),
-}
-
-/// Adds an entry with this name, description and comment to a group, and answers what a preset names by it.
-fn add(
+/// Adds a boolean with this name, description and comment to a group.
+fn add_bool(
     alloc: Global,
     group: &mut SettingGroupBuilder,
-    [name, description, comment]: [&str; 3],
-    kind: Kind,
-) -> Result<Option<PresetType>, Trouble> {
+    told: [&str; 3],
+    default: bool,
+) -> Result<BoolSettingIndex, Trouble> {
     if !group.has_room() {
         return Err(Trouble::NoCase);
     }
-    let name = Text::new(alloc, name)?;
-    let description = Text::new(alloc, description)?;
-    let comment = Text::new(alloc, comment)?;
-    match kind {
-        Kind::Bool(default) => {
-            let index = group.add_bool(name, description, comment, default)?;
-            return Ok(Some(PresetType::from(index)));
-        }
-        Kind::Num(default) => group.add_num(name, description, comment, default)?,
-        Kind::Enum(values) => group.add_enum(name, description, comment, values)?,
-        Kind::Preset(args) => {
-            let index = group.add_preset(name, description, args)?;
-            return Ok(Some(PresetType::from(index)));
-        }
+    let (name, description, comment) = texts(alloc, told)?;
+    Ok(group.add_bool(name, description, comment, default)?)
+}
+
+/// Adds a number.
+fn add_num(
+    alloc: Global,
+    group: &mut SettingGroupBuilder,
+    told: [&str; 3],
+    default: u8,
+) -> Result<(), Trouble> {
+    if !group.has_room() {
+        return Err(Trouble::NoCase);
     }
-    Ok(None)
+    let (name, description, comment) = texts(alloc, told)?;
+    Ok(group.add_num(name, description, comment, default)?)
+}
+
+/// Adds an enum of these values, which are parted by commas.
+fn add_enum(
+    alloc: Global,
+    group: &mut SettingGroupBuilder,
+    told: [&str; 3],
+    values: &str,
+) -> Result<(), Trouble> {
+    if !group.has_room() {
+        return Err(Trouble::NoCase);
+    }
+    let values = texts_of(alloc, values, "")?;
+    let (name, description, comment) = texts(alloc, told)?;
+    Ok(group.add_enum(name, description, comment, values)?)
+}
+
+/// Adds a preset of what is named, which has no comment.
+fn add_preset(
+    alloc: Global,
+    group: &mut SettingGroupBuilder,
+    [name, description]: [&str; 2],
+    args: Vec<PresetType>,
+) -> Result<PresetIndex, Trouble> {
+    if !group.has_room() {
+        return Err(Trouble::NoCase);
+    }
+    let (name, description, _) = texts(alloc, [name, description, ""])?;
+    Ok(group.add_preset(name, description, args)?)
+}
+
+/// Adds a boolean or a preset without a name to a group.
+fn add_nameless(
+    alloc: Global,
+    group: &mut SettingGroupBuilder,
+    word: &str,
+) -> Result<PresetType, Trouble> {
+    match word {
+        "boolean" => Ok(add_bool(alloc, group, [""; 3], false)?.into()),
+        "preset" => Ok(add_preset(alloc, group, [""; 2], Vec::new(alloc))?.into()),
+        _ => Err(Trouble::NoCase),
+    }
 }
 
 /// What a word such as `boolean:3` or `preset:1` means: an index of another group, behind so many others.
-fn of_other_group(alloc: Global, word: &str, count: &str) -> Result<PresetType, Trouble> {
-    let count = number::<u16>(count)?;
+fn of_other_group(alloc: Global, word: &str, count: u16) -> Result<PresetType, Trouble> {
     let mut other = SettingGroupBuilder::new(alloc, Text::new(alloc, "other")?);
-    let mut last = None;
-    for _ in 0..=count {
-        let kind = match word {
-            "boolean" => Kind::Bool(false),
-            "preset" => Kind::Preset(Vec::new(alloc)),
-            _ => return Err(Trouble::NoCase),
-        };
-        last = add(alloc, &mut other, ["", "", ""], kind)?;
+    for _ in 0..count {
+        add_nameless(alloc, &mut other, word)?;
     }
-    match last {
-        Some(index) => Ok(index),
-        None => Err(Trouble::NoCase),
-    }
+    add_nameless(alloc, &mut other, word)
 }
 
 /// The same boolean or preset.
@@ -72,19 +96,58 @@ fn same_as(entry: &PresetType) -> PresetType {
     }
 }
 
-impl<'l> Session<'l> {
-    /// What the names mean, which are parted by commas, none for an empty list: booleans and presets of this group, or of another.
+/// What `preset!` makes of a boolean, a preset and a boolean.
+fn in_order(alloc: Global, meant: &[PresetType]) -> Result<Vec<PresetType>, Trouble> {
+    let [
+        PresetType::BoolSetting(first),
+        PresetType::OtherPreset(between),
+        PresetType::BoolSetting(last),
+    ] = meant
+    else {
+        return Err(Trouble::NoCase);
+    };
+    Ok(named_in_order(alloc, *first, *between, *last)?)
+}
+
+/// Groups of settings.
+#[derive(Drop)]
+pub(crate) struct Groups<'l> {
+    alloc: Global,
+    /// The group that is being declared.
+    group: SettingGroupBuilder,
+    /// Its booleans and presets by their names.
+    named: Vec<(&'l str, PresetType)>,
+    /// The groups that were built.
+    built: Vec<SettingGroup>,
+}
+
+impl<'l> Groups<'l> {
+    /// Nothing is declared, and nothing built.
+    pub(crate) fn new(alloc: Global) -> Result<Groups<'l>, AllocError> {
+        let name = Text::new(alloc, "")?;
+        Ok(Groups {
+            alloc,
+            group: SettingGroupBuilder::new(alloc, name),
+            named: Vec::new(alloc),
+            built: Vec::new(alloc),
+        })
+    }
+
+    /// What a name means: a boolean or preset of this group, or of another.
+    fn meaning(&self, name: &str) -> Result<PresetType, Trouble> {
+        match name.split_once(':') {
+            Some((word, count)) => of_other_group(self.alloc, word, number(count)?),
+            None => Ok(same_as(named(&self.named, name)?)),
+        }
+    }
+
+    /// What the names mean, which are parted by commas, none for an empty list.
     fn meant(&self, names: &str) -> Result<Vec<PresetType>, Trouble> {
         let mut args = Vec::new(self.alloc);
-        if names.is_empty() {
-            return Ok(args);
-        }
-        for name in names.split(',') {
-            let arg = match name.split_once(':') {
-                Some((word, count)) => of_other_group(self.alloc, word, count)?,
-                None => same_as(named(self.named.as_slice(), name)?),
-            };
-            args.push(arg)?;
+        if !names.is_empty() {
+            for name in names.split(',') {
+                args.push(self.meaning(name)?)?;
+            }
         }
         Ok(args)
     }
@@ -94,25 +157,32 @@ impl<'l> Session<'l> {
     fn declare(&mut self, sort: &str, case: &mut Case<'l>) -> Result<(), Trouble> {
         let (name, value) = (text_of(case.word()), text_of(case.word()));
         let (description, comment) = case.doc().split_once(" | ").unwrap_or((case.doc(), ""));
-        let kind = match sort {
-            "bool" => Kind::Bool(number(value)?),
-            "num" => Kind::Num(number(value)?),
-            "enum" => Kind::Enum(texts_of(self.alloc, value, "")?),
-            _ => Kind::Preset(self.meant(value)?),
+        let (alloc, told) = (self.alloc, [name, description, comment]);
+        let entry = match sort {
+            "bool" => {
+                let index = add_bool(alloc, &mut self.group, told, number(value)?)?;
+                case.field("boolean ", &index.number());
+                PresetType::from(index)
+            }
+            "preset" => {
+                let args = self.meant(value)?;
+                let index = add_preset(alloc, &mut self.group, [name, description], args)?;
+                case.field("preset ", &index.number());
+                PresetType::from(index)
+            }
+            "num" => {
+                case.text("Ok");
+                return add_num(alloc, &mut self.group, told, number(value)?);
+            }
+            _ => {
+                case.text("Ok");
+                return add_enum(alloc, &mut self.group, told, value);
+            }
         };
-        let texts = [name, description, comment];
-        let Some(entry) = add(self.alloc, &mut self.group, texts, kind)? else {
-            case.text("Ok");
-            return Ok(());
-        };
-        match &entry {
-            PresetType::BoolSetting(index) => case.field("boolean ", &index.number()),
-            PresetType::OtherPreset(index) => case.field("preset ", &index.number()),
+        match self.named.push((name, entry)) {
+            Ok(()) => Ok(()),
+            Err(_) => Err(Trouble::OutOfMemory),
         }
-        if self.named.push((name, entry)).is_err() {
-            return Err(Trouble::OutOfMemory);
-        }
-        Ok(())
     }
 
     /// `many num COUNT`: declares so many numbers `n0`, `n1` and so on.
@@ -122,8 +192,7 @@ impl<'l> Session<'l> {
         }
         for number in 0..case.number::<u16>() {
             let name = format!(in self.alloc; "n{number}")?;
-            let texts = [name.as_str(), "", ""];
-            add(self.alloc, &mut self.group, texts, Kind::Num(0))?;
+            add_num(self.alloc, &mut self.group, [name.as_str(), "", ""], 0)?;
         }
         case.text("Ok");
         Ok(())
@@ -134,23 +203,10 @@ impl<'l> Session<'l> {
     fn declare_in_order(&mut self, case: &mut Case<'l>) -> Result<(), Trouble> {
         let (name, names) = (case.word(), case.word());
         let meant = self.meant(names)?;
-        let [
-            PresetType::BoolSetting(first),
-            PresetType::OtherPreset(between),
-            PresetType::BoolSetting(last),
-        ] = meant.as_slice()
-        else {
-            return Err(Trouble::NoCase);
-        };
-        let args = named_in_order(self.alloc, *first, *between, *last)?;
+        let args = in_order(self.alloc, &meant)?;
         case.debugged(&args);
         case.field(" ", &(args.as_slice() == meant.as_slice()));
-        add(
-            self.alloc,
-            &mut self.group,
-            [name, "", ""],
-            Kind::Preset(args),
-        )?;
+        add_preset(self.alloc, &mut self.group, [name, ""], args)?;
         Ok(())
     }
 
@@ -174,6 +230,16 @@ impl<'l> Session<'l> {
         }
     }
 
+    /// `target NAME`: the name of a target, and of its group and the group's size, which is this group.
+    fn write_target(&self, case: &mut Case<'l>) -> Result<(), Trouble> {
+        let group = self.built_again()?;
+        let isa = TargetIsa::new(Text::new(self.alloc, case.word())?, group);
+        case.text(isa.name.as_str());
+        case.field(" ", &isa.settings.name().as_str());
+        case.field(" byte size ", &isa.settings.byte_size());
+        Ok(())
+    }
+
     /// The built group of the name that is the next word, the last of them.
     fn next_group(&self, case: &mut Case<'l>) -> Result<&SettingGroup, Trouble> {
         let name = case.word();
@@ -186,33 +252,26 @@ impl<'l> Session<'l> {
     }
 
     /// Writes the answer to a line that declares or builds a group, or asks something of what is built.
-    pub(crate) fn answer_on_settings(
-        &mut self,
-        word: &'l str,
-        case: &mut Case<'l>,
-    ) -> Result<(), Trouble> {
+    fn answer(&mut self, word: &'l str, case: &mut Case<'l>) -> Result<(), Trouble> {
         match word {
             "group" => {
                 let name = Text::new(self.alloc, text_of(case.word()))?;
                 self.group = SettingGroupBuilder::new(self.alloc, name);
                 self.named.clear();
                 case.text("Ok");
+                Ok(())
             }
-            "bool" | "num" | "enum" | "preset" => self.declare(word, case)?,
-            "in_order" => self.declare_in_order(case)?,
-            "many" => self.declare_numbers(case)?,
-            "nothing" => case.debugged(&nothing_named(self.alloc)),
-            "build" => self.build_group(case)?,
-            "target" => {
-                let name = Text::new(self.alloc, case.word())?;
-                let isa = TargetIsa::new(name, self.built_again()?);
-                case.text(isa.name.as_str());
-                case.field(" ", &isa.settings.name().as_str());
-                case.field(" byte size ", &isa.settings.byte_size());
+            "bool" | "num" | "enum" | "preset" => self.declare(word, case),
+            "in_order" => self.declare_in_order(case),
+            "many" => self.declare_numbers(case),
+            "nothing" => {
+                case.debugged(&nothing_named(self.alloc));
+                Ok(())
             }
-            _ => self.answer_on_built(word, case)?,
+            "build" => self.build_group(case),
+            "target" => self.write_target(case),
+            _ => self.answer_on_built(word, case),
         }
-        Ok(())
     }
 
     /// Writes the answer to `layout`, `bytes`, `presets`, `names`, `alike`, `which` or `has`, behind which a built group has its name.
@@ -224,26 +283,34 @@ impl<'l> Session<'l> {
                     case.separate('\n');
                     write_setting(setting, case);
                 }
+                Ok(())
             }
-            "bytes" => write_bytes(self.alloc, group, case)?,
-            "presets" => write_presets(self.alloc, group, case)?,
-            "names" => {
-                let preset = preset_of(group, case.word())?;
-                if !group.has(preset) {
-                    return Err(Trouble::NoCase);
-                }
-                let mut names = preset.setting_names(group);
-                case.debugged(&[names.next(), names.next(), names.next(), names.next()]);
+            "bytes" => write_bytes(self.alloc, group, case),
+            "presets" => write_presets(self.alloc, group, case),
+            "names" => write_names(group, case),
+            "alike" => {
+                write_alike(group, &self.built_again()?, case);
+                Ok(())
             }
-            "alike" => write_alike(group, &self.built_again()?, case),
-            "which" => write_which(self.alloc, group, case)?,
+            "which" => write_which(self.alloc, group, case),
             "has" => {
                 let preset = preset_of(group, case.word())?;
                 let other = self.next_group(case)?;
                 case.shown(&other.has(preset));
+                Ok(())
             }
-            _ => return Err(Trouble::BadLine),
+            _ => Err(Trouble::BadLine),
         }
-        Ok(())
+    }
+}
+
+impl<'l> Answering<'l> for Groups<'l> {
+    /// Adds the answer to a line.
+    fn answer_line(&mut self, line: &'l str, answers: &mut String) -> Result<(), AllocError> {
+        let mut case = Case::of(self.alloc, line)?;
+        let word = case.word();
+        let answered = self.answer(word, &mut case);
+        case.close(answered);
+        case.end(answers)
     }
 }

@@ -1,9 +1,9 @@
-use crate::session::Session;
-use crate::words::{text_of, write_prose};
+use crate::variables::Variables;
+use crate::words::{text_of, texts, write_prose};
 use meta_operands::{EnumValues, Operand, OperandKind, OperandKindFields};
 use meta_types::Text;
-use rows_words::{Case, Trouble, found, named, pair_of};
-use std::alloc::Global;
+use rows_words::{Case, Trouble, named, pair_of};
+use std::alloc::{AllocError, Global};
 
 /// Lets a name stand for a variant, written `NAME=VARIANT`, and answers what it stood for before.
 fn add_value(alloc: Global, values: &mut EnumValues, value: &str) -> Result<Option<Text>, Trouble> {
@@ -61,112 +61,155 @@ pub(crate) fn find_value(alloc: Global, case: &mut Case<'_>) -> Result<(), Troub
     Ok(())
 }
 
-impl<'l> Session<'l> {
-    /// `kind WORD FIELD_NAME RUST_TYPE FIELDS | DOC`: a kind, and what it shows. The fields are what operands are, and for an enum or a
-    /// value one more word.
-    pub(crate) fn declare_kind(&mut self, case: &mut Case<'l>) -> Result<(), Trouble> {
-        let (word, field_name, rust_type) = (case.word(), text_of(case.word()), case.word());
-        let fields = match case.word() {
+/// Writes what a kind shows: its field name and Rust type, and what it is, with an enum's values or the variable of a value.
+pub(crate) fn write_kind(kind: &OperandKind, variables: &Variables<'_>, case: &mut Case<'_>) {
+    case.text(kind.rust_field_name.as_str());
+    case.field(": ", &kind.rust_type.as_str());
+    match &kind.fields {
+        OperandKindFields::EntityRef => case.text(" entity"),
+        OperandKindFields::VariableArgs => case.text(" varargs"),
+        OperandKindFields::ImmValue => case.text(" imm"),
+        OperandKindFields::ImmEnum(values) => {
+            case.text(" enum ");
+            write_values(values, case);
+        }
+        OperandKindFields::TypeVar(tv) => case.field(" value ", &variables.name(Some(*tv))),
+    }
+}
+
+/// Writes what an operand shows: its name, its kind, the tests that hold of it and its kind, or `-` for none, its variable, and its
+/// documentation, which is none where its variable is of another registry.
+fn write_operand(operand: &Operand, variables: &Variables<'_>, case: &mut Case<'_>) {
+    case.text(operand.name.as_str());
+    case.text(" of ");
+    write_kind(&operand.kind, variables, case);
+    case.text(" is ");
+    let start = case.written();
+    let tests = [
+        ("block", operand.kind.is_block()),
+        ("raw_block", operand.kind.is_raw_block()),
+        ("value", operand.is_value()),
+        ("varargs", operand.is_varargs()),
+        ("immediate", operand.is_immediate()),
+        (
+            "immediate_or_entityref",
+            operand.is_immediate_or_entityref(),
+        ),
+    ];
+    for (name, holds) in tests {
+        if holds {
+            case.item(start, name);
+        }
+    }
+    case.end_list(start);
+    case.field(" variable ", &variables.name(operand.type_var()));
+    match operand.type_var() {
+        Some(tv) if !variables.vars.is_of(tv) => {}
+        _ => write_prose(case, operand.doc(&variables.vars)),
+    }
+}
+
+/// Kinds by their words.
+#[derive(Drop)]
+pub(crate) struct Kinds<'l> {
+    alloc: Global,
+    named: Vec<(&'l str, OperandKind)>,
+}
+
+impl<'l> Kinds<'l> {
+    /// No kind.
+    pub(crate) fn new(alloc: Global) -> Kinds<'l> {
+        Kinds {
+            alloc,
+            named: Vec::new(alloc),
+        }
+    }
+
+    /// What operands of a kind are, by the next words: for an enum or a value one more word.
+    fn next_fields(
+        &self,
+        variables: &Variables<'_>,
+        case: &mut Case<'_>,
+    ) -> Result<OperandKindFields, Trouble> {
+        Ok(match case.word() {
             "entity" => OperandKindFields::EntityRef,
             "varargs" => OperandKindFields::VariableArgs,
             "imm" => OperandKindFields::ImmValue,
             "enum" => OperandKindFields::ImmEnum(values_of(self.alloc, case.word())?),
-            "value" => OperandKindFields::TypeVar(self.next_variable(case)?),
+            "value" => OperandKindFields::TypeVar(variables.next(case)?),
             _ => return Err(Trouble::NoCase),
-        };
-        let (Ok(field_name), Ok(rust_type), Ok(doc)) = (
-            Text::new(self.alloc, field_name),
-            Text::new(self.alloc, rust_type),
-            Text::new(self.alloc, case.doc()),
-        ) else {
-            return Err(Trouble::OutOfMemory);
-        };
-        let kind = OperandKind::new(field_name, rust_type, fields, doc);
-        self.write_kind(&kind, case);
-        Ok(self.kinds.push((word, kind))?)
+        })
     }
 
-    /// Writes what a kind shows: its field name and Rust type, and what it is, with an enum's values or the variable of a value.
-    pub(crate) fn write_kind(&self, kind: &OperandKind, case: &mut Case<'_>) {
-        case.text(kind.rust_field_name.as_str());
-        case.field(": ", &kind.rust_type.as_str());
-        match &kind.fields {
-            OperandKindFields::EntityRef => case.text(" entity"),
-            OperandKindFields::VariableArgs => case.text(" varargs"),
-            OperandKindFields::ImmValue => case.text(" imm"),
-            OperandKindFields::ImmEnum(values) => {
-                case.text(" enum ");
-                write_values(values, case);
-            }
-            OperandKindFields::TypeVar(tv) => case.field(" value ", &self.name(Some(*tv))),
-        }
+    /// `kind WORD FIELD_NAME RUST_TYPE FIELDS | DOC`: a kind, and what it shows. The fields are what operands are.
+    pub(crate) fn declare(
+        &mut self,
+        variables: &Variables<'_>,
+        case: &mut Case<'l>,
+    ) -> Result<(), Trouble> {
+        let word = case.word();
+        let told = [text_of(case.word()), case.word(), case.doc()];
+        let fields = self.next_fields(variables, case)?;
+        let kind = made(self.alloc, told, fields)?;
+        write_kind(&kind, variables, case);
+        Ok(self.named.push((word, kind))?)
     }
 
     /// The kind for which the word stands: that of the values of a variable, or one that is declared.
-    pub(crate) fn kind_named(&self, word: &str) -> Result<OperandKind, Trouble> {
-        if let Ok(tv) = found(self.variables.as_slice(), word) {
-            return Ok(OperandKind::of(self.alloc, tv)?);
+    pub(crate) fn kind(
+        &self,
+        variables: &Variables<'_>,
+        word: &str,
+    ) -> Result<OperandKind, Trouble> {
+        match variables.named(word) {
+            Ok(tv) => Ok(OperandKind::of(self.alloc, tv)?),
+            Err(_) => Ok(named(&self.named, word)?.copy(self.alloc)?),
         }
-        Ok(named(self.kinds.as_slice(), word)?.copy(self.alloc)?)
     }
 
     /// The operand of this name and kind.
-    pub(crate) fn operand_of(&self, name: &str, kind: &str) -> Result<Operand, Trouble> {
-        let kind = self.kind_named(kind)?;
-        match Text::new(self.alloc, name) {
-            Ok(name) => Ok(Operand::new(name, kind)),
-            Err(_) => Err(Trouble::OutOfMemory),
-        }
+    pub(crate) fn operand(
+        &self,
+        variables: &Variables<'_>,
+        name: &str,
+        kind: &str,
+    ) -> Result<Operand, Trouble> {
+        let name = Text::new(self.alloc, name)?;
+        Ok(Operand::new(name, self.kind(variables, kind)?))
     }
 
-    /// `operand NAME KIND | DOC`: what an operand shows, with its own documentation where one is given, and its copy where that
-    /// shows something else.
-    pub(crate) fn declare_operand(&self, case: &mut Case<'l>) -> Result<(), Trouble> {
-        let name = case.word();
-        let mut operand = self.operand_of(name, case.word())?;
-        if !case.doc().is_empty() {
-            let doc = Text::new(self.alloc, case.doc())?;
-            operand = operand.with_doc(doc);
+    /// The operand of this name and kind, with its own documentation where one is given.
+    fn told_operand(
+        &self,
+        variables: &Variables<'_>,
+        case: &mut Case<'_>,
+    ) -> Result<Operand, Trouble> {
+        let (name, kind) = (case.word(), case.word());
+        let operand = self.operand(variables, name, kind)?;
+        if case.doc().is_empty() {
+            return Ok(operand);
         }
-        self.write_operand(&operand, case);
-        let mut copied = Case::of(self.alloc, "")?;
-        self.write_operand(&operand.copy(self.alloc)?, &mut copied);
-        if case.as_str() != copied.as_str() {
-            case.field(" copied ", &copied.as_str());
-        }
+        Ok(operand.with_doc(Text::new(self.alloc, case.doc())?))
+    }
+
+    /// `operand NAME KIND | DOC`: what the copy of an operand shows.
+    pub(crate) fn write_operand(
+        &self,
+        variables: &Variables<'_>,
+        case: &mut Case<'_>,
+    ) -> Result<(), Trouble> {
+        let operand = self.told_operand(variables, case)?;
+        write_operand(&operand.copy(self.alloc)?, variables, case);
         Ok(())
     }
+}
 
-    /// Writes what an operand shows: its name, its kind, the tests that hold of it and its kind, or `-` for none, its variable, and its
-    /// documentation, which is none where its variable is of another registry.
-    fn write_operand(&self, operand: &Operand, case: &mut Case<'_>) {
-        let kind = &operand.kind;
-        case.text(operand.name.as_str());
-        case.text(" of ");
-        self.write_kind(kind, case);
-        case.text(" is ");
-        let start = case.written();
-        let tests = [
-            ("block", kind.is_block()),
-            ("raw_block", kind.is_raw_block()),
-            ("value", operand.is_value()),
-            ("varargs", operand.is_varargs()),
-            ("immediate", operand.is_immediate()),
-            (
-                "immediate_or_entityref",
-                operand.is_immediate_or_entityref(),
-            ),
-        ];
-        for (name, holds) in tests {
-            if holds {
-                case.item(start, name);
-            }
-        }
-        case.end_list(start);
-        case.field(" variable ", &self.name(operand.type_var()));
-        match operand.type_var() {
-            Some(tv) if !self.vars.is_of(tv) => {}
-            _ => write_prose(case, operand.doc(&self.vars)),
-        }
-    }
+/// The kind of this field name, Rust type and documentation.
+fn made(
+    alloc: Global,
+    told: [&str; 3],
+    fields: OperandKindFields,
+) -> Result<OperandKind, AllocError> {
+    let (field_name, rust_type, doc) = texts(alloc, told)?;
+    Ok(OperandKind::new(field_name, rust_type, fields, doc))
 }

@@ -12,8 +12,6 @@ mod groups;
 mod instructions;
 mod kinds;
 mod named;
-mod on_instructions;
-mod on_sets;
 mod parts;
 mod session;
 mod sets;

@@ -2,7 +2,7 @@ use crate::parts::{PARTS, builder_of, built};
 use meta_types::ValueType;
 use meta_typevar::{Masks, TypeSet};
 use rows_words::{Case, Trouble, function_named, type_of};
-use std::alloc::Global;
+use std::alloc::{AllocError, Global};
 
 /// The least number of a type.
 const FIRST_NUMBER: u16 = 0x74;
@@ -10,26 +10,19 @@ const FIRST_NUMBER: u16 = 0x74;
 /// One above the greatest number of a type.
 const END_OF_NUMBERS: u16 = 0x17d;
 
-/// The coded image of the words `FUNCTION of set PARTS`.
-fn image_of(alloc: Global, words: &[&str]) -> Result<TypeSet, Trouble> {
-    let [function, "of", "set", parts @ ..] = words else {
-        return Err(Trouble::BadLine);
-    };
-    let derived_func = function_named(function)?;
-    let set = built(alloc, builder_of(parts)?)?;
-    Ok(set.image(alloc, derived_func)?)
-}
-
 /// The set of the words `set PARTS`, the copy of `copy of set PARTS`, or the coded image of `image FUNCTION of set PARTS`.
 pub(crate) fn set_of(alloc: Global, words: &[&str]) -> Result<TypeSet, Trouble> {
-    match words {
-        ["set", parts @ ..] => built(alloc, builder_of(parts)?),
-        ["image", image @ ..] => image_of(alloc, image),
-        ["copy", "of", "set", parts @ ..] => {
-            let set = built(alloc, builder_of(parts)?)?;
-            Ok(set.copy(alloc)?)
-        }
-        _ => Err(Trouble::BadLine),
+    let (how, parts) = match words {
+        ["set", parts @ ..] => ("set", parts),
+        ["copy", "of", "set", parts @ ..] => ("copy", parts),
+        ["image", function, "of", "set", parts @ ..] => (*function, parts),
+        _ => return Err(Trouble::BadLine),
+    };
+    let set = built(alloc, builder_of(parts)?)?;
+    match how {
+        "set" => Ok(set),
+        "copy" => Ok(set.copy(alloc)?),
+        _ => Ok(set.image(alloc, function_named(how)?)?),
     }
 }
 
@@ -41,9 +34,8 @@ pub(crate) fn write_masks(case: &mut Case<'_>, masks: Masks) {
     case.field(" ", &masks.floats);
 }
 
-/// `set PARTS`: the masks of a set, its size, how many of all types it contains, and its members as they are listed.
-fn write_set(alloc: Global, case: &mut Case<'_>) -> Result<(), Trouble> {
-    let set = built(alloc, builder_of(case.rest())?)?;
+/// Writes the masks of a set, its size, how many of all types it contains, and its members as they are listed.
+fn write_set(alloc: Global, set: &TypeSet, case: &mut Case<'_>) -> Result<(), AllocError> {
     let mut contained: u32 = 0;
     for number in FIRST_NUMBER..END_OF_NUMBERS {
         if let Some(value_type) = ValueType::from_number(number)
@@ -95,10 +87,14 @@ pub(crate) fn answer_on_set(alloc: Global, word: &str, case: &mut Case<'_>) -> R
             let builder = builder_of(case.rest())?;
             case.yes_or_no(builder.can_build());
         }
-        "set" => write_set(alloc, case)?,
-        "image" => {
-            let image = image_of(alloc, case.rest())?;
-            write_masks(case, image.masks());
+        "set" | "image" => {
+            case.go_back(0);
+            let set = set_of(alloc, case.rest())?;
+            if word == "image" {
+                write_masks(case, set.masks());
+            } else {
+                write_set(alloc, &set, case)?;
+            }
         }
         "debug" => {
             let set = set_of(alloc, case.rest())?;

@@ -1,11 +1,10 @@
 ghost use Rattle.std.specs.Prelude.{◌<◌, length};
 
-use crate::session::Session;
-use crate::sets::write_masks;
+use crate::sets::{answer_on_set, set_of, write_masks};
 use meta_types::{DerivedFunc, Text};
-use meta_typevar::{TypeSet, TypeVar, TypeVars};
-use rows_words::{Case, Trouble, found, type_of};
-use std::alloc::Global;
+use meta_typevar::{TypeSet, TypeVar, TypeVarParent, TypeVars};
+use rows_words::{Answering, Case, Trouble, found, function_named, hash_of, type_of};
+use std::alloc::{AllocError, Global};
 
 /// Writes the masks of a variable's coded image, and those of what is kept as its set, where that is the coded image; the only
 /// member of its coded image, and the only type that it can have.
@@ -39,10 +38,50 @@ fn write_sets(
     Ok(())
 }
 
-impl<'l> Session<'l> {
+/// A registry of variables, and what words stand for.
+#[derive(Drop)]
+pub(crate) struct Variables<'l> {
+    alloc: Global,
+    /// The registry.
+    pub(crate) vars: TypeVars,
+    /// Each variable of the registry, by its number.
+    numbered: Vec<TypeVar>,
+    /// Variables by their words. A word outlives its registry.
+    named: Vec<(&'l str, TypeVar)>,
+}
+
+impl<'l> Variables<'l> {
+    /// No variable.
+    pub(crate) fn new(alloc: Global) -> Variables<'l> {
+        Variables {
+            alloc,
+            vars: TypeVars::new(alloc),
+            numbered: Vec::new(alloc),
+            named: Vec::new(alloc),
+        }
+    }
+
+    /// `new`: another registry without a variable.
+    fn begin(&mut self, case: &mut Case<'_>) {
+        self.vars = TypeVars::new(self.alloc);
+        self.numbered.clear();
+        self.write_count(case);
+    }
+
+    /// Writes how many variables and roots there are.
+    fn write_count(&self, case: &mut Case<'_>) {
+        case.field("variables ", &self.vars.len());
+        case.field(" roots ", &self.vars.root_count());
+    }
+
+    /// The variable for which a word stands.
+    pub(crate) fn named(&self, word: &str) -> Result<TypeVar, Trouble> {
+        found(&self.named, word)
+    }
+
     /// Takes the next word, and answers the variable for which it stands.
-    pub(crate) fn next_variable(&self, case: &mut Case<'l>) -> Result<TypeVar, Trouble> {
-        found(self.variables.as_slice(), case.word())
+    pub(crate) fn next(&self, case: &mut Case<'_>) -> Result<TypeVar, Trouble> {
+        self.named(case.word())
     }
 
     /// The name of a variable, `-` for none, and `?` where it is of another registry.
@@ -55,35 +94,28 @@ impl<'l> Session<'l> {
     }
 
     /// Counts the variable that a call answered, lets the word stand for it, and tells whether the call added it.
-    pub(crate) fn keep(&mut self, word: &'l str, tv: TypeVar) -> Result<bool, Trouble> {
+    fn keep(&mut self, word: &'l str, tv: TypeVar) -> Result<bool, Trouble> {
         let is_added = self.vars.len() > self.numbered.len();
         if is_added {
             self.numbered.push(tv)?;
         }
-        if self.variables.push((word, tv)).is_err() {
+        if self.named.push((word, tv)).is_err() {
             return Err(Trouble::OutOfMemory);
         }
         Ok(is_added)
     }
 
     /// A fresh root with this name, documentation and set.
-    pub(crate) fn fresh_root(
-        &mut self,
-        name: &str,
-        doc: &str,
-        set: TypeSet,
-    ) -> Result<TypeVar, Trouble> {
+    fn fresh_root(&mut self, name: &str, doc: &str, set: TypeSet) -> Result<TypeVar, Trouble> {
+        let (name, doc) = (Text::new(self.alloc, name)?, Text::new(self.alloc, doc)?);
         if !self.vars.has_room() {
             return Err(Trouble::NoCase);
         }
-        let (Ok(name), Ok(doc)) = (Text::new(self.alloc, name), Text::new(self.alloc, doc)) else {
-            return Err(Trouble::OutOfMemory);
-        };
         Ok(TypeVar::new(&mut self.vars, name, doc, set)?)
     }
 
     /// A fresh root that stands for the type of this name.
-    pub(crate) fn singleton(&mut self, name: &str) -> Result<TypeVar, Trouble> {
+    fn singleton(&mut self, name: &str) -> Result<TypeVar, Trouble> {
         let value_type = type_of(name)?;
         if !self.vars.has_room() {
             return Err(Trouble::NoCase);
@@ -92,7 +124,7 @@ impl<'l> Session<'l> {
     }
 
     /// A fresh root with this name and the set of another.
-    pub(crate) fn copied(&mut self, name: &str, other: TypeVar) -> Result<TypeVar, Trouble> {
+    fn copied(&mut self, name: &str, other: TypeVar) -> Result<TypeVar, Trouble> {
         if !self.vars.has_room() || !self.vars.is_of(other) || other.root(&self.vars) != other {
             return Err(Trouble::NoCase);
         }
@@ -100,30 +132,19 @@ impl<'l> Session<'l> {
         Ok(TypeVar::copy_from(&mut self.vars, other, name)?)
     }
 
-    /// The variable that is derived from one by a function: what `derived` answers.
-    pub(crate) fn derived(
+    /// The variable that is derived from one by a function: what `derived` answers, or the call that has the function's name.
+    fn derived(
         &mut self,
         tv: TypeVar,
         function: DerivedFunc,
-    ) -> Result<TypeVar, Trouble> {
-        let vars = &mut self.vars;
-        if !vars.has_room() || !vars.is_of(tv) || !tv.can_derive(self.alloc, vars, function)? {
-            return Err(Trouble::NoCase);
-        }
-        Ok(tv.derived(vars, function)?)
-    }
-
-    /// The variable that is derived from one by a function: what the call answers that has the function's name.
-    pub(crate) fn called(
-        &mut self,
-        tv: TypeVar,
-        function: DerivedFunc,
+        is_call: bool,
     ) -> Result<TypeVar, Trouble> {
         let vars = &mut self.vars;
         if !vars.has_room() || !vars.is_of(tv) || !tv.can_derive(self.alloc, vars, function)? {
             return Err(Trouble::NoCase);
         }
         Ok(match function {
+            _ if !is_call => tv.derived(vars, function),
             DerivedFunc::LaneOf => tv.lane_of(vars),
             DerivedFunc::AsTruthy => tv.as_truthy(vars),
             DerivedFunc::HalfWidth => tv.half_width(vars),
@@ -153,12 +174,7 @@ impl<'l> Session<'l> {
 
     /// Writes what the registry tells of a variable, if it is its own: its number, whether it was added, its name, its documentation
     /// and its parent; its sets; and what is free of it, its root and its chain.
-    pub(crate) fn describe(
-        &self,
-        tv: TypeVar,
-        change: &str,
-        case: &mut Case<'_>,
-    ) -> Result<(), Trouble> {
+    fn describe(&self, tv: TypeVar, change: &str, case: &mut Case<'_>) -> Result<(), Trouble> {
         if !self.vars.is_of(tv) {
             return Err(Trouble::NoCase);
         }
@@ -186,5 +202,110 @@ impl<'l> Session<'l> {
         }
         case.end_list(start);
         Ok(())
+    }
+
+    /// `root X = SET | DOC` and `one X = TYPE`, a fresh root of a set and one that stands for a type; `copy X of Y`, a fresh root with the
+    /// set of another; `derive X = FUNCTION Y`, what `derived` answers; `call X = FUNCTION Y`, what the call of this name answers: lets the
+    /// word stand for the variable, and writes what the registry tells of it.
+    fn make(&mut self, how: &str, case: &mut Case<'l>) -> Result<(), Trouble> {
+        let word = case.word();
+        case.expect(if how == "copy" { "of" } else { "=" });
+        let tv = match how {
+            "root" => {
+                let set = set_of(self.alloc, case.rest())?;
+                self.fresh_root(word, case.doc(), set)?
+            }
+            "one" => self.singleton(case.word())?,
+            "copy" => {
+                let other = self.next(case)?;
+                self.copied(word, other)?
+            }
+            _ => {
+                let function = function_named(case.word())?;
+                let from = self.next(case)?;
+                self.derived(from, function, how == "call")?
+            }
+        };
+        let is_added = self.keep(word, tv)?;
+        self.describe(tv, if is_added { "added" } else { "known" }, case)
+    }
+
+    /// `equal_variables X Y`: whether two variables are equal; of equal ones whether the first is equal to the other had by
+    /// reference, and whether they hash equally; of others whether the first comes before the other.
+    fn write_equal(&self, case: &mut Case<'_>) -> Result<(), Trouble> {
+        let (one, other) = (self.next(case)?, self.next(case)?);
+        let referred = TypeVar::from(&other);
+        case.field("equal ", &(one == other));
+        if one != other {
+            case.field(" before ", &(one < other));
+            return Ok(());
+        }
+        case.field(" referred ", &(one == referred));
+        let hash = hash_of(&one);
+        let is_same = hash == hash_of(&other) && hash == hash_of(&referred);
+        case.field(" hashes ", &is_same);
+        Ok(())
+    }
+
+    /// `parent X FUNCTION Y`: whether the parent of a variable is Y by the function, and whether it hashes as that does.
+    fn write_parent(&self, case: &mut Case<'_>) -> Result<(), Trouble> {
+        let derived = self.next(case)?;
+        let derived_func = function_named(case.word())?;
+        let type_var = self.next(case)?;
+        if !self.vars.is_of(derived) {
+            return Err(Trouble::NoCase);
+        }
+        let expected = Some(TypeVarParent {
+            type_var,
+            derived_func,
+        });
+        let base = &self.vars.content(derived).base;
+        case.field("equal ", &(*base == expected));
+        case.field(" hashes ", &(hash_of(base) == hash_of(&expected)));
+        Ok(())
+    }
+
+    /// Writes the answer to a line about sets and variables: to those that make a variable, `new`, `count`, `show X`, the variable as it
+    /// is, `is_of X`, whether it is of the registry, `can_derive FUNCTION X`, whether the function may be used of it, or one about a set.
+    pub(crate) fn answer(&mut self, word: &str, case: &mut Case<'l>) -> Result<(), Trouble> {
+        match word {
+            "root" | "one" | "copy" | "derive" | "call" => return self.make(word, case),
+            "new" => self.begin(case),
+            "count" => self.write_count(case),
+            "show" => {
+                let tv = self.next(case)?;
+                return self.describe(tv, "kept", case);
+            }
+            "is_of" => {
+                let tv = self.next(case)?;
+                case.yes_or_no(self.vars.is_of(tv));
+            }
+            "can_derive" => {
+                let function = function_named(case.word())?;
+                let tv = self.next(case)?;
+                if !self.vars.is_of(tv) {
+                    return Err(Trouble::NoCase);
+                }
+                case.yes_or_no(tv.can_derive(self.alloc, &self.vars, function)?);
+            }
+            "equal_variables" => return self.write_equal(case),
+            "parent" => return self.write_parent(case),
+            _ => return answer_on_set(self.alloc, word, case),
+        }
+        Ok(())
+    }
+}
+
+impl<'l> Answering<'l> for Variables<'l> {
+    /// Adds the answer to a line. One that asks nothing is told from one that asks what can't be asked.
+    fn answer_line(&mut self, line: &'l str, answers: &mut String) -> Result<(), AllocError> {
+        let mut case = Case::of(self.alloc, line)?;
+        let word = case.word();
+        let answered = self.answer(word, &mut case);
+        case.close(answered);
+        match case.trouble() {
+            Some(Trouble::BadLine) => answers.push_str("bad line\n"),
+            _ => case.end(answers),
+        }
     }
 }

@@ -1,8 +1,19 @@
+use meta_types::Text;
 use rows_words::Case;
+use std::alloc::{AllocError, Global};
 
 /// The text that a word stands for: itself, but that `''` is the empty one.
 pub(crate) fn text_of(word: &str) -> &str {
     if word == "''" { "" } else { word }
+}
+
+/// Three texts that belong together.
+pub(crate) fn texts(
+    alloc: Global,
+    [first, second, third]: [&str; 3],
+) -> Result<(Text, Text, Text), AllocError> {
+    let (first, second) = (Text::new(alloc, first)?, Text::new(alloc, second)?);
+    Ok((first, second, Text::new(alloc, third)?))
 }
 
 /// Writes the text behind ` | `, and nothing where it is empty.
