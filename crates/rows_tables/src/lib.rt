@@ -3,13 +3,15 @@
 //! run of `rows_calls`.
 #![tactic(auto)]
 
-mod generated;
+mod declared;
+mod foreign;
 mod groups;
 mod items;
 mod lines;
 mod opcodes;
 mod parts;
 mod queries;
+mod runs;
 mod session;
 mod written;
 

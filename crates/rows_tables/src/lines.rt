@@ -20,17 +20,9 @@ pub(crate) fn write_count(input: &[u8], case: &mut Case<'_>) {
     case.text(" lines");
 }
 
-/// Writes what a line asks of an instruction: its name, or the length of a long one, the controlling number, that of the second
-/// control behind `/` where there is one, and the numbers of the results and of the values; or `none`.
-pub(crate) fn write_question(
-    alloc: Global,
-    line: &[u8],
-    case: &mut Case<'_>,
-) -> Result<(), Trouble> {
-    let Some(question) = Question::parse(alloc, line)? else {
-        case.text("none");
-        return Ok(());
-    };
+/// Writes what a question asks: the name of the instruction, or the length of a long one, the controlling number, that of the second
+/// control after `/` where there is one, and the numbers of the results and of the values.
+fn write_asked(alloc: Global, question: &Question, case: &mut Case<'_>) -> Result<(), Trouble> {
     let name = question.name();
     if name.len() > 100 {
         case.shown(&name.len());
@@ -47,6 +39,19 @@ pub(crate) fn write_question(
     case.debugged(&question.result_numbers(alloc)?);
     case.letter(' ');
     case.debugged(&question.value_numbers(alloc)?);
+    Ok(())
+}
+
+/// Writes what a line asks of an instruction, or `none`.
+pub(crate) fn write_question(
+    alloc: Global,
+    line: &[u8],
+    case: &mut Case<'_>,
+) -> Result<(), Trouble> {
+    match Question::parse(alloc, line)? {
+        Some(question) => write_asked(alloc, &question, case)?,
+        None => case.text("none"),
+    }
     Ok(())
 }
 

@@ -12,70 +12,120 @@ use std::alloc::{AllocError, Global};
 /// The most changes of a line.
 const MOST_EDITS: usize = 20;
 
-/// Copies of texts.
-fn copies(alloc: Global, texts: &[Text]) -> Result<Vec<Text>, AllocError> {
-    let mut all = Vec::new(alloc);
+/// What is written of parts that make no tables.
+const NONE: &str = "not well-formed";
+
+/// Adds copies of texts.
+fn push_copies(list: &mut Vec<Text>, alloc: Global, texts: &[Text]) -> Result<(), AllocError> {
     for text in texts {
-        all.push(text.copy(alloc)?)?;
+        list.push(text.copy(alloc)?)?;
     }
-    Ok(all)
+    Ok(())
 }
 
-/// Copies of entries.
-fn entry_copies(alloc: Global, entries: &[Descriptor]) -> Result<Vec<Descriptor>, AllocError> {
-    let mut all = Vec::new(alloc);
-    for entry in entries {
-        all.push(Descriptor {
-            name: entry.name.copy(alloc)?,
-            description: entry.description.copy(alloc)?,
+/// A copy of an entry.
+fn entry_copy(alloc: Global, entry: &Descriptor) -> Result<Descriptor, AllocError> {
+    match (entry.name.copy(alloc), entry.description.copy(alloc)) {
+        (Ok(name), Ok(description)) => Ok(Descriptor {
+            name,
+            description,
             offset: entry.offset,
             detail: entry.detail,
-        })?;
+        }),
+        _ => Err(AllocError),
     }
-    Ok(all)
 }
 
-/// The parts of a group of tables.
-fn group_parts(alloc: Global, tables: &Tables, group: usize) -> Result<GroupParts, Trouble> {
-    let parts = (
-        tables.group_name(group),
-        tables.descriptors(group),
-        tables.enumerators(group),
-    );
-    let bytes = (tables.defaults(group), tables.preset_masks(group));
-    let ((Some(name), Some(entries), Some(values)), (Some(defaults), Some(masks))) = (parts, bytes)
-    else {
+/// Adds copies of entries.
+fn push_entries(
+    list: &mut Vec<Descriptor>,
+    alloc: Global,
+    entries: &[Descriptor],
+) -> Result<(), AllocError> {
+    for entry in entries {
+        list.push(entry_copy(alloc, entry)?)?;
+    }
+    Ok(())
+}
+
+/// Adds what a group of tables holds beside its name.
+fn fill_group(
+    parts: &mut GroupParts,
+    alloc: Global,
+    tables: &Tables,
+    group: usize,
+) -> Result<(), AllocError> {
+    let entries = tables.descriptors(group).unwrap_or(&[]);
+    push_entries(&mut parts.descriptors, alloc, entries)?;
+    let values = tables.enumerators(group).unwrap_or(&[]);
+    push_copies(&mut parts.enumerators, alloc, values)?;
+    let defaults = tables.defaults(group).unwrap_or(&[]);
+    parts.defaults.extend_from_slice(defaults)?;
+    let masks = tables.preset_masks(group).unwrap_or(&[]);
+    parts.preset_masks.extend_from_slice(masks)
+}
+
+/// Adds the parts of a group of tables.
+fn push_group(
+    groups: &mut Vec<GroupParts>,
+    alloc: Global,
+    tables: &Tables,
+    group: usize,
+) -> Result<(), Trouble> {
+    let Some(name) = tables.group_name(group) else {
         return Err(Trouble::Differ);
     };
-    Ok(GroupParts {
+    let mut parts = GroupParts {
         name: name.copy(alloc)?,
-        descriptors: entry_copies(alloc, entries)?,
-        enumerators: copies(alloc, values)?,
-        defaults: defaults.to_vec(alloc)?,
-        preset_masks: masks.to_vec(alloc)?,
-    })
+        descriptors: Vec::new(alloc),
+        enumerators: Vec::new(alloc),
+        defaults: Vec::new(alloc),
+        preset_masks: Vec::new(alloc),
+    };
+    fill_group(&mut parts, alloc, tables, group)?;
+    Ok(groups.push(parts)?)
 }
 
-/// Adds the parts of tables.
-fn push_parts(parts: &mut TableParts, alloc: Global, tables: &Tables) -> Result<(), Trouble> {
+/// Adds the parts of an opcode of tables.
+fn push_opcode(
+    parts: &mut TableParts,
+    alloc: Global,
+    tables: &Tables,
+    opcode: u16,
+) -> Result<(), Trouble> {
+    let found = (
+        tables.opcode_name(opcode),
+        tables.opcode_format(opcode),
+        tables.constraints(opcode),
+    );
+    let (Some(name), Some(format), Some(entry)) = found else {
+        return Err(Trouble::Differ);
+    };
+    parts.names.push(name.copy(alloc)?)?;
+    parts.formats.push(format.copy(alloc)?)?;
+    Ok(parts.constraints.push(entry)?)
+}
+
+/// Adds the parts of tables, and changes them by the words that are left.
+fn fill(
+    parts: &mut TableParts,
+    alloc: Global,
+    tables: &Tables,
+    case: &mut Case<'_>,
+) -> Result<(), Trouble> {
     parts.type_sets.extend_from_slice(tables.type_sets())?;
     let constraints = tables.operand_constraints();
     parts.operand_constraints.extend_from_slice(constraints)?;
     for opcode in 1..=tables.opcode_count() {
-        let found = (
-            tables.opcode_name(opcode),
-            tables.opcode_format(opcode),
-            tables.constraints(opcode),
-        );
-        let (Some(name), Some(format), Some(entry)) = found else {
-            return Err(Trouble::Differ);
-        };
-        parts.names.push(name.copy(alloc)?)?;
-        parts.formats.push(format.copy(alloc)?)?;
-        parts.constraints.push(entry)?;
+        push_opcode(parts, alloc, tables, opcode)?;
     }
     for group in 0..tables.group_count() {
-        parts.groups.push(group_parts(alloc, tables, group)?)?;
+        push_group(&mut parts.groups, alloc, tables, group)?;
+    }
+    for _ in 0..MOST_EDITS {
+        if case.has_more() {
+            edit(alloc, parts, case)?;
+        }
     }
     Ok(())
 }
@@ -94,12 +144,7 @@ fn edited_parts(
         constraints: Vec::new(alloc),
         groups: Vec::new(alloc),
     };
-    push_parts(&mut parts, alloc, tables)?;
-    for _ in 0..MOST_EDITS {
-        if case.has_more() {
-            edit(alloc, &mut parts, case)?;
-        }
-    }
+    fill(&mut parts, alloc, tables, case)?;
     Ok(parts)
 }
 
@@ -109,6 +154,39 @@ fn put<T: Drop>(list: &mut Vec<T>, place: usize, item: T, case: &mut Case<'_>) {
         Some(old) => *old = item,
         None => case.no_case(),
     }
+}
+
+/// Puts a text in a place.
+fn put_text(
+    alloc: Global,
+    list: &mut Vec<Text>,
+    place: usize,
+    case: &mut Case<'_>,
+) -> Result<(), AllocError> {
+    let text = Text::new(alloc, case.word())?;
+    put(list, place, text, case);
+    Ok(())
+}
+
+/// Puts an entry in a place, the place first.
+fn put_entry(
+    alloc: Global,
+    list: &mut Vec<Descriptor>,
+    case: &mut Case<'_>,
+) -> Result<(), AllocError> {
+    let place = case.number();
+    let (name, description) = (case.word(), case.word());
+    let (Ok(name), Ok(description)) = (Text::new(alloc, name), Text::new(alloc, description)) else {
+        return Err(AllocError);
+    };
+    let entry = Descriptor {
+        name,
+        description,
+        offset: case.number(),
+        detail: next_detail(case),
+    };
+    put(list, place, entry, case);
+    Ok(())
 }
 
 /// Puts a byte in a place, the place first.
@@ -179,16 +257,6 @@ fn next_detail(case: &mut Case<'_>) -> Detail {
     }
 }
 
-/// Takes the name of an entry, its description, where it stands, and what it is.
-fn next_descriptor(alloc: Global, case: &mut Case<'_>) -> Result<Descriptor, AllocError> {
-    Ok(Descriptor {
-        name: Text::new(alloc, case.word())?,
-        description: Text::new(alloc, case.word())?,
-        offset: case.number(),
-        detail: next_detail(case),
-    })
-}
-
 /// Changes a part of a group.
 fn edit_group(
     alloc: Global,
@@ -198,17 +266,9 @@ fn edit_group(
 ) -> Result<(), Trouble> {
     match word {
         "group" => group.name = Text::new(alloc, case.word())?,
-        "setting" => {
-            let place = case.number();
-            let entry = next_descriptor(alloc, case)?;
-            put(&mut group.descriptors, place, entry, case);
-        }
+        "setting" => put_entry(alloc, &mut group.descriptors, case)?,
         "settings" => group.descriptors.truncate(case.number()),
-        "value" => {
-            let place = case.number();
-            let value = Text::new(alloc, case.word())?;
-            put(&mut group.enumerators, place, value, case);
-        }
+        "value" => put_text(alloc, &mut group.enumerators, case.number(), case)?,
         "values" => resize_texts(alloc, &mut group.enumerators, case.number())?,
         "default" => put_byte(&mut group.defaults, case),
         "defaults" => resize(&mut group.defaults, case.number(), case),
@@ -223,15 +283,9 @@ fn edit_group(
 fn edit(alloc: Global, parts: &mut TableParts, case: &mut Case<'_>) -> Result<(), Trouble> {
     let (word, number) = (case.word(), case.number());
     match word {
-        "name" => {
-            let name = Text::new(alloc, case.word())?;
-            put(&mut parts.names, number, name, case);
-        }
+        "name" => put_text(alloc, &mut parts.names, number, case)?,
         "names" => resize_texts(alloc, &mut parts.names, number)?,
-        "format" => {
-            let format = Text::new(alloc, case.word())?;
-            put(&mut parts.formats, number, format, case);
-        }
+        "format" => put_text(alloc, &mut parts.formats, number, case)?,
         "formats" => resize_texts(alloc, &mut parts.formats, number)?,
         "set" => put(&mut parts.type_sets, number, next_masks(case), case),
         "sets" => resize(&mut parts.type_sets, number, case),
@@ -255,8 +309,18 @@ fn edit(alloc: Global, parts: &mut TableParts, case: &mut Case<'_>) -> Result<()
     Ok(())
 }
 
+/// Whether the tables of each group can be made.
+fn makes_groups(alloc: Global, groups: Vec<GroupParts>) -> Result<bool, AllocError> {
+    let mut makes = true;
+    for group in groups {
+        makes = group_from_parts(alloc, group)?.is_some() && makes;
+    }
+    Ok(makes)
+}
+
 /// Whether the tables of the opcodes and those of each group can be made by themselves.
 fn makes_each(alloc: Global, parts: TableParts) -> Result<bool, AllocError> {
+    let makes = makes_groups(alloc, parts.groups)?;
     let opcodes = opcodes_from_parts(
         alloc,
         parts.names,
@@ -265,11 +329,16 @@ fn makes_each(alloc: Global, parts: TableParts) -> Result<bool, AllocError> {
         parts.operand_constraints,
         parts.constraints,
     )?;
-    let mut makes = opcodes.is_some();
-    for group in parts.groups {
-        makes = group_from_parts(alloc, group)?.is_some() && makes;
+    Ok(opcodes.is_some() && makes)
+}
+
+/// What parts make, all together: the same tables as these, others, or none.
+fn made_of(alloc: Global, parts: TableParts, tables: &Tables) -> Result<&'static str, AllocError> {
+    match tables_from_parts(alloc, parts)? {
+        Some(made) if made.same(tables) && tables.same(&made) => Ok("same"),
+        Some(_) => Ok("other"),
+        None => Ok(NONE),
     }
-    Ok(makes)
 }
 
 /// Takes tables apart, changes the parts by the words that are left, and writes what the parts make, all together and each alone: the
@@ -280,19 +349,9 @@ pub(crate) fn write_made(
     case: &mut Case<'_>,
 ) -> Result<(), Trouble> {
     let taken = case.taken();
-    let made = match tables_from_parts(alloc, edited_parts(alloc, tables, case)?)? {
-        Some(made) => {
-            if made.same(tables) && tables.same(&made) {
-                "same"
-            } else {
-                "other"
-            }
-        }
-        None => "not well-formed",
-    };
+    let made = made_of(alloc, edited_parts(alloc, tables, case)?, tables)?;
     case.go_back(taken);
-    let each = makes_each(alloc, edited_parts(alloc, tables, case)?)?;
-    if each == (made == "not well-formed") {
+    if makes_each(alloc, edited_parts(alloc, tables, case)?)? == (made == NONE) {
         return Err(Trouble::Differ);
     }
     case.text(made);

@@ -1,5 +1,5 @@
 use meta_declared::{Built, Declarations, build_all};
-use meta_gen::Tables;
+use meta_gen::tables_of;
 use meta_rust_text::{
     builder_text, instructions_text, settings_text, types_text, write_builder, write_instructions,
     write_settings, write_types,
@@ -10,9 +10,9 @@ use rows_words::{Case, Outside, Trouble};
 use std::alloc::Global;
 
 /// The text of this name, as it is made in memory.
-fn made(alloc: Global, name: &str, built: &Built<'_>, tables: &Tables) -> Result<String, Trouble> {
+fn made(alloc: Global, name: &str, built: &Built<'_>) -> Result<String, Trouble> {
     match name {
-        "tables" => Ok(table_text(alloc, Version::Three, tables)?),
+        "tables" => Ok(table_text(alloc, Version::Three, &tables_of(alloc, built)?)?),
         "types" => Ok(types_text(alloc)?),
         "settings" => Ok(settings_text(alloc, built.groups())?),
         "instructions" => Ok(instructions_text(alloc, built)?),
@@ -26,11 +26,13 @@ fn write(
     alloc: Global,
     name: &str,
     built: &Built<'_>,
-    tables: &Tables,
     sink: &mut MemorySink,
 ) -> Result<(), WriteError> {
     match name {
-        "tables" => write_tables(alloc, tables, sink),
+        "tables" => match tables_of(alloc, built) {
+            Ok(tables) => write_tables(alloc, &tables, sink),
+            Err(_) => Err(WriteError::OutOfMemory),
+        },
         "types" => write_types(alloc, sink),
         "settings" => write_settings(alloc, built, sink),
         "instructions" => write_instructions(alloc, built, sink),
@@ -40,20 +42,16 @@ fn write(
 
 /// Writes what the writer of a text does, by the name of the text: whether its sink took all of what is made in memory, or how many
 /// bytes of its front after a fault.
-pub(crate) fn write_written(
+fn write_name(
     alloc: Global,
     outside: Outside,
-    declarations: &Declarations,
-    tables: &Tables,
+    built: &Built<'_>,
     case: &mut Case<'_>,
 ) -> Result<(), Trouble> {
     let name = case.word();
-    let Ok(built) = build_all(alloc, declarations) else {
-        return Err(Trouble::NoCase);
-    };
-    let text = made(alloc, name, &built, tables)?;
+    let text = made(alloc, name, built)?;
     let mut sink = outside.sink(alloc)?;
-    match write(alloc, name, &built, tables, &mut sink) {
+    match write(alloc, name, built, &mut sink) {
         Ok(()) if sink.bytes() == text.as_bytes() => case.text("all"),
         Err(WriteError::WriteFault) if text.as_bytes().starts_with(sink.bytes()) => {
             case.field("front ", &sink.bytes().len());
@@ -62,4 +60,23 @@ pub(crate) fn write_written(
         _ => return Err(Trouble::Differ),
     }
     Ok(())
+}
+
+/// What is built of declarations, which there has to be.
+pub(crate) fn built_of(alloc: Global, declarations: &Declarations) -> Result<Built<'_>, Trouble> {
+    match build_all(alloc, declarations) {
+        Ok(built) => Ok(built),
+        Err(_) => Err(Trouble::NoCase),
+    }
+}
+
+/// The same of declarations without a fault.
+pub(crate) fn write_written(
+    alloc: Global,
+    outside: Outside,
+    declarations: &Declarations,
+    case: &mut Case<'_>,
+) -> Result<(), Trouble> {
+    let built = built_of(alloc, declarations)?;
+    write_name(alloc, outside, &built, case)
 }
