@@ -1,11 +1,10 @@
 use super::declared::Declared;
-use meta_declared::Declarations;
 use meta_file::{FileEnding, Over, run_file, run_words};
 use meta_file_check::{CheckEnding, Names, check_file};
 use meta_text::{MemorySink, MemorySource};
 use meta_tokens::Bytes;
 use meta_types::Text;
-use rows_words::{Case, Outside, Trouble, add_held, write_bytes, write_ended};
+use rows_words::{Case, Outside, Trouble, add_held, texts_of_words, write_bytes, write_ended};
 use sha2::{Digest, Sha256};
 use std::alloc::{AllocError, Global};
 use std::io::{self, Write};
@@ -14,15 +13,21 @@ use std::{fs, str};
 /// What the path of a file is in messages.
 pub(crate) const PATH: &[u8] = b"FILE";
 
-/// Words, a text each, with one space between them. No words are an empty text.
-pub(crate) fn texts_of(alloc: Global, words: &str) -> Result<Vec<Text>, AllocError> {
-    let mut texts = Vec::new(alloc);
-    if !words.is_empty() {
-        for word in words.split(' ') {
-            texts.push(Text::new(alloc, word)?)?;
-        }
+/// The SHA-256 of bytes, in hexadecimal digits.
+pub(crate) fn sum_of(alloc: Global, bytes: &[u8]) -> Result<String, AllocError> {
+    let mut sum = String::new(alloc);
+    for byte in Sha256::digest(bytes) {
+        write!(sum, "{byte:02x}")?;
     }
-    Ok(texts)
+    Ok(sum)
+}
+
+/// Whether bytes end with what a file has, and begin with something else.
+fn ends_so(rt: &HostRuntime, name: &str, bytes: &[u8]) -> bool {
+    match fs::read(rt, name) {
+        Ok(wanted) => bytes.len() > wanted.len() && bytes.ends_with(&wanted),
+        Err(_) => false,
+    }
 }
 
 /// What a run told, its status, and what its sink took.
@@ -33,79 +38,83 @@ pub(crate) struct Ran {
     sink: MemorySink,
 }
 
-/// What a run of words over a file told, and its status.
-fn run_over_file(
-    alloc: Global,
-    words: &[Text],
-    file: &mut MemorySource,
-    source: &mut MemorySource,
-    sink: &mut MemorySink,
-) -> Result<(Vec<Bytes>, u8), AllocError> {
-    let ending = run_file(alloc, words, PATH, file, source, sink);
-    let status = ending.code();
-    let mut told = Vec::new(alloc);
-    if let FileEnding::Refused(message) = ending {
-        told.push(message)?;
-    }
-    Ok((told, status))
-}
-
-/// What a check of a file told, and its status.
-fn run_check(
-    alloc: Global,
-    names: Names,
-    file: &mut MemorySource,
-    source: &mut MemorySource,
-    sink: &mut MemorySink,
-) -> Result<(Vec<Bytes>, u8), AllocError> {
-    let ending = check_file(alloc, PATH, names, file, source, sink);
-    let status = ending.code();
-    let mut told = Vec::new(alloc);
-    match ending {
-        CheckEnding::Ran(_, messages) | CheckEnding::NamesRefused(messages) => told = messages,
-        CheckEnding::Refused(message) => told.push(message)?,
-        CheckEnding::FileFault | CheckEnding::FileTooLong => {}
-    }
-    Ok((told, status))
-}
-
-/// What a run of words over declarations told, which is nothing, and its status.
-fn run_over(
-    alloc: Global,
-    words: &[Text],
-    declarations: &Declarations,
-    source: &mut MemorySource,
-    sink: &mut MemorySink,
-) -> (Vec<Bytes>, u8) {
-    let ending = run_words(alloc, words, declarations, source, sink);
-    (Vec::new(alloc), ending.code())
-}
-
 impl Ran {
+    /// Runs words over a file.
+    fn run_file(
+        &mut self,
+        alloc: Global,
+        words: &[Text],
+        file: &mut MemorySource,
+        source: &mut MemorySource,
+    ) -> Result<(), AllocError> {
+        let ending = run_file(alloc, words, PATH, file, source, &mut self.sink);
+        self.status = ending.code();
+        match ending {
+            FileEnding::Refused(message) => Ok(self.told.push(message)?),
+            _ => Ok(()),
+        }
+    }
+
+    /// Checks a file.
+    fn check_file(
+        &mut self,
+        alloc: Global,
+        names: Names,
+        file: &mut MemorySource,
+        source: &mut MemorySource,
+    ) -> Result<(), AllocError> {
+        let ending = check_file(alloc, PATH, names, file, source, &mut self.sink);
+        self.status = ending.code();
+        match ending {
+            CheckEnding::Ran(_, messages) | CheckEnding::NamesRefused(messages) => {
+                self.told = messages;
+            }
+            CheckEnding::Refused(message) => self.told.push(message)?,
+            CheckEnding::FileFault | CheckEnding::FileTooLong => {}
+        }
+        Ok(())
+    }
+
+    /// Runs words over what is declared and a source.
+    fn run(
+        &mut self,
+        alloc: Global,
+        words: &[Text],
+        declared: Declared<'_>,
+        source: &mut MemorySource,
+    ) -> Result<(), Trouble> {
+        match declared {
+            Declared::Made(declarations) => {
+                let ending = run_words(alloc, words, declarations, source, &mut self.sink);
+                self.status = ending.code();
+            }
+            Declared::File(file, text) => {
+                let mut file = file.source(alloc, text)?;
+                match Names::asked(words) {
+                    Some(names) => self.check_file(alloc, names, &mut file, source)?,
+                    None => self.run_file(alloc, words, &mut file, source)?,
+                }
+            }
+        }
+        Ok(())
+    }
+
     /// Runs the words over what is declared and an input.
     pub(crate) fn of(
         alloc: Global,
-        words: &str,
+        words: &[Text],
         declared: Declared<'_>,
         outside: Outside,
         input: &[u8],
     ) -> Result<Ran, Trouble> {
-        let words = texts_of(alloc, words)?;
         let mut source = outside.source(alloc, input)?;
-        let mut sink = outside.sink(alloc)?;
-        let (told, status) = match declared {
-            Declared::Made(declarations) => {
-                run_over(alloc, &words, declarations, &mut source, &mut sink)
-            }
-            Declared::File(file, text) => {
-                let mut file = file.source(alloc, text)?;
-                match Names::asked(&words) {
-                    Some(names) => run_check(alloc, names, &mut file, &mut source, &mut sink)?,
-                    None => run_over_file(alloc, &words, &mut file, &mut source, &mut sink)?,
-                }
-            }
+        let mut ran = Ran {
+            told: Vec::new(alloc),
+            status: 0,
+            sink: outside.sink(alloc)?,
         };
-        Ok(Ran { told, status, sink })
+        ran.run(alloc, words, declared, &mut source)?;
+        Ok(ran)
     }
 
     /// What the sink took, where all was done.
@@ -134,12 +143,10 @@ impl Ran {
     /// Writes how what the sink took stands to what a file has, and the rest as `write` does.
     pub(crate) fn write_against(&self, rt: &HostRuntime, name: &str) -> io::Result<()> {
         let bytes = self.sink.bytes();
-        match (fs::read(rt, name), str::from_utf8(bytes)) {
-            (_, Err(_)) => println!(rt; "no text")?,
-            (Ok(wanted), Ok(_)) if bytes.len() > wanted.len() && bytes.ends_with(&wanted) => {
-                println!(rt; "ends so")?;
-            }
-            (_, Ok(text)) => {
+        match str::from_utf8(bytes) {
+            Err(_) => println!(rt; "no text")?,
+            Ok(_) if ends_so(rt, name, bytes) => println!(rt; "ends so")?,
+            Ok(text) => {
                 let mut answer = String::new(rt.alloc());
                 add_held(rt, name, text, &mut answer)?;
                 io::writer(rt).write_all(answer.as_bytes())?;
@@ -150,12 +157,7 @@ impl Ran {
 
     /// Writes the SHA-256 of what the sink took, and the rest as `write` does.
     pub(crate) fn write_sum(&self, rt: &HostRuntime) -> io::Result<()> {
-        let mut sum = Sha256::new();
-        sum.update(self.sink.bytes());
-        for byte in sum.finalize() {
-            print!(rt; "{byte:02x}")?;
-        }
-        println!(rt; "")?;
+        println!(rt; "{}", sum_of(rt.alloc(), self.sink.bytes())?)?;
         self.write_ending(rt)
     }
 
@@ -169,16 +171,9 @@ impl Ran {
     }
 }
 
-/// Writes a SHA-256.
-pub(crate) fn write_digest(case: &mut Case<'_>, sum: Sha256) {
-    for byte in sum.finalize() {
-        case.hexadecimal(byte);
-    }
-}
-
-/// Writes what these words are asked over, and which of them are asked.
-pub(crate) fn write_over(alloc: Global, words: &str, case: &mut Case<'_>) -> Result<(), Trouble> {
-    let words = texts_of(alloc, words)?;
+/// Writes what the words that are left are asked over, and which of them are asked.
+pub(crate) fn write_over(alloc: Global, case: &mut Case<'_>) -> Result<(), Trouble> {
+    let words = texts_of_words(alloc, case.rest())?;
     let asked = match Over::of(&words) {
         Over::Shared(asked) => {
             case.text("shared");

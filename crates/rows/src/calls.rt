@@ -72,6 +72,21 @@ fn write_call(
     Ok(())
 }
 
+/// Writes what the calls answered that the lines name.
+fn write_answers(
+    alloc: Global,
+    outside: Outside,
+    flags: &mut Flags<'_>,
+    lines: &str,
+    case: &mut Case<'_>,
+) -> Result<(), Trouble> {
+    for line in lines.split('\n') {
+        case.separate('\n');
+        write_call(alloc, outside, flags, line, case)?;
+    }
+    Ok(())
+}
+
 /// Writes what the calls answered that the lines of the input name, on the values of a group of the tables, or `None` where there is no
 /// such group. A call is `set NAME VALUE`, `enable NAME`, `get NAME`, `toml`, or `write`, which writes to a sink.
 pub(crate) fn write_calls(
@@ -81,56 +96,69 @@ pub(crate) fn write_calls(
     input: &[u8],
     case: &mut Case<'_>,
 ) -> Result<(), Trouble> {
-    let Some(mut flags) = Flags::new(alloc, tables, case.number())? else {
-        case.text("None");
-        return Ok(());
-    };
-    for line in lines_of(input)?.split('\n') {
-        case.separate('\n');
-        write_call(alloc, outside, &mut flags, line, case)?;
+    let lines = lines_of(input)?;
+    match Flags::new(alloc, tables, case.number())? {
+        Some(mut flags) => write_answers(alloc, outside, &mut flags, lines, case)?,
+        None => case.text("None"),
     }
     Ok(())
 }
 
-/// Feeds the lines of the input to a checker, and writes for each why it is wrong, or `-`. A line `type V` asks for the type of a value.
+/// Feeds a line to a checker, and writes why it is wrong, or `-`. A line `type V` asks for the type of a value.
+fn write_fed_line(
+    alloc: Global,
+    tables: &Tables,
+    checker: &mut Checker,
+    line: &str,
+    case: &mut Case<'_>,
+) -> Result<(), Trouble> {
+    if let Some(value) = line.strip_prefix("type ") {
+        case.number_or_dash(checker.type_of(number(value)?));
+        return Ok(());
+    }
+    match checker.feed(tables, line.as_bytes())? {
+        Some(reason) => {
+            let mut said = String::new(alloc);
+            reason.push(&mut said)?;
+            case.text(said.as_str());
+        }
+        None => case.letter('-'),
+    }
+    Ok(())
+}
+
+/// Writes the short form of a line after those that the checker was fed, or `none`, and feeds it the line.
+fn write_short_line(
+    alloc: Global,
+    tables: &Tables,
+    checker: &mut Checker,
+    line: &str,
+    case: &mut Case<'_>,
+) -> Result<(), Trouble> {
+    match print_line(alloc, tables, checker, line.as_bytes())? {
+        Some(text) => case.text(text.as_str()),
+        None => case.text("none"),
+    }
+    let _reason = checker.feed(tables, line.as_bytes())?;
+    Ok(())
+}
+
+/// Feeds the lines of the input to a checker: `fed` writes of each why it is wrong, and another word its short form.
 pub(crate) fn write_fed(
     alloc: Global,
     tables: &Tables,
     input: &[u8],
+    word: &str,
     case: &mut Case<'_>,
 ) -> Result<(), Trouble> {
+    let lines = lines_of(input)?;
     let mut checker = Checker::new(alloc);
-    for line in lines_of(input)?.split('\n') {
+    for line in lines.split('\n') {
         case.separate('\n');
-        if let Some(value) = line.strip_prefix("type ") {
-            case.number_or_dash(checker.type_of(number(value)?));
-            continue;
+        match word {
+            "fed" => write_fed_line(alloc, tables, &mut checker, line, case)?,
+            _ => write_short_line(alloc, tables, &mut checker, line, case)?,
         }
-        let mut said = String::new(alloc);
-        match checker.feed(tables, line.as_bytes())? {
-            Some(reason) => reason.push(&mut said)?,
-            None => said.push('-')?,
-        }
-        case.text(said.as_str());
-    }
-    Ok(())
-}
-
-/// Writes for each line of the input its short form after the lines before it, or `none`.
-pub(crate) fn write_short(
-    alloc: Global,
-    tables: &Tables,
-    input: &[u8],
-    case: &mut Case<'_>,
-) -> Result<(), Trouble> {
-    let mut checker = Checker::new(alloc);
-    for line in lines_of(input)?.split('\n') {
-        case.separate('\n');
-        match print_line(alloc, tables, &checker, line.as_bytes())? {
-            Some(text) => case.text(text.as_str()),
-            None => case.text("none"),
-        }
-        let _reason = checker.feed(tables, line.as_bytes())?;
     }
     Ok(())
 }

@@ -1,9 +1,13 @@
 use super::asking::PATH;
-use meta_audit::{Verdict, audit};
+use super::calls::{write_calls, write_fed};
+use super::readings::write_readings;
+use meta_audit::audit;
 use meta_declared::Declarations;
 use meta_file::{LoadError, load};
 use meta_gen::{Tables, generate};
-use rows_words::{Outside, Trouble};
+use meta_items_declared::declare;
+use meta_items_reader::read_items;
+use rows_words::{Case, Outside, Trouble};
 use std::alloc::Global;
 
 /// What words are run over.
@@ -24,6 +28,17 @@ pub(crate) fn loaded(alloc: Global, text: &[u8]) -> Result<Declarations, Trouble
     }
 }
 
+/// What the items of a text declare, which may show a fault.
+pub(crate) fn declared_by(alloc: Global, text: &[u8]) -> Result<Declarations, Trouble> {
+    let Ok(read) = read_items(alloc, text) else {
+        return Err(Trouble::NoCase);
+    };
+    match declare(alloc, &read.items) {
+        Ok(declarations) => Ok(declarations),
+        Err(_) => Err(Trouble::NoCase),
+    }
+}
+
 /// The tables of declarations.
 fn generated(alloc: Global, declarations: &Declarations) -> Result<Tables, Trouble> {
     match generate(alloc, declarations) {
@@ -32,50 +47,70 @@ fn generated(alloc: Global, declarations: &Declarations) -> Result<Tables, Troub
     }
 }
 
-/// What the auditor says of the tables of declarations, which it is asked so many times.
-fn verdict_of(alloc: Global, declarations: &Declarations, times: u32) -> Result<Verdict, Trouble> {
+/// Writes what the auditor says of the tables of declarations, which it is asked so many times.
+fn write_audited(
+    alloc: Global,
+    declarations: &Declarations,
+    case: &mut Case<'_>,
+) -> Result<(), Trouble> {
     let tables = generated(alloc, declarations)?;
-    let mut verdict = Err(Trouble::NoCase);
-    for _ in 0..times {
-        verdict = match audit(alloc, declarations, &tables) {
-            Ok(verdict) => Ok(verdict),
-            Err(_) => Err(Trouble::NoCase),
-        };
+    let times: u32 = case.number();
+    for time in 1..=times {
+        match audit(alloc, declarations, &tables) {
+            Ok(verdict) if time == times => case.debugged(&verdict),
+            Ok(_) => {}
+            Err(_) => return Err(Trouble::NoCase),
+        }
     }
-    verdict
+    Ok(())
 }
 
-/// How many opcodes the tables of declarations have, which are made so many times.
-fn opcode_count_of(alloc: Global, declarations: &Declarations, times: u32) -> Result<u16, Trouble> {
+/// Writes how many opcodes the tables of declarations have, which are made so many times.
+fn write_generated(
+    alloc: Global,
+    declarations: &Declarations,
+    case: &mut Case<'_>,
+) -> Result<(), Trouble> {
     let mut count = 0;
-    for _ in 0..times {
+    for _ in 0..case.number::<u32>() {
         count = generated(alloc, declarations)?.opcode_count();
     }
-    Ok(count)
+    case.shown(&count);
+    case.text(" opcodes");
+    Ok(())
 }
 
-impl Declared<'_> {
-    /// The tables.
-    pub(crate) fn tables(self, alloc: Global) -> Result<Tables, Trouble> {
-        match self {
-            Declared::Made(declarations) => generated(alloc, declarations),
-            Declared::File(_, text) => generated(alloc, &loaded(alloc, text)?),
-        }
+/// Writes what a word asks of tables and the input.
+fn ask_tables(
+    alloc: Global,
+    outside: Outside,
+    tables: &Tables,
+    input: &[u8],
+    word: &str,
+    case: &mut Case<'_>,
+) -> Result<(), Trouble> {
+    match word {
+        "reread" => write_readings(alloc, tables, input, case),
+        "calls" => write_calls(alloc, outside, tables, input, case),
+        _ => write_fed(alloc, tables, input, word, case),
     }
+}
 
-    /// What the auditor says of the tables, which it is asked so many times.
-    pub(crate) fn verdict(self, alloc: Global, times: u32) -> Result<Verdict, Trouble> {
-        match self {
-            Declared::Made(declarations) => verdict_of(alloc, declarations, times),
-            Declared::File(_, text) => verdict_of(alloc, &loaded(alloc, text)?, times),
-        }
-    }
-
-    /// How many opcodes the tables have, which are made so many times.
-    pub(crate) fn opcode_count(self, alloc: Global, times: u32) -> Result<u16, Trouble> {
-        match self {
-            Declared::Made(declarations) => opcode_count_of(alloc, declarations, times),
-            Declared::File(_, text) => opcode_count_of(alloc, &loaded(alloc, text)?, times),
+/// Writes what a word asks of declarations, or of their tables and the input.
+pub(crate) fn ask_declared(
+    alloc: Global,
+    outside: Outside,
+    declarations: &Declarations,
+    input: &[u8],
+    word: &str,
+    case: &mut Case<'_>,
+) -> Result<(), Trouble> {
+    match word {
+        "audited" => write_audited(alloc, declarations, case),
+        "generated" => write_generated(alloc, declarations, case),
+        _ => {
+            let tables = generated(alloc, declarations)?;
+            ask_tables(alloc, outside, &tables, input, word, case)
         }
     }
 }

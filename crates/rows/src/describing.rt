@@ -1,48 +1,77 @@
 use super::declared::loaded;
-use meta_declared::{Declarations, build_all};
-use meta_gen::tables_of;
+use meta_declared::{Built, Declarations, build_all};
+use meta_gen::{Tables, tables_of};
 use meta_items::write_items;
 use meta_items_described::{describe, is_described, is_description, write_description};
 use meta_items_reader::{ReadError, read_items};
 use meta_synth::synth;
 use rows_words::{Case, Trouble};
-use std::alloc::Global;
+use std::alloc::{AllocError, Global};
 
-/// The text that describes the declarations, which is that of the items that do.
-fn description(alloc: Global, declarations: &Declarations) -> Result<String, Trouble> {
-    let Ok(built) = build_all(alloc, declarations) else {
-        return Err(Trouble::NoCase);
-    };
-    let Some(items) = describe(alloc, &built)? else {
-        return Err(Trouble::NoCase);
-    };
-    let written = write_items(alloc, &items)?;
-    match write_description(alloc, &built)? {
+/// What is built of declarations, which there has to be.
+fn built_of(alloc: Global, declarations: &Declarations) -> Result<Built<'_>, Trouble> {
+    match build_all(alloc, declarations) {
+        Ok(built) => Ok(built),
+        Err(_) => Err(Trouble::NoCase),
+    }
+}
+
+/// The text of the items that describe what is built.
+fn text_of_items(alloc: Global, built: &Built<'_>) -> Result<Vec<u8>, Trouble> {
+    match describe(alloc, built)? {
+        Some(items) => Ok(write_items(alloc, &items)?),
+        None => Err(Trouble::NoCase),
+    }
+}
+
+/// The text that describes what is built, which is that of the items that do.
+fn description(alloc: Global, built: &Built<'_>) -> Result<String, Trouble> {
+    let written = text_of_items(alloc, built)?;
+    match write_description(alloc, built)? {
         Some(text) if text.as_bytes() == written.as_slice() => Ok(text),
         _ => Err(Trouble::Differ),
     }
 }
 
+/// Whether the tables are those of what is built.
+fn are_tables_of(alloc: Global, tables: &Tables, built: &Built<'_>) -> Result<bool, AllocError> {
+    Ok(tables_of(alloc, built)?.same(tables))
+}
+
 /// Whether both have the same tables.
-fn have_same_tables(
+fn have_same_tables(alloc: Global, one: &Built<'_>, other: &Built<'_>) -> Result<bool, AllocError> {
+    are_tables_of(alloc, &tables_of(alloc, one)?, other)
+}
+
+/// Whether both have the same tables, and the text describes the other.
+fn are_same(
     alloc: Global,
-    one: &Declarations,
-    other: &Declarations,
+    built: &Built<'_>,
+    other: &Built<'_>,
+    text: &str,
 ) -> Result<bool, Trouble> {
-    let (Ok(one), Ok(other)) = (build_all(alloc, one), build_all(alloc, other)) else {
-        return Err(Trouble::NoCase);
-    };
-    let (tables, others) = (tables_of(alloc, &one)?, tables_of(alloc, &other)?);
-    Ok(tables.same(&others))
+    Ok(have_same_tables(alloc, built, other)? && description(alloc, other)?.as_str() == text)
+}
+
+/// Whether declarations have the same tables as what is built, and the text describes them.
+fn are_described_by(
+    alloc: Global,
+    declarations: &Declarations,
+    built: &Built<'_>,
+    text: &str,
+) -> Result<bool, Trouble> {
+    are_same(alloc, built, &built_of(alloc, declarations)?, text)
+}
+
+/// Whether the text that describes what is built declares the same, and describes this too.
+fn is_described_alike(alloc: Global, built: &Built<'_>) -> Result<bool, Trouble> {
+    let text = description(alloc, built)?;
+    are_described_by(alloc, &loaded(alloc, text.as_bytes())?, built, &text)
 }
 
 /// Whether the text that describes declarations makes such with the same tables, and describes these too.
 fn comes_back(alloc: Global, declarations: &Declarations) -> Result<bool, Trouble> {
-    let text = description(alloc, declarations)?;
-    let others = loaded(alloc, text.as_bytes())?;
-    let again = description(alloc, &others)?;
-    let are_same = have_same_tables(alloc, declarations, &others)?;
-    Ok(are_same && text.as_bytes() == again.as_bytes())
+    is_described_alike(alloc, &built_of(alloc, declarations)?)
 }
 
 /// Writes whether what describes the declarations of the text makes the same ones, and is described by itself.
@@ -56,6 +85,39 @@ pub(crate) fn write_described(
     Ok(())
 }
 
+/// Whether the items of a text describe what is built.
+fn do_items_describe(alloc: Global, built: &Built<'_>, text: &[u8]) -> Result<bool, Trouble> {
+    match read_items(alloc, text) {
+        Ok(read) => Ok(is_described(alloc, built, &read.items)?),
+        Err(ReadError::Refused(_refusal)) => Ok(false),
+        Err(ReadError::Memory) => Err(Trouble::OutOfMemory),
+    }
+}
+
+/// Writes whether the items of a text, and whether the text itself, describe what is built.
+fn write_both(
+    alloc: Global,
+    built: &Built<'_>,
+    text: &[u8],
+    case: &mut Case<'_>,
+) -> Result<(), Trouble> {
+    case.text("items ");
+    case.yes_or_no(do_items_describe(alloc, built, text)?);
+    case.text(", text ");
+    case.yes_or_no(is_description(alloc, built, text)?);
+    Ok(())
+}
+
+/// The same of declarations.
+fn write_of(
+    alloc: Global,
+    declarations: &Declarations,
+    text: &[u8],
+    case: &mut Case<'_>,
+) -> Result<(), Trouble> {
+    write_both(alloc, &built_of(alloc, declarations)?, text, case)
+}
+
 /// Writes whether the items of a text, and whether the text itself, describe what the file declares.
 pub(crate) fn write_describes(
     alloc: Global,
@@ -63,20 +125,7 @@ pub(crate) fn write_describes(
     file: &[u8],
     case: &mut Case<'_>,
 ) -> Result<(), Trouble> {
-    let declarations = loaded(alloc, file)?;
-    let Ok(built) = build_all(alloc, &declarations) else {
-        return Err(Trouble::NoCase);
-    };
-    let items_do = match read_items(alloc, text) {
-        Ok(read) => is_described(alloc, &built, &read.items)?,
-        Err(ReadError::Refused(_refusal)) => false,
-        Err(ReadError::Memory) => return Err(Trouble::OutOfMemory),
-    };
-    case.text("items ");
-    case.yes_or_no(items_do);
-    case.text(", text ");
-    case.yes_or_no(is_description(alloc, &built, text)?);
-    Ok(())
+    write_of(alloc, &loaded(alloc, file)?, text, case)
 }
 
 /// Whether those that are made from a number are described so.

@@ -1,20 +1,19 @@
-use super::asking::{PATH, write_digest};
+use super::asking::{PATH, sum_of};
 use super::each::{Counting, Each, count_each};
 use meta_file::{LoadError, load};
 use meta_tokens::Bytes;
 use rows_words::{Case, Trouble, number};
-use sha2::{Digest, Sha256};
-use std::alloc::Global;
+use std::alloc::{AllocError, Global};
 use std::str;
 
-/// How many texts declare something without a fault, how many are refused with a line that the text has, and how many otherwise; and the
-/// SHA-256 of all messages, each with a line feed.
+/// How many texts declare something without a fault, how many are refused with a line that the text has, and how many otherwise; and all
+/// messages, each with a line feed.
 #[derive(Drop)]
 struct Loads {
     declared: u32,
     refused: u32,
     astray: u32,
-    messages: Sha256,
+    messages: Vec<u8>,
 }
 
 /// How many lines a text has, one at least.
@@ -52,14 +51,15 @@ fn is_within(message: &[u8], text: &[u8]) -> bool {
 
 impl Loads {
     /// Counts why a text is refused.
-    fn count_message(&mut self, message: &[u8], text: &[u8]) {
-        self.messages.update(message);
-        self.messages.update(b"\n");
+    fn count_message(&mut self, message: &[u8], text: &[u8]) -> Result<(), AllocError> {
+        self.messages.extend_from_slice(message)?;
+        self.messages.push(b'\n')?;
         if is_within(message, text) {
             self.refused = self.refused.saturating_add(1);
         } else {
             self.astray = self.astray.saturating_add(1);
         }
+        Ok(())
     }
 }
 
@@ -77,7 +77,7 @@ impl Counting for Loads {
     fn count(&mut self, alloc: Global, text: &[u8]) -> Result<(), Trouble> {
         match refusal(alloc, text)? {
             None => self.declared = self.declared.saturating_add(1),
-            Some(message) => self.count_message(message.as_slice(), text),
+            Some(message) => self.count_message(message.as_slice(), text)?,
         }
         Ok(())
     }
@@ -94,19 +94,14 @@ pub(crate) fn write_loads(
         declared: 0,
         refused: 0,
         astray: 0,
-        messages: Sha256::new(),
+        messages: Vec::new(alloc),
     };
-    count_each(
-        alloc,
-        text,
-        each,
-        (0, text.len().saturating_add(1)),
-        &mut loads,
-    )?;
+    let places = (0, text.len().saturating_add(1));
+    count_each(alloc, text, each, places, &mut loads)?;
     case.shown(&loads.declared);
     case.field(" declared, ", &loads.refused);
     case.field(" refused, ", &loads.astray);
     case.text(" astray, ");
-    write_digest(case, loads.messages);
+    case.text(sum_of(alloc, &loads.messages)?.as_str());
     Ok(())
 }

@@ -13,15 +13,21 @@ mod readings;
 mod session;
 mod unfailing;
 
+use meta_shared_ops::define;
 use session::Session;
 use std::io;
+
+/// Answers the lines of an input on the standard output.
+fn answer(rt: &HostRuntime, session: &mut Session<'_>, input: &str) -> io::Result<()> {
+    for line in input.lines() {
+        session.answer_line(rt, line)?;
+    }
+    Ok(())
+}
 
 /// Answers the lines of the standard input on the standard output.
 fn main(rt: HostRuntime) -> io::Result<()> {
     let input = io::read_to_string(rt.alloc(), rt.reader())?;
-    let mut session = Session::new(rt.alloc())?;
-    for line in input.as_str().lines() {
-        session.answer_line(&rt, line)?;
-    }
-    Ok(())
+    let shared = define(rt.alloc())?;
+    answer(&rt, &mut Session::new(rt.alloc(), &shared), &input)
 }

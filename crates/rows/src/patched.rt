@@ -1,5 +1,5 @@
-use rows_words::{Trouble, number, pair_of};
-use std::alloc::{AllocError, Global};
+use rows_words::{Trouble, number};
+use std::alloc::Global;
 use std::str;
 
 /// A text that the lines of a patch make of the lines of another.
@@ -21,10 +21,9 @@ impl<'t> Patching<'t> {
     }
 
     /// Adds a line.
-    fn push(&mut self, line: &str) -> Result<(), AllocError> {
+    fn push(&mut self, line: &str) -> Result<(), Trouble> {
         self.text.extend_from_slice(line.as_bytes())?;
-        self.text.push(b'\n')?;
-        Ok(())
+        Ok(self.text.push(b'\n')?)
     }
 
     /// Adds so many lines, from the next on.
@@ -36,20 +35,29 @@ impl<'t> Patching<'t> {
         Ok(())
     }
 
-    /// Adds the next line, with other bytes between its first ones and its last ones: `FIRST LAST BYTES`.
-    fn push_changed(&mut self, words: &str) -> Result<(), Trouble> {
-        let (first, rest) = pair_of(words, ' ')?;
-        let (last, bytes) = pair_of(rest, ' ')?;
-        let (first, last) = (number::<usize>(first)?, number::<usize>(last)?);
-        let line = self.next_line()?.as_bytes();
+    /// Adds a line, with other bytes between so many of its first ones and so many of its last ones.
+    fn push_around(
+        &mut self,
+        line: &[u8],
+        [first, last]: [usize; 2],
+        bytes: &str,
+    ) -> Result<(), Trouble> {
         if first > line.len() || last > line.len() {
             return Err(Trouble::NoCase);
         }
         self.text.extend_from_slice(&line[..first])?;
         self.text.extend_from_slice(bytes.as_bytes())?;
         self.text.extend_from_slice(&line[line.len() - last..])?;
-        self.text.push(b'\n')?;
-        Ok(())
+        Ok(self.text.push(b'\n')?)
+    }
+
+    /// Adds the next line, with other bytes between its first ones and its last ones: `FIRST LAST BYTES`.
+    fn push_changed(&mut self, words: &str) -> Result<(), Trouble> {
+        let (first, rest) = words.split_once(' ').unwrap_or((words, ""));
+        let (last, bytes) = rest.split_once(' ').unwrap_or((rest, ""));
+        let ends = [number(first)?, number(last)?];
+        let line = self.next_line()?;
+        self.push_around(line.as_bytes(), ends, bytes)
     }
 
     /// Adds lines as they stand: `COUNT` from the next on, or `LINE COUNT` from the line with this number on, counted from 1.
@@ -67,7 +75,7 @@ impl<'t> Patching<'t> {
     /// numbers add lines as they stand.
     fn push_patch(&mut self, line: &str) -> Result<(), Trouble> {
         if let Some(added) = line.strip_prefix('+') {
-            return Ok(self.push(added)?);
+            return self.push(added);
         }
         match line.strip_prefix('~') {
             Some(words) => self.push_changed(words),
@@ -76,13 +84,10 @@ impl<'t> Patching<'t> {
     }
 }
 
-/// The text that a patch, line by line, makes of another.
-pub(crate) fn patched(alloc: Global, bytes: &[u8], patch: &[u8]) -> Result<Vec<u8>, Trouble> {
-    let (Ok(text), Ok(patch)) = (str::from_utf8(bytes), str::from_utf8(patch)) else {
-        return Err(Trouble::NoCase);
-    };
+/// The text that a patch, line by line, makes of lines.
+fn made(alloc: Global, lines: Vec<&str>, patch: &str) -> Result<Vec<u8>, Trouble> {
     let mut patched = Patching {
-        lines: text.lines().collect(alloc)?,
+        lines,
         at: 0,
         text: Vec::new(alloc),
     };
@@ -90,4 +95,12 @@ pub(crate) fn patched(alloc: Global, bytes: &[u8], patch: &[u8]) -> Result<Vec<u
         patched.push_patch(line)?;
     }
     Ok(patched.text)
+}
+
+/// The text that a patch makes of another.
+pub(crate) fn patched(alloc: Global, bytes: &[u8], patch: &[u8]) -> Result<Vec<u8>, Trouble> {
+    let (Ok(text), Ok(patch)) = (str::from_utf8(bytes), str::from_utf8(patch)) else {
+        return Err(Trouble::NoCase);
+    };
+    made(alloc, text.lines().collect(alloc)?, patch)
 }

@@ -1,17 +1,13 @@
-use super::asking::{Ran, write_digest, write_over};
-use super::calls::{write_calls, write_fed, write_short};
-use super::declared::Declared;
+use super::asking::{Ran, sum_of, write_over};
+use super::declared::{Declared, ask_declared, declared_by, loaded};
 use super::describing::{write_described, write_describes, write_synths};
 use super::each::Each;
 use super::loads::write_loads;
 use super::patched::patched;
-use super::readings::write_readings;
 use super::unfailing::write_unfailing;
 use meta_declared::Declarations;
-use meta_shared_ops::define;
-use rows_words::{Case, Edited, Outside, Trouble, decoded, number, pair_of};
-use sha2::{Digest, Sha256};
-use std::alloc::Global;
+use rows_words::{Case, Edited, Outside, Trouble, decoded, number, texts_of_words};
+use std::alloc::{AllocError, Global};
 use std::fs;
 use std::io::{self, Write};
 
@@ -33,8 +29,9 @@ const ROOM: usize = 1_048_576;
 /// **What is asked.** `WORDS`, or `WORDS < BYTES` with bytes after the input, tells in one line how a run of the words ends: its status,
 /// what it writes, with escapes, and what it tells on standard error. `run WORDS` writes what the run writes and tells, and then the
 /// status. `sum WORDS` has the SHA-256 of what the run writes in the place of that, and `against NAME WORDS` how that stands to what a
-/// file has. `over WORDS` tells what words are asked over, and `digest` the SHA-256 of the input. `unfailing WORDS` tells the status of a
-/// run over the shared declarations whose source and sink never fail.
+/// file has. `handed WORDS` hands the words what the file declares, even where that shows a fault, and tells in one line how they end.
+/// `over WORDS` tells what words are asked over, and `digest` the SHA-256 of the input. `unfailing WORDS` tells the status of a run over the
+/// shared declarations whose source and sink never fail.
 ///
 /// `fronts` loads each front of the text of the file, and `changes BITS` the text with each byte changed. `described` describes the text,
 /// `describes` tells whether the input does, and `synths COUNT` describes the declarations that are made from numbers.
@@ -45,9 +42,9 @@ const ROOM: usize = 1_048_576;
 /// `shortened` writes their short forms. `audited TIMES` asks the auditor so many times about the tables in memory, and `generated TIMES`
 /// makes these so many times.
 #[derive(Drop)]
-pub(crate) struct Session {
+pub(crate) struct Session<'d> {
     alloc: Global,
-    shared: Declarations,
+    shared: &'d Declarations,
     is_shared: bool,
     text: Vec<u8>,
     input: Vec<u8>,
@@ -61,47 +58,62 @@ fn add_line(bytes: &mut Vec<u8>, line: &str) -> Result<(), Trouble> {
     Ok(bytes.push(b'\n')?)
 }
 
+/// Adds the bytes that a text with escapes stands for.
+fn add_decoded(bytes: &mut Vec<u8>, alloc: Global, text: &str) -> Result<(), Trouble> {
+    Ok(bytes.extend_from_slice(&decoded(alloc, text)?)?)
+}
+
 /// Adds what a file has.
 fn add_file(bytes: &mut Vec<u8>, rt: &HostRuntime, name: &str) -> io::Result<()> {
     bytes.extend_from_slice(&fs::read(rt, name)?)?;
     Ok(())
 }
 
+/// Adds bytes, with a number for each `%`.
+fn add_numbered(bytes: &mut Vec<u8>, pattern: &[u8], number: &str) -> Result<(), AllocError> {
+    for byte in pattern {
+        match *byte {
+            b'%' => bytes.extend_from_slice(number.as_bytes())?,
+            _ => bytes.push(*byte)?,
+        }
+    }
+    Ok(())
+}
+
 /// Adds bytes so many times, with a number for each `%`: the first one, and then one that is greater by the step.
 fn add_many(
+    bytes: &mut Vec<u8>,
     alloc: Global,
-    out: &mut Vec<u8>,
     [count, first, step]: [u64; 3],
-    bytes: &[u8],
-) -> Result<(), Trouble> {
+    pattern: &[u8],
+) -> Result<(), AllocError> {
     let mut number = first;
     for _ in 0..count {
-        for byte in bytes {
-            match *byte {
-                b'%' => {
-                    let shown = format!(in alloc; "{number}")?;
-                    out.extend_from_slice(shown.as_bytes())?;
-                }
-                _ => out.push(*byte)?,
-            }
-        }
+        let shown = format!(in alloc; "{number}")?;
+        add_numbered(bytes, pattern, &shown)?;
         number = number.saturating_add(step);
     }
     Ok(())
 }
 
-impl Session {
+/// The number before the first space, and what stands after it.
+fn number_before(words: &str) -> Result<(u64, &str), Trouble> {
+    let (digits, rest) = words.split_once(' ').unwrap_or((words, ""));
+    Ok((number(digits)?, rest))
+}
+
+impl<'d> Session<'d> {
     /// No text and no input, and nothing fails.
-    pub(crate) fn new(alloc: Global) -> Result<Session, Trouble> {
-        Ok(Session {
+    pub(crate) fn new(alloc: Global, shared: &'d Declarations) -> Session<'d> {
+        Session {
             alloc,
-            shared: define(alloc)?,
+            shared,
             is_shared: false,
             text: Vec::new(alloc),
             input: Vec::new(alloc),
             file: Outside::with_room(0),
             outside: Outside::with_room(ROOM),
-        })
+        }
     }
 
     /// Forgets everything.
@@ -126,23 +138,25 @@ impl Session {
         Ok(())
     }
 
-    /// Adds bytes to the text or the input many times.
-    fn add_times(&mut self, word: &str, rest: &str) -> Result<(), Trouble> {
-        let (count, rest) = pair_of(rest, ' ')?;
-        let (first, step, bytes) = match word {
-            "numbers" => {
-                let (first, rest) = pair_of(rest, ' ')?;
-                let (step, bytes) = pair_of(rest, ' ')?;
-                (number(first)?, number(step)?, bytes)
-            }
-            _ => (0, 1, rest),
-        };
-        let numbers = [number(count)?, first, step];
-        let bytes = decoded(self.alloc, bytes)?;
+    /// Adds bytes to the text or the input many times, with numbers from the first on.
+    fn add_times(&mut self, word: &str, numbers: [u64; 3], bytes: &str) -> Result<(), Trouble> {
+        let alloc = self.alloc;
+        let pattern = decoded(alloc, bytes)?;
         match word {
-            "many" => add_many(self.alloc, &mut self.text, numbers, &bytes),
-            _ => add_many(self.alloc, &mut self.input, numbers, &bytes),
+            "many" => Ok(add_many(&mut self.text, alloc, numbers, &pattern)?),
+            _ => Ok(add_many(&mut self.input, alloc, numbers, &pattern)?),
         }
+    }
+
+    /// The same, by the words of the line.
+    fn add_numbers(&mut self, word: &str, rest: &str) -> Result<(), Trouble> {
+        let (count, rest) = number_before(rest)?;
+        if word != "numbers" {
+            return self.add_times(word, [count, 0, 1], rest);
+        }
+        let (first, rest) = number_before(rest)?;
+        let (step, bytes) = number_before(rest)?;
+        self.add_times(word, [count, first, step], bytes)
     }
 
     /// Takes how the file, the source or the sink behaves.
@@ -168,10 +182,14 @@ impl Session {
         Ok(())
     }
 
+    /// What the words write.
+    fn taken(&self, words: &[&str]) -> Result<Vec<u8>, Trouble> {
+        Ok(self.ran(words, "")?.done()?.to_vec(self.alloc)?)
+    }
+
     /// Has the input begin with what the words write.
     fn begin_input(&mut self, words: &str) -> Result<(), Trouble> {
-        let ran = self.ran(words, "")?;
-        self.input = ran.done()?.to_vec(self.alloc)?;
+        self.input = self.taken(Case::of(self.alloc, words)?.rest())?;
         Ok(())
     }
 
@@ -184,9 +202,9 @@ impl Session {
             "clear" => self.clear(rest)?,
             "|" => add_line(&mut self.text, rest)?,
             ">" => add_line(&mut self.input, rest)?,
-            "with" => self.text.extend_from_slice(&decoded(self.alloc, rest)?)?,
-            "add" => self.input.extend_from_slice(&decoded(self.alloc, rest)?)?,
-            "many" | "times" | "numbers" => self.add_times(word, rest)?,
+            "with" => add_decoded(&mut self.text, self.alloc, rest)?,
+            "add" => add_decoded(&mut self.input, self.alloc, rest)?,
+            "many" | "times" | "numbers" => self.add_numbers(word, rest)?,
             "begin" => self.begin_input(rest)?,
             "drop" | "cut" | "replace" | "all" => self.edit(line)?,
             "file" | "source" | "sink" => self.take_outside(line)?,
@@ -210,7 +228,7 @@ impl Session {
     /// What words are asked over.
     fn declared(&self) -> Declared<'_> {
         if self.is_shared {
-            return Declared::Made(&self.shared);
+            return Declared::Made(self.shared);
         }
         Declared::File(self.file, &self.text)
     }
@@ -218,70 +236,82 @@ impl Session {
     /// The input, and bytes after it.
     fn input_with(&self, after: &str) -> Result<Vec<u8>, Trouble> {
         let mut input = self.input.to_vec(self.alloc)?;
-        input.extend_from_slice(&decoded(self.alloc, after)?)?;
+        add_decoded(&mut input, self.alloc, after)?;
         Ok(input)
     }
 
-    /// What the words do, with bytes after the input.
-    fn ran(&self, words: &str, after: &str) -> Result<Ran, Trouble> {
+    /// What the words do over what is declared, with bytes after the input.
+    fn ran_over(
+        &self,
+        declared: Declared<'_>,
+        words: &[&str],
+        after: &str,
+    ) -> Result<Ran, Trouble> {
+        let words = texts_of_words(self.alloc, words)?;
         let input = self.input_with(after)?;
-        Ran::of(self.alloc, words, self.declared(), self.outside, &input)
+        Ran::of(self.alloc, &words, declared, self.outside, &input)
     }
 
-    /// Runs words, and writes what they write, its SHA-256, or how it stands to what a file has.
-    fn write_ran(&self, rt: &HostRuntime, word: &str, asked: &str, after: &str) -> io::Result<()> {
-        let (name, words) = match (word, asked.split_once(' ')) {
-            ("against", Some(asked)) => asked,
-            ("against", None) => return println!(rt; "no case"),
-            _ => ("", asked),
+    /// The same, over what the lines say.
+    fn ran(&self, words: &[&str], after: &str) -> Result<Ran, Trouble> {
+        self.ran_over(self.declared(), words, after)
+    }
+
+    /// Writes what the words that are left do over what the file declares, which may show a fault.
+    fn write_handed(&self, after: &str, case: &mut Case<'_>) -> Result<(), Trouble> {
+        let declarations = declared_by(self.alloc, &self.text)?;
+        let ran = self.ran_over(Declared::Made(&declarations), case.rest(), after)?;
+        ran.write_line(case);
+        Ok(())
+    }
+
+    /// Runs the words that are left, and writes what they write, its SHA-256, or how it stands to what a file has.
+    fn write_ran(
+        &self,
+        rt: &HostRuntime,
+        word: &str,
+        after: &str,
+        case: &mut Case<'_>,
+    ) -> io::Result<()> {
+        let name = if word == "against" { case.word() } else { "" };
+        if word == "against" && !case.has_more() {
+            return println!(rt; "no case");
+        }
+        let Ok(ran) = self.ran(case.rest(), after) else {
+            return println!(rt; "no case");
         };
-        match (word, self.ran(words, after)) {
-            ("run", Ok(ran)) => ran.write(rt),
-            ("sum", Ok(ran)) => ran.write_sum(rt),
-            (_, Ok(ran)) => ran.write_against(rt, name),
-            (_, Err(_)) => println!(rt; "no case"),
+        match word {
+            "run" => ran.write(rt),
+            "sum" => ran.write_sum(rt),
+            _ => ran.write_against(rt, name),
         }
     }
 
-    /// Writes what is asked of the tables.
-    fn answer_by_tables(&self, word: &str, case: &mut Case<'_>) -> Result<(), Trouble> {
-        let alloc = self.alloc;
-        match word {
-            "audited" => {
-                let verdict = self.declared().verdict(alloc, case.number())?;
-                case.debugged(&verdict);
-                return Ok(());
+    /// Writes what a word asks of declarations, or of their tables and the input.
+    fn ask_declared(&self, word: &str, case: &mut Case<'_>) -> Result<(), Trouble> {
+        let (alloc, outside) = (self.alloc, self.outside);
+        match self.declared() {
+            Declared::Made(declarations) => {
+                ask_declared(alloc, outside, declarations, &self.input, word, case)
             }
-            "generated" => {
-                let count = self.declared().opcode_count(alloc, case.number())?;
-                case.shown(&count);
-                case.text(" opcodes");
-                return Ok(());
+            Declared::File(_, text) => {
+                let declarations = loaded(alloc, text)?;
+                ask_declared(alloc, outside, &declarations, &self.input, word, case)
             }
-            _ => {}
-        }
-        let tables = self.declared().tables(alloc)?;
-        match word {
-            "reread" => write_readings(alloc, &tables, &self.input, case),
-            "calls" => write_calls(alloc, self.outside, &tables, &self.input, case),
-            "fed" => write_fed(alloc, &tables, &self.input, case),
-            _ => write_short(alloc, &tables, &self.input, case),
         }
     }
 
     /// Writes the answer to the words of a line, which read no file, with bytes after the input.
-    fn answer(&self, words: &str, after: &str, case: &mut Case<'_>) -> Result<(), Trouble> {
+    fn answer(&self, word: &str, after: &str, case: &mut Case<'_>) -> Result<(), Trouble> {
         let alloc = self.alloc;
-        let word = case.word();
         match word {
-            "over" => write_over(alloc, words.strip_prefix("over ").unwrap_or(""), case),
+            "over" => write_over(alloc, case),
             "digest" => {
-                let mut sum = Sha256::new();
-                sum.update(&self.input);
-                write_digest(case, sum);
+                case.text(sum_of(alloc, &self.input)?.as_str());
                 Ok(())
             }
-            "unfailing" => write_unfailing(alloc, &self.shared, self.input_with(after)?, case),
+            "handed" => self.write_handed(after, case),
+            "unfailing" => write_unfailing(alloc, self.shared, self.input_with(after)?, case),
             "fronts" => write_loads(alloc, &self.text, Each::Front, case),
             "changes" => {
                 let bits = case.number();
@@ -294,34 +324,42 @@ impl Session {
                 Ok(())
             }
             "reread" | "calls" | "fed" | "shortened" | "audited" | "generated" => {
-                self.answer_by_tables(word, case)
+                self.ask_declared(word, case)
             }
             _ => {
-                self.ran(words, after)?.write_line(case);
+                case.go_back(0);
+                self.ran(case.rest(), after)?.write_line(case);
                 Ok(())
             }
         }
     }
 
-    /// Writes the answer to a line that asks, or adds what a file has.
-    fn ask(&mut self, rt: &HostRuntime, line: &str) -> io::Result<()> {
-        let (words, after) = line.split_once(" < ").unwrap_or((line, ""));
-        let (word, rest) = words.split_once(' ').unwrap_or((words, ""));
-        match word {
-            "data" => return add_file(&mut self.text, rt, rest),
-            "input" => return add_file(&mut self.input, rt, rest),
-            "patch" => return self.patch(rt, rest),
-            "write" => return io::writer(rt).write_all(&self.input),
-            "run" | "sum" | "against" => return self.write_ran(rt, word, rest, after),
-            _ => {}
-        }
-        let mut case = Case::of(self.alloc, words)?;
-        if let Err(trouble) = self.answer(words, after, &mut case) {
+    /// Writes the answer to the words of a line, or what stands for it, and a line feed.
+    fn write_answer(
+        &self,
+        rt: &HostRuntime,
+        word: &str,
+        after: &str,
+        case: &mut Case<'_>,
+    ) -> io::Result<()> {
+        if let Err(trouble) = self.answer(word, after, case) {
             case.refuse(trouble);
         }
         let mut answer = String::new(self.alloc);
         case.end(&mut answer)?;
         io::writer(rt).write_all(answer.as_bytes())
+    }
+
+    /// Writes the answer to a line that asks, or adds what a file has.
+    fn ask(&mut self, rt: &HostRuntime, after: &str, case: &mut Case<'_>) -> io::Result<()> {
+        match case.word() {
+            "data" => add_file(&mut self.text, rt, case.word()),
+            "input" => add_file(&mut self.input, rt, case.word()),
+            "patch" => self.patch(rt, case.word()),
+            "write" => io::writer(rt).write_all(&self.input),
+            word @ ("run" | "sum" | "against") => self.write_ran(rt, word, after, case),
+            word => self.write_answer(rt, word, after, case),
+        }
     }
 
     /// Does what a line says. A comment goes through unchanged, and an empty line says nothing.
@@ -334,7 +372,11 @@ impl Session {
         }
         match self.make(line) {
             Ok(true) => Ok(()),
-            Ok(false) => self.ask(rt, line),
+            Ok(false) => {
+                let (words, after) = line.split_once(" < ").unwrap_or((line, ""));
+                let mut case = Case::of(self.alloc, words)?;
+                self.ask(rt, after, &mut case)
+            }
             Err(_) => println!(rt; "no case"),
         }
     }
