@@ -69,11 +69,11 @@ pub(crate) fn write_kind(kind: &OperandKind, variables: &Variables<'_>, case: &m
         OperandKindFields::EntityRef => case.text(" entity"),
         OperandKindFields::VariableArgs => case.text(" varargs"),
         OperandKindFields::ImmValue => case.text(" imm"),
-        OperandKindFields::ImmEnum(values) => {
-            case.text(" enum ");
-            write_values(values, case);
-        }
+        OperandKindFields::ImmEnum(_) => case.text(" enum "),
         OperandKindFields::TypeVar(tv) => case.field(" value ", &variables.name(Some(*tv))),
+    }
+    if let Some(values) = kind.fields.enum_values() {
+        write_values(values, case);
     }
 }
 
