@@ -5,7 +5,8 @@ ghost use Rattle.meta_items_types.specs.Sets.{high_end};
 ghost use Rattle.meta_refusals.specs.Standing.{type_of_written};
 ghost use Rattle.meta_refusals.specs.ItemWhy.{quoted_text, written_name, opened, closed, written_type, line_at_place, no_derivation};
 ghost use Rattle.meta_refusals.specs.ItemWhy.{not_derived, too_deep, numbers_text, none_of, no_number, bad_low, bad_high, empty};
-ghost use Rattle.meta_refusals.specs.ItemWhy.{empty_range, dimension_twice, part_twice, twice, name_twice, value_twice, declared_in, type_why};
+ghost use Rattle.meta_refusals.specs.ItemWhy.{empty_range, dimension_twice, part_twice, twice, name_twice, value_twice};
+ghost use Rattle.meta_refusals.specs.ItemWhy.{declared_in, type_why};
 ghost use Rattle.meta_refusals.specs.ItemWhy.{inst_why};
 ghost use Rattle.meta_items_reader.specs.Reason.{back_quoted};
 

@@ -30,8 +30,8 @@ const ROOM: usize = 1_048_576;
 /// what it writes, with escapes, and what it tells on standard error. `run WORDS` writes what the run writes and tells, and then the
 /// status. `sum WORDS` has the SHA-256 of what the run writes in the place of that, and `against NAME WORDS` how that stands to what a
 /// file has. `handed WORDS` hands the words what the file declares, even where that shows a fault, and tells in one line how they end.
-/// `over WORDS` tells what words are asked over, and `digest` the SHA-256 of the input. `unfailing WORDS` tells the status of a run over the
-/// shared declarations whose source and sink never fail.
+/// `over WORDS` tells what words are asked over, and `digest` the SHA-256 of the input. `unfailing WORDS` tells the status of a run over
+/// the shared declarations whose source and sink never fail.
 ///
 /// `fronts` loads each front of the text of the file, and `changes BITS` the text with each byte changed. `described` describes the text,
 /// `describes` tells whether the input does, and `synths COUNT` describes the declarations that are made from numbers.
