@@ -2,7 +2,7 @@
 # Holds the statuses of ciderlater and of the programs of the top calls against what docs/COMMANDS.md says of them, and what a program of
 # a top call writes against what ciderlater writes:
 #   bench/statuses.sh FOLDER
-# FOLDER has the programs, each as NAME/out/NAME: `./test` runs this over crates/. The status is 1 where one differs, which is named.
+# FOLDER has the programs by their names: `./test` runs this over out/. The status is 1 where one differs, which is named.
 top=$(cd "$(dirname "$0")/.." && pwd) || exit 1
 folder=$(cd "${1:?usage: bench/statuses.sh FOLDER}" && pwd) || exit 1
 room=$(mktemp -d) || exit 1
@@ -39,7 +39,7 @@ while read -r wanted from to name words; do
     esac
     # The words of a line are words of the program.
     # shellcheck disable=SC2086
-    ran "$from" "$to" "$folder/$name/out/$name" $words
+    ran "$from" "$to" "$folder/$name" $words
     [ "$status" = "$wanted" ] || differs "$name $words < $from > $to ended with $status, and not with $wanted"
     [ "$status" = 0 ] || [ -s said ] || differs "$name $words < $from > $to ended with $status, and said nothing on standard error"
     [ "$status" != 0 ] || [ ! -s said ] || differs "$name $words < $from > $to said on standard error: $(cat said)"
@@ -49,7 +49,7 @@ while read -r wanted from to name words; do
     *) words="$name $words" ;;
     esac
     # shellcheck disable=SC2086
-    ran "$from" its "$folder/ciderlater/out/ciderlater" $words
+    ran "$from" its "$folder/ciderlater" $words
     [ "$status" = "$wanted" ] || differs "ciderlater $words < $from ended with $status, and not with $wanted, as $name did"
     cmp -s "$to" its || differs "ciderlater $words < $from writes otherwise than $name"
 done << 'RUNS'
