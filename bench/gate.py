@@ -4,8 +4,8 @@
 It runs `./test` there: `rt ci`, short tests beside it and, where cargo is, a comparison at last. It looks four times a second at the checks
 below it, and prints a line a crate: the processor minutes of its proof, of the proof of its tests, of its must-fail edits (with the check
 of the crate as it stands that belongs to them) and of building its programs. Then come the sum, the processor and wall minutes of the gate
-and of the comparison, the longest chain of proofs, by the wall minutes that each took, the gate's last line, and at the end how what isn't
-the proof of a library or of `ciderlater` compares with these proofs. Run it with nothing else running, and as
+and of the comparison, the longest chain of proofs, by the wall minutes that each took, the gate's last line and the last two of `./test`, and
+at the end how what isn't the proof of a library or of `ciderlater` compares with these proofs. Run it with nothing else running, and as
 `taskset -c 0,1 bench/gate.py` for two processors. FOLDER keeps the clone and the log of the test, `gate.log`; without one they go.
 
 A kit whose `rt ci` proves everything each time, as rattle-kit-13b, needs nothing more. With a kit that keeps what passed between runs, as
@@ -171,7 +171,7 @@ def run(folder):
     unseen = [name for name in below if (name, "proof") not in gate.spans]
     if unseen:
         print(f"not from nothing, or not reached: no proof was seen of {', '.join(unseen)}")
-    print("\n".join(dict.fromkeys([it for it in log if re.fullmatch(r"\d+ passed, \d+ failed", it)] + log[-1:])))
+    print("\n".join(dict.fromkeys([it for it in log if re.fullmatch(r"\d+ passed, \d+ failed", it)] + log[-2:])))
     proofs = sum(of["proof"] for name, of in gate.minutes().items() if is_product(folder, name))
     print(f"proofs of libraries and of ciderlater: {proofs:.1f} processor minutes")
     times = f", {(total - proofs) / proofs:.2f} times these" if proofs else ""
