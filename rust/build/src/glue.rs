@@ -40,7 +40,7 @@ pub fn settings(settings: &str, tables: &[&str]) -> Result<String, Error> {
         source += &format!(
             "/// The settings of the group `{name}`.
 pub mod {name} {{
-use super::_runtime::{{Builder, Value, detail, fmt_of_core as fmt}};
+use super::_runtime::{{Builder, Value, detail, fmt}};
 {first}{flags}{tables}/// The tables of the group.
 pub fn template() -> &'static detail::Template {{
     &TEMPLATE

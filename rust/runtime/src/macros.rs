@@ -77,8 +77,7 @@ macro_rules! settings {
         )]
         #[allow(clippy::all, clippy::pedantic, reason = "generated code")]
         pub mod settings {
-            // What the groups name.
-            use $crate::settings as _runtime;
+            use $crate::settings::in_scope as _runtime;
 
             include!(concat!(env!("OUT_DIR"), "/settings.rs"));
         }

@@ -5,9 +5,12 @@
 
 use core::fmt;
 
-// The written source says `fmt::Display`.
+/// What the written settings of each group have in scope.
 #[doc(hidden)]
-pub use core::fmt as fmt_of_core;
+pub mod in_scope {
+    pub use super::{Builder, Value, detail};
+    pub use core::fmt;
+}
 
 /// A group has at most so many bytes of settings.
 const MAX_BYTES: usize = 255;

@@ -123,9 +123,8 @@ impl<D, F> DataFlowGraph<D, F> {
     }
 }
 
-/// The types of the results under this control, or `types::INVALID` for none, with values of these types. `None` where the tables
-/// don't give them.
-#[doc(hidden)]
+/// The types of an instruction's results, as a builder asks for them: under this control, which is `types::INVALID` where there is
+/// none, with values of these types. `None` where these controls aren't its own, or a result is left open.
 pub fn result_types(
     constraints: Constraints,
     ctrl_typevar: Type,
