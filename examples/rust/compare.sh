@@ -201,4 +201,6 @@ if ! cmp -s "$work/program" "$work/tables"; then
 fi
 [ "$lines" -eq "$(wc -l <"$work/program")" ] || fail 1 "there isn't one answer to each line"
 [ "$lines" -ge "$least" ] || fail 1 "there are only $lines lines"
-echo "$lines lines compared, and $(($(wc -l <"$work/flag_lines"))) on settings: the compiled tables answer each as the program does ($(grep -c '^accept$' "$work/program") accepted)"
+settings=$(($(wc -l <"$work/flag_lines")))
+accepted=$(grep -c '^accept$' "$work/program")
+echo "$lines lines compared, and $settings on settings: the compiled tables answer each as the program does ($accepted accepted)"

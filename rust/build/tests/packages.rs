@@ -189,6 +189,84 @@ fn main() {
 }
 
 #[test]
+fn a_crate_over_core_alone_brings_lists_and_a_graph() {
+    let declarations = format!("{INT}format Pair: value, value\ninst add: Pair(x: Int, y: Int) -> a: Int\n");
+    let lib = "\
+#![no_std]
+
+ciderlater_runtime::modules! {
+    pub type ValueListPool = ();
+
+    #[derive(Clone, Copy, Debug, PartialEq, Eq, Hash)]
+    pub enum ValueList {}
+
+    #[derive(Clone, Copy, Debug, PartialEq, Eq, Hash)]
+    pub enum BlockCall {}
+
+    pub enum BlockArg {}
+
+    /// The type of all values, and what was built last.
+    pub struct DataFlowGraph(pub Type, pub Option<InstructionData>);
+
+    impl DataFlowGraph {
+        pub fn value_type(&self, _value: Value) -> Type {
+            self.0
+        }
+
+        pub fn first_result(&self, _inst: Inst) -> Value {
+            Value::from_u32(9)
+        }
+
+        pub fn display_inst(&self, _inst: Inst) -> Opcode {
+            Opcode::Add
+        }
+    }
+}
+
+pub struct Keeper<'f>(pub &'f mut ir::DataFlowGraph);
+
+impl<'f> ir::builder::InstBuilderBase<'f> for Keeper<'f> {
+    fn data_flow_graph(&self) -> &ir::DataFlowGraph {
+        self.0
+    }
+
+    fn data_flow_graph_mut(&mut self) -> &mut ir::DataFlowGraph {
+        self.0
+    }
+
+    fn build(self, data: ir::InstructionData, ctrl_typevar: ir::Type) -> (ir::Inst, &'f mut ir::DataFlowGraph) {
+        assert_eq!(ctrl_typevar, self.0.0);
+        self.0.1 = Some(data);
+        (ir::Inst::from_u32(0), self.0)
+    }
+
+    fn build_imm_const(&mut self, _ty: ir::Type, _imm: ir::immediates::Imm64, _signed: bool) -> ir::Value {
+        ir::Value::from_u32(0)
+    }
+}
+";
+    let main = "\
+use core_alone::Keeper;
+use core_alone::ir::builder::InstBuilder;
+use core_alone::ir::{DataFlowGraph, Value, types};
+
+fn main() {
+    let mut dfg = DataFlowGraph(types::I32, None);
+    let [x, y] = [1, 2].map(Value::from_u32);
+    println!(\"{:?} {:?}\", Keeper(&mut dfg).add(x, y), dfg.1.unwrap().arguments(&()));
+}
+";
+    let package = Package::new("core_alone", &declarations, main);
+    package.write("src/lib.rs", lib);
+    let manifest = fs::read_to_string(package.0.join("Cargo.toml")).unwrap();
+    package.write(
+        "Cargo.toml",
+        &manifest.replace("/runtime\" }", "/runtime\", default-features = false }"),
+    );
+    assert_eq!(package.shows(), "Value(9) [Value(1), Value(2)]\n");
+}
+
+#[test]
 fn a_file_of_settings_alone_needs_one_macro() {
     let declarations = "group a\nbool on = true\nnum size = 5\ngroup b\nenum order(little, big)\npreset none()\n";
     let main = "\
