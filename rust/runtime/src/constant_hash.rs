@@ -9,8 +9,8 @@ pub fn simple_hash(name: &str) -> usize {
 /// The slot of a name among `slots` slots, as many as a power of two, where `name_in` answers the name that a slot holds, or
 /// `None` where it is vacant. `None` where no slot has the name.
 ///
-/// Each step goes one slot further than the one before. It ends at a vacant slot, and where there is none after as many steps as
-/// there are slots.
+/// Each step goes one slot further than the one before. The search ends at a vacant slot, or after as many steps as there are
+/// slots.
 pub fn probe<'a>(slots: usize, name: &str, name_in: impl Fn(usize) -> Option<&'a str>) -> Option<usize> {
     let mask = slots.checked_sub(1)?;
     let mut slot = simple_hash(name) & mask;

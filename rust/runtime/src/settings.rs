@@ -12,7 +12,7 @@ pub mod in_scope {
     pub use core::fmt;
 }
 
-/// A group has at most so many bytes of settings.
+/// The greatest number of bytes that the settings of a group take.
 const MAX_BYTES: usize = 255;
 
 /// The values of the settings of a group, before they become its `Flags`.
@@ -301,7 +301,7 @@ pub mod detail {
             &self.presets[first..first + self.defaults.len()]
         }
 
-        /// The booleans that a preset turns on, itself or by the presets that it names. None, where it is no preset.
+        /// The booleans that a preset turns on, itself or by the presets that it names. A setting turns on nothing.
         pub fn enabled_by<'a>(&'a self, preset: &'a Descriptor) -> impl Iterator<Item = &'static Descriptor> + use<'a> {
             let masks = if preset.detail.is_preset() {
                 self.masks(preset)

@@ -144,7 +144,7 @@ impl<D: fmt::Debug> fmt::Display for Shown<'_, D> {
     }
 }
 
-/// The number of the last of so many.
+/// The number of the last entry of a list of this length.
 fn number_of_last(length: usize) -> u32 {
     u32::try_from(length - 1).expect("a graph has at most 2^32 values and instructions")
 }

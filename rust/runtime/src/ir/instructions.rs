@@ -197,7 +197,7 @@ pub enum OperandConstraint {
 
 impl OperandConstraint {
     /// What the type has to be under these controls, with this table of type sets. `None` where no type will do: the control
-    /// that is asked for isn't there, or has no type that is derived so. Cranelift panics there.
+    /// that the form needs is missing, or the function gives no type of it. Cranelift panics there.
     pub fn resolve(self, controls: Controls, type_sets: &[ValueTypeSet]) -> Option<ResolvedConstraint> {
         let derived = |ty: Type| Some(ResolvedConstraint::Bound(ty));
         let first = controls.first;

@@ -41,7 +41,7 @@ impl ValueList {
         self.as_slice(pool).is_empty()
     }
 
-    /// The value at this place, if there are so many.
+    /// The value at this place, from 0, or `None` past the end.
     pub fn get(self, index: usize, pool: &ValueListPool) -> Option<Value> {
         self.as_slice(pool).get(index).copied()
     }

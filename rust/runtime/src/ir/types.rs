@@ -1,4 +1,5 @@
-//! The types of values: lanes, which are integers and floats, vectors of lanes, and dynamic vectors, which have at least so many.
+//! The types of values: lanes, which are integers and floats; vectors of lanes; and dynamic vectors, of which the least number of
+//! lanes is known.
 //!
 //! There is a constant for each of them, by its name in capitals: [`I8`], [`F32X4`], [`I32X4XN`]. Cranelift has constants for
 //! those of at most 512 bits.
@@ -104,7 +105,7 @@ impl Type {
         Type::all().find(|ty| ty.0 == number)
     }
 
-    /// The integer of so many bits, if there is one.
+    /// The integer with this number of bits, if there is one.
     pub const fn int(bits: u16) -> Option<Type> {
         match bits {
             8 => Some(I8),
@@ -116,7 +117,7 @@ impl Type {
         }
     }
 
-    /// This lane 2^`log2` times, or at least so often.
+    /// The vector of 2^`log2` of this lane, or of at least that number.
     const fn with_lanes(self, log2: u32, dynamic: bool) -> Type {
         Type(self.0 + log2 as u16 * DOUBLED + if dynamic { DYNAMIC } else { 0 })
     }
@@ -131,12 +132,12 @@ impl Type {
         LANE_BASE <= self.0 && self.0 < VECTOR_BASE
     }
 
-    /// Whether it is a vector of so many lanes, and no dynamic one.
+    /// Whether it is a vector with a fixed number of lanes, two or more.
     pub const fn is_vector(self) -> bool {
         VECTOR_BASE <= self.0 && self.0 < DYNAMIC_VECTOR_BASE
     }
 
-    /// Whether it is a vector of at least so many lanes.
+    /// Whether it is a vector of which only the least number of lanes is known.
     pub const fn is_dynamic_vector(self) -> bool {
         self.0 >= DYNAMIC_VECTOR_BASE
     }
@@ -281,7 +282,7 @@ impl Type {
         }
     }
 
-    /// Twice as many lanes of half the width, if there are so many and such ones.
+    /// Twice as many lanes of half the width. `None` where lanes would be narrower than any type, or more than 256.
     pub const fn split_lanes(self) -> Option<Type> {
         match self.half_width() {
             Some(half) if half.log2_min_lane_count() < MAX_LOG2_LANES => Some(Type(half.0 + DOUBLED)),
@@ -289,7 +290,8 @@ impl Type {
         }
     }
 
-    /// Half as many lanes of twice the width, if there are so few and such ones. A dynamic vector keeps two at least.
+    /// Half as many lanes of twice the width. `None` where lanes would be wider than any type, or fewer than one, or than two of a
+    /// dynamic vector.
     pub const fn merge_lanes(self) -> Option<Type> {
         let least = if self.is_dynamic_vector() { 2 } else { 1 };
         match self.double_width() {
