@@ -83,7 +83,7 @@ impl Program {
             command.arg("-d").arg(file);
         }
         let output = command.arg(word).output();
-        let output = output.map_err(|e| format!("{shown}: {e}: {PROGRAM} names another program"))?;
+        let output = output.map_err(|e| format!("{shown}: {e}; {PROGRAM} names the program to call"))?;
         if output.status.success() {
             return Ok(output);
         }
