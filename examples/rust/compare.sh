@@ -1,10 +1,11 @@
 #!/bin/sh
-# Compiles the texts that the program writes, and holds the answers of the compiled tables against the program's, line by line:
+# Tests the crates of rust/ and examples/machine, compiles the texts that the program writes, and holds the answers of the compiled
+# tables against the program's, line by line:
 #   examples/rust/compare.sh                  the finished program, as `./run` leaves it
 #   examples/rust/compare.sh PROGRAM          another one
 #   TEXTS=FOLDER examples/rust/compare.sh     compiles the texts of a folder, one file a text, and asks the finished program
-# Its last line says how many lines were compared. The status is 0 where all are answered alike; 1 where a text doesn't compile, a
-# test fails or a line differs; 2 where there is no program or no cargo.
+# Its last line says how many lines were compared. The status is 0 where all are answered alike; 1 where something doesn't compile
+# or shows a warning, a test fails or a line differs; 2 where there is no program or no cargo.
 set -eu
 LC_ALL=C
 export LC_ALL
@@ -89,6 +90,47 @@ made_lines() {
     }'
 }
 
+# Lines for `flags` about each setting of the text of tables: it gets each value of an enum, numbers and words, and is enabled.
+made_flag_lines() {
+    awk '
+    /^static ENUMERATORS/ { inside = 1; next }
+    /^\];/ { inside = 0 }
+    inside { gsub(/[ ",]/, ""); value[++values] = $0 }
+    /^        name: "/ { split($0, part, "\""); name[++names] = part[2] }
+    END {
+        others = split("true false 0 1 12 255 256 01 +1 -1 1.0 True on none_such", other, " ")
+        name[++names] = "none_such"
+        print "toml"
+        for (n = 1; n <= names; n++) {
+            print "get", name[n]
+            for (v = 1; v <= values; v++) { print "set", name[n], value[v]; print "get", name[n] }
+            for (v = 1; v <= others; v++) { print "set", name[n], other[v]; print "get", name[n] }
+            print "toml"
+            print "enable", name[n]
+            print "toml"
+            print "set", name[n], "false"
+        }
+    }'
+}
+
+# The first block of Rust of a document that has this line, as it is printed.
+printed() {
+    awk -v line="$2" '
+    /^```/ { if (open && found) exit; open = !open; text = ""; found = 0; next }
+    open { text = text $0 "\n"; if ($0 == line) found = 1 }
+    END { printf "%s", text }' "$1"
+}
+
+# Runs the tests of the crate in this folder, with warnings denied: FOLDER WORDS.
+tests() {
+    folder=$1
+    shift
+    (cd "$top/$folder" && cargo test --quiet --offline --locked "$@") >"$work/tests" 2>&1 || {
+        cat "$work/tests" >&2
+        fail 1 "a test of $folder fails"
+    }
+}
+
 # Each line that the two answer differently, with both answers.
 differences() {
     awk -v program="$work/program" -v tables="$work/tables" '{
@@ -110,26 +152,38 @@ work=$(mktemp -d)
 trap 'rm -rf "$work"' EXIT
 trap 'exit 1' HUP INT TERM
 
+# A folder that is new each time holds no text of another program.
+CARGO_TARGET_DIR=$work/target
+CIDERLATER_PROGRAM=$program
+RUSTFLAGS=-Dwarnings
+export CARGO_TARGET_DIR CIDERLATER_PROGRAM RUSTFLAGS
+unset CIDERLATER_TEXTS
+tests rust/runtime
+tests rust/runtime --no-default-features
+tests rust/build
+
+# The package that DECLARING prints is examples/machine, but for the path of the file, and shows what is printed there.
+(cd "$top/examples/machine" && cargo run --quiet --offline --locked) >"$work/machine" || fail 1 "examples/machine doesn't run"
+printed "$top/docs/DECLARING.md" 'use ir::{Opcode, Type, types};' | cmp -s - "$top/examples/machine/src/main.rs" ||
+    fail 1 "DECLARING prints another main.rs than that of examples/machine"
+printed "$top/docs/DECLARING.md" '$ cargo run --quiet' | sed 1d | cmp -s - "$work/machine" ||
+    fail 1 "examples/machine doesn't show what DECLARING prints"
+
 # The texts come from the program, which build.rs calls, or from the folder.
 if [ -n "${TEXTS:-}" ]; then
     CIDERLATER_TEXTS=$(cd "$TEXTS" && pwd) || fail 2 "there is no folder $TEXTS"
     export CIDERLATER_TEXTS
     cp "$CIDERLATER_TEXTS/tables" "$work/text" || fail 2 "there is no text of tables in $TEXTS"
 else
-    unset CIDERLATER_TEXTS
-    CIDERLATER_PROGRAM=$program
-    export CIDERLATER_PROGRAM
     "$program" tables >"$work/text" || fail 1 "the program doesn't write the tables"
 fi
-# A folder that is new each time holds no text of another program.
-CARGO_TARGET_DIR=$work/target
-export CARGO_TARGET_DIR
-cd "$top/examples/rust"
-cargo build --quiet --offline --locked || fail 1 "the texts don't compile"
-cargo test --quiet --offline --locked >"$work/tests" 2>&1 || {
-    cat "$work/tests" >&2
-    fail 1 "a test of the compiled texts fails"
-}
+(cd "$top/examples/rust" && cargo build --quiet --offline --locked) || fail 1 "the texts don't compile"
+tests examples/rust
+
+# The settings are set and told as the program does.
+made_flag_lines <"$work/text" >"$work/flag_lines"
+"$program" flags <"$work/flag_lines" >"$work/flags" || fail 1 "the program doesn't answer"
+"$CARGO_TARGET_DIR"/debug/compiled_texts flags <"$work/flag_lines" | cmp -s - "$work/flags" || fail 1 "settings are answered otherwise"
 
 # Each line once, and none that is empty.
 { stored_lines && made_lines <"$work/text"; } | tr -d '\r' | awk '$0 != "" && !seen[$0]++' >"$work/lines"
@@ -147,4 +201,6 @@ if ! cmp -s "$work/program" "$work/tables"; then
 fi
 [ "$lines" -eq "$(wc -l <"$work/program")" ] || fail 1 "there isn't one answer to each line"
 [ "$lines" -ge "$least" ] || fail 1 "there are only $lines lines"
-echo "$lines lines compared: the compiled tables answer each as the program does ($(grep -c '^accept$' "$work/program") accepted)"
+settings=$(($(wc -l <"$work/flag_lines")))
+accepted=$(grep -c '^accept$' "$work/program")
+echo "$lines lines compared, and $settings on settings: the compiled tables answer each as the program does ($accepted accepted)"

@@ -1,24 +1,27 @@
-//! The five texts that Ciderlater writes, compiled where a code generator would compile them.
+//! What Ciderlater writes for Cranelift's shared instructions, compiled where a code generator would compile it.
 //!
-//! `build.rs` puts the texts into `OUT_DIR`, and the modules here include them, each under the path that the texts expect. What
-//! stands around the `include!` lines are small stand-ins for what Cranelift's own files give. [`query`] answers by the compiled
-//! tables, and by nothing else.
+//! The modules `ir` and `settings` are those of the runtime. The others here are small stand-ins for what Cranelift's own files
+//! give. [`query`] answers by the compiled tables, and by nothing else.
 
-pub mod bitset;
-pub mod constant_hash;
-pub mod ir;
+pub mod condcodes;
+pub mod entities;
+pub mod flags;
+pub mod immediates;
 pub mod query;
-pub mod settings;
 
 #[cfg(test)]
 mod tests;
 
-/// Where a code generator would log. The methods of the included builder call it by `crate::trace!`.
-macro_rules! trace {
-    ($($arguments:tt)*) => {
-        if false {
-            eprintln!($($arguments)*);
-        }
-    };
+ciderlater_runtime::modules! {
+    pub use crate::entities::*;
+    pub use crate::immediates::{AtomicRmwOp, MemFlags, MemFlagsData, MemFlagsSet, TrapCode};
+    pub use crate::{condcodes, immediates};
+
+    /// The instructions and values of a function, with flags of memory accesses.
+    pub type DataFlowGraph = ciderlater_runtime::ir::dfg::DataFlowGraph<InstructionData, MemFlagsSet>;
 }
-pub(crate) use trace;
+
+/// The settings that lines ask for, with their defaults.
+fn first_group() -> ciderlater_runtime::settings::Builder {
+    settings::shared::builder()
+}

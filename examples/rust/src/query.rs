@@ -1,10 +1,8 @@
 //! Lines of questions, and their answers by the compiled tables. Questions and answers have the forms of the program's `query`.
 
-use crate::ir::Opcode;
 use crate::ir::instructions::{Controls, ResolvedConstraint};
-use crate::ir::types::Type;
-use crate::settings::detail::{Descriptor, Detail, Template};
-use crate::settings::shared;
+use crate::ir::{Opcode, Type};
+use ciderlater_runtime::settings::detail::{Descriptor, Detail, Template};
 
 /// A question, as a line asks it.
 enum Question<'a> {
@@ -69,8 +67,8 @@ impl<'a> Question<'a> {
                 results,
                 values,
             } => {
-                let opcode = name.parse().ok()?;
-                let accepted = accepts(opcode, *controls, results, values);
+                let opcode: Opcode = name.parse().ok()?;
+                let accepted = opcode.accepts(*controls, results, values);
                 String::from(if accepted { "accept" } else { "refuse" })
             }
             Self::Infer { name, controls } => {
@@ -81,7 +79,7 @@ impl<'a> Question<'a> {
                 }
             }
             Self::Setting { name } => {
-                let template = shared::template();
+                let template = crate::first_group().template();
                 describe(template, template.find(name)?)
             }
         })
@@ -111,29 +109,10 @@ fn parse_types(word: &str) -> Option<Vec<Type>> {
     word.split(',').map(|name| name.parse().ok()).collect()
 }
 
-fn accepts(opcode: Opcode, controls: Controls, results: &[Type], values: &[Type]) -> bool {
-    let constraints = opcode.constraints();
-    let passes = |constraint: Option<ResolvedConstraint>, ty| constraint.is_some_and(|c| c.contains(ty));
-    constraints.are_controlled_by(controls)
-        && results.len() == constraints.num_fixed_results()
-        && values.len() == constraints.num_fixed_value_arguments()
-        && (results.iter().enumerate()).all(|(i, ty)| passes(constraints.result_constraint(i, controls), *ty))
-        && (values.iter().enumerate()).all(|(i, ty)| passes(constraints.value_argument_constraint(i, controls), *ty))
-}
-
 /// The name of the type of each result, or `?` where it isn't told. `None` where a result has no type.
 fn infer(opcode: Opcode, controls: Controls) -> Option<Vec<String>> {
-    let constraints = opcode.constraints();
-    if !constraints.are_controlled_by(controls) {
-        return None;
-    }
-    let results = 0..constraints.num_fixed_results();
-    results
-        .map(|i| match constraints.result_constraint(i, controls)? {
-            ResolvedConstraint::Bound(ty) => Some(ty.to_string()),
-            ResolvedConstraint::Free(set) => Type::all().any(|ty| set.contains(ty)).then(|| "?".into()),
-        })
-        .collect()
+    let shown = |it: ResolvedConstraint| it.bound().map_or("?".into(), |ty| ty.to_string());
+    Some(opcode.infer_results(controls)?.map(shown).collect())
 }
 
 /// Where a setting stands and what it is, or what a preset enables.
@@ -152,12 +131,7 @@ fn describe(template: &Template, descriptor: &Descriptor) -> String {
             format!("{name} enum byte {place} default {default} values {}", values.join(","))
         }
         Detail::Preset => {
-            let masks = &template.presets[place..];
-            let enabled = template.descriptors.iter().filter(|d| match d.detail {
-                Detail::Bool { bit } => masks[d.offset as usize].1 >> bit & 1 == 1,
-                _ => false,
-            });
-            let names: Vec<&str> = enabled.map(|d| d.name).collect();
+            let names: Vec<&str> = template.enabled_by(descriptor).map(|it| it.name).collect();
             format!("{name} preset enables {}", list(&names))
         }
     }

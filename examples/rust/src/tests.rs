@@ -1,14 +1,15 @@
 //! What the included texts do beside answering lines: they build instructions, and hold settings. The tests name instructions and
 //! settings of the shared set.
 
+use crate::condcodes::IntCC;
+use crate::immediates::MemFlagsData;
 use crate::ir::builder::{Appender, InstBuilder};
-use crate::ir::condcodes::IntCC;
-use crate::ir::immediates::MemFlagsData;
 use crate::ir::instructions::{InstructionFormat, InstructionMapper};
 use crate::ir::types::{self, Type};
 use crate::ir::{Block, BlockArg, DataFlowGraph, InstructionData, Opcode, Value};
 use crate::query::answers;
 use crate::settings::shared;
+use ciderlater_runtime::settings::SetError;
 use std::hash::{DefaultHasher, Hasher};
 
 struct Same;
@@ -37,14 +38,26 @@ fn each_opcode_is_found_by_its_name() {
     assert_eq!(size_of::<Option<Opcode>>(), 1);
 }
 
+/// The constants of the text `types`, as they are written: the runtime has its own.
 #[test]
-fn each_type_is_found_by_its_name() {
-    assert_eq!(Type::all().count(), 153);
-    for ty in Type::all() {
-        assert_eq!(ty.to_string().parse(), Ok(ty));
+fn each_written_type_is_a_constant_of_the_runtime() {
+    let text = include_str!(concat!(env!("OUT_DIR"), "/types.rs"));
+    let constants = text
+        .lines()
+        .filter_map(|line| line.strip_prefix("pub const ")?.split_once(": Type = Type(0x"));
+    let mut count = 0;
+    for (name, number) in constants {
+        let number = u16::from_str_radix(number.strip_suffix(");").unwrap(), 16).unwrap();
+        let ty = Type::from_repr(number).unwrap();
+        assert_eq!(format!("{ty:?}"), format!("types::{name}"));
+        count += 1;
     }
-    assert_eq!("i8x16xN".parse(), Ok(types::I8X16XN));
-    assert!("i32x1".parse::<Type>().is_err());
+    assert_eq!(
+        count,
+        Type::all()
+            .filter(|ty| ty.min_bits() <= 512 && ty.min_bits() > 0)
+            .count()
+    );
 }
 
 #[test]
@@ -77,7 +90,7 @@ fn data_of_instructions_keeps_what_was_given() {
     let (mut dfg, [truth, x, address]) = graph([types::I8, types::I32, types::I64]);
     let block = Block::from_u32(3);
     let branch = Appender(&mut dfg).brif(truth, block, &[BlockArg::Value(x)], block, &[]);
-    let data = *dfg.data(branch);
+    let data = *dfg.inst_data(branch);
     assert_eq!(data.opcode(), Opcode::Brif);
     assert_eq!(data.arguments(&dfg.value_lists), [truth]);
     assert_eq!(data.typevar_operand(&dfg.value_lists), Some(truth));
@@ -88,7 +101,7 @@ fn data_of_instructions_keeps_what_was_given() {
     assert!(blocks[0].args(&dfg.value_lists).eq([BlockArg::Value(x)]));
 
     let end = Appender(&mut dfg).return_(&[x, address]);
-    let data = *dfg.data(end);
+    let data = *dfg.inst_data(end);
     assert_eq!(data.arguments(&dfg.value_lists), [x, address]);
     assert!(data.eq(&data.map(Same), &dfg.value_lists));
     let copy = data.deep_clone(&mut dfg.value_lists);
@@ -97,7 +110,7 @@ fn data_of_instructions_keeps_what_was_given() {
 
     Appender(&mut dfg).store(MemFlagsData(7), x, address, 8);
     let inst = Appender(&mut dfg).store(MemFlagsData(9), x, address, 8);
-    let InstructionData::Store { flags, offset, .. } = *dfg.data(inst) else {
+    let InstructionData::Store { flags, offset, .. } = *dfg.inst_data(inst) else {
         panic!("another format");
     };
     assert_eq!((dfg.mem_flags.get(flags), offset.0), (MemFlagsData(9), 8));
@@ -114,8 +127,9 @@ fn settings_have_their_defaults_until_they_are_turned_on() {
     assert_eq!("speed".parse(), Ok(shared::OptLevel::Speed));
 
     let mut builder = shared::builder();
-    assert!(builder.enable("is_pic"));
-    assert!(!builder.enable("opt_level") && !builder.enable("no_such"));
+    assert_eq!(builder.enable("is_pic"), Ok(()));
+    assert_eq!(builder.enable("opt_level"), Err(SetError::BadType));
+    assert_eq!(builder.enable("no_such"), Err(SetError::BadName));
     assert!(shared::Flags::new(builder).is_pic());
 }
 

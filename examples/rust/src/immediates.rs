@@ -1,6 +1,8 @@
 //! Stands for `ir/immediates.rs` of `cranelift-codegen`, and for the other small types that instructions hold: flags of memory,
 //! codes of traps and operations of `atomic_rmw`.
 
+pub use ciderlater_runtime::ir::immediates::Imm64;
+
 macro_rules! immediates {
     ($($(#[$doc:meta])* $name:ident($number:ty);)*) => { $(
         $(#[$doc])*
@@ -16,8 +18,6 @@ macro_rules! immediates {
 }
 
 immediates! {
-    /// A number of 64 bits.
-    Imm64(i64);
     /// A number of 8 bits without a sign.
     Uimm8(u8);
     /// An offset to an address.
@@ -34,9 +34,10 @@ immediates! {
 #[derive(Clone, Copy, Debug, Default, PartialEq, Eq, Hash)]
 pub struct MemFlagsData(pub u16);
 
-/// The number of flags in a [`MemFlagsSet`], which an instruction holds.
+/// The number of flags in a [`MemFlagsSet`], which an instruction holds. Parameters of the builder have this name, so what makes it
+/// can't be in scope there.
 #[derive(Clone, Copy, Debug, PartialEq, Eq, Hash)]
-pub struct MemFlags(pub u32);
+pub struct MemFlags(u32);
 
 /// All flags of a data flow graph.
 #[derive(Default)]
