@@ -6,6 +6,6 @@ mod ends;
 mod pushed;
 mod template;
 
-pub use ends::{push_gap, push_item_end, push_spaced_item_end};
+pub use ends::{push_gap, push_item_end};
 pub use pushed::push_text;
 pub use template::fill;
