@@ -2,3 +2,5 @@
 mod Pieces
 -- the variables of operands
 pub mod OperandVariables
+-- templates
+pub mod Templates

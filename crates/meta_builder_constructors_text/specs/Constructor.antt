@@ -6,7 +6,7 @@ use Rattle.meta_operands.specs.Texts.{same_text}
 use Rattle.meta_operands.specs.FormatText.{format_text}
 use Rattle.meta_operands.specs.declared.field.FormatField.{FormatField}
 use Rattle.meta_operands.specs.declared.format.InstructionFormat.{InstructionFormat}
-use Rattle.meta_text.specs.Lines.{at, text_of}
+use Rattle.meta_text.specs.Lines.{at, lines_onto, text_of}
 use Rattle.meta_builder_constructors_text.specs.Arguments.{constructor_arguments, numbered_names}
 
 -- ---- the members of the data
@@ -31,15 +31,11 @@ value_member has_value_list count =
     else (if count == 1 then member_text (codes "arg: arg0")
     else array_member_text (codes "args") (numbered_names (codes "arg") count)))
 
--- the member of a single block, the last of its kind, which has no comma behind it
-unfoldable pub destination_text : List ℕ
-destination_text = text_of (at 3 (codes "destination: block0" ∷ []) ∷ [])
-
--- the member of the blocks with arguments: the only one or an array, and nothing where there are none
+-- the member of the blocks with arguments: the only one, which has no comma behind it, or an array, and nothing where there are none
 unfoldable pub block_member : ℕ → List ℕ
 block_member count =
     if count == 0 then []
-    else (if count == 1 then destination_text
+    else (if count == 1 then text_of (at 3 (codes "destination: block0" ∷ []) ∷ [])
     else array_member_text (codes "blocks") (numbered_names (codes "block") count))
 
 -- The member of the block without arguments, and nothing where there is none. A format in use has at most one: one that has more is
@@ -65,10 +61,15 @@ needs_masking fields = list_any (λ (f : FormatField). same_text f.kind.rust_typ
 abbrev pub mut_mark : Bool → List ℕ
 mut_mark masked = if masked then codes " mut" else []
 
--- the first lines of the constructor of the format that has this name and is displayed so, with these arguments behind the first
--- three, up to the member of the opcode
-unfoldable pub head_text : List ℕ → List ℕ → List ℕ → List ℕ → List ℕ
-head_text name displayed arguments mark = text_of (
+-- the masking, where it is needed
+abbrev pub masking_text : Bool → List ℕ
+masking_text masked = if masked then text_of (at 2 (codes "data.mask_immediates(ctrl_typevar);" ∷ []) ∷ []) else []
+
+-- The constructor of the format that has this name and is displayed so, with these arguments behind the first three, this mark of the
+-- data, these members behind the opcode, and this masking. It tests that the opcode is of the format.
+unfoldable pub constructor_with : List ℕ → List ℕ → List ℕ → List ℕ → List ℕ → List ℕ → List ℕ
+constructor_with name displayed arguments mark members masking =
+    lines_onto (
     at 1 (codes "/// " ∷ displayed ∷ [])
     ∷ at 1 (codes "#[allow(non_snake_case, reason = \"generated code\")]" ∷ [])
     ∷ at 1 (
@@ -77,25 +78,17 @@ head_text name displayed arguments mark = text_of (
     )
     ∷ at 2 (codes "let" ∷ mark ∷ codes " data = ir::InstructionData::" ∷ name ∷ codes " {" ∷ [])
     ∷ at 3 (codes "opcode," ∷ []) ∷ [])
-
--- the end of the data, whose semicolon stands on a line of its own
-unfoldable pub data_end_text : List ℕ
-data_end_text = text_of (at 2 (codes "}" ∷ []) ∷ at 2 (codes ";" ∷ []) ∷ [])
-
--- the masking, where it is needed
-unfoldable pub masking_text : Bool → List ℕ
-masking_text masked = if masked then text_of (at 2 (codes "data.mask_immediates(ctrl_typevar);" ∷ []) ∷ []) else []
-
--- the test that the opcode is of the format, and the insertion
-unfoldable pub build_text : List ℕ
-build_text = text_of (
+    (members ++ lines_onto (
+    at 2 (codes "}" ∷ [])
+    ∷ at 2 (codes ";" ∷ []) ∷ [])
+    (masking ++ text_of (
     at 2 (codes "debug_assert_eq!(opcode.format(), InstructionFormat::from(&data), \"Wrong InstructionFormat for Opcode: {opcode}\");" ∷ [])
     ∷ at 2 (codes "self.build(data, ctrl_typevar)" ∷ [])
-    ∷ at 1 (codes "}" ∷ []) ∷ [])
+    ∷ at 1 (codes "}" ∷ []) ∷ [])))
 
 -- The constructor of a format. It takes what the members hold behind `self`, the opcode and the control's type, makes the data of
 -- the instruction, masks its immediates where one is of 64 bits, and inserts the instruction.
 unfoldable pub constructor_text : InstructionFormat → List ℕ
 constructor_text f =
-    head_text f.name (format_text f) (constructor_arguments f) (mut_mark (needs_masking f.imm_fields))
-    ++ (members_text f ++ (data_end_text ++ (masking_text (needs_masking f.imm_fields) ++ build_text)))
+    constructor_with f.name (format_text f) (constructor_arguments f) (mut_mark (needs_masking f.imm_fields)) (members_text f)
+    (masking_text (needs_masking f.imm_fields))

@@ -10,10 +10,10 @@ use Rattle.meta_operands.specs.Operand.{variable_of, doc_of}
 use Rattle.meta_operands.specs.declared.operand.Operand.{Operand}
 use Rattle.meta_inst.specs.Built.{BuiltInstruction}
 use Rattle.meta_inst.specs.Content.{names_text, snake_name_of}
-use Rattle.meta_text.specs.Lines.{at, text_of}
+use Rattle.meta_text.specs.Lines.{at, lines_onto, text_of}
 use Rattle.meta_rust_lines.specs.Ends.{gap_text}
 use Rattle.meta_builder_constructors_text.specs.Names.{operand_name}
-use Rattle.meta_builder_constructors_text.specs.Docs.{first_line, doc_heading_text, doc_item_text}
+use Rattle.meta_builder_constructors_text.specs.Docs.{first_line, doc_item_text}
 use Rattle.meta_builder_constructors_text.specs.Arguments.{argument_text}
 use Rattle.meta_builder_constructors_text.specs.declared.imm_builders.Method.{Method}
 use Rattle.meta_builder_constructors_text.specs.declared.imm_builders.Method.TheVariants.{SignExtends, ZeroExtends, Deprecated}
@@ -79,22 +79,11 @@ extension_of extends = if extends then codes "sign-extended" else codes "zero-ex
 abbrev pub truth_of : Bool → List ℕ
 truth_of extends = if extends then codes "true" else codes "false"
 
--- the first line of a method's doc comment
-unfoldable pub summary_text : List ℕ → List ℕ → List ℕ
-summary_text name extension = text_of (
-    at 1 (
-    codes "/// Convenience method that is like [`"
-    ∷ name
-    ∷ codes "`][Self::"
-    ∷ name
-    ∷ codes "], but takes its trailing operand as an immediate integer constant which is materialized with an `iconst` and "
-    ∷ extension ∷ codes " to the controlling type." ∷ []
-    )
-    ∷ [])
-
 -- the mark of the deprecated method, which the other two replace
-unfoldable pub deprecation_text : List ℕ → List ℕ
-deprecation_text name = text_of (
+unfoldable pub mark_text : List ℕ → Method → List ℕ
+mark_text name SignExtends = []
+mark_text name ZeroExtends = []
+mark_text name Deprecated = text_of (
     at 1 (
     codes "#[deprecated(note = \"use `"
     ∷ name
@@ -102,40 +91,36 @@ deprecation_text name = text_of (
     )
     ∷ [])
 
--- the marks of a method
-unfoldable pub mark_text : List ℕ → Method → List ℕ
-mark_text name SignExtends = []
-mark_text name ZeroExtends = []
-mark_text name Deprecated = deprecation_text name
-
--- its attribute and its head, where its name ends in this suffix, and it has these arguments behind `self`
-unfoldable pub signature_text : List ℕ → List ℕ → List ℕ → List ℕ
-signature_text name suffix arguments = text_of (
+-- A method with this mark, whose name ends in this suffix. It makes of the immediate a number, and of that a value of the type of the
+-- first value input, by an extension of its sign or not; then it makes the instruction with all inputs.
+unfoldable pub extending_text : ImmMethods → List ℕ → List ℕ → List ℕ → List ℕ → List ℕ
+extending_text m mark suffix extension signed =
+    lines_onto (
+    at 1 (
+    codes "/// Convenience method that is like [`"
+    ∷ m.name
+    ∷ codes "`][Self::"
+    ∷ m.name
+    ∷ codes "], but takes its trailing operand as an immediate integer constant which is materialized with an `iconst` and "
+    ∷ extension ∷ codes " to the controlling type." ∷ []
+    )
+    ∷ at 1 (codes "///" ∷ [])
+    ∷ at 1 (codes "/// Inputs:" ∷ [])
+    ∷ at 1 (codes "///" ∷ []) ∷ [])
+    (m.docs ++ (mark ++ text_of (
     at 1 (codes "#[allow(non_snake_case, reason = \"generated code\")]" ∷ [])
-    ∷ at 1 (codes "fn " ∷ name ∷ suffix ∷ codes "<T: Into<ir::immediates::Imm64>>(mut self" ∷ arguments ∷ codes ") -> Value {" ∷ []) ∷ [])
-
--- the first lines of a method's body: the immediate as a number, and the type of the first value input
-unfoldable pub number_text : List ℕ → List ℕ → List ℕ
-number_text control immediate = text_of (
-    at 2 (codes "let " ∷ immediate ∷ codes " = " ∷ immediate ∷ codes ".into();" ∷ [])
-    ∷ at 2 (codes "let imm_ty = self.data_flow_graph().value_type(" ∷ control ∷ codes ");" ∷ []) ∷ [])
-
--- its last lines: the number as a value of that type, by an extension of its sign or not, and the instruction with all inputs
-unfoldable pub imm_call_text : List ℕ → List ℕ → List ℕ → List ℕ → List ℕ
-imm_call_text name immediate signed inputs = text_of (
-    at 2 (codes "let " ∷ immediate ∷ codes " = self.build_imm_const(imm_ty, " ∷ immediate ∷ codes ", " ∷ signed ∷ codes ");" ∷ [])
-    ∷ at 2 (codes "self." ∷ name ∷ codes "(" ∷ inputs ∷ codes ")" ∷ [])
-    ∷ at 1 (codes "}" ∷ []) ∷ [])
+    ∷ at 1 (codes "fn " ∷ m.name ∷ suffix ∷ codes "<T: Into<ir::immediates::Imm64>>(mut self" ∷ m.arguments ∷ codes ") -> Value {" ∷ [])
+    ∷ at 2 (codes "let " ∷ m.immediate ∷ codes " = " ∷ m.immediate ∷ codes ".into();" ∷ [])
+    ∷ at 2 (codes "let imm_ty = self.data_flow_graph().value_type(" ∷ m.control ∷ codes ");" ∷ [])
+    ∷ at 2 (codes "let " ∷ m.immediate ∷ codes " = self.build_imm_const(imm_ty, " ∷ m.immediate ∷ codes ", " ∷ signed ∷ codes ");" ∷ [])
+    ∷ at 2 (codes "self." ∷ m.name ∷ codes "(" ∷ m.inputs ∷ codes ")" ∷ [])
+    ∷ at 1 (codes "}" ∷ []) ∷ [])))
 
 -- the lines of a method
 unfoldable pub imm_method_text : ImmMethods → Method → List ℕ
 imm_method_text m method =
-    summary_text m.name (extension_of (extends_sign method m.signed))
-    ++ (doc_heading_text (codes "Inputs")
-    ++ (m.docs
-    ++ (mark_text m.name method
-    ++ (signature_text m.name (suffix_of method) m.arguments
-    ++ (number_text m.control m.immediate ++ imm_call_text m.name m.immediate (truth_of (extends_sign method m.signed)) m.inputs)))))
+    extending_text m (mark_text m.name method) (suffix_of method) (extension_of (extends_sign method m.signed))
+    (truth_of (extends_sign method m.signed))
 
 -- the three methods of an instruction
 unfoldable pub three_methods_text : ImmMethods → List ℕ

@@ -1,13 +1,27 @@
-ghost use Rattle.std.specs.Prelude.{◌≡◌, ◌++◌, OnOk, string_bytes};
+ghost use Rattle.std.specs.Prelude.{◌≡◌, ◌++◌, IfOk, OnOk, string_bytes};
 ghost use Rattle.meta_builder_constructors_text.specs.Constructor.{member_text, array_member_text, field_members, value_member};
-ghost use Rattle.meta_builder_constructors_text.specs.Constructor.{destination_text, block_member, raw_block_member, members_text};
-ghost use Rattle.meta_builder_constructors_text.specs.Constructor.{needs_masking, mut_mark, head_text, data_end_text, masking_text};
-ghost use Rattle.meta_builder_constructors_text.specs.Constructor.{build_text, constructor_text};
+ghost use Rattle.meta_builder_constructors_text.specs.Constructor.{block_member, raw_block_member, members_text, needs_masking};
+ghost use Rattle.meta_builder_constructors_text.specs.Constructor.{mut_mark, masking_text, constructor_with, constructor_text};
 
 use super::arguments::{constructor_arguments, numbered_names};
 use meta_operands::{FormatField, InstructionFormat};
-use meta_rust_lines::push_text;
+use meta_rust_lines::{fill, push_text};
 use std::alloc::{AllocError, Global};
+
+/// The constructor of a format.
+const CONSTRUCTOR: &str = "    /// $format$
+    #[allow(non_snake_case, reason = \"generated code\")]
+    fn $name$(self, opcode: Opcode, ctrl_typevar: Type$arguments$) -> (Inst, &'f mut ir::DataFlowGraph) {
+        let$mut$ data = ir::InstructionData::$name$ {
+            opcode,
+$members$        }
+        ;
+$masking$        debug_assert_eq!(opcode.format(), InstructionFormat::from(&data), \"Wrong InstructionFormat for Opcode: {opcode}\");
+        self.build(data, ctrl_typevar)
+    }
+";
+
+const CONSTRUCTOR_HOLES: [&str; 6] = ["name", "format", "arguments", "mut", "members", "masking"];
 
 /// Adds the line of a member of the data.
 #[tactic(auto, unfolding(crate::specs::Constructor::member_text))]
@@ -59,14 +73,6 @@ fn push_value_member(
     push_array(out, "args", names.as_str())
 }
 
-/// Adds the member of a single block with arguments.
-#[tactic(auto, unfolding(crate::specs::Constructor::destination_text))]
-fn push_destination(out: &mut String) -> Result<(), AllocError>
-    ensures { OnOk result (string_bytes out.new ≡ string_bytes out.old ++ destination_text) }
-{
-    push_text(out, "            destination: block0\n")
-}
-
 /// Adds the member of the blocks with arguments, where there is one.
 #[tactic(auto, unfolding(crate::specs::Constructor::block_member))]
 fn push_block_member(alloc: Global, out: &mut String, count: u32) -> Result<(), AllocError>
@@ -76,7 +82,7 @@ fn push_block_member(alloc: Global, out: &mut String, count: u32) -> Result<(), 
         return Ok(());
     }
     if count == 1 {
-        return push_destination(out);
+        return push_text(out, "            destination: block0\n");
     }
     let names = numbered_names(alloc, "block", count)?;
     push_array(out, "blocks", names.as_str())
@@ -93,19 +99,22 @@ fn push_raw_block_member(out: &mut String, count: u32) -> Result<(), AllocError>
     Ok(())
 }
 
-/// Adds the members behind the opcode (`gen_member_inits` of `gen_inst.rs`).
+/// The members behind the opcode (`gen_member_inits` of `gen_inst.rs`).
 #[tactic(auto, unfolding(crate::specs::Constructor::members_text))]
-fn push_members(
-    alloc: Global,
-    out: &mut String,
-    format: &InstructionFormat,
-) -> Result<(), AllocError>
-    ensures { OnOk result (string_bytes out.new ≡ string_bytes out.old ++ members_text format.now) }
+fn members(alloc: Global, format: &InstructionFormat) -> Result<String, AllocError>
+    ensures { IfOk result (λ text. string_bytes text ≡ members_text format.now) }
 {
-    push_field_members(out, format.imm_fields.as_slice())?;
-    push_value_member(alloc, out, format.has_value_list, format.num_value_operands)?;
-    push_block_member(alloc, out, format.num_block_operands)?;
-    push_raw_block_member(out, format.num_raw_block_operands)
+    let mut text = String::new(alloc);
+    push_field_members(&mut text, format.imm_fields.as_slice())?;
+    push_value_member(
+        alloc,
+        &mut text,
+        format.has_value_list,
+        format.num_value_operands,
+    )?;
+    push_block_member(alloc, &mut text, format.num_block_operands)?;
+    push_raw_block_member(&mut text, format.num_raw_block_operands)?;
+    Ok(text)
 }
 
 /// Whether a field holds a number of 64 bits, which is to be masked.
@@ -127,58 +136,35 @@ fn mut_mark(masked: bool) -> &'static str
     ""
 }
 
-/// Adds the first lines of a constructor, up to the member of the opcode.
-#[tactic(auto, unfolding(crate::specs::Constructor::head_text))]
-fn push_head(
+/// The masking, where it is needed.
+fn masking(masked: bool) -> &'static str
+    ensures { result.now ≡ masking_text masked }
+{
+    if masked {
+        return "        data.mask_immediates(ctrl_typevar);\n";
+    }
+    ""
+}
+
+/// Adds the constructor of the format of this name, which is displayed so, with what stands in its holes.
+#[tactic(auto, using(crate::proofs::Templates::constructor_same))]
+fn push_whole(
     out: &mut String,
     name: &str,
     displayed: &str,
     arguments: &str,
     mark: &str,
+    members: &str,
+    masking: &str,
 ) -> Result<(), AllocError>
-    ensures { OnOk result (string_bytes out.new ≡ string_bytes out.old ++ head_text name.now displayed.now arguments.now mark.now) }
+    ensures { OnOk result (string_bytes out.new ≡ string_bytes out.old
+        ++ constructor_with name.now displayed.now arguments.now mark.now members.now masking.now) }
 {
-    write!(
+    fill(
         out,
-        "    /// {displayed}
-    #[allow(non_snake_case, reason = \"generated code\")]
-    fn {name}(self, opcode: Opcode, ctrl_typevar: Type{arguments}) -> (Inst, &'f mut ir::DataFlowGraph) {{
-        let{mark} data = ir::InstructionData::{name} {{
-            opcode,
-"
-    )
-}
-
-/// Adds the end of the data.
-#[tactic(auto, unfolding(crate::specs::Constructor::data_end_text))]
-fn push_data_end(out: &mut String) -> Result<(), AllocError>
-    ensures { OnOk result (string_bytes out.new ≡ string_bytes out.old ++ data_end_text) }
-{
-    push_text(out, "        }\n        ;\n")
-}
-
-/// Adds the masking, where it is needed.
-#[tactic(auto, unfolding(crate::specs::Constructor::masking_text))]
-fn push_masking(out: &mut String, masked: bool) -> Result<(), AllocError>
-    ensures { OnOk result (string_bytes out.new ≡ string_bytes out.old ++ masking_text masked) }
-{
-    if masked {
-        return push_text(out, "        data.mask_immediates(ctrl_typevar);\n");
-    }
-    Ok(())
-}
-
-/// Adds the last lines of a constructor.
-#[tactic(auto, unfolding(crate::specs::Constructor::build_text))]
-fn push_build(out: &mut String) -> Result<(), AllocError>
-    ensures { OnOk result (string_bytes out.new ≡ string_bytes out.old ++ build_text) }
-{
-    push_text(
-        out,
-        "        debug_assert_eq!(opcode.format(), InstructionFormat::from(&data), \"Wrong InstructionFormat for Opcode: {opcode}\");
-        self.build(data, ctrl_typevar)
-    }
-",
+        CONSTRUCTOR,
+        &CONSTRUCTOR_HOLES,
+        &[name, displayed, arguments, mark, members, masking],
     )
 }
 
@@ -193,16 +179,15 @@ pub fn push_constructor(
 {
     let displayed = format.to_string(alloc)?;
     let arguments = constructor_arguments(alloc, format)?;
+    let members = members(alloc, format)?;
     let masked = needs_masking(format.imm_fields.as_slice());
-    push_head(
+    push_whole(
         out,
         format.name.as_str(),
         displayed.as_str(),
         arguments.as_str(),
         mut_mark(masked),
-    )?;
-    push_members(alloc, out, format)?;
-    push_data_end(out)?;
-    push_masking(out, masked)?;
-    push_build(out)
+        members.as_str(),
+        masking(masked),
+    )
 }

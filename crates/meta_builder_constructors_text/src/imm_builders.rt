@@ -1,19 +1,45 @@
 ghost use Rattle.std.specs.Prelude.{◌≡◌, ◌++◌, IfOk, OnOk, string_bytes};
 ghost use Rattle.meta_operands.specs.Operand.{variables_of};
 ghost use Rattle.meta_inst.specs.Operands.{AreOf};
-ghost use Rattle.meta_builder_constructors_text.specs.ImmBuilders.{suffix_of, extends_sign, extension_of, truth_of, summary_text};
-ghost use Rattle.meta_builder_constructors_text.specs.ImmBuilders.{deprecation_text, mark_text, signature_text, number_text, imm_call_text};
-ghost use Rattle.meta_builder_constructors_text.specs.ImmBuilders.{imm_method_text, three_methods_text, was_signed, methods_of};
-ghost use Rattle.meta_builder_constructors_text.specs.ImmBuilders.{imm_builders_text};
+ghost use Rattle.meta_builder_constructors_text.specs.ImmBuilders.{suffix_of, extends_sign, extension_of, truth_of, mark_text};
+ghost use Rattle.meta_builder_constructors_text.specs.ImmBuilders.{extending_text, imm_method_text, three_methods_text, was_signed};
+ghost use Rattle.meta_builder_constructors_text.specs.ImmBuilders.{methods_of, imm_builders_text};
 
-use super::docs::push_doc_heading;
 use super::imm_inputs::{input_arguments, input_docs, input_names};
 use super::names::operand_name;
 use meta_inst::InstructionContent;
-use meta_rust_lines::push_gap;
+use meta_rust_lines::{fill, push_gap};
 use meta_typevar::TypeVars;
 use std::alloc::{AllocError, Global};
 use std::marker::Model;
+
+/// A method that takes an immediate (`gen_one_imm_inst_builder`).
+const IMM_METHOD: &str =
+    "    /// Convenience method that is like [`$name$`][Self::$name$], but takes its trailing operand as an immediate integer constant which is materialized with an `iconst` and $extension$ to the controlling type.
+    ///
+    /// Inputs:
+    ///
+$docs$$mark$    #[allow(non_snake_case, reason = \"generated code\")]
+    fn $name$$suffix$<T: Into<ir::immediates::Imm64>>(mut self$arguments$) -> Value {
+        let $immediate$ = $immediate$.into();
+        let imm_ty = self.data_flow_graph().value_type($control$);
+        let $immediate$ = self.build_imm_const(imm_ty, $immediate$, $signed$);
+        self.$name$($inputs$)
+    }
+";
+
+const IMM_METHOD_HOLES: [&str; 10] = [
+    "name",
+    "control",
+    "immediate",
+    "docs",
+    "arguments",
+    "inputs",
+    "mark",
+    "suffix",
+    "extension",
+    "signed",
+];
 
 /// Which of the methods of an instruction that take an immediate.
 #[derive(Clone, Copy)]
@@ -106,126 +132,82 @@ impl<'i> Model for ImmMethods<'i> {
     } };
 }
 
-/// Adds the first line of a method's doc comment.
-#[tactic(auto, unfolding(crate::specs::ImmBuilders::summary_text))]
-fn push_summary(out: &mut String, name: &str, extension: &str) -> Result<(), AllocError>
-    ensures { OnOk result (string_bytes out.new ≡ string_bytes out.old ++ summary_text name.now extension.now) }
-{
-    write!(
-        out,
-        "    /// Convenience method that is like [`{name}`][Self::{name}], but takes its trailing operand as an immediate integer constant which is materialized with an `iconst` and {extension} to the controlling type.\n"
-    )
-}
-
-/// Adds the mark of the method that is deprecated.
-#[tactic(auto, unfolding(crate::specs::ImmBuilders::deprecation_text))]
-fn push_deprecation(out: &mut String, name: &str) -> Result<(), AllocError>
-    ensures { OnOk result (string_bytes out.new ≡ string_bytes out.old ++ deprecation_text name.now) }
-{
-    write!(
-        out,
-        "    #[deprecated(note = \"use `{name}_imm_s` (sign-extends the immediate) or `{name}_imm_u` (zero-extends the immediate) instead\")]\n"
-    )
-}
-
-/// Adds the marks of a method.
+/// The mark of the method of an instruction of this name that is deprecated.
 #[tactic(auto, unfolding(crate::specs::ImmBuilders::mark_text))]
-fn push_mark(out: &mut String, name: &str, method: Method) -> Result<(), AllocError>
-    ensures { OnOk result (string_bytes out.new ≡ string_bytes out.old ++ mark_text name.now method) }
+fn mark(alloc: Global, name: &str, method: Method) -> Result<String, AllocError>
+    ensures { IfOk result (λ text. string_bytes text ≡ mark_text name.now method) }
 {
     match method {
-        Method::SignExtends | Method::ZeroExtends => Ok(()),
-        Method::Deprecated => push_deprecation(out, name),
+        Method::SignExtends | Method::ZeroExtends => Ok(String::new(alloc)),
+        Method::Deprecated => format!(in alloc;
+            "    #[deprecated(note = \"use `{name}_imm_s` (sign-extends the immediate) or `{name}_imm_u` (zero-extends the immediate) instead\")]\n"
+        ),
     }
 }
 
-/// Adds the attribute and the head of a method, whose name ends in this suffix.
-#[tactic(auto, unfolding(crate::specs::ImmBuilders::signature_text))]
-fn push_signature(
+/// Adds a method with this mark, whose name ends in this suffix, and which extends the immediate so.
+fn push_extending<'x>(
     out: &mut String,
-    name: &str,
-    suffix: &str,
-    arguments: &str,
+    methods: &'x ImmMethods<'x>,
+    mark: &'x str,
+    suffix: &'x str,
+    extension: &'x str,
+    signed: &'x str,
 ) -> Result<(), AllocError>
-    ensures { OnOk result (string_bytes out.new ≡ string_bytes out.old ++ signature_text name.now suffix.now arguments.now) }
+    ensures { OnOk result (string_bytes out.new ≡ string_bytes out.old
+        ++ extending_text methods.now mark.now suffix.now extension.now signed.now) }
 {
-    write!(
+    fill(
         out,
-        "    #[allow(non_snake_case, reason = \"generated code\")]
-    fn {name}{suffix}<T: Into<ir::immediates::Imm64>>(mut self{arguments}) -> Value {{
-"
-    )
-}
-
-/// Adds the first lines of a method's body.
-#[tactic(auto, unfolding(crate::specs::ImmBuilders::number_text))]
-fn push_number(out: &mut String, control: &str, immediate: &str) -> Result<(), AllocError>
-    ensures { OnOk result (string_bytes out.new ≡ string_bytes out.old ++ number_text control.now immediate.now) }
-{
-    write!(
-        out,
-        "        let {immediate} = {immediate}.into();
-        let imm_ty = self.data_flow_graph().value_type({control});
-"
-    )
-}
-
-/// Adds the last lines of a method's body.
-#[tactic(auto, unfolding(crate::specs::ImmBuilders::imm_call_text))]
-fn push_call(
-    out: &mut String,
-    name: &str,
-    immediate: &str,
-    signed: &str,
-    inputs: &str,
-) -> Result<(), AllocError>
-    ensures { OnOk result (string_bytes out.new ≡ string_bytes out.old ++ imm_call_text name.now immediate.now signed.now inputs.now) }
-{
-    write!(
-        out,
-        "        let {immediate} = self.build_imm_const(imm_ty, {immediate}, {signed});
-        self.{name}({inputs})
-    }}
-"
+        IMM_METHOD,
+        &IMM_METHOD_HOLES,
+        &[
+            methods.name,
+            methods.control,
+            methods.immediate,
+            methods.docs.as_str(),
+            methods.arguments.as_str(),
+            methods.inputs.as_str(),
+            mark,
+            suffix,
+            extension,
+            signed,
+        ],
     )
 }
 
 /// Adds a method (`gen_one_imm_inst_builder` of `gen_inst.rs`).
 #[tactic(auto, unfolding(crate::specs::ImmBuilders::imm_method_text))]
-fn push_method(out: &mut String, methods: &ImmMethods<'_>, method: Method) -> Result<(), AllocError>
+fn push_method(
+    alloc: Global,
+    out: &mut String,
+    methods: &ImmMethods<'_>,
+    method: Method,
+) -> Result<(), AllocError>
     ensures { OnOk result (string_bytes out.new ≡ string_bytes out.old ++ imm_method_text methods.now method) }
 {
+    let mark = mark(alloc, methods.name, method)?;
     let extends_sign = method.extends_sign(methods.signed);
-    push_summary(out, methods.name, extension(extends_sign))?;
-    push_doc_heading(out, "Inputs")?;
-    out.push_str(methods.docs.as_str())?;
-    push_mark(out, methods.name, method)?;
-    push_signature(
+    push_extending(
         out,
-        methods.name,
+        methods,
+        mark.as_str(),
         method.suffix(),
-        methods.arguments.as_str(),
-    )?;
-    push_number(out, methods.control, methods.immediate)?;
-    push_call(
-        out,
-        methods.name,
-        methods.immediate,
+        extension(extends_sign),
         truth(extends_sign),
-        methods.inputs.as_str(),
     )
 }
 
 /// Adds the three methods.
 #[tactic(auto, unfolding(crate::specs::ImmBuilders::three_methods_text))]
-fn push_methods(out: &mut String, methods: &ImmMethods<'_>) -> Result<(), AllocError>
+fn push_methods(alloc: Global, out: &mut String, methods: &ImmMethods<'_>) -> Result<(), AllocError>
     ensures { OnOk result (string_bytes out.new ≡ string_bytes out.old ++ three_methods_text methods.now) }
 {
-    push_method(out, methods, Method::SignExtends)?;
+    push_method(alloc, out, methods, Method::SignExtends)?;
     push_gap(out)?;
-    push_method(out, methods, Method::ZeroExtends)?;
+    push_method(alloc, out, methods, Method::ZeroExtends)?;
     push_gap(out)?;
-    push_method(out, methods, Method::Deprecated)
+    push_method(alloc, out, methods, Method::Deprecated)
 }
 
 /// Whether an instruction of this name had a form with an immediate that extended its sign.
@@ -281,5 +263,5 @@ pub fn push_imm_builders(
         return Ok(());
     };
     let methods = methods_of(alloc, vars, instruction, *first, *last)?;
-    push_methods(out, &methods)
+    push_methods(alloc, out, &methods)
 }

@@ -1,2 +1,3 @@
 -- formats of the table
 mod InTable
+mod Templates

@@ -3,7 +3,7 @@
 --     accessor_text mark cs       the method that tells which of the instructions have the mark
 use Rattle.std.specs.Prelude.{ℕ, Bool, List, [], ◌∷◌, ◌++◌, if◌then◌else◌, codes}
 use Rattle.std.specs.List.{flat_map}
-use Rattle.meta_text.specs.Lines.{at, empty_line, text_of}
+use Rattle.meta_text.specs.Lines.{at, empty_line, lines_onto, text_of}
 use Rattle.meta_inst.specs.declared.marks.Marks.{Marks}
 use Rattle.meta_inst.specs.Built.{BuiltInstruction}
 use Rattle.meta_instructions_enums_text.specs.declared.accessors.Mark.{Mark}
@@ -51,32 +51,22 @@ mark_doc CanTrap = codes "Can this instruction cause a trap?"
 mark_doc OtherSideEffects = codes "Does this instruction have other side effects besides can_* flags?"
 mark_doc SideEffectsIdempotent = codes "Despite having side effects, is this instruction okay to GVN?"
 
--- the first lines of the method of this documentation and name
-unfoldable pub accessor_head : List ℕ → List ℕ → List ℕ
-accessor_head doc name = text_of (
-    at 1 (codes "/// " ∷ doc ∷ [])
-    ∷ at 1 (codes "pub fn " ∷ name ∷ codes "(self) -> bool {" ∷ [])
-    ∷ at 2 (codes "match self {" ∷ []) ∷ [])
-
--- the arm of an instruction that has the mark
-unfoldable pub true_arm : List ℕ → List ℕ
-true_arm name = text_of (at 3 (codes "Self::" ∷ name ∷ codes " => true," ∷ []) ∷ [])
-
--- an instruction has an arm where it has the mark
+-- the arm of an instruction, where it has the mark
 unfoldable pub mark_arm : Mark → BuiltInstruction → List ℕ
-mark_arm mark c = if has_mark mark c.marks then true_arm c.camel_name else []
-
--- the arm of the others, the last lines, and an empty one
-unfoldable pub accessor_end : List ℕ
-accessor_end = text_of (
-    at 3 (codes "_ => false," ∷ [])
-    ∷ at 2 (codes "}" ∷ [])
-    ∷ at 1 (codes "}" ∷ [])
-    ∷ empty_line ∷ [])
+mark_arm mark c = if has_mark mark c.marks then text_of (at 3 (codes "Self::" ∷ c.camel_name ∷ codes " => true," ∷ []) ∷ []) else []
 
 -- the method that tells which of the instructions have the mark
 unfoldable pub accessor_text : Mark → List BuiltInstruction → List ℕ
-accessor_text mark cs = accessor_head (mark_doc mark) (mark_name mark) ++ (flat_map (mark_arm mark) cs ++ accessor_end)
+accessor_text mark cs =
+    lines_onto (
+    at 1 (codes "/// " ∷ mark_doc mark ∷ [])
+    ∷ at 1 (codes "pub fn " ∷ mark_name mark ∷ codes "(self) -> bool {" ∷ [])
+    ∷ at 2 (codes "match self {" ∷ []) ∷ [])
+    (flat_map (mark_arm mark) cs ++ text_of (
+    at 3 (codes "_ => false," ∷ [])
+    ∷ at 2 (codes "}" ∷ [])
+    ∷ at 1 (codes "}" ∷ [])
+    ∷ empty_line ∷ []))
 
 -- the methods of all marks
 unfoldable pub accessors_text : List BuiltInstruction → List ℕ

@@ -4,25 +4,11 @@
 use Rattle.std.specs.Prelude.{ℕ, ◌==◌, Bool, List, [], ◌∷◌, ◌++◌, if◌then◌else◌, codes}
 use Rattle.std.specs.List.{flat_map}
 use Rattle.std.specs.Fmt.{decimal}
-use Rattle.meta_text.specs.Lines.{at, text_of}
-use Rattle.meta_rust_lines.specs.Ends.{spaced_item_end}
+use Rattle.meta_text.specs.Lines.{at, empty_line, lines_onto, text_of}
 use Rattle.meta_operands.specs.declared.field.FormatField.{FormatField}
 use Rattle.meta_operands.specs.declared.format.InstructionFormat.{InstructionFormat}
 use Rattle.meta_declared.specs.BuiltDeclarations.{BuiltDeclarations}
 use Rattle.meta_instructions_enums_text.specs.InUse.{formats_in}
-
--- the first lines; each variant holds its opcode
-unfoldable pub data_head : List ℕ
-data_head = text_of (
-    at 0 (codes "#[derive(Copy, Clone, Debug, PartialEq, Eq, Hash)]" ∷ [])
-    ∷ at 0 (codes "#[allow(missing_docs, reason = \"generated code\")]" ∷ [])
-    ∷ at 0 (codes "pub enum InstructionData {" ∷ []) ∷ [])
-
--- ---- a variant
-
--- the first lines of the variant of the format of this name
-unfoldable pub variant_head : List ℕ → List ℕ
-variant_head name = text_of (at 1 (name ∷ codes " {" ∷ []) ∷ at 2 (codes "opcode: Opcode," ∷ []) ∷ [])
 
 -- the member that holds so many values: a value list, if there is one; else an array, or one value alone
 unfoldable pub values_text : Bool → ℕ → List ℕ
@@ -43,34 +29,29 @@ blocks_text count =
 unfoldable pub raw_blocks_text : ℕ → List ℕ
 raw_blocks_text count = if count == 0 then [] else text_of (at 2 (codes "block: ir::Block," ∷ []) ∷ [])
 
--- a member of this name and type
-unfoldable pub member_line : List ℕ → List ℕ → List ℕ
-member_line name rust_type = text_of (at 2 (name ∷ codes ": " ∷ rust_type ∷ codes "," ∷ []) ∷ [])
-
 -- the member that is a field of the format
-abbrev pub field_line : FormatField → List ℕ
-field_line field = member_line field.member field.kind.rust_type
+unfoldable pub field_line : FormatField → List ℕ
+field_line field = text_of (at 2 (field.member ∷ codes ": " ∷ field.kind.rust_type ∷ codes "," ∷ []) ∷ [])
 
--- the last lines of a variant
-unfoldable pub variant_end : List ℕ
-variant_end = text_of (at 1 (codes "}" ∷ []) ∷ at 1 (codes "," ∷ []) ∷ [])
+-- the members of the variant of a format after its opcode: its values, its blocks, and its fields
+unfoldable pub members_text : InstructionFormat → List ℕ
+members_text f =
+    values_text f.has_value_list f.num_value_operands
+    ++ (blocks_text f.num_block_operands
+    ++ (raw_blocks_text f.num_raw_block_operands ++ flat_map field_line f.imm_fields))
 
--- the variant of a format: its values, its blocks, and its fields
+-- the variant of a format
 unfoldable pub variant_text : InstructionFormat → List ℕ
 variant_text f =
-    variant_head f.name
-    ++ (values_text f.has_value_list f.num_value_operands
-    ++ (blocks_text f.num_block_operands
-    ++ (raw_blocks_text f.num_raw_block_operands
-    ++ (flat_map field_line f.imm_fields ++ variant_end))))
-
--- ---- all variants
-
--- the text of the data of instructions of these formats
-unfoldable pub data_part : List InstructionFormat → List ℕ
-data_part formats = data_head ++ (flat_map variant_text formats ++ spaced_item_end)
+    lines_onto (at 1 (f.name ∷ codes " {" ∷ []) ∷ at 2 (codes "opcode: Opcode," ∷ []) ∷ [])
+    (members_text f ++ text_of (at 1 (codes "}" ∷ []) ∷ at 1 (codes "," ∷ []) ∷ []))
 
 -- The text of the data of instructions, by the names of the formats in use. It ends with an empty line: that which parts the enum
 -- from its implementation.
-abbrev pub data_text : BuiltDeclarations → List ℕ
-data_text b = data_part (formats_in b)
+unfoldable pub data_text : BuiltDeclarations → List ℕ
+data_text b =
+    lines_onto (
+    at 0 (codes "#[derive(Copy, Clone, Debug, PartialEq, Eq, Hash)]" ∷ [])
+    ∷ at 0 (codes "#[allow(missing_docs, reason = \"generated code\")]" ∷ [])
+    ∷ at 0 (codes "pub enum InstructionData {" ∷ []) ∷ [])
+    (flat_map variant_text (formats_in b) ++ text_of (at 0 (codes "}" ∷ []) ∷ empty_line ∷ []))

@@ -1,11 +1,10 @@
-ghost use Rattle.std.specs.Prelude.{◌≡◌, ◌++◌, OnOk, string_bytes};
+ghost use Rattle.std.specs.Prelude.{◌≡◌, ◌++◌, IfOk, OnOk, string_bytes};
 ghost use Rattle.std.specs.List.{flat_map};
-ghost use Rattle.meta_instructions_enums_text.specs.Accessors.{has_mark, mark_name, mark_doc, accessor_head, true_arm, mark_arm};
-ghost use Rattle.meta_instructions_enums_text.specs.Accessors.{accessor_end, accessor_text, accessors_text};
+ghost use Rattle.meta_instructions_enums_text.specs.Accessors.{has_mark, mark_name, mark_doc, mark_arm, accessor_text, accessors_text};
 
 use meta_inst::InstructionContent;
-use meta_rust_lines::push_text;
-use std::alloc::AllocError;
+use meta_rust_lines::fill;
+use std::alloc::{AllocError, Global};
 
 /// A mark of instructions that a method of `Opcode` tells.
 #[derive(Clone, Copy)]
@@ -34,6 +33,18 @@ const TOLD_MARKS: [Mark; 9] = [
     Mark::SideEffectsIdempotent,
 ];
 
+/// The method that tells a mark.
+const ACCESSOR: &str = "    /// $doc$
+    pub fn $name$(self) -> bool {
+        match self {
+$arms$            _ => false,
+        }
+    }
+
+";
+
+const ACCESSOR_HOLES: [&str; 3] = ["doc", "name", "arms"];
+
 impl Mark {
     /// Whether the instruction has the mark.
     fn is_of(self, instruction: &InstructionContent) -> bool
@@ -53,8 +64,8 @@ impl Mark {
     }
 
     /// The name of the method.
-    fn name(self) -> &'static str
-        ensures { result.now ≡ mark_name self }
+    fn name(&self) -> &str
+        ensures { result.now ≡ mark_name self.now }
     {
         match self {
             Mark::IsTerminator => "is_terminator",
@@ -70,8 +81,8 @@ impl Mark {
     }
 
     /// The documentation of the method.
-    fn doc(self) -> &'static str
-        ensures { result.now ≡ mark_doc self }
+    fn doc(&self) -> &str
+        ensures { result.now ≡ mark_doc self.now }
     {
         match self {
             Mark::IsTerminator => "True for instructions that terminate the block",
@@ -91,29 +102,7 @@ impl Mark {
     }
 }
 
-/// Adds the first lines of the method of this documentation and name.
-#[tactic(auto, unfolding(crate::specs::Accessors::accessor_head))]
-fn push_head(out: &mut String, doc: &str, name: &str) -> Result<(), AllocError>
-    ensures { OnOk result (string_bytes out.new ≡ string_bytes out.old ++ accessor_head doc.now name.now) }
-{
-    write!(
-        out,
-        "    /// {doc}
-    pub fn {name}(self) -> bool {{
-        match self {{
-"
-    )
-}
-
-/// Adds the arm of an instruction, of this name, that has the mark.
-#[tactic(auto, unfolding(crate::specs::Accessors::true_arm))]
-fn push_true(out: &mut String, name: &str) -> Result<(), AllocError>
-    ensures { OnOk result (string_bytes out.new ≡ string_bytes out.old ++ true_arm name.now) }
-{
-    write!(out, "            Self::{name} => true,\n")
-}
-
-/// Adds the arm of an instruction, where it has the mark.
+/// The arm of an instruction, where it has the mark.
 #[tactic(auto, unfolding(crate::specs::Accessors::mark_arm))]
 fn push_arm(
     out: &mut String,
@@ -123,69 +112,67 @@ fn push_arm(
     ensures { OnOk result (string_bytes out.new ≡ string_bytes out.old ++ mark_arm mark instruction.now) }
 {
     if mark.is_of(instruction) {
-        return push_true(out, instruction.camel_name().as_str());
+        let name = instruction.camel_name().as_str();
+        return write!(out, "            Self::{name} => true,\n");
     }
     Ok(())
 }
 
-/// Adds the arms of those of the instructions that have the mark.
-fn push_arms(
-    out: &mut String,
+/// The arms of those of the instructions that have the mark.
+fn arms(
+    alloc: Global,
     mark: Mark,
     instructions: &[InstructionContent],
-) -> Result<(), AllocError>
-    ensures { OnOk result (string_bytes out.new ≡ string_bytes out.old ++ flat_map (mark_arm mark) instructions.now) }
+) -> Result<String, AllocError>
+    ensures { IfOk result (λ text. string_bytes text ≡ flat_map (mark_arm mark) instructions.now) }
 {
+    let mut text = String::new(alloc);
     for instruction in instructions {
-        push_arm(out, mark, instruction)?;
+        push_arm(&mut text, mark, instruction)?;
     }
-    Ok(())
-}
-
-/// Adds the arm of the others, and the end of a method.
-#[tactic(auto, unfolding(crate::specs::Accessors::accessor_end))]
-fn push_end(out: &mut String) -> Result<(), AllocError>
-    ensures { OnOk result (string_bytes out.new ≡ string_bytes out.old ++ accessor_end) }
-{
-    push_text(out, "            _ => false,\n        }\n    }\n\n")
+    Ok(text)
 }
 
 /// Adds the method that tells which of the instructions have the mark.
-#[tactic(auto, unfolding(crate::specs::Accessors::accessor_text))]
 fn push_accessor(
+    alloc: Global,
     out: &mut String,
     mark: Mark,
     instructions: &[InstructionContent],
 ) -> Result<(), AllocError>
     ensures { OnOk result (string_bytes out.new ≡ string_bytes out.old ++ accessor_text mark instructions.now) }
 {
-    push_head(out, mark.doc(), mark.name())?;
-    push_arms(out, mark, instructions)?;
-    push_end(out)
+    let arms = arms(alloc, mark, instructions)?;
+    fill(
+        out,
+        ACCESSOR,
+        &ACCESSOR_HOLES,
+        &[mark.doc(), mark.name(), arms.as_str()],
+    )
 }
 
-/// Adds the methods of these marks.
-fn push_each(
-    out: &mut String,
+/// The methods of these marks.
+fn each_accessor(
+    alloc: Global,
     marks: &[Mark],
     instructions: &[InstructionContent],
-) -> Result<(), AllocError>
-    ensures { OnOk result (string_bytes out.new ≡ string_bytes out.old
-        ++ flat_map (λ mark. accessor_text mark instructions.now) marks.now) }
+) -> Result<String, AllocError>
+    ensures { IfOk result (λ text. string_bytes text ≡ flat_map (λ mark. accessor_text mark instructions.now) marks.now) }
 {
+    let mut text = String::new(alloc);
     for mark in marks {
-        push_accessor(out, *mark, instructions)?;
+        push_accessor(alloc, &mut text, *mark, instructions)?;
     }
-    Ok(())
+    Ok(text)
 }
 
-/// Adds the methods that tell the marks of the instructions.
+/// The methods that tell the marks of the instructions.
 #[tactic(auto, unfolding(crate::specs::Accessors::accessors_text))]
-pub(crate) fn push_accessors(
-    out: &mut String,
+pub(crate) fn accessors(
+    alloc: Global,
     instructions: &[InstructionContent],
-) -> Result<(), AllocError>
-    ensures { OnOk result (string_bytes out.new ≡ string_bytes out.old ++ accessors_text instructions.now) }
+) -> Result<String, AllocError>
+    ensures { IfOk result (λ text. string_bytes text ≡ accessors_text instructions.now) }
 {
-    push_each(out, &TOLD_MARKS, instructions)
+    each_accessor(alloc, &TOLD_MARKS, instructions)
 }

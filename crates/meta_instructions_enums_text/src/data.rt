@@ -1,35 +1,32 @@
-ghost use Rattle.std.specs.Prelude.{◌≡◌, ◌++◌, OnOk, map, string_bytes};
+ghost use Rattle.std.specs.Prelude.{◌≡◌, ◌++◌, IfOk, OnOk, map, string_bytes};
 ghost use Rattle.std.specs.List.{flat_map};
-ghost use Rattle.meta_instructions_enums_text.specs.DataText.{data_head, variant_head, values_text, blocks_text, raw_blocks_text};
-ghost use Rattle.meta_instructions_enums_text.specs.DataText.{member_line, field_line, variant_end, variant_text, data_part, data_text};
+ghost use Rattle.meta_instructions_enums_text.specs.DataText.{values_text, blocks_text, raw_blocks_text, field_line, members_text};
+ghost use Rattle.meta_instructions_enums_text.specs.DataText.{variant_text, data_text};
 
 use super::in_use::formats_in_use;
 use meta_declared::Built;
 use meta_operands::{FormatField, InstructionFormat};
-use meta_rust_lines::{push_spaced_item_end, push_text};
+use meta_rust_lines::{fill, push_text};
 use std::alloc::{AllocError, Global};
 
-/// Adds the first lines.
-#[tactic(auto, unfolding(crate::specs::DataText::data_head))]
-fn push_data_head(out: &mut String) -> Result<(), AllocError>
-    ensures { OnOk result (string_bytes out.new ≡ string_bytes out.old ++ data_head) }
-{
-    push_text(
-        out,
-        "#[derive(Copy, Clone, Debug, PartialEq, Eq, Hash)]
+/// The enum of the data of instructions (`gen_instruction_data`).
+const DATA: &str = "#[derive(Copy, Clone, Debug, PartialEq, Eq, Hash)]
 #[allow(missing_docs, reason = \"generated code\")]
 pub enum InstructionData {
-",
-    )
-}
+$variants$}
 
-/// Adds the first lines of the variant of the format of this name.
-#[tactic(auto, unfolding(crate::specs::DataText::variant_head))]
-fn push_variant_head(out: &mut String, name: &str) -> Result<(), AllocError>
-    ensures { OnOk result (string_bytes out.new ≡ string_bytes out.old ++ variant_head name.now) }
-{
-    write!(out, "    {name} {{\n        opcode: Opcode,\n")
-}
+";
+
+const DATA_HOLES: [&str; 1] = ["variants"];
+
+/// The variant of a format.
+const VARIANT: &str = "    $name$ {
+        opcode: Opcode,
+$members$    }
+    ,
+";
+
+const VARIANT_HOLES: [&str; 2] = ["name", "members"];
 
 /// Adds the member that holds the values, of which there are so many beside those of a value list.
 #[tactic(auto, unfolding(crate::specs::DataText::values_text))]
@@ -69,11 +66,12 @@ fn push_raw_blocks(out: &mut String, count: u32) -> Result<(), AllocError>
     }
 }
 
-/// Adds a member of this name and type.
-#[tactic(auto, unfolding(crate::specs::DataText::member_line))]
-fn push_member(out: &mut String, name: &str, rust_type: &str) -> Result<(), AllocError>
-    ensures { OnOk result (string_bytes out.new ≡ string_bytes out.old ++ member_line name.now rust_type.now) }
+/// Adds a field of a format.
+#[tactic(auto, unfolding(crate::specs::DataText::field_line))]
+fn push_field(out: &mut String, field: &FormatField) -> Result<(), AllocError>
+    ensures { OnOk result (string_bytes out.new ≡ string_bytes out.old ++ field_line field.now) }
 {
+    let (name, rust_type) = (field.member.as_str(), field.kind.rust_type.as_str());
     write!(out, "        {name}: {rust_type},\n")
 }
 
@@ -82,50 +80,40 @@ fn push_fields(out: &mut String, fields: &[FormatField]) -> Result<(), AllocErro
     ensures { OnOk result (string_bytes out.new ≡ string_bytes out.old ++ flat_map field_line fields.now) }
 {
     for field in fields {
-        push_member(out, field.member.as_str(), field.kind.rust_type.as_str())?;
+        push_field(out, field)?;
     }
     Ok(())
 }
 
-/// Adds the last lines of a variant.
-#[tactic(auto, unfolding(crate::specs::DataText::variant_end))]
-fn push_variant_end(out: &mut String) -> Result<(), AllocError>
-    ensures { OnOk result (string_bytes out.new ≡ string_bytes out.old ++ variant_end) }
+/// The members of the variant of a format after its opcode.
+#[tactic(auto, unfolding(crate::specs::DataText::members_text))]
+fn members(alloc: Global, format: &InstructionFormat) -> Result<String, AllocError>
+    ensures { IfOk result (λ text. string_bytes text ≡ members_text format.now) }
 {
-    push_text(out, "    }\n    ,\n")
+    let mut text = String::new(alloc);
+    push_values(&mut text, format.has_value_list, format.num_value_operands)?;
+    push_blocks(&mut text, format.num_block_operands)?;
+    push_raw_blocks(&mut text, format.num_raw_block_operands)?;
+    push_fields(&mut text, format.imm_fields.as_slice())?;
+    Ok(text)
 }
 
-/// Adds the variant of a format.
-#[tactic(auto, unfolding(crate::specs::DataText::variant_text))]
-fn push_variant(out: &mut String, format: &InstructionFormat) -> Result<(), AllocError>
-    ensures { OnOk result (string_bytes out.new ≡ string_bytes out.old ++ variant_text format.now) }
+/// The variants of the formats.
+#[tactic(auto, using(crate::proofs::Templates::variant_steps))]
+fn variants(alloc: Global, formats: &[&InstructionFormat]) -> Result<String, AllocError>
+    ensures { IfOk result (λ text. string_bytes text ≡ flat_map variant_text (map (λ f. f.now) formats.now)) }
 {
-    push_variant_head(out, format.name.as_str())?;
-    push_values(out, format.has_value_list, format.num_value_operands)?;
-    push_blocks(out, format.num_block_operands)?;
-    push_raw_blocks(out, format.num_raw_block_operands)?;
-    push_fields(out, format.imm_fields.as_slice())?;
-    push_variant_end(out)
-}
-
-/// Adds the variants of the formats.
-fn push_variants(out: &mut String, formats: &[&InstructionFormat]) -> Result<(), AllocError>
-    ensures { OnOk result (string_bytes out.new ≡ string_bytes out.old ++ flat_map variant_text (map (λ f. f.now) formats.now)) }
-{
+    let mut text = String::new(alloc);
     for format in formats {
-        push_variant(out, format)?;
+        let members = members(alloc, format)?;
+        fill(
+            &mut text,
+            VARIANT,
+            &VARIANT_HOLES,
+            &[format.name.as_str(), members.as_str()],
+        )?;
     }
-    Ok(())
-}
-
-/// Adds the text of the data of instructions of these formats.
-#[tactic(auto, unfolding(crate::specs::DataText::data_part))]
-fn push_part(out: &mut String, formats: &[&InstructionFormat]) -> Result<(), AllocError>
-    ensures { OnOk result (string_bytes out.new ≡ string_bytes out.old ++ data_part (map (λ f. f.now) formats.now)) }
-{
-    push_data_head(out)?;
-    push_variants(out, formats)?;
-    push_spaced_item_end(out)
+    Ok(text)
 }
 
 /// Adds the text of the data of instructions, by the names of the formats in use, with an empty line at its end
@@ -135,5 +123,6 @@ pub fn push_data(alloc: Global, out: &mut String, built: &Built<'_>) -> Result<(
     ensures { OnOk result (string_bytes out.new ≡ string_bytes out.old ++ data_text built.now) }
 {
     let formats = formats_in_use(alloc, built)?;
-    push_part(out, formats.as_slice())
+    let variants = variants(alloc, formats.as_slice())?;
+    fill(out, DATA, &DATA_HOLES, &[variants.as_str()])
 }

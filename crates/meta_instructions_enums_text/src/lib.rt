@@ -9,7 +9,6 @@ mod accessors;
 mod data;
 mod formats;
 mod in_use;
-mod lists;
 mod opcode_items;
 mod opcodes;
 

@@ -1,25 +1,20 @@
-ghost use Rattle.std.specs.Prelude.{◌≡◌, ◌<◌, ◌++◌, OnOk, length, string_bytes};
+ghost use Rattle.std.specs.Prelude.{◌≡◌, ◌<◌, ◌∷◌, [], ◌++◌, map, IsTrue, IfOk, OnOk, length, string_bytes};
+ghost use Rattle.std.specs.List.{flat_map};
 ghost use Rattle.std.specs.Option.{option_copied};
-ghost use Rattle.meta_inst.specs.Content.{instruction_text};
-ghost use Rattle.meta_instructions_enums_text.specs.OpcodeItems.{shown_line, inferring_input, inferred_from, inferred_line, docs_text};
-ghost use Rattle.meta_instructions_enums_text.specs.OpcodeItems.{opcode_line, first_opcode_line, opcode_text, first_opcode_text};
-ghost use Rattle.meta_instructions_enums_text.specs.OpcodeItems.{listed_line, named_arm};
+ghost use Rattle.meta_rust_lines.specs.Filled.{filled, fits};
+ghost use Rattle.meta_instructions_enums_text.specs.OpcodeItems.{inferring_input, inferred_line, opcode_lines, opcode_text};
 
 use meta_inst::InstructionContent;
 use meta_operands::{FormatTable, InstructionFormat, Operand};
-use std::alloc::AllocError;
+use meta_rust_lines::fill;
+use std::alloc::{AllocError, Global};
 
-/// Adds the documentation that shows an instruction, whose format has this name.
-#[tactic(auto, unfolding(crate::specs::OpcodeItems::shown_line))]
-fn push_shown(
-    out: &mut String,
-    instruction: &InstructionContent,
-    format: &str,
-) -> Result<(), AllocError>
-    ensures { OnOk result (string_bytes out.new ≡ string_bytes out.old ++ shown_line (instruction_text instruction.now) format.now) }
-{
-    write!(out, "    /// `{instruction}`. ({format})\n")
-}
+/// An instruction in the list of all opcodes, and the arm that tells its name.
+pub(crate) const LISTED: &str = "            Opcode::$Name$,\n";
+
+pub(crate) const NAMED: &str = "        Opcode::$Name$ => \"$name$\",\n";
+
+const NAME_HOLES: [&str; 2] = ["Name", "name"];
 
 /// The input from whose type the control of the instruction, of this format, is inferred; `None` where it isn't.
 fn inferring_input<'i>(
@@ -36,96 +31,86 @@ fn inferring_input<'i>(
     instruction.operands_in().get(*place)
 }
 
-/// Adds the line that tells that the type is inferred from the input of this name.
-#[tactic(auto, unfolding(crate::specs::OpcodeItems::inferred_from))]
-fn push_inferred_from(out: &mut String, name: &str) -> Result<(), AllocError>
-    ensures { OnOk result (string_bytes out.new ≡ string_bytes out.old ++ inferred_from name.now) }
+/// The line that tells the input from which the type is inferred, where there is one.
+fn inferred(alloc: Global, input: Option<&Operand>) -> Result<String, AllocError>
+    ensures { IfOk result (λ text. string_bytes text ≡ inferred_line (option_copied input.entry)) }
 {
-    write!(out, "    /// Type inferred from `{name}`.\n")
+    let mut text = String::new(alloc);
+    let Some(input) = input else {
+        return Ok(text);
+    };
+    let name = input.name.as_str();
+    write!(&mut text, "    /// Type inferred from `{name}`.\n")?;
+    Ok(text)
 }
 
-/// Adds that line, where there is such an input.
-#[tactic(auto, unfolding(crate::specs::OpcodeItems::inferred_line))]
-fn push_inferred(out: &mut String, input: Option<&Operand>) -> Result<(), AllocError>
-    ensures { OnOk result (string_bytes out.new ≡ string_bytes out.old ++ inferred_line (option_copied input.entry)) }
+/// Adds an instruction that is shown so to the enum, with the name of its format, what its type is inferred from, its name, and
+/// what tells its number.
+#[tactic(auto, unfolding(crate::specs::OpcodeItems::opcode_lines))]
+fn push_lines(
+    out: &mut String,
+    shown: &str,
+    format: &str,
+    inferred: &str,
+    name: &str,
+    number: &str,
+) -> Result<(), AllocError>
+    ensures { OnOk result (string_bytes out.new ≡ string_bytes out.old
+        ++ opcode_lines shown.now format.now inferred.now name.now number.now) }
 {
-    match input {
-        Some(input) => push_inferred_from(out, input.name.as_str()),
-        None => Ok(()),
-    }
+    write!(
+        out,
+        "    /// `{shown}`. ({format})
+{inferred}    {name}{number},
+"
+    )
 }
 
-/// Adds the documentation of an instruction.
-#[tactic(auto, unfolding(crate::specs::OpcodeItems::docs_text))]
-fn push_docs(
+/// Adds an instruction to the enum, with what tells its number after its name.
+pub(crate) fn push_opcode(
+    alloc: Global,
     out: &mut String,
     formats: &FormatTable,
     instruction: &InstructionContent,
+    number: &str,
 ) -> Result<(), AllocError>
     requires { instruction.now.format < length formats.now }
-    ensures { OnOk result (string_bytes out.new ≡ string_bytes out.old ++ docs_text formats.now instruction.now) }
+    ensures { OnOk result (string_bytes out.new ≡ string_bytes out.old ++ opcode_text formats.now number.now instruction.now) }
 {
     let format = formats.get(instruction.format());
-    push_shown(out, instruction, format.name.as_str())?;
-    push_inferred(out, inferring_input(format, instruction))
+    let shown = instruction.to_string(alloc)?;
+    let inferred = inferred(alloc, inferring_input(format, instruction))?;
+    push_lines(
+        out,
+        shown.as_str(),
+        format.name.as_str(),
+        inferred.as_str(),
+        instruction.camel_name().as_str(),
+        number,
+    )
 }
 
-/// Adds the opcode of this name.
-#[tactic(auto, unfolding(crate::specs::OpcodeItems::opcode_line))]
-fn push_name(out: &mut String, name: &str) -> Result<(), AllocError>
-    ensures { OnOk result (string_bytes out.new ≡ string_bytes out.old ++ opcode_line name.now) }
+/// This line of each instruction, in order.
+pub(crate) fn for_each_name(
+    alloc: Global,
+    line: &str,
+    instructions: &[InstructionContent],
+) -> Result<String, AllocError>
+    requires { IsTrue (fits line.now (map (λ h. h.now) NAME_HOLES)) }
+    ensures { IfOk result (λ text. string_bytes text
+        ≡ flat_map (λ c. filled line.now (map (λ h. h.now) NAME_HOLES) (c.camel_name ∷ c.name ∷ [])) instructions.now) }
 {
-    write!(out, "    {name},\n")
-}
-
-/// Adds the first opcode, of this name, with its number.
-#[tactic(auto, unfolding(crate::specs::OpcodeItems::first_opcode_line))]
-fn push_first_name(out: &mut String, name: &str) -> Result<(), AllocError>
-    ensures { OnOk result (string_bytes out.new ≡ string_bytes out.old ++ first_opcode_line name.now) }
-{
-    write!(out, "    {name} = 1,\n")
-}
-
-/// Adds an instruction to the enum, where there is one before it.
-#[tactic(auto, unfolding(crate::specs::OpcodeItems::opcode_text))]
-pub(crate) fn push_opcode(
-    out: &mut String,
-    formats: &FormatTable,
-    instruction: &InstructionContent,
-) -> Result<(), AllocError>
-    requires { instruction.now.format < length formats.now }
-    ensures { OnOk result (string_bytes out.new ≡ string_bytes out.old ++ opcode_text formats.now instruction.now) }
-{
-    push_docs(out, formats, instruction)?;
-    push_name(out, instruction.camel_name().as_str())
-}
-
-/// Adds the first instruction to the enum.
-#[tactic(auto, unfolding(crate::specs::OpcodeItems::first_opcode_text))]
-pub(crate) fn push_first_opcode(
-    out: &mut String,
-    formats: &FormatTable,
-    instruction: &InstructionContent,
-) -> Result<(), AllocError>
-    requires { instruction.now.format < length formats.now }
-    ensures { OnOk result (string_bytes out.new ≡ string_bytes out.old ++ first_opcode_text formats.now instruction.now) }
-{
-    push_docs(out, formats, instruction)?;
-    push_first_name(out, instruction.camel_name().as_str())
-}
-
-/// Adds the opcode of this name to the list of all.
-#[tactic(auto, unfolding(crate::specs::OpcodeItems::listed_line))]
-pub(crate) fn push_listed(out: &mut String, name: &str) -> Result<(), AllocError>
-    ensures { OnOk result (string_bytes out.new ≡ string_bytes out.old ++ listed_line name.now) }
-{
-    write!(out, "            Opcode::{name},\n")
-}
-
-/// Adds the arm of an opcode, by its name in camel case and the name that is told.
-#[tactic(auto, unfolding(crate::specs::OpcodeItems::named_arm))]
-pub(crate) fn push_named(out: &mut String, name: &str, told: &str) -> Result<(), AllocError>
-    ensures { OnOk result (string_bytes out.new ≡ string_bytes out.old ++ named_arm name.now told.now) }
-{
-    write!(out, "        Opcode::{name} => \"{told}\",\n")
+    let mut text = String::new(alloc);
+    for instruction in instructions {
+        fill(
+            &mut text,
+            line,
+            &NAME_HOLES,
+            &[
+                instruction.camel_name().as_str(),
+                instruction.name().as_str(),
+            ],
+        )?;
+    }
+    Ok(text)
 }

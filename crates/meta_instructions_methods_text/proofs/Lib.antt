@@ -1,2 +1,3 @@
 mod LastPart
 mod Letters
+pub mod Templates

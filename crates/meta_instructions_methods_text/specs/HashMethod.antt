@@ -1,33 +1,14 @@
 -- The method of `InstructionData` that hashes an instruction.
---     hash_method fs         the method `hash`
-use Rattle.std.specs.Prelude.{ℕ, Bool, true, false, List, [], ◌∷◌, ◌++◌, codes}
-use Rattle.std.specs.List.{flat_map}
+--     hash_arm f         the arm of a format in the method `hash`
+use Rattle.std.specs.Prelude.{ℕ, List, [], ◌∷◌, ◌++◌, codes}
 use Rattle.meta_operands.specs.declared.format.InstructionFormat.{InstructionFormat}
-use Rattle.meta_text.specs.Lines.{at, text_of}
+use Rattle.meta_text.specs.Lines.{at, lines_onto, text_of}
 use Rattle.meta_instructions_methods_text.specs.declared.held.Values.{Values}
 use Rattle.meta_instructions_methods_text.specs.declared.held.Values.TheVariants as values
 use Rattle.meta_instructions_methods_text.specs.declared.held.Blocks.{Blocks}
 use Rattle.meta_instructions_methods_text.specs.declared.held.Blocks.TheVariants as blocks
-use Rattle.meta_instructions_methods_text.specs.Held.{values_of, blocks_of, has_raw_block, values_member, blocks_member, raw_block_member}
-use Rattle.meta_instructions_methods_text.specs.Members.{further, pattern_text}
-use Rattle.meta_instructions_methods_text.specs.MethodLines.{arm_end, spaced_end}
-
--- the pattern of a format: values and blocks are taken by reference
-unfoldable pub hash_pattern : InstructionFormat → List ℕ
-hash_pattern f =
-    pattern_text
-    (further (codes "ref ") (values_member (values_of f)))
-    (further (codes "ref ") (blocks_member (blocks_of f)))
-    (further [] (raw_block_member (has_raw_block f)))
-    f.imm_fields
-
--- the first lines of an arm: its pattern, and that which format it is and the opcode are hashed
-unfoldable pub hash_arm_head : List ℕ → List ℕ → List ℕ
-hash_arm_head name pattern = text_of (
-    at 3 (codes "Self::" ∷ name ∷ codes "{" ∷ pattern ∷ codes "} => {" ∷ [])
-    ∷ at 4 (codes "::core::hash::Hash::hash( &::core::mem::discriminant(self), state);" ∷ [])
-    ∷ at 4 (codes "::core::hash::Hash::hash(&opcode, state);" ∷ []) ∷ []
-    )
+use Rattle.meta_instructions_methods_text.specs.Held.{values_of, blocks_of, has_raw_block, raw_block_member}
+use Rattle.meta_instructions_methods_text.specs.Members.{of_member, of_fields, further, pattern_text}
 
 -- something is hashed
 unfoldable pub hashed : List ℕ → List ℕ
@@ -67,25 +48,22 @@ hashed_blocks blocks.Absent = []
 hashed_blocks blocks.One = hashed_each_block (codes "1") (codes "core::slice::from_ref(destination)")
 hashed_blocks blocks.Two = hashed_each_block (codes "blocks.len()") (codes "blocks")
 
--- the block without arguments
-unfoldable pub hashed_raw_block : Bool → List ℕ
-hashed_raw_block false = []
-hashed_raw_block true = hashed (codes "block")
+-- the members of a format, by the text of one that is hashed: the fields, the values and the blocks
+abbrev pub hashed_members : (List ℕ → List ℕ) → InstructionFormat → List ℕ
+hashed_members hashes f =
+    of_fields hashes f.imm_fields
+    ++ (hashed_values (values_of f)
+    ++ (hashed_blocks (blocks_of f) ++ of_member hashes (raw_block_member (has_raw_block f))))
 
--- the arm of a format
+-- the arm of a format: which format it is, the opcode and the members are hashed; values and blocks are taken by reference
 unfoldable pub hash_arm : InstructionFormat → List ℕ
 hash_arm f =
-    hash_arm_head f.name (hash_pattern f)
-    ++ (flat_map (λ field. hashed field.member) f.imm_fields
-    ++ (hashed_values (values_of f) ++ (hashed_blocks (blocks_of f) ++ (hashed_raw_block (has_raw_block f) ++ arm_end))))
-
-unfoldable pub hash_head : List ℕ
-hash_head = text_of (
-    at 1 (codes "/// Hash an `InstructionData`." ∷ [])
-    ∷ at 1 (codes "pub fn hash<H: ::core::hash::Hasher>(&self, state: &mut H, pool: &ir::ValueListPool) {" ∷ [])
-    ∷ at 2 (codes "match *self {" ∷ []) ∷ []
-    )
-
--- the method `hash`
-unfoldable pub hash_method : List InstructionFormat → List ℕ
-hash_method formats = hash_head ++ (flat_map hash_arm formats ++ spaced_end)
+    lines_onto (
+    at 3 (
+    codes "Self::"
+    ∷ f.name
+    ∷ codes "{"
+    ∷ pattern_text (codes "opcode") (further (codes "ref ")) (further (codes "ref ")) (further []) f ∷ codes "} => {" ∷ [])
+    ∷ at 4 (codes "::core::hash::Hash::hash( &::core::mem::discriminant(self), state);" ∷ [])
+    ∷ at 4 (codes "::core::hash::Hash::hash(&opcode, state);" ∷ []) ∷ [])
+    (hashed_members hashed f ++ text_of (at 3 (codes "}" ∷ []) ∷ []))

@@ -1,6 +1,5 @@
 pub mod Held
 pub mod EntityWord
-pub mod MethodLines
 pub mod Members
 pub mod ReadMethods
 pub mod EqMethod

@@ -1,7 +1,7 @@
 -- The method of `InstructionData` that maps what an instruction names.
 --     mapper_method kind     the word of the mapper's method for operands of a kind, where it has one
---     map_method fs          the method `map`
-use Rattle.std.specs.Prelude.{ℕ, zero, suc, ◌==◌, Bool, true, false, List, [], ◌∷◌, ◌++◌, Option, None, Some, if◌then◌else◌, codes}
+--     map_arm f              the arm of a format in the method `map`
+use Rattle.std.specs.Prelude.{ℕ, zero, suc, ◌==◌, List, [], ◌∷◌, ◌++◌, Option, None, Some, if◌then◌else◌, codes}
 use Rattle.std.specs.List.{flat_map}
 use Rattle.std.specs.Fmt.{decimal}
 use Rattle.meta_operands.specs.Texts.{same_text}
@@ -16,19 +16,9 @@ use Rattle.meta_instructions_methods_text.specs.declared.held.Values.TheVariants
 use Rattle.meta_instructions_methods_text.specs.declared.held.Blocks.{Blocks}
 use Rattle.meta_instructions_methods_text.specs.declared.held.Blocks.TheVariants as blocks
 use Rattle.meta_instructions_methods_text.specs.EntityWord.{entity_word}
-use Rattle.meta_instructions_methods_text.specs.Held.{values_of, blocks_of, has_raw_block, values_member, blocks_member, raw_block_member}
-use Rattle.meta_instructions_methods_text.specs.Members.{further, pattern_text}
-use Rattle.meta_instructions_methods_text.specs.MethodLines.{method_end}
-use Rattle.meta_instructions_methods_text.specs.Rebuilt.{rebuilt_head, kept, rebuilt_end}
-
--- the pattern of a format
-unfoldable pub map_pattern : InstructionFormat → List ℕ
-map_pattern f =
-    pattern_text
-    (further [] (values_member (values_of f)))
-    (further [] (blocks_member (blocks_of f)))
-    (further [] (raw_block_member (has_raw_block f)))
-    f.imm_fields
+use Rattle.meta_instructions_methods_text.specs.Held.{values_of, blocks_of, has_raw_block, raw_block_member}
+use Rattle.meta_instructions_methods_text.specs.Members.{of_member, further, pattern_text}
+use Rattle.meta_instructions_methods_text.specs.Rebuilt.{rebuilt_arm, kept}
 
 -- ---- values and blocks
 
@@ -64,11 +54,6 @@ mapped_blocks blocks.Absent = []
 mapped_blocks blocks.One = mapped (codes "destination") (codes "block_call")
 mapped_blocks blocks.Two = text_of (at 5 (codes "blocks: [mapper.map_block_call(blocks[0]), mapper.map_block_call(blocks[1])]," ∷ []) ∷ [])
 
--- the block without arguments
-unfoldable pub mapped_raw_block : Bool → List ℕ
-mapped_raw_block false = []
-mapped_raw_block true = mapped (codes "block") (codes "block")
-
 -- ---- fields
 
 -- immediates stay, but for the flags of memory operations
@@ -95,23 +80,16 @@ mapped_or_kept member (Some word) = mapped member word
 unfoldable pub mapped_field : FormatField → List ℕ
 mapped_field field = mapped_or_kept field.member (mapper_method field.kind)
 
--- ---- the method
+-- ---- the arm of a format
 
--- the arm of a format
+-- its values and blocks, this text of the block without arguments, and its fields
+abbrev pub mapped_members : (List ℕ → List ℕ) → InstructionFormat → List ℕ
+mapped_members raw_block f =
+    mapped_values (values_of f)
+    ++ (mapped_blocks (blocks_of f)
+    ++ (of_member raw_block (raw_block_member (has_raw_block f)) ++ flat_map mapped_field f.imm_fields))
+
 unfoldable pub map_arm : InstructionFormat → List ℕ
 map_arm f =
-    rebuilt_head f.name (map_pattern f)
-    ++ (mapped_values (values_of f)
-    ++ (mapped_blocks (blocks_of f)
-    ++ (mapped_raw_block (has_raw_block f) ++ (flat_map mapped_field f.imm_fields ++ rebuilt_end))))
-
-unfoldable pub map_head : List ℕ
-map_head = text_of (
-    at 1 (codes "/// Map some functions, described by the given `InstructionMapper`, over each of the" ∷ [])
-    ∷ at 1 (codes "pub fn map(&self, mut mapper: impl crate::ir::instructions::InstructionMapper) -> Self {" ∷ [])
-    ∷ at 2 (codes "match *self {" ∷ []) ∷ []
-    )
-
--- the method `map`, behind which no empty line stands
-unfoldable pub map_method : List InstructionFormat → List ℕ
-map_method formats = map_head ++ (flat_map map_arm formats ++ method_end)
+    rebuilt_arm f.name (pattern_text (codes "opcode") (further []) (further []) (further []) f)
+    (mapped_members (λ member. mapped member (codes "block")) f)

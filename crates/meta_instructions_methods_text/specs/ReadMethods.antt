@@ -1,8 +1,7 @@
 -- The methods of `InstructionData` that read an instruction.
---     opcode_method fs, typevar_operand_method fs      the opcode, and the value whose type may control
---     arguments_method fs, arguments_mut_method fs     the values
-use Rattle.std.specs.Prelude.{ℕ, List, [], ◌∷◌, ◌++◌, Option, None, Some, codes}
-use Rattle.std.specs.List.{flat_map}
+--     opcode_arm name, typevar_arm name designated values      the arms that tell the opcode, and the value whose type may control
+--     arguments_arm access f                                  the arm that tells the values
+use Rattle.std.specs.Prelude.{ℕ, List, [], ◌∷◌, Option, None, Some, codes}
 use Rattle.std.specs.Fmt.{decimal}
 use Rattle.meta_operands.specs.declared.format.InstructionFormat.{InstructionFormat}
 use Rattle.meta_text.specs.Lines.{at, text_of}
@@ -11,23 +10,11 @@ use Rattle.meta_instructions_methods_text.specs.declared.held.Values.TheVariants
 use Rattle.meta_instructions_methods_text.specs.declared.read_methods.Access.{Access}
 use Rattle.meta_instructions_methods_text.specs.declared.read_methods.Access.TheVariants.{Shared, Mutable}
 use Rattle.meta_instructions_methods_text.specs.Held.{values_of}
-use Rattle.meta_instructions_methods_text.specs.MethodLines.{spaced_end}
 
 -- ---- the opcode
 
 unfoldable pub opcode_arm : List ℕ → List ℕ
 opcode_arm name = text_of (at 3 (codes "Self::" ∷ name ∷ codes " { opcode, .. } => opcode," ∷ []) ∷ [])
-
-unfoldable pub opcode_head : List ℕ
-opcode_head = text_of (
-    at 1 (codes "/// Get the opcode of this instruction." ∷ [])
-    ∷ at 1 (codes "pub fn opcode(&self) -> Opcode {" ∷ [])
-    ∷ at 2 (codes "match *self {" ∷ []) ∷ []
-    )
-
--- the method `opcode`
-unfoldable pub opcode_method : List InstructionFormat → List ℕ
-opcode_method formats = opcode_head ++ (flat_map (λ f. opcode_arm f.name) formats ++ spaced_end)
 
 -- ---- the operand whose type may control
 
@@ -48,20 +35,6 @@ typevar_arm name (Some place) (values.Several count) = text_of (
 typevar_arm name (Some place) values.Listed = text_of (
     at 3 (codes "Self::" ∷ name ∷ codes " { ref args, .. } => args.get(" ∷ decimal place ∷ codes ", pool)," ∷ []) ∷ []
     )
-
-unfoldable pub typevar_operand_head : List ℕ
-typevar_operand_head = text_of (
-    at 1 (codes "/// Get the controlling type variable operand." ∷ [])
-    ∷ at 1 (codes "pub fn typevar_operand(&self, pool: &ir::ValueListPool) -> Option<Value> {" ∷ [])
-    ∷ at 2 (codes "match *self {" ∷ []) ∷ []
-    )
-
--- the method `typevar_operand`
-unfoldable pub typevar_operand_method : List InstructionFormat → List ℕ
-typevar_operand_method formats =
-    typevar_operand_head
-    ++ (flat_map (λ f. typevar_arm f.name f.typevar_operand (values_of f)) formats
-    ++ spaced_end)
 
 -- ---- the values
 
@@ -101,25 +74,3 @@ values_arm name values.Listed mark one list = text_of (
 -- the slice of the values
 abbrev pub arguments_arm : Access → InstructionFormat → List ℕ
 arguments_arm access f = values_arm f.name (values_of f) (reference_mark access) (one_as_slice access) (list_as_slice access)
-
-unfoldable pub arguments_head : List ℕ
-arguments_head = text_of (
-    at 1 (codes "/// Get the value arguments to this instruction." ∷ [])
-    ∷ at 1 (codes "pub fn arguments<'a>(&'a self, pool: &'a ir::ValueListPool) -> &'a [Value] {" ∷ [])
-    ∷ at 2 (codes "match *self {" ∷ []) ∷ []
-    )
-
--- the method `arguments`
-unfoldable pub arguments_method : List InstructionFormat → List ℕ
-arguments_method formats = arguments_head ++ (flat_map (arguments_arm Shared) formats ++ spaced_end)
-
-unfoldable pub arguments_mut_head : List ℕ
-arguments_mut_head = text_of (
-    at 1 (codes "/// Get mutable references to the value arguments to this" ∷ [])
-    ∷ at 1 (codes "pub fn arguments_mut<'a>(&'a mut self, pool: &'a mut ir::ValueListPool) -> &'a mut [Value] {" ∷ [])
-    ∷ at 2 (codes "match *self {" ∷ []) ∷ []
-    )
-
--- the method `arguments_mut`
-unfoldable pub arguments_mut_method : List InstructionFormat → List ℕ
-arguments_mut_method formats = arguments_mut_head ++ (flat_map (arguments_arm Mutable) formats ++ spaced_end)

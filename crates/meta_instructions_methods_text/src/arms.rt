@@ -1,4 +1,4 @@
-ghost use Rattle.std.specs.Prelude.{◌≡◌, ◌++◌, OnOk, map, string_bytes};
+ghost use Rattle.std.specs.Prelude.{◌≡◌, ◌++◌, IfOk, OnOk, map, string_bytes};
 ghost use Rattle.std.specs.List.{flat_map};
 ghost use Rattle.meta_instructions_methods_text.specs.Arms.{method_arm};
 
@@ -36,17 +36,17 @@ fn push_arm(
     }
 }
 
-/// Adds the arms of formats in a method, in their order.
-pub(crate) fn push_arms(
+/// The arms of formats in a method, in their order.
+pub(crate) fn arms(
     alloc: Global,
-    out: &mut String,
     method: Method,
     formats: &[&InstructionFormat],
-) -> Result<(), AllocError>
-    ensures { OnOk result (string_bytes out.new ≡ string_bytes out.old ++ flat_map (method_arm method) (map (λ f. f.now) formats.now)) }
+) -> Result<String, AllocError>
+    ensures { IfOk result (λ text. string_bytes text ≡ flat_map (method_arm method) (map (λ f. f.now) formats.now)) }
 {
+    let mut text = String::new(alloc);
     for format in formats {
-        push_arm(alloc, out, method, format)?;
+        push_arm(alloc, &mut text, method, format)?;
     }
-    Ok(())
+    Ok(text)
 }

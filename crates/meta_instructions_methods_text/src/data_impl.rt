@@ -1,141 +1,75 @@
 ghost use Rattle.std.specs.Prelude.{◌≡◌, ◌++◌, OnOk, map, string_bytes};
-ghost use Rattle.meta_instructions_methods_text.specs.ReadMethods.{opcode_method, typevar_operand_method, arguments_method};
-ghost use Rattle.meta_instructions_methods_text.specs.ReadMethods.{arguments_mut_method};
-ghost use Rattle.meta_instructions_methods_text.specs.EqMethod.{eq_method};
-ghost use Rattle.meta_instructions_methods_text.specs.HashMethod.{hash_method};
-ghost use Rattle.meta_instructions_methods_text.specs.DeepCloneMethod.{deep_clone_method};
-ghost use Rattle.meta_instructions_methods_text.specs.MapMethod.{map_method};
-ghost use Rattle.meta_instructions_methods_text.specs.DataImpl.{reading_methods, whole_methods, impl_head, data_impl_text};
+ghost use Rattle.meta_instructions_methods_text.specs.DataImpl.{reading_methods, whole_methods, data_impl_text};
 
-use super::arms::push_arms;
-use super::deep_clone_method::push_clone_head;
-use super::eq_method::{push_eq_head, push_eq_last_arm};
-use super::hash_method::push_hash_head;
-use super::map_method::push_map_head;
+use super::arms::arms;
 use super::method::Method;
-use super::method_lines::{push_method_end, push_spaced_end};
-use super::read_methods::{
-    push_arguments_head, push_arguments_mut_head, push_opcode_head, push_typevar_operand_head,
-};
 use meta_operands::InstructionFormat;
-use meta_rust_lines::{push_item_end, push_text};
+use meta_rust_lines::fill;
 use std::alloc::{AllocError, Global};
 
-/// Adds the method `opcode`.
-#[tactic(auto, unfolding(crate::specs::ReadMethods::opcode_method))]
-fn push_opcode(
-    alloc: Global,
-    out: &mut String,
-    formats: &[&InstructionFormat],
-) -> Result<(), AllocError>
-    ensures { OnOk result (string_bytes out.new ≡ string_bytes out.old ++ opcode_method (map (λ f. f.now) formats.now)) }
-{
-    push_opcode_head(out)?;
-    push_arms(alloc, out, Method::Opcode, formats)?;
-    push_spaced_end(out)
-}
+/// The methods that read an instruction.
+const READING: &str = "impl InstructionData {
+    /// Get the opcode of this instruction.
+    pub fn opcode(&self) -> Opcode {
+        match *self {
+$opcode$        }
+    }
 
-/// Adds the method `typevar_operand`.
-#[tactic(auto, unfolding(crate::specs::ReadMethods::typevar_operand_method))]
-fn push_typevar_operand(
-    alloc: Global,
-    out: &mut String,
-    formats: &[&InstructionFormat],
-) -> Result<(), AllocError>
-    ensures { OnOk result (string_bytes out.new ≡ string_bytes out.old ++ typevar_operand_method (map (λ f. f.now) formats.now)) }
-{
-    push_typevar_operand_head(out)?;
-    push_arms(alloc, out, Method::TypevarOperand, formats)?;
-    push_spaced_end(out)
-}
+    /// Get the controlling type variable operand.
+    pub fn typevar_operand(&self, pool: &ir::ValueListPool) -> Option<Value> {
+        match *self {
+$typevar_operand$        }
+    }
 
-/// Adds the method `arguments`.
-#[tactic(auto, unfolding(crate::specs::ReadMethods::arguments_method))]
-fn push_arguments(
-    alloc: Global,
-    out: &mut String,
-    formats: &[&InstructionFormat],
-) -> Result<(), AllocError>
-    ensures { OnOk result (string_bytes out.new ≡ string_bytes out.old ++ arguments_method (map (λ f. f.now) formats.now)) }
-{
-    push_arguments_head(out)?;
-    push_arms(alloc, out, Method::Arguments, formats)?;
-    push_spaced_end(out)
-}
+    /// Get the value arguments to this instruction.
+    pub fn arguments<'a>(&'a self, pool: &'a ir::ValueListPool) -> &'a [Value] {
+        match *self {
+$arguments$        }
+    }
 
-/// Adds the method `arguments_mut`.
-#[tactic(auto, unfolding(crate::specs::ReadMethods::arguments_mut_method))]
-fn push_arguments_mut(
-    alloc: Global,
-    out: &mut String,
-    formats: &[&InstructionFormat],
-) -> Result<(), AllocError>
-    ensures { OnOk result (string_bytes out.new ≡ string_bytes out.old ++ arguments_mut_method (map (λ f. f.now) formats.now)) }
-{
-    push_arguments_mut_head(out)?;
-    push_arms(alloc, out, Method::ArgumentsMut, formats)?;
-    push_spaced_end(out)
-}
+    /// Get mutable references to the value arguments to this
+    pub fn arguments_mut<'a>(&'a mut self, pool: &'a mut ir::ValueListPool) -> &'a mut [Value] {
+        match *self {
+$arguments_mut$        }
+    }
 
-/// Adds the method `eq`.
-#[tactic(auto, unfolding(crate::specs::EqMethod::eq_method))]
-fn push_eq(
-    alloc: Global,
-    out: &mut String,
-    formats: &[&InstructionFormat],
-) -> Result<(), AllocError>
-    ensures { OnOk result (string_bytes out.new ≡ string_bytes out.old ++ eq_method (map (λ f. f.now) formats.now)) }
-{
-    push_eq_head(out)?;
-    push_arms(alloc, out, Method::Eq, formats)?;
-    push_eq_last_arm(out)?;
-    push_spaced_end(out)
-}
+";
 
-/// Adds the method `hash`.
-#[tactic(auto, unfolding(crate::specs::HashMethod::hash_method))]
-fn push_hash(
-    alloc: Global,
-    out: &mut String,
-    formats: &[&InstructionFormat],
-) -> Result<(), AllocError>
-    ensures { OnOk result (string_bytes out.new ≡ string_bytes out.old ++ hash_method (map (λ f. f.now) formats.now)) }
-{
-    push_hash_head(out)?;
-    push_arms(alloc, out, Method::Hash, formats)?;
-    push_spaced_end(out)
-}
+const READING_HOLES: [&str; 4] = ["opcode", "typevar_operand", "arguments", "arguments_mut"];
 
-/// Adds the method `deep_clone`.
-#[tactic(auto, unfolding(crate::specs::DeepCloneMethod::deep_clone_method))]
-fn push_deep_clone(
-    alloc: Global,
-    out: &mut String,
-    formats: &[&InstructionFormat],
-) -> Result<(), AllocError>
-    ensures { OnOk result (string_bytes out.new ≡ string_bytes out.old ++ deep_clone_method (map (λ f. f.now) formats.now)) }
-{
-    push_clone_head(out)?;
-    push_arms(alloc, out, Method::DeepClone, formats)?;
-    push_method_end(out)
-}
+/// The methods that take an instruction as a whole. Instructions of different formats differ, so `eq` has no further pair.
+const WHOLE: &str = "    /// Compare two `InstructionData` for equality.
+    pub fn eq(&self, other: &Self, pool: &ir::ValueListPool) -> bool {
+        if ::core::mem::discriminant(self) != ::core::mem::discriminant(other) {
+            return false;
+        }
+        match (self, other) {
+$eq$            _ => unreachable!()
+        }
+    }
 
-/// Adds the method `map`.
-#[tactic(auto, unfolding(crate::specs::MapMethod::map_method))]
-fn push_map(
-    alloc: Global,
-    out: &mut String,
-    formats: &[&InstructionFormat],
-) -> Result<(), AllocError>
-    ensures { OnOk result (string_bytes out.new ≡ string_bytes out.old ++ map_method (map (λ f. f.now) formats.now)) }
-{
-    push_map_head(out)?;
-    push_arms(alloc, out, Method::Map, formats)?;
-    push_method_end(out)
+    /// Hash an `InstructionData`.
+    pub fn hash<H: ::core::hash::Hasher>(&self, state: &mut H, pool: &ir::ValueListPool) {
+        match *self {
+$hash$        }
+    }
+
+    /// Deep-clone an `InstructionData`, including any referenced lists.
+    pub fn deep_clone(&self, pool: &mut ir::ValueListPool) -> Self {
+        match *self {
+$deep_clone$        }
+    }
+    /// Map some functions, described by the given `InstructionMapper`, over each of the
+    pub fn map(&self, mut mapper: impl crate::ir::instructions::InstructionMapper) -> Self {
+        match *self {
+$map$        }
+    }
 }
+";
+
+const WHOLE_HOLES: [&str; 4] = ["eq", "hash", "deep_clone", "map"];
 
 /// Adds the methods that read an instruction.
-#[tactic(auto, unfolding(crate::specs::DataImpl::reading_methods))]
 fn push_reading_methods(
     alloc: Global,
     out: &mut String,
@@ -143,14 +77,24 @@ fn push_reading_methods(
 ) -> Result<(), AllocError>
     ensures { OnOk result (string_bytes out.new ≡ string_bytes out.old ++ reading_methods (map (λ f. f.now) formats.now)) }
 {
-    push_opcode(alloc, out, formats)?;
-    push_typevar_operand(alloc, out, formats)?;
-    push_arguments(alloc, out, formats)?;
-    push_arguments_mut(alloc, out, formats)
+    let opcode = arms(alloc, Method::Opcode, formats)?;
+    let typevar_operand = arms(alloc, Method::TypevarOperand, formats)?;
+    let arguments = arms(alloc, Method::Arguments, formats)?;
+    let arguments_mut = arms(alloc, Method::ArgumentsMut, formats)?;
+    fill(
+        out,
+        READING,
+        &READING_HOLES,
+        &[
+            opcode.as_str(),
+            typevar_operand.as_str(),
+            arguments.as_str(),
+            arguments_mut.as_str(),
+        ],
+    )
 }
 
 /// Adds the methods that take an instruction as a whole.
-#[tactic(auto, unfolding(crate::specs::DataImpl::whole_methods))]
 fn push_whole_methods(
     alloc: Global,
     out: &mut String,
@@ -158,18 +102,21 @@ fn push_whole_methods(
 ) -> Result<(), AllocError>
     ensures { OnOk result (string_bytes out.new ≡ string_bytes out.old ++ whole_methods (map (λ f. f.now) formats.now)) }
 {
-    push_eq(alloc, out, formats)?;
-    push_hash(alloc, out, formats)?;
-    push_deep_clone(alloc, out, formats)?;
-    push_map(alloc, out, formats)
-}
-
-/// Adds the first line of the implementation.
-#[tactic(auto, unfolding(crate::specs::DataImpl::impl_head))]
-fn push_impl_head(out: &mut String) -> Result<(), AllocError>
-    ensures { OnOk result (string_bytes out.new ≡ string_bytes out.old ++ impl_head) }
-{
-    push_text(out, "impl InstructionData {\n")
+    let eq = arms(alloc, Method::Eq, formats)?;
+    let hash = arms(alloc, Method::Hash, formats)?;
+    let deep_clone = arms(alloc, Method::DeepClone, formats)?;
+    let map = arms(alloc, Method::Map, formats)?;
+    fill(
+        out,
+        WHOLE,
+        &WHOLE_HOLES,
+        &[
+            eq.as_str(),
+            hash.as_str(),
+            deep_clone.as_str(),
+            map.as_str(),
+        ],
+    )
 }
 
 /// Adds the implementation of `InstructionData` for these formats, which are those in use by their names
@@ -185,8 +132,6 @@ pub fn push_data_impl(
 ) -> Result<(), AllocError>
     ensures { OnOk result (string_bytes out.new ≡ string_bytes out.old ++ data_impl_text (map (λ f. f.now) formats.now)) }
 {
-    push_impl_head(out)?;
     push_reading_methods(alloc, out, formats)?;
-    push_whole_methods(alloc, out, formats)?;
-    push_item_end(out)
+    push_whole_methods(alloc, out, formats)
 }

@@ -1,49 +1,38 @@
 ghost use Rattle.std.specs.Prelude.{◌≡◌, ◌++◌, OnOk, IfOk, string_bytes};
-ghost use Rattle.std.specs.List.{flat_map};
-ghost use Rattle.meta_instructions_methods_text.specs.Held.{values_of, blocks_of, has_raw_block};
-ghost use Rattle.meta_instructions_methods_text.specs.Rebuilt.{kept};
-ghost use Rattle.meta_instructions_methods_text.specs.DeepCloneMethod.{clone_head, list_mark, clone_pattern, cloned_values, cloned_blocks};
-ghost use Rattle.meta_instructions_methods_text.specs.DeepCloneMethod.{cloned_raw_block, clone_arm};
+ghost use Rattle.meta_instructions_methods_text.specs.Held.{values_of, blocks_of};
+ghost use Rattle.meta_instructions_methods_text.specs.Members.{member_filled};
+ghost use Rattle.meta_instructions_methods_text.specs.DeepCloneMethod.{clone_pattern, cloned_values, cloned_blocks, cloned_members};
+ghost use Rattle.meta_instructions_methods_text.specs.DeepCloneMethod.{clone_arm};
 
-use super::held::{Blocks, Values, blocks_of, has_raw_block, raw_block_member, values_of};
-use super::members::{push_further, push_further_fields};
-use super::rebuilt::{push_kept, push_rebuilt_end, push_rebuilt_head};
-use meta_operands::{FormatField, InstructionFormat};
-use meta_rust_lines::push_text;
+use super::held::{Blocks, Values, blocks_of, raw_block_member, values_of};
+use super::members::{BY_REFERENCE, PLAIN, pattern, push_fields, push_member};
+use super::rebuilt::{KEPT, REBUILT, REBUILT_HOLES};
+use meta_operands::InstructionFormat;
+use meta_rust_lines::{fill, push_text};
 use std::alloc::{AllocError, Global};
 
-/// The mark of a list of values, which is taken by reference.
-fn list_mark(values: Values) -> &'static str
-    ensures { result.now ≡ list_mark values }
+/// The pattern of a format: a list of values is taken by reference.
+fn clone_pattern(alloc: Global, format: &InstructionFormat) -> Result<String, AllocError>
+    ensures { IfOk result (λ text. string_bytes text
+        ≡ clone_pattern (member_filled BY_REFERENCE.now) (member_filled PLAIN.now) (values_of format.now) format.now) }
 {
-    match values {
-        Values::Absent | Values::One | Values::Several(_) => "",
-        Values::Listed => "ref ",
+    match values_of(format) {
+        Values::Absent | Values::One | Values::Several(_) => {
+            pattern(alloc, "opcode", PLAIN, PLAIN, PLAIN, format)
+        }
+        Values::Listed => pattern(alloc, "opcode", BY_REFERENCE, PLAIN, PLAIN, format),
     }
 }
 
-/// The pattern of a format.
-#[tactic(auto, unfolding(crate::specs::DeepCloneMethod::clone_pattern))]
-fn clone_pattern(alloc: Global, format: &InstructionFormat) -> Result<String, AllocError>
-    ensures { IfOk result (λ pattern. string_bytes pattern ≡ clone_pattern format.now) }
-{
-    let values = values_of(format);
-    let mut pattern = String::from_str(alloc, "opcode")?;
-    push_further(&mut pattern, list_mark(values), values.member())?;
-    push_further(&mut pattern, "", blocks_of(format).member())?;
-    push_further(&mut pattern, "", raw_block_member(format))?;
-    push_further_fields(&mut pattern, format.imm_fields.as_slice())?;
-    Ok(pattern)
-}
-
 /// Adds the values: a list is copied.
+#[tactic(auto, using(crate::proofs::Templates::kept_same))]
 fn push_cloned_values(out: &mut String, values: Values) -> Result<(), AllocError>
     ensures { OnOk result (string_bytes out.new ≡ string_bytes out.old ++ cloned_values values) }
 {
     match values {
         Values::Absent => Ok(()),
-        Values::One => push_kept(out, "arg"),
-        Values::Several(_) => push_kept(out, "args"),
+        Values::One => push_member(out, KEPT, Some("arg")),
+        Values::Several(_) => push_member(out, KEPT, Some("args")),
         Values::Listed => push_text(out, "                    args: args.deep_clone(pool),\n"),
     }
 }
@@ -67,29 +56,19 @@ fn push_cloned_blocks(out: &mut String, blocks: Blocks) -> Result<(), AllocError
     }
 }
 
-/// Adds the block without arguments, where there is one.
-#[tactic(auto, unfolding(crate::specs::DeepCloneMethod::cloned_raw_block))]
-fn push_cloned_raw_block(out: &mut String, raw_block: bool) -> Result<(), AllocError>
-    ensures { OnOk result (string_bytes out.new ≡ string_bytes out.old ++ cloned_raw_block raw_block) }
+/// The members of a format: all but values and blocks stay.
+fn cloned_members(alloc: Global, format: &InstructionFormat) -> Result<String, AllocError>
+    ensures { IfOk result (λ text. string_bytes text ≡ cloned_members (member_filled KEPT.now) format.now) }
 {
-    if raw_block {
-        return push_kept(out, "block");
-    }
-    Ok(())
-}
-
-/// Adds fields.
-fn push_kept_fields(out: &mut String, fields: &[FormatField]) -> Result<(), AllocError>
-    ensures { OnOk result (string_bytes out.new ≡ string_bytes out.old ++ flat_map (λ field. kept field.member) fields.now) }
-{
-    for field in fields {
-        push_kept(out, field.member.as_str())?;
-    }
-    Ok(())
+    let mut text = String::new(alloc);
+    push_cloned_values(&mut text, values_of(format))?;
+    push_cloned_blocks(&mut text, blocks_of(format))?;
+    push_member(&mut text, KEPT, raw_block_member(format))?;
+    push_fields(&mut text, KEPT, format.imm_fields.as_slice())?;
+    Ok(text)
 }
 
 /// Adds the arm of a format.
-#[tactic(auto, unfolding(crate::specs::DeepCloneMethod::clone_arm))]
 pub(crate) fn push_clone_arm(
     alloc: Global,
     out: &mut String,
@@ -98,24 +77,11 @@ pub(crate) fn push_clone_arm(
     ensures { OnOk result (string_bytes out.new ≡ string_bytes out.old ++ clone_arm format.now) }
 {
     let pattern = clone_pattern(alloc, format)?;
-    push_rebuilt_head(out, format.name.as_str(), pattern.as_str())?;
-    push_cloned_values(out, values_of(format))?;
-    push_cloned_blocks(out, blocks_of(format))?;
-    push_cloned_raw_block(out, has_raw_block(format))?;
-    push_kept_fields(out, format.imm_fields.as_slice())?;
-    push_rebuilt_end(out)
-}
-
-/// Adds the first lines of the method `deep_clone`.
-#[tactic(auto, unfolding(crate::specs::DeepCloneMethod::clone_head))]
-pub(crate) fn push_clone_head(out: &mut String) -> Result<(), AllocError>
-    ensures { OnOk result (string_bytes out.new ≡ string_bytes out.old ++ clone_head) }
-{
-    push_text(
+    let members = cloned_members(alloc, format)?;
+    fill(
         out,
-        "    /// Deep-clone an `InstructionData`, including any referenced lists.
-    pub fn deep_clone(&self, pool: &mut ir::ValueListPool) -> Self {
-        match *self {
-",
+        REBUILT,
+        &REBUILT_HOLES,
+        &[format.name.as_str(), pattern.as_str(), members.as_str()],
     )
 }

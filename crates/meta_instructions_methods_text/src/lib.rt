@@ -13,7 +13,6 @@ mod held;
 mod map_method;
 mod members;
 mod method;
-mod method_lines;
 mod read_methods;
 mod rebuilt;
 

@@ -1,31 +1,22 @@
 ghost use Rattle.std.specs.Prelude.{◌≡◌, ◌++◌, OnOk, IfOk, string_bytes};
 ghost use Rattle.std.specs.List.{flat_map};
-ghost use Rattle.meta_instructions_methods_text.specs.Held.{values_of, blocks_of, has_raw_block};
+ghost use Rattle.meta_instructions_methods_text.specs.Held.{values_of, blocks_of};
 ghost use Rattle.meta_instructions_methods_text.specs.EntityWord.{entity_word};
-ghost use Rattle.meta_instructions_methods_text.specs.MapMethod.{map_head, mapped_or_kept, immediate_mapper, map_pattern, mapped_value};
-ghost use Rattle.meta_instructions_methods_text.specs.MapMethod.{mapped_below, mapped, mapped_array, mapped_values, mapped_blocks};
-ghost use Rattle.meta_instructions_methods_text.specs.MapMethod.{mapped_raw_block, mapped_field, map_arm};
+ghost use Rattle.meta_instructions_methods_text.specs.Members.{member_filled};
+ghost use Rattle.meta_instructions_methods_text.specs.MapMethod.{mapped_or_kept, immediate_mapper, mapped_value, mapped_below, mapped};
+ghost use Rattle.meta_instructions_methods_text.specs.MapMethod.{mapped_array, mapped_values, mapped_blocks, mapped_field, mapped_members};
+ghost use Rattle.meta_instructions_methods_text.specs.MapMethod.{map_arm};
 
 use super::entity_word::entity_word;
-use super::held::{Blocks, Values, blocks_of, has_raw_block, raw_block_member, values_of};
-use super::members::{push_further, push_further_fields};
-use super::rebuilt::{push_kept, push_rebuilt_end, push_rebuilt_head};
+use super::held::{Blocks, Values, blocks_of, raw_block_member, values_of};
+use super::members::{PLAIN, pattern, push_member};
+use super::rebuilt::{REBUILT, REBUILT_HOLES, push_kept};
 use meta_operands::{FormatField, InstructionFormat, OperandKindFields};
-use meta_rust_lines::push_text;
+use meta_rust_lines::{fill, push_text};
 use std::alloc::{AllocError, Global};
 
-/// The pattern of a format.
-#[tactic(auto, unfolding(crate::specs::MapMethod::map_pattern))]
-fn map_pattern(alloc: Global, format: &InstructionFormat) -> Result<String, AllocError>
-    ensures { IfOk result (λ pattern. string_bytes pattern ≡ map_pattern format.now) }
-{
-    let mut pattern = String::from_str(alloc, "opcode")?;
-    push_further(&mut pattern, "", values_of(format).member())?;
-    push_further(&mut pattern, "", blocks_of(format).member())?;
-    push_further(&mut pattern, "", raw_block_member(format))?;
-    push_further_fields(&mut pattern, format.imm_fields.as_slice())?;
-    Ok(pattern)
-}
+/// A block without arguments is mapped.
+const MAPPED_BLOCK: &str = "                    $member$: mapper.map_block($member$),\n";
 
 /// Adds the mapped value at a place of the array, behind a comma where others stand before it.
 #[tactic(auto, unfolding(crate::specs::MapMethod::mapped_value))]
@@ -98,17 +89,6 @@ fn push_mapped_blocks(out: &mut String, blocks: Blocks) -> Result<(), AllocError
     }
 }
 
-/// Adds the block without arguments, where there is one.
-#[tactic(auto, unfolding(crate::specs::MapMethod::mapped_raw_block))]
-fn push_mapped_raw_block(out: &mut String, raw_block: bool) -> Result<(), AllocError>
-    ensures { OnOk result (string_bytes out.new ≡ string_bytes out.old ++ mapped_raw_block raw_block) }
-{
-    if raw_block {
-        return push_mapped(out, "block", "block");
-    }
-    Ok(())
-}
-
 /// Adds an entity of this Rust type.
 fn push_mapped_entity(
     alloc: Global,
@@ -160,8 +140,19 @@ fn push_mapped_fields(
     Ok(())
 }
 
+/// The members of a format.
+fn mapped_members(alloc: Global, format: &InstructionFormat) -> Result<String, AllocError>
+    ensures { IfOk result (λ text. string_bytes text ≡ mapped_members (member_filled MAPPED_BLOCK.now) format.now) }
+{
+    let mut text = String::new(alloc);
+    push_mapped_values(alloc, &mut text, values_of(format))?;
+    push_mapped_blocks(&mut text, blocks_of(format))?;
+    push_member(&mut text, MAPPED_BLOCK, raw_block_member(format))?;
+    push_mapped_fields(alloc, &mut text, format.imm_fields.as_slice())?;
+    Ok(text)
+}
+
 /// Adds the arm of a format.
-#[tactic(auto, unfolding(crate::specs::MapMethod::map_arm))]
 pub(crate) fn push_map_arm(
     alloc: Global,
     out: &mut String,
@@ -169,25 +160,12 @@ pub(crate) fn push_map_arm(
 ) -> Result<(), AllocError>
     ensures { OnOk result (string_bytes out.new ≡ string_bytes out.old ++ map_arm format.now) }
 {
-    let pattern = map_pattern(alloc, format)?;
-    push_rebuilt_head(out, format.name.as_str(), pattern.as_str())?;
-    push_mapped_values(alloc, out, values_of(format))?;
-    push_mapped_blocks(out, blocks_of(format))?;
-    push_mapped_raw_block(out, has_raw_block(format))?;
-    push_mapped_fields(alloc, out, format.imm_fields.as_slice())?;
-    push_rebuilt_end(out)
-}
-
-/// Adds the first lines of the method `map`.
-#[tactic(auto, unfolding(crate::specs::MapMethod::map_head))]
-pub(crate) fn push_map_head(out: &mut String) -> Result<(), AllocError>
-    ensures { OnOk result (string_bytes out.new ≡ string_bytes out.old ++ map_head) }
-{
-    push_text(
+    let pattern = pattern(alloc, "opcode", PLAIN, PLAIN, PLAIN, format)?;
+    let members = mapped_members(alloc, format)?;
+    fill(
         out,
-        "    /// Map some functions, described by the given `InstructionMapper`, over each of the
-    pub fn map(&self, mut mapper: impl crate::ir::instructions::InstructionMapper) -> Self {
-        match *self {
-",
+        REBUILT,
+        &REBUILT_HOLES,
+        &[format.name.as_str(), pattern.as_str(), members.as_str()],
     )
 }

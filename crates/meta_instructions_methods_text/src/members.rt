@@ -1,33 +1,70 @@
-ghost use Rattle.std.specs.Prelude.{◌≡◌, ◌++◌, OnOk, string_bytes};
+ghost use Rattle.std.specs.Prelude.{◌≡◌, ◌++◌, map, IsTrue, IfOk, OnOk, string_bytes};
 ghost use Rattle.std.specs.Option.{option_copied};
-ghost use Rattle.meta_instructions_methods_text.specs.Members.{further, further_fields};
+ghost use Rattle.meta_rust_lines.specs.Filled.{fits};
+ghost use Rattle.meta_instructions_methods_text.specs.Members.{member_filled, of_member, of_fields, pattern_text};
 
-use meta_operands::FormatField;
-use std::alloc::AllocError;
+use super::held::{blocks_of, raw_block_member, values_of};
+use meta_operands::{FormatField, InstructionFormat};
+use meta_rust_lines::fill;
+use std::alloc::{AllocError, Global};
 
-/// Adds a further member with this before it, and nothing of none.
-pub(crate) fn push_further(
+/// A text of a member has its name.
+const MEMBER_HOLES: [&str; 1] = ["member"];
+
+/// A member in a pattern, as it is and by reference.
+pub(crate) const PLAIN: &str = ", $member$";
+
+pub(crate) const BY_REFERENCE: &str = ", ref $member$";
+
+/// Adds this text of a member, where there is one.
+pub(crate) fn push_member(
     out: &mut String,
-    before: &str,
+    text: &str,
     member: Option<&str>,
 ) -> Result<(), AllocError>
-    ensures { OnOk result (string_bytes out.new ≡ string_bytes out.old ++ further before.now (option_copied member.entry)) }
+    requires { IsTrue (fits text.now (map (λ h. h.now) MEMBER_HOLES)) }
+    ensures { OnOk result (string_bytes out.new ≡ string_bytes out.old ++ of_member (member_filled text.now) (option_copied member.entry)) }
 {
     match member {
-        Some(member) => write!(out, ", {before}{member}"),
+        Some(member) => fill(out, text, &MEMBER_HOLES, &[member]),
         None => Ok(()),
     }
 }
 
-/// Adds the members of fields.
-pub(crate) fn push_further_fields(
+/// Adds this text of the member of each field.
+pub(crate) fn push_fields(
     out: &mut String,
+    text: &str,
     fields: &[FormatField],
 ) -> Result<(), AllocError>
-    ensures { OnOk result (string_bytes out.new ≡ string_bytes out.old ++ further_fields fields.now) }
+    requires { IsTrue (fits text.now (map (λ h. h.now) MEMBER_HOLES)) }
+    ensures { OnOk result (string_bytes out.new ≡ string_bytes out.old ++ of_fields (member_filled text.now) fields.now) }
 {
     for field in fields {
-        push_further(out, "", Some(field.member.as_str()))?;
+        fill(out, text, &MEMBER_HOLES, &[field.member.as_str()])?;
     }
     Ok(())
+}
+
+/// The pattern of a format: the opcode, and these texts of the member of the values, of that of the blocks and of the others.
+pub(crate) fn pattern(
+    alloc: Global,
+    opcode: &str,
+    values: &str,
+    blocks: &str,
+    others: &str,
+    format: &InstructionFormat,
+) -> Result<String, AllocError>
+    requires of_values { IsTrue (fits values.now (map (λ h. h.now) MEMBER_HOLES)) }
+    requires of_blocks { IsTrue (fits blocks.now (map (λ h. h.now) MEMBER_HOLES)) }
+    requires of_others { IsTrue (fits others.now (map (λ h. h.now) MEMBER_HOLES)) }
+    ensures { IfOk result (λ text. string_bytes text ≡ pattern_text opcode.now
+        (member_filled values.now) (member_filled blocks.now) (member_filled others.now) format.now) }
+{
+    let mut text = String::from_str(alloc, opcode)?;
+    push_member(&mut text, values, values_of(format).member())?;
+    push_member(&mut text, blocks, blocks_of(format).member())?;
+    push_member(&mut text, others, raw_block_member(format))?;
+    push_fields(&mut text, others, format.imm_fields.as_slice())?;
+    Ok(text)
 }

@@ -1,27 +1,11 @@
 ghost use Rattle.std.specs.Prelude.{◌≡◌, ◌++◌, OnOk, string_bytes};
 ghost use Rattle.meta_instructions_methods_text.specs.Held.{values_of};
-ghost use Rattle.meta_instructions_methods_text.specs.ReadMethods.{arguments_mut_head, arguments_head, typevar_operand_head, opcode_head};
 ghost use Rattle.meta_instructions_methods_text.specs.ReadMethods.{opcode_arm, typevar_arm, reference_mark, one_as_slice, list_as_slice};
 ghost use Rattle.meta_instructions_methods_text.specs.ReadMethods.{values_arm, arguments_arm};
 
 use super::held::{Values, values_of};
 use meta_operands::InstructionFormat;
-use meta_rust_lines::push_text;
 use std::alloc::AllocError;
-
-/// Adds the first lines of the method `opcode`.
-#[tactic(auto, unfolding(crate::specs::ReadMethods::opcode_head))]
-pub(crate) fn push_opcode_head(out: &mut String) -> Result<(), AllocError>
-    ensures { OnOk result (string_bytes out.new ≡ string_bytes out.old ++ opcode_head) }
-{
-    push_text(
-        out,
-        "    /// Get the opcode of this instruction.
-    pub fn opcode(&self) -> Opcode {
-        match *self {
-",
-    )
-}
 
 /// Adds the arm of the format of this name in `opcode`.
 #[tactic(auto, unfolding(crate::specs::ReadMethods::opcode_arm))]
@@ -31,20 +15,6 @@ pub(crate) fn push_opcode_arm(out: &mut String, name: &str) -> Result<(), AllocE
     write!(
         out,
         "            Self::{name} {{ opcode, .. }} => opcode,\n"
-    )
-}
-
-/// Adds the first lines of the method `typevar_operand`.
-#[tactic(auto, unfolding(crate::specs::ReadMethods::typevar_operand_head))]
-pub(crate) fn push_typevar_operand_head(out: &mut String) -> Result<(), AllocError>
-    ensures { OnOk result (string_bytes out.new ≡ string_bytes out.old ++ typevar_operand_head) }
-{
-    push_text(
-        out,
-        "    /// Get the controlling type variable operand.
-    pub fn typevar_operand(&self, pool: &ir::ValueListPool) -> Option<Value> {
-        match *self {
-",
     )
 }
 
@@ -75,34 +45,6 @@ pub(crate) fn push_typevar_arm(
             "            Self::{name} {{ ref args, .. }} => args.get({place}, pool),\n"
         ),
     }
-}
-
-/// Adds the first lines of the method `arguments`.
-#[tactic(auto, unfolding(crate::specs::ReadMethods::arguments_head))]
-pub(crate) fn push_arguments_head(out: &mut String) -> Result<(), AllocError>
-    ensures { OnOk result (string_bytes out.new ≡ string_bytes out.old ++ arguments_head) }
-{
-    push_text(
-        out,
-        "    /// Get the value arguments to this instruction.
-    pub fn arguments<'a>(&'a self, pool: &'a ir::ValueListPool) -> &'a [Value] {
-        match *self {
-",
-    )
-}
-
-/// Adds the first lines of the method `arguments_mut`.
-#[tactic(auto, unfolding(crate::specs::ReadMethods::arguments_mut_head))]
-pub(crate) fn push_arguments_mut_head(out: &mut String) -> Result<(), AllocError>
-    ensures { OnOk result (string_bytes out.new ≡ string_bytes out.old ++ arguments_mut_head) }
-{
-    push_text(
-        out,
-        "    /// Get mutable references to the value arguments to this
-    pub fn arguments_mut<'a>(&'a mut self, pool: &'a mut ir::ValueListPool) -> &'a mut [Value] {
-        match *self {
-",
-    )
 }
 
 /// What the values may be taken for.

@@ -9,7 +9,3 @@ gap_text = text_of (empty_line ∷ [])
 -- the last line of an item
 unfoldable pub item_end : List ℕ
 item_end = text_of (at 0 (codes "}" ∷ []) ∷ [])
-
--- the same, and an empty line behind it
-unfoldable pub spaced_item_end : List ℕ
-spaced_item_end = text_of (at 0 (codes "}" ∷ []) ∷ empty_line ∷ [])

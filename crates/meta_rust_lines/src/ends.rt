@@ -1,5 +1,5 @@
 ghost use Rattle.std.specs.Prelude.{◌≡◌, ◌++◌, OnOk, string_bytes};
-ghost use Rattle.meta_rust_lines.specs.Ends.{gap_text, item_end, spaced_item_end};
+ghost use Rattle.meta_rust_lines.specs.Ends.{gap_text, item_end};
 
 use super::pushed::push_text;
 use std::alloc::AllocError;
@@ -22,14 +22,4 @@ pub fn push_item_end(out: &mut String) -> Result<(), AllocError>
     ensures { OnOk result (string_bytes out.new ≡ string_bytes out.old ++ item_end) }
 {
     push_text(out, "}\n")
-}
-
-/// Adds the last line of an item, and an empty line.
-///
-/// The only error is want of memory.
-#[tactic(auto, unfolding(crate::specs::Ends::spaced_item_end))]
-pub fn push_spaced_item_end(out: &mut String) -> Result<(), AllocError>
-    ensures { OnOk result (string_bytes out.new ≡ string_bytes out.old ++ spaced_item_end) }
-{
-    push_text(out, "}\n\n")
 }

@@ -25,7 +25,7 @@ pub fn instructions_text(alloc: Global, built: &Built<'_>) -> Result<String, All
     push_data(alloc, &mut text, built)?;
     push_data_impl(alloc, &mut text, formats.as_slice())?;
     push_gap(&mut text)?;
-    push_opcodes(&mut text, built)?;
+    push_opcodes(alloc, &mut text, built)?;
     Ok(text)
 }
 

@@ -1,21 +1,27 @@
 -- The getters of the settings of a group.
---     getter_text s       the getter of a setting
---     getters_text g      those of a group
-use Rattle.std.specs.Prelude.{ℕ, List, [], ◌∷◌, ◌++◌, codes}
+--     arms_text ty byte values     the arms by which the bytes from `byte` on give these values of the enum `ty`
+--     getter_text s                the getter of a setting
+--     getters_text g               those of a group
+use Rattle.std.specs.Prelude.{ℕ, ◌+◌, List, [], ◌∷◌, ◌++◌, codes}
 use Rattle.std.specs.List.{flat_map}
 use Rattle.std.specs.Fmt.{decimal}
 use Rattle.std.specs.Str.{trim}
 use Rattle.meta_types.specs.CamelCase.{camel_case_of}
-use Rattle.meta_text.specs.Lines.{at, text_of}
-use Rattle.meta_rust_lines.specs.Ends.{item_end}
+use Rattle.meta_text.specs.Lines.{at, lines_onto, text_of}
 use Rattle.meta_settings.specs.declared.setting.SpecificSetting.{SpecificSetting}
 use Rattle.meta_settings.specs.declared.setting.SpecificSetting.TheVariants.{Bool, Enum, Num}
 use Rattle.meta_settings.specs.Layout.{PlacedSetting, Layout}
-use Rattle.meta_settings_text.specs.ValueText.{arms_text}
 
--- ---- a getter
+-- the arm by which a byte gives a value of an enum: `2 => OptLevel::SpeedAndSize,`
+unfoldable pub arm_text : List ℕ → ℕ → List ℕ → List ℕ
+arm_text ty byte value = text_of (at 3 (decimal byte ∷ codes " => " ∷ ty ∷ codes "::" ∷ camel_case_of value ∷ codes "," ∷ []) ∷ [])
 
--- that of the boolean of this number: it asks for the boolean by its number
+-- the arms by which the bytes from this one on give these values, in order
+abbrev pub arms_text : List ℕ → ℕ → List (List ℕ) → List ℕ
+arms_text ty byte [] = []
+arms_text ty byte (value ∷ values) = arm_text ty byte value ++ arms_text ty (byte + 1) values
+
+-- the getter of the boolean of this number: it asks for the boolean by its number
 unfoldable pub bool_getter : List ℕ → List ℕ → ℕ → List ℕ
 bool_getter doc name number = text_of (
     at 1 (codes "/// " ∷ doc ∷ [])
@@ -31,22 +37,17 @@ number_getter doc name byte = text_of (
     ∷ at 2 (codes "self.bytes[" ∷ decimal byte ∷ codes "]" ∷ [])
     ∷ at 1 (codes "}" ∷ []) ∷ [])
 
--- the lines around the arms of that of the enum `ty` in this byte: a byte that gives no value is told by a panic
-unfoldable pub enum_getter_head : List ℕ → List ℕ → List ℕ → ℕ → List ℕ
-enum_getter_head doc name ty byte = text_of (
+-- that of the enum in this byte: the bytes from 0 on give its values, and a byte that gives none is told by a panic
+unfoldable pub enum_getter : List ℕ → List ℕ → ℕ → List (List ℕ) → List ℕ
+enum_getter doc name byte values =
+    lines_onto (
     at 1 (codes "/// " ∷ doc ∷ [])
-    ∷ at 1 (codes "pub fn " ∷ name ∷ codes "(&self) -> " ∷ ty ∷ codes " {" ∷ [])
+    ∷ at 1 (codes "pub fn " ∷ name ∷ codes "(&self) -> " ∷ camel_case_of name ∷ codes " {" ∷ [])
     ∷ at 2 (codes "match self.bytes[" ∷ decimal byte ∷ codes "] {" ∷ []) ∷ [])
-
-unfoldable pub enum_getter_end : List ℕ
-enum_getter_end = text_of (at 3 (codes "_ => panic!(\"Invalid enum value\")," ∷ []) ∷ at 2 (codes "}" ∷ []) ∷ at 1 (codes "}" ∷ []) ∷ [])
-
--- that of the enum: the bytes from 0 on give its values, in order
-unfoldable pub enum_getter_parts : List ℕ → List ℕ → List ℕ → ℕ → List (List ℕ) → List ℕ
-enum_getter_parts doc name ty byte values = enum_getter_head doc name ty byte ++ (arms_text ty 0 values ++ enum_getter_end)
-
-abbrev pub enum_getter : List ℕ → List ℕ → ℕ → List (List ℕ) → List ℕ
-enum_getter doc name byte values = enum_getter_parts doc name (camel_case_of name) byte values
+    (arms_text (camel_case_of name) 0 values ++ text_of (
+    at 3 (codes "_ => panic!(\"Invalid enum value\")," ∷ [])
+    ∷ at 2 (codes "}" ∷ [])
+    ∷ at 1 (codes "}" ∷ []) ∷ []))
 
 -- that of a setting of this name in this byte, by what it is
 abbrev pub getter_of : List ℕ → List ℕ → ℕ → SpecificSetting → List ℕ
@@ -58,17 +59,9 @@ getter_of doc name byte (Num default) = number_getter doc name byte
 unfoldable pub getter_text : PlacedSetting → List ℕ
 getter_text s = getter_of (trim s.description) s.name s.byte_offset s.specific
 
--- ---- the getters of a group
-
-unfoldable pub getters_head : List ℕ
-getters_head = text_of (
-    at 0 (codes "/// User-defined settings." ∷ [])
-    ∷ at 0 (codes "#[allow(dead_code, reason = \"generated code\")]" ∷ [])
-    ∷ at 0 (codes "impl Flags {" ∷ []) ∷ [])
-
 -- the getter of booleans by their numbers, eight to a byte from this byte on
-unfoldable pub predicate_lines : ℕ → List ℕ
-predicate_lines start = text_of (
+unfoldable pub predicate_text : ℕ → List ℕ
+predicate_text start = text_of (
     at 1 (codes "/// Dynamic numbered predicate getter." ∷ [])
     ∷ at 1 (codes "fn numbered_predicate(&self, p: usize) -> bool {" ∷ [])
     ∷ at 2 (codes "self.bytes[" ∷ decimal start ∷ codes " + p / 8] & (1 << (p % 8)) != 0" ∷ [])
@@ -77,11 +70,13 @@ predicate_lines start = text_of (
 -- the same where there are settings, and nothing where there are none
 abbrev pub predicate_of : ℕ → List PlacedSetting → List ℕ
 predicate_of start [] = []
-predicate_of start (s ∷ ss) = predicate_lines start
-
-unfoldable pub predicate_text : Layout → List ℕ
-predicate_text g = predicate_of g.bool_start_byte_offset g.settings
+predicate_of start (s ∷ ss) = predicate_text start
 
 -- the getter by numbers, and those of the settings, in order
 unfoldable pub getters_text : Layout → List ℕ
-getters_text g = getters_head ++ (predicate_text g ++ (flat_map getter_text g.settings ++ item_end))
+getters_text g =
+    lines_onto (
+    at 0 (codes "/// User-defined settings." ∷ [])
+    ∷ at 0 (codes "#[allow(dead_code, reason = \"generated code\")]" ∷ [])
+    ∷ at 0 (codes "impl Flags {" ∷ []) ∷ [])
+    (predicate_of g.bool_start_byte_offset g.settings ++ (flat_map getter_text g.settings ++ text_of (at 0 (codes "}" ∷ []) ∷ [])))

@@ -1,5 +1,4 @@
 pub mod FlagsText
-pub mod ValueText
 pub mod EnumText
 pub mod GetterText
 pub mod SettingsText

@@ -1,160 +1,75 @@
-ghost use Rattle.std.specs.Prelude.{◌≡◌, ◌++◌, OnOk, string_bytes};
+ghost use Rattle.std.specs.Prelude.{◌≡◌, ◌∷◌, [], ◌++◌, map, IsTrue, IfOk, OnOk, string_bytes};
 ghost use Rattle.std.specs.List.{flat_map};
-ghost use Rattle.meta_settings_text.specs.EnumText.{enum_head, impl_head, all_head, all_end, shown_head, shown_end, read_head, read_end};
-ghost use Rattle.meta_settings_text.specs.EnumText.{enum_all_text, to_and_from_str_text, enum_parts, enum_text, enum_type_text};
+ghost use Rattle.meta_types.specs.CamelCase.{camel_case_of};
+ghost use Rattle.meta_rust_lines.specs.Filled.{filled, fits};
+ghost use Rattle.meta_settings_text.specs.EnumText.{enum_text, enum_of};
 
-use super::enum_values::{
-    EnumValue, push_each_read, push_each_shown, push_members, push_variants, values_of,
-};
-use meta_rust_lines::{push_item_end, push_text};
+use meta_rust_lines::fill;
 use meta_settings::{Setting, SpecificSetting};
 use meta_types::{Text, camel_case};
 use std::alloc::{AllocError, Global};
 
-/// Adds the head of the enum of a setting of this name, which goes by `ty` in Rust source.
-#[tactic(auto, unfolding(crate::specs::EnumText::enum_head))]
-fn push_enum_head(out: &mut String, group: &str, name: &str, ty: &str) -> Result<(), AllocError>
-    ensures { OnOk result (string_bytes out.new ≡ string_bytes out.old ++ enum_head group.now name.now ty.now) }
-{
-    write!(
-        out,
-        "/// Values for `{group}.{name}`.
+/// The enum of a setting: its variants, the list of all values, and how it is shown and read (`gen_enum_types`).
+const ENUM: &str = "/// Values for `$group$.$name$`.
 #[derive(Debug, Copy, Clone, PartialEq, Eq, Hash)]
-pub enum {ty} {{
-"
-    )
-}
-
-/// Adds the head of the block of an enum's own functions.
-#[tactic(auto, unfolding(crate::specs::EnumText::impl_head))]
-fn push_impl_head(out: &mut String, ty: &str) -> Result<(), AllocError>
-    ensures { OnOk result (string_bytes out.new ≡ string_bytes out.old ++ impl_head ty.now) }
-{
-    write!(out, "impl {ty} {{\n")
-}
-
-/// Adds the lines of the function `all` before its values.
-#[tactic(auto, unfolding(crate::specs::EnumText::all_head))]
-fn push_all_head(out: &mut String, ty: &str) -> Result<(), AllocError>
-    ensures { OnOk result (string_bytes out.new ≡ string_bytes out.old ++ all_head ty.now) }
-{
-    write!(
-        out,
-        "    /// Returns a slice with all possible [{ty}] values.
-    pub fn all() -> &'static [{ty}] {{
+pub enum $Type$ {
+$variants$}
+impl $Type$ {
+    /// Returns a slice with all possible [$Type$] values.
+    pub fn all() -> &'static [$Type$] {
         &[
-"
-    )
+$members$        ]
+    }
 }
-
-/// Adds the lines of the function `all` behind its values.
-#[tactic(auto, unfolding(crate::specs::EnumText::all_end))]
-fn push_all_end(out: &mut String) -> Result<(), AllocError>
-    ensures { OnOk result (string_bytes out.new ≡ string_bytes out.old ++ all_end) }
-{
-    push_text(out, "        ]\n    }\n")
-}
-
-/// Adds the function `all` of an enum (`gen_enum_all`).
-#[tactic(auto, unfolding(crate::specs::EnumText::enum_all_text))]
-fn push_enum_all(out: &mut String, ty: &str, values: &[EnumValue]) -> Result<(), AllocError>
-    ensures { OnOk result (string_bytes out.new ≡ string_bytes out.old ++ enum_all_text ty.now values.now) }
-{
-    push_all_head(out, ty)?;
-    push_members(out, values)?;
-    push_all_end(out)
-}
-
-/// Adds the lines on how an enum is shown before its values.
-#[tactic(auto, unfolding(crate::specs::EnumText::shown_head))]
-fn push_shown_head(out: &mut String, ty: &str) -> Result<(), AllocError>
-    ensures { OnOk result (string_bytes out.new ≡ string_bytes out.old ++ shown_head ty.now) }
-{
-    write!(
-        out,
-        "impl fmt::Display for {ty} {{
-    fn fmt(&self, f: &mut fmt::Formatter) -> fmt::Result {{
-        f.write_str(match *self {{
-"
-    )
-}
-
-/// Adds the lines on how an enum is shown behind its values.
-#[tactic(auto, unfolding(crate::specs::EnumText::shown_end))]
-fn push_shown_end(out: &mut String) -> Result<(), AllocError>
-    ensures { OnOk result (string_bytes out.new ≡ string_bytes out.old ++ shown_end) }
-{
-    push_text(
-        out,
-        "        }
+impl fmt::Display for $Type$ {
+    fn fmt(&self, f: &mut fmt::Formatter) -> fmt::Result {
+        f.write_str(match *self {
+$shown$        }
         )
     }
 }
-",
-    )
-}
-
-/// Adds the lines on how an enum is read before its values.
-#[tactic(auto, unfolding(crate::specs::EnumText::read_head))]
-fn push_read_head(out: &mut String, ty: &str) -> Result<(), AllocError>
-    ensures { OnOk result (string_bytes out.new ≡ string_bytes out.old ++ read_head ty.now) }
-{
-    write!(
-        out,
-        "impl core::str::FromStr for {ty} {{
+impl core::str::FromStr for $Type$ {
     type Err = ();
-    fn from_str(s: &str) -> Result<Self, Self::Err> {{
-        match s {{
-"
-    )
-}
-
-/// Adds the lines on how an enum is read behind its values.
-#[tactic(auto, unfolding(crate::specs::EnumText::read_end))]
-fn push_read_end(out: &mut String) -> Result<(), AllocError>
-    ensures { OnOk result (string_bytes out.new ≡ string_bytes out.old ++ read_end) }
-{
-    push_text(
-        out,
-        "            _ => Err(()),
+    fn from_str(s: &str) -> Result<Self, Self::Err> {
+        match s {
+$read$            _ => Err(()),
         }
     }
 }
-",
-    )
-}
+";
 
-/// Adds how an enum is shown and read (`gen_to_and_from_str`).
-#[tactic(auto, unfolding(crate::specs::EnumText::to_and_from_str_text))]
-fn push_to_and_from_str(out: &mut String, ty: &str, values: &[EnumValue]) -> Result<(), AllocError>
-    ensures { OnOk result (string_bytes out.new ≡ string_bytes out.old ++ to_and_from_str_text ty.now values.now) }
-{
-    push_shown_head(out, ty)?;
-    push_each_shown(out, values)?;
-    push_shown_end(out)?;
-    push_read_head(out, ty)?;
-    push_each_read(out, values)?;
-    push_read_end(out)
-}
+const ENUM_HOLES: [&str; 7] = [
+    "group", "name", "Type", "variants", "members", "shown", "read",
+];
 
-/// Adds the enum of a setting of this name, which goes by `ty` in Rust source.
-#[tactic(auto, unfolding(crate::specs::EnumText::enum_parts))]
-fn push_enum_parts(
-    out: &mut String,
-    group: &str,
-    name: &str,
-    ty: &str,
-    values: &[EnumValue],
-) -> Result<(), AllocError>
-    ensures { OnOk result (string_bytes out.new ≡ string_bytes out.old ++ enum_parts group.now name.now ty.now values.now) }
+/// The lines of a value: its variant, its place in the list of all values, and the arms by which it is shown and read.
+const VARIANT: &str = "    /// `$value$`.\n    $Value$,\n";
+
+const MEMBER: &str = "            Self::$Value$,\n";
+
+const SHOWN: &str = "            Self::$Value$ => \"$value$\",\n";
+
+const READ: &str = "            \"$value$\" => Ok(Self::$Value$),\n";
+
+const VALUE_HOLES: [&str; 2] = ["value", "Value"];
+
+/// These lines of each value, in order.
+fn for_each_value(alloc: Global, lines: &str, values: &[Text]) -> Result<String, AllocError>
+    requires { IsTrue (fits lines.now (map (λ h. h.now) VALUE_HOLES)) }
+    ensures { IfOk result (λ text. string_bytes text
+        ≡ flat_map (λ v. filled lines.now (map (λ h. h.now) VALUE_HOLES) (v ∷ camel_case_of v ∷ [])) values.now) }
 {
-    push_enum_head(out, group, name, ty)?;
-    push_variants(out, values)?;
-    push_item_end(out)?;
-    push_impl_head(out, ty)?;
-    push_enum_all(out, ty, values)?;
-    push_item_end(out)?;
-    push_to_and_from_str(out, ty, values)
+    let mut text = String::new(alloc);
+    for value in values {
+        let camel = camel_case(alloc, value)?;
+        fill(
+            &mut text,
+            lines,
+            &VALUE_HOLES,
+            &[value.as_str(), camel.as_str()],
+        )?;
+    }
+    Ok(text)
 }
 
 /// Adds the enum of a setting of this name with these values.
@@ -168,19 +83,34 @@ fn push_enum(
     ensures { OnOk result (string_bytes out.new ≡ string_bytes out.old ++ enum_text group.now name.now values.now) }
 {
     let ty = camel_case(alloc, name)?;
-    let values = values_of(alloc, values)?;
-    push_enum_parts(out, group, name.as_str(), ty.as_str(), values.as_slice())
+    let variants = for_each_value(alloc, VARIANT, values)?;
+    let members = for_each_value(alloc, MEMBER, values)?;
+    let shown = for_each_value(alloc, SHOWN, values)?;
+    let read = for_each_value(alloc, READ, values)?;
+    fill(
+        out,
+        ENUM,
+        &ENUM_HOLES,
+        &[
+            group,
+            name.as_str(),
+            ty.as_str(),
+            variants.as_str(),
+            members.as_str(),
+            shown.as_str(),
+            read.as_str(),
+        ],
+    )
 }
 
 /// Adds the enum of a setting, where it is one.
-#[tactic(auto, unfolding(crate::specs::EnumText::enum_type_text))]
 fn push_enum_type(
     alloc: Global,
     out: &mut String,
     group: &str,
     setting: &Setting,
 ) -> Result<(), AllocError>
-    ensures { OnOk result (string_bytes out.new ≡ string_bytes out.old ++ enum_type_text group.now setting.now) }
+    ensures { OnOk result (string_bytes out.new ≡ string_bytes out.old ++ enum_of group.now setting.now.name setting.now.specific) }
 {
     match setting.specific() {
         SpecificSetting::Enum(values) => {
@@ -190,14 +120,15 @@ fn push_enum_type(
     }
 }
 
-/// Adds the enums of the group of this name (`gen_enum_types`).
+/// Adds the enums of the group of this name.
 pub(crate) fn push_enum_types(
     alloc: Global,
     out: &mut String,
     group: &str,
     settings: &[Setting],
 ) -> Result<(), AllocError>
-    ensures { OnOk result (string_bytes out.new ≡ string_bytes out.old ++ flat_map (enum_type_text group.now) settings.now) }
+    ensures { OnOk result (string_bytes out.new ≡ string_bytes out.old
+        ++ flat_map (λ s. enum_of group.now s.name s.specific) settings.now) }
 {
     for setting in settings {
         push_enum_type(alloc, out, group, setting)?;

@@ -19,7 +19,7 @@ fn push_group(
     ensures { OnOk result (string_bytes out.new ≡ string_bytes out.old ++ group_flags_text parent group.now) }
 {
     let name = group.name().as_str();
-    push_flags(out, parent, group)?;
+    push_flags(alloc, out, group, parent.arguments())?;
     push_enum_types(alloc, out, name, group.settings())?;
     push_getters(alloc, out, group)?;
     push_flags_used(out, name)

@@ -6,7 +6,6 @@
 #![tactic(auto)]
 
 mod enum_types;
-mod enum_values;
 mod flags;
 mod getters;
 mod group_texts;

@@ -16,6 +16,6 @@ push_part-requires c =
     c.instructions-instructions.ensures.fits in
     let table : c.formats.result.now ≡ d.formats = c.formats.ensures.formats ∙ ap (λ (e : Declared). e.set.formats) declared in
     let have : HaveFormats d.formats c.args.built.now.instructions =
-    have_formats d c.args.built.now.instructions c.instructions.ensures.built fits in
-    subst (λ (fs : List InstructionFormat). HaveFormats fs c.instructions.result.now) (sym table)
-    (subst (λ (cs : List BuiltInstruction). HaveFormats d.formats cs) (sym c.instructions.ensures.instructions) have)
+    have_formats d c.args.built.now.instructions c.instructions-instructions-2.ensures.built fits in
+    subst (λ (fs : List InstructionFormat). HaveFormats fs c.instructions-instructions-2.result.now) (sym table)
+    (subst (λ (cs : List BuiltInstruction). HaveFormats d.formats cs) (sym c.instructions-instructions-2.ensures.instructions) have)

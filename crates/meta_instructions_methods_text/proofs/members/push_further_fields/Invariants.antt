@@ -1,9 +1,0 @@
-use Rattle.std.proofs.Common.{◌≡◌, ◌++◌, drop, string_bytes}
-use Rattle.meta_instructions_methods_text.specs.Members.{further_fields}
-use Rattle.meta_instructions_methods_text.proofs.members.push_further_fields.Given as goal
-
--- what is written, and then what is left to write
-abbrev pub invariant-loop-field : goal.invariant-loop-field
-invariant-loop-field l =
-    string_bytes l.out ++ further_fields (drop l.field-index l.fields)
-    ≡ string_bytes l.initial.out ++ further_fields l.fields
