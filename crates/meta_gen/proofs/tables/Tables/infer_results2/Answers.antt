@@ -1,4 +1,4 @@
-use Rattle.std.proofs.Common.{ap, rules}
+use Rattle.std.proofs.Common.{ap}
 use Rattle.meta_gen.specs.WholeTables.{WholeTables}
 use Rattle.meta_gen.proofs.tables.Tables.infer_results2.Goals as goal
 
@@ -10,12 +10,3 @@ returns-clause-accepted c = rw (ap (λ (t : WholeTables). t.opcodes) c.self.view
 
 pub returns-clause-unaccepted : goal.returns-clause-unaccepted
 returns-clause-unaccepted c = rw (ap (λ (t : WholeTables). t.opcodes) c.self.view_is) at c.infer_results2.ensures.unaccepted
-
-pub returns-clause-given : goal.returns-clause-given
-returns-clause-given c = search rules
-
-pub returns-clause-meaning : goal.returns-clause-meaning
-returns-clause-meaning c = search rules
-
-pub returns-clause-refused : goal.returns-clause-refused
-returns-clause-refused c = search rules
