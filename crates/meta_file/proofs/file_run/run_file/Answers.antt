@@ -1,6 +1,9 @@
 use Rattle.meta_file.proofs.FileRuns as lemma
 use Rattle.meta_file.proofs.file_run.run_file.Goals as goal
 
+pub returns-clause-did : goal.returns-clause-did
+returns-clause-did g c = c.attempt.ensures.did
+
 pub returns-clause-headline : goal.returns-clause-headline
 returns-clause-headline g c =
     lemma.headline g.F.Source.left g.F.Source.faults g.S.Source.left g.S.Source.faults g.K.Sink.taken g.K.Sink.faults _ _ _ _ _ _ _ _
