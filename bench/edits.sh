@@ -4,9 +4,10 @@
 #   bench/edits.sh --texts
 # The first tries those of these crates, or of all. Where `./test` passed on this machine, a kit that keeps what passed, as
 # rattle-kit-13f, proves no crate again for its own sake: the check that the edits of a crate begin with is done once, and then a check
-# for each. What comes of an edit is kept too, so run it with a few crates at a time if it may be cut off. It works on a copy of the files
-# as they stand. A line tells of each edit that isn't refused, that can't be applied, or that is refused for a name alone, which says
-# nothing of a contract; the last line counts them.
+# for each. What comes of an edit is kept too, so run it with a few crates at a time if it may be cut off. A kit whose `rt ci` takes no
+# names, as rattle-kit-13b, tries them by `rt must-fail`, which first proves what they stand on, but for libraries that `out/rlib` has.
+# It works on a copy of the files as they stand. A line tells of each edit that isn't refused, that can't be applied, or that is refused
+# for a name alone, which says nothing of a contract; the last line counts them.
 # The second tries none, and takes less than a second: it says which edits, those that the gate tries too, can't be applied. Each text
 # after `old:` stands in its file once, and a later pair of an edit applies to what an earlier one made.
 # The status is 1 where an edit isn't refused or can't be applied, and 2 where none was tried.
@@ -86,6 +87,14 @@ for crate in "$@"; do
 done
 count=$(find "$room"/crates/*/must-fail -name '*.edit' | wc -l)
 (cd "$room" && rt ci "$@" 2>&1) > "$room/log"
+# A kit that takes no names answers its help.
+if grep -q '^usage: rt ' "$room/log"; then
+    for kept in "$top"/crates/*/out/rlib; do
+        crate=$(basename "${kept%/out/rlib}")
+        mkdir "$room/crates/$crate/out" && cp -Rl "$kept" "$room/crates/$crate/out/"
+    done 2> /dev/null
+    (cd "$room" && rt must-fail "$@" 2>&1) > "$room/log"
+fi
 grep -E 'NOT REFUSED|BAD EDIT|NOT TRIED|only because|only by a limit|NOT PROVED|the disk' "$room/log"
 refused=$(grep -c ': refused, as it must be' "$room/log")
 echo "$refused of $count edits were refused, $((count - refused)) were not"

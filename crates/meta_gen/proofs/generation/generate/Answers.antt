@@ -1,3 +1,4 @@
+use Rattle.std.proofs.Common.{rules}
 use Rattle.std.proofs.lemmas.Result.{IfOk-from_err}
 use Rattle.meta_gen.proofs.generation.generate.Goals as goal
 
@@ -34,3 +35,6 @@ returns-in_err-tables_of-clause-acceptance c =
 pub returns-in_err-tables_of-clause-inference : goal.returns-in_err-tables_of-clause-inference
 returns-in_err-tables_of-clause-inference c =
     IfOk-from_err c.from_residual-in_err-tables_of.result _ c.from_residual-in_err-tables_of.ensures.0
+
+pub returns-clause-refused : goal.returns-clause-refused
+returns-clause-refused c = search rules
