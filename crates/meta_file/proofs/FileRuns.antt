@@ -1,5 +1,5 @@
 -- From how a run over a file ended to what it did.
-use Rattle.std.proofs.Common.{◌≡◌, ◌<◌, ◌≤◌, inl, inr, ℕ, List, [], ◌++◌, length, length-append, Option, None, Some, refl}
+use Rattle.std.proofs.Common.{◌≡◌, ◌≢◌, ◌<◌, ◌≤◌, inl, inr, ℕ, List, [], ◌++◌, length, length-append, Option, None, Some, refl}
 use Rattle.std.proofs.Common.{sym, ap, ◌∙◌, subst, arith}
 use Rattle.std.proofs.lemmas.List.{append-nil}
 use Rattle.meta_types.specs.declared.fault.DefinitionError.{DefinitionError}
@@ -126,6 +126,15 @@ module _ {F S K : Type 0} (file_left : F → Option (List ℕ)) (file_reads : F 
   too_long (Refused message) did text told more no_fault asks memory = absurd (read_within text did.1.text told more did.1.read)
   too_long FileFault did text told more no_fault asks memory = absurd (no_fault did.1)
   too_long FileTooLong did text told more no_fault asks memory = (refl, did.2)
+
+  -- where no fault of the source is told, no read of it failed
+  pub else_no_fault : (ending : FileEnding) → Did ending → ending ≢ Ran ends.ReadFault → reads s' ≡ reads s
+  else_no_fault (Ran ending) (inl ran) other = ran.ran.ran.else_no_fault (λ e. other (ap Ran e))
+  else_no_fault (Ran ending) (inr (inl nothing)) other = ap reads nothing.3.0
+  else_no_fault (Ran ending) (inr (inr out)) other = ap reads out.2.0
+  else_no_fault (Refused message) did other = ap reads did.2.0
+  else_no_fault FileFault did other = ap reads did.2.0
+  else_no_fault FileTooLong did other = ap reads did.2.0
 
   -- words that ask nothing end so, and no others
   pub asks_nothing : (ending : FileEnding) → Did ending → (AskSomething words → ⊥) → ending ≡ Ran ends.Usage

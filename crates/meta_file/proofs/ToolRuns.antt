@@ -56,12 +56,14 @@ module _ {S K : Type 0} {left : S → Option (List ℕ)} {reads : S → ℕ} {ta
   -- a run of such a program, by its status
   pub by_status : (ending : Ending) (t : Status) → ending ≡ ending_of t
       → Did left reads taken writes d s s' k k' has_input texts (ending_of t)
-      → (t ≢ status.TooLong → GaveAtMost longest_input (left s) (left s')) → (has_input ≡ false → s' ≡ s)
+      → (t ≢ status.TooLong → GaveAtMost longest_input (left s) (left s')) → (t ≢ status.ReadFault → reads s' ≡ reads s)
+      → (has_input ≡ false → s' ≡ s)
       → reads s ≤ reads s' → writes k ≤ writes k'
       → Ran left reads taken writes d s s' k k' has_input texts ending
-  by_status ending t is did within unread read write = record {
+  by_status ending t is did within no_fault unread read write = record {
     did = subst (λ e. Did left reads taken writes d s s' k k' has_input texts e) (sym is) did;
     else_within = λ other. within (λ e. other (is ∙ ap ending_of e));
+    else_no_fault = λ other. no_fault (λ e. other (is ∙ ap ending_of e));
     unread = unread;
     read_counted = read;
     write_counted = write;

@@ -3,7 +3,7 @@ ghost use Rattle.meta_text.specs.Outside.{longest_input, GaveAtMost};
 ghost use Rattle.meta_run.specs.declared.ending.Ending.TheVariants as ends;
 ghost use Rattle.meta_file.specs.Tool.{AskSomething};
 ghost use Rattle.meta_file.specs.FileRun.{DidText, DidFile, AnswersFile, RefusesFile, IsRefusedOnly, LeavesLongFile};
-ghost use Rattle.meta_file.specs.declared.file_ending.FileEnding.TheVariants.{Ran, FileTooLong};
+ghost use Rattle.meta_file.specs.declared.file_ending.FileEnding.TheVariants.{Ran, FileFault, FileTooLong};
 
 use super::file_ending::FileEnding;
 use super::laws::{a_text_declares_one_thing, one_tool};
@@ -48,6 +48,7 @@ fn run_read<F: Source, S: Source, K: Sink>(
     ensures did { DidFile F.left F.faults S.left S.faults K.taken K.faults words.now path.now file.old file.new
         source.old source.new sink.old sink.new result }
     ensures file_within { result ≢ FileTooLong → GaveAtMost longest_input (F.left file.old) (F.left file.new) }
+    ensures file_else_no_fault { result ≢ FileFault → F.faults file.new ≡ F.faults file.old }
     ensures file_counted { F.faults file.old ≤ F.faults file.new }
 {
     match read_whole(alloc, file) {
@@ -70,6 +71,7 @@ fn attempt<F: Source, S: Source, K: Sink>(
     ensures did { DidFile F.left F.faults S.left S.faults K.taken K.faults words.now path.now file.old file.new
         source.old source.new sink.old sink.new result }
     ensures file_within { result ≢ FileTooLong → GaveAtMost longest_input (F.left file.old) (F.left file.new) }
+    ensures file_else_no_fault { result ≢ FileFault → F.faults file.new ≡ F.faults file.old }
     ensures file_counted { F.faults file.old ≤ F.faults file.new }
 {
     match Tool::parse(words) {
@@ -102,11 +104,16 @@ pub fn run_file<F: Source, S: Source, K: Sink>(
     ensures refused_only { IsRefusedOnly F.left F.faults S.left S.faults K.taken K.faults words.now path.now file.old file.new
         source.old source.new sink.old sink.new result }
 
-    // A file is too long exactly where it has more than the limit, and its count of faults never falls.
+    // A file is too long exactly where it has more than the limit. Where no fault of the file is told, no read of it failed, and its
+    // count of faults never falls.
     ensures too_long { LeavesLongFile F.left F.faults S.left S.faults K.taken K.faults words.now path.now file.old file.new
         source.old source.new sink.old sink.new result }
     ensures file_within { result ≢ FileTooLong → GaveAtMost longest_input (F.left file.old) (F.left file.new) }
+    ensures file_else_no_fault { result ≢ FileFault → F.faults file.new ≡ F.faults file.old }
     ensures file_counted { F.faults file.old ≤ F.faults file.new }
+
+    // Where no fault of the source is told, no read of it failed.
+    ensures else_no_fault { result ≢ Ran ends.ReadFault → S.faults source.new ≡ S.faults source.old }
 
     // Words that ask nothing, and only they, are a usage error, whatever the file is.
     ensures usage { (result ≡ Ran ends.Usage) ↔ (AskSomething words.now → ⊥) }

@@ -6,7 +6,7 @@ ghost use Rattle.meta_file_check.specs.Told.{AreTold};
 ghost use Rattle.meta_file_check.specs.Checked.{IsOutOfMemory, DidCheckText, DidCheck};
 ghost use Rattle.meta_file_check.specs.CheckAnswers.{AnswersCheck, RefusesFile, IsRefusedOnly, AreNamesRefusedOnly, Completes};
 ghost use Rattle.meta_file_check.specs.CheckAnswers.{WritesNothing};
-ghost use Rattle.meta_file_check.specs.declared.check_ending.CheckEnding.TheVariants.{FileTooLong};
+ghost use Rattle.meta_file_check.specs.declared.check_ending.CheckEnding.TheVariants.{FileFault, FileTooLong};
 
 use super::asked::Names;
 use super::check_ending::CheckEnding;
@@ -107,6 +107,7 @@ fn attempt<F: Source, S: Source, K: Sink>(
     ensures did { DidCheck F.left F.faults S.left S.faults K.taken K.faults path.now names file.old file.new
         source.old source.new sink.old sink.new result }
     ensures file_within { result ≢ FileTooLong → GaveAtMost longest_input (F.left file.old) (F.left file.new) }
+    ensures file_else_no_fault { result ≢ FileFault → F.faults file.new ≡ F.faults file.old }
     ensures file_counted { F.faults file.old ≤ F.faults file.new }
 {
     match read_whole(alloc, file) {
@@ -152,9 +153,11 @@ pub fn check_file<F: Source, S: Source, K: Sink>(
     ensures complete { Completes F.left F.faults S.left S.faults K.taken K.faults path.now names file.old file.new
         source.old source.new sink.old sink.new result }
 
-    // No more than the limit is read of the file, unless that is why it ended, and its count of faults never falls. The source isn't read.
+    // No more than the limit is read of the file, and no read of it fails, unless that is why it ended, and its count of faults never
+    // falls. The source isn't read.
     // Nothing is written where memory runs out, the file isn't read whole, or it or its names are refused.
     ensures file_within { result ≢ FileTooLong → GaveAtMost longest_input (F.left file.old) (F.left file.new) }
+    ensures file_else_no_fault { result ≢ FileFault → F.faults file.new ≡ F.faults file.old }
     ensures file_counted { F.faults file.old ≤ F.faults file.new }
     ensures unread { source.new ≡ source.old }
     ensures untouched { WritesNothing result → sink.new ≡ sink.old }

@@ -77,6 +77,7 @@ pub fn run<S: Source, K: Sink>(
     ensures too_long { result ≡ Status.TooLong → IsReading words.now × AreValid declarations.now
         × GaveMore longest_input (S.left source.old) (S.left source.new) }
     ensures else_within { result ≢ Status.TooLong → GaveAtMost longest_input (S.left source.old) (S.left source.new) }
+    ensures else_no_fault { result ≢ Status.ReadFault → S.faults source.new ≡ S.faults source.old }
 
     ensures untouched { WritesNothing (ending_of result) → sink.new ≡ sink.old }
     ensures usage_unread { result ≡ Status.Usage → source.new ≡ source.old }

@@ -1,5 +1,5 @@
 -- What is known of a run of a program, with words or without, by how it ended.
-use Rattle.std.proofs.Common.{◌≡◌, ◌≢◌, ◌≤◌, inl, inr, ℕ, Bool, true, false, List, ◌++◌, Option, Some, refl, sym, ◌∙◌, subst, le_refl}
+use Rattle.std.proofs.Common.{◌≡◌, ◌≢◌, ◌≤◌, inl, inr, ℕ, Bool, true, false, List, ◌++◌, Option, Some, refl, sym, ap, ◌∙◌, subst, le_refl}
 use Rattle.std.specs.Prelude.{⊤}
 use Rattle.meta_types.specs.declared.fault.DefinitionError.{DefinitionError}
 use Rattle.meta_text.specs.Outside.{Rose, longest_input, GaveMore, GaveAtMost}
@@ -79,6 +79,9 @@ module _ {S K W : Type 0} {left : S → Option (List ℕ)} {reads : S → ℕ} {
   pub else_within : ending ≢ TooLong → GaveAtMost longest_input (left s) (left s')
   else_within other = known (λ w means ran. ran.else_within other)
       (λ none is source sink. subst (λ t. GaveAtMost longest_input (left s) (left t)) (sym source) (lemma.gave_nothing (left s)))
+
+  pub else_no_fault : ending ≢ ReadFault → reads s' ≡ reads s
+  else_no_fault other = known (λ w means ran. ran.else_no_fault other) (λ none is source sink. ap reads source)
 
   pub untouched : WritesNothing ending → k' ≡ k
   untouched (inl e) = known (λ w means ran. absurd (subst (DidBy w) e ran.did)) (λ none is source sink. sink)

@@ -133,6 +133,7 @@ module _ {S K : Type 0} (left : S → Option (List ℕ)) (reads : S → ℕ) (ta
   ran_refused ending h counted = record {
     did = refused ending h;
     else_within = λ other. gave_nothing (left s);
+    else_no_fault = λ other. refl;
     unread = λ none. refl;
     read_counted = omega arith;
     write_counted = counted;

@@ -113,11 +113,12 @@ module _ {S K : Type 0} (left : S → Option (List ℕ)) (reads : S → ℕ) (ta
   Did has_input texts OutOfMemory = k' ≡ k
   Did has_input texts TooLong = (has_input ≡ true) × AreValid d × GaveMore longest_input (left s) (left s') × (k' ≡ k)
 
-  -- and that no more was read than may be, unless that is why it ended, that nothing was read where there is no input, and that no
-  -- count fell
+  -- and that no more was read than may be and no read failed, unless that is why it ended, that nothing was read where there is no
+  -- input, and that no count fell
   pub record Ran (has_input : Bool) (texts : Texts) (ending : Ending) : Type 0 where
     pub did : Did has_input texts ending
     pub else_within : ending ≢ TooLong → GaveAtMost longest_input (left s) (left s')
+    pub else_no_fault : ending ≢ ReadFault → reads s' ≡ reads s
     pub unread : has_input ≡ false → s' ≡ s
     pub read_counted : reads s ≤ reads s'
     pub write_counted : writes k ≤ writes k'

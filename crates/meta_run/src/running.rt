@@ -21,6 +21,7 @@ fn read_input<S: Source, A: Answerer>(
     ensures unread { A.reads answerer.now ≡ false → source.new ≡ source.old }
     ensures read_fault { IsErrOf result ReadError.ReadFault → (A.reads answerer.now ≡ true)
         × Rose (S.faults source.old) (S.faults source.new) }
+    ensures else_no_fault { ¬ IsErrOf result ReadError.ReadFault → S.faults source.new ≡ S.faults source.old }
     ensures too_long { IsErrOf result ReadError.TooLong → (A.reads answerer.now ≡ true)
         × GaveMore longest_input (S.left source.old) (S.left source.new) }
     ensures else_within { ¬ IsErrOf result ReadError.TooLong → GaveAtMost longest_input (S.left source.old) (S.left source.new) }

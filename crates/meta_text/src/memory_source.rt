@@ -1,4 +1,4 @@
-ghost use Rattle.std.specs.Prelude.{◌≡◌, ℕ, ◌<◌, ◌≤◌, ◌↔◌, [], length, take, Some, IsTrue};
+ghost use Rattle.std.specs.Prelude.{◌≡◌, ◌≢◌, ℕ, ◌<◌, ◌≤◌, ◌↔◌, [], length, take, Some, IsTrue};
 ghost use Rattle.meta_text.specs.Outside.{Rose, with_front, NothingLeft};
 ghost use Rattle.meta_text.specs.Outcomes.{IfGot, OnEnd, OnReadFailed, KeepsRest};
 ghost use Rattle.meta_text.specs.InMemory.{SourceState, is_listed, given_count, after_read};
@@ -77,6 +77,7 @@ impl Source for MemorySource {
         ensures end_keeps { OnEnd result (Some self.new.left ≡ Some self.old.left) }
         ensures failed_keeps { OnReadFailed result (Some self.new.left ≡ Some self.old.left) }
         ensures fault { OnReadFailed result (Rose self.old.faults self.new.faults) }
+        ensures else_no_fault { result ≢ ReadOutcome.Failed → self.new.faults ≡ self.old.faults }
         ensures counted { self.old.faults ≤ self.new.faults }
     {
         let listed = is_listed(self.fails.as_slice(), self.calls);

@@ -1,4 +1,4 @@
-ghost use Rattle.std.specs.Prelude.{◌≡◌, ℕ, ◌<◌, ◌≤◌, List, length, take, Option};
+ghost use Rattle.std.specs.Prelude.{◌≡◌, ◌≢◌, ℕ, ◌<◌, ◌≤◌, List, length, take, Option};
 ghost use Rattle.meta_text.specs.Outside.{Rose, with_front, with_more, NothingLeft};
 ghost use Rattle.meta_text.specs.Outcomes.{IfGot, OnEnd, OnReadFailed, KeepsRest, IfWrote, OnWriteFailed};
 
@@ -25,7 +25,7 @@ pub enum WriteOutcome {
 /// Where bytes come from (this project's own).
 ///
 /// For contracts a source has the bytes that are left, if it tells them, and a count of its
-/// faults. Whether it tells its bytes changes in no call.
+/// faults, which only a read that fails changes. Whether it tells its bytes changes in no call.
 pub trait Source {
     // The bytes that are left, or `None` at a source that doesn't tell.
     ghost left: { Self → Option (List ℕ) };
@@ -44,6 +44,7 @@ pub trait Source {
         ensures end_keeps { OnEnd result (left self.new ≡ left self.old) }
         ensures failed_keeps { OnReadFailed result (left self.new ≡ left self.old) }
         ensures fault { OnReadFailed result (Rose (faults self.old) (faults self.new)) }
+        ensures else_no_fault { result ≢ ReadOutcome.Failed → faults self.new ≡ faults self.old }
         ensures counted { faults self.old ≤ faults self.new };
 }
 

@@ -1,4 +1,4 @@
-ghost use Rattle.std.specs.Prelude.{◌≡◌, ℕ, ◌<◌, ◌≤◌, length, take, None};
+ghost use Rattle.std.specs.Prelude.{◌≡◌, ◌≢◌, ℕ, ◌<◌, ◌≤◌, length, take, None};
 ghost use Rattle.std.specs.Io.KnownBytes.{Consumes, IsAtEnd, Keeps};
 ghost use Rattle.meta_text.specs.Adapters.{reader_of, read_faults};
 ghost use Rattle.meta_text.specs.Outside.{Rose};
@@ -50,6 +50,7 @@ impl<R: Read> Source for StdSource<R> {
         ensures in_range { IfGot result (λ n. (1 ≤ n) × (n ≤ length buf.new)) }
         ensures rest { KeepsRest result buf.old buf.new }
         ensures fault { OnReadFailed result (Rose (read_faults self.old) (read_faults self.new)) }
+        ensures else_no_fault { result ≢ ReadOutcome.Failed → read_faults self.new ≡ read_faults self.old }
         ensures counted { read_faults self.old ≤ read_faults self.new }
     {
         let mut block = [0; BLOCK];

@@ -38,7 +38,7 @@ pub enum WriteError {
 
 /// All bytes that the source had left, read up to its end (this project's own).
 ///
-/// `ReadFault` comes only where a read failed, and `TooLong` exactly where the source gave more
+/// `ReadFault` comes exactly where a read failed, and `TooLong` exactly where the source gave more
 /// than `READ_LIMIT` bytes in this call. After an error a front of the bytes was read.
 #[tactic(auto, using(crate::proofs::Given::gave_none, crate::proofs::Given::gave_both))]
 pub fn read_whole<S: Source>(alloc: Global, source: &mut S) -> Result<Vec<u8>, ReadError>
@@ -51,7 +51,9 @@ pub fn read_whole<S: Source>(alloc: Global, source: &mut S) -> Result<Vec<u8>, R
     ensures too_long { IsErrOf result ReadError.TooLong → GaveMore longest_input (S.left source.old) (S.left source.new) }
     ensures else_within { ¬ IsErrOf result ReadError.TooLong → GaveAtMost longest_input (S.left source.old) (S.left source.new) }
 
+    // `ReadFault` comes exactly where a read failed.
     ensures fault { IsErrOf result ReadError.ReadFault → Rose (S.faults source.old) (S.faults source.new) }
+    ensures else_no_fault { ¬ IsErrOf result ReadError.ReadFault → S.faults source.new ≡ S.faults source.old }
     ensures counted { S.faults source.old ≤ S.faults source.new }
 {
     let mut all = Vec::new(alloc);

@@ -92,6 +92,7 @@ pub fn verify<S: Source, K: Sink>(
     ensures too_long { result ≡ Ending.TooLong → AreValid declarations.now
         × GaveMore longest_input (S.left source.old) (S.left source.new) }
     ensures else_within { result ≢ Ending.TooLong → GaveAtMost longest_input (S.left source.old) (S.left source.new) }
+    ensures else_no_fault { result ≢ Ending.ReadFault → S.faults source.new ≡ S.faults source.old }
 
     ensures untouched { WritesNothing result → sink.new ≡ sink.old }
     ensures usage_unread { result ≡ Ending.Usage → source.new ≡ source.old }

@@ -48,6 +48,9 @@ returns-clause-too_long g c e = let (w, means, has, valid, more) = lemma.too_lon
 pub returns-clause-else_within : goal.returns-clause-else_within
 returns-clause-else_within g c = lemma.else_within c.assemble.ensures
 
+pub returns-clause-else_no_fault : goal.returns-clause-else_no_fault
+returns-clause-else_no_fault g c = lemma.else_no_fault c.assemble.ensures
+
 pub returns-clause-untouched : goal.returns-clause-untouched
 returns-clause-untouched g c = lemma.untouched c.assemble.ensures
 

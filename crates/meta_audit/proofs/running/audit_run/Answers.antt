@@ -1,6 +1,6 @@
 use Rattle.std.proofs.Common.{ap}
 use Rattle.meta_run.specs.Ending.{ending_of}
-use Rattle.meta_run.specs.declared.status.Status.TheVariants.{Usage, TooLong}
+use Rattle.meta_run.specs.declared.status.Status.TheVariants.{Usage, ReadFault, TooLong}
 use Rattle.meta_run.proofs.Programs as lemma
 use Rattle.meta_run.proofs.Statuses.{status_is}
 use Rattle.meta_audit.specs.AuditLine.{IsAuditLine}
@@ -53,6 +53,10 @@ returns-clause-too_long g c e = let (w, means, has, valid, more) =
 pub returns-clause-else_within : goal.returns-clause-else_within
 returns-clause-else_within g c other =
     lemma.else_within (lemma.by_status c.run_words-ending.ensures _ c.of.ensures) (λ e. other (status_is _ TooLong e))
+
+pub returns-clause-else_no_fault : goal.returns-clause-else_no_fault
+returns-clause-else_no_fault g c other = lemma.else_no_fault (lemma.by_status c.run_words-ending.ensures _ c.of.ensures)
+    (λ e. other (status_is _ ReadFault e))
 
 pub returns-clause-untouched : goal.returns-clause-untouched
 returns-clause-untouched g c = lemma.untouched (lemma.by_status c.run_words-ending.ensures _ c.of.ensures)

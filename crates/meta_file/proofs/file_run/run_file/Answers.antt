@@ -31,6 +31,12 @@ returns-clause-too_long g c =
 pub returns-clause-file_within : goal.returns-clause-file_within
 returns-clause-file_within g c = c.attempt.ensures.file_within
 
+pub returns-clause-else_no_fault : goal.returns-clause-else_no_fault
+returns-clause-else_no_fault g c =
+    lemma.else_no_fault g.F.Source.left g.F.Source.faults g.S.Source.left g.S.Source.faults g.K.Sink.taken g.K.Sink.faults _ _ _ _ _ _ _ _
+    (λ d e. c.one_first_fault.ensures.valid d e) c.one_tool.ensures c.a_text_declares_one_thing.ensures.same
+    c.a_text_declares_one_thing.ensures.refused _ c.attempt.ensures.did
+
 pub returns-clause-usage : goal.returns-clause-usage
 returns-clause-usage g c = (
   λ is. lemma.usage g.F.Source.left g.F.Source.faults g.S.Source.left g.S.Source.faults g.K.Sink.taken g.K.Sink.faults _ _ _ _ _ _ _ _

@@ -26,6 +26,7 @@ returns g c =
           (λ e. v.untouched (inr (inr (inr e))))
           (λ e. let h = v.too_long e in (refl, h.0, h.1, v.untouched (inr (inr (inl e)))));
       else_within = v.else_within;
+      else_no_fault = v.else_no_fault;
       unread = has_one;
       read_counted = v.read_counted;
       write_counted = v.write_counted;

@@ -14,4 +14,4 @@ returns g c =
     (λ e. (v.write_fault e, v.written_in_part e))
     (λ e. v.untouched (inr (inr (inr (ap ending_of e)))))
     (λ e. let h = v.too_long e in (refl, h.0, h.1, v.untouched (inr (inr (inl (ap ending_of e)))))))
-    v.else_within has_one v.read_counted v.write_counted
+    v.else_within v.else_no_fault has_one v.read_counted v.write_counted

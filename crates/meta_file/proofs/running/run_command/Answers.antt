@@ -35,4 +35,4 @@ returns g c =
       h.2,
       v.untouched (inr (inr (inl (ap ending_of e)))),
     )))
-    v.else_within (λ none. v.text_unread c.args.command (λ h. has_one (sym h ∙ none)) c.requires) v.read_counted v.write_counted
+    v.else_within v.else_no_fault (λ none. v.text_unread c.args.command (λ h. has_one (sym h ∙ none)) c.requires) v.read_counted v.write_counted

@@ -12,5 +12,6 @@ read-tells g c = record {
   end_keeps = any_end _ _ refl;
   failed_keeps = any_read_failed _ _ refl;
   fault = c.ensures.fault;
+  else_no_fault = c.ensures.else_no_fault;
   counted = c.ensures.counted;
 }
