@@ -93,8 +93,8 @@ fn push_part(
     Ok(())
 }
 
-/// The set of types with these masks, in one form: a part for each dimension in which it differs from that of no part, and `ints none`
-/// where there is none.
+/// The type set with these masks, in one form: a part for each dimension in which it differs from that of no part, and `ints none` if there
+/// is no such dimension.
 pub(crate) fn set_of(alloc: Global, masks: Masks) -> Result<SetExpr, AllocError> {
     let mut parts = Vec::new(alloc);
     push_part(alloc, &mut parts, Dimension::Lanes, masks.lanes)?;

@@ -51,7 +51,6 @@ pub(crate) fn begins_as_name(bytes: &[u8]) -> bool
     }
 }
 
-/// Equal bytes of their own.
 pub(crate) fn bytes_of(alloc: Global, bytes: &[u8]) -> Result<Bytes, AllocError>
     ensures { IfOk result (λ owned. owned ≡ bytes.now) }
 {
@@ -107,7 +106,8 @@ pub(crate) fn docs_of(alloc: Global, text: &[u8]) -> Result<Docs, AllocError>
     Ok(Docs::of(lines))
 }
 
-/// The last name of a path in small letters, with a `_` before each capital behind another sign than a capital: `imm64`, `func_ref`.
+/// The last name of a path in small letters, with a `_` before each capital that comes after a sign other than a capital, such as `imm64`
+/// or `func_ref`.
 pub(crate) fn snake_case(alloc: Global, path: &[u8]) -> Result<Vec<u8>, AllocError> {
     let mut word = Vec::new(alloc);
     let mut is_behind_small = false;
