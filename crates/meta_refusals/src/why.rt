@@ -58,7 +58,7 @@ fn write_declare_why(
     }
 }
 
-/// What is said of an item that declares nothing, where these are the lines of all items.
+/// Why an item can't be declared, in words. `lines` has the lines of all items.
 pub fn declare_why(
     alloc: Global,
     lines: &[usize],
@@ -111,7 +111,7 @@ fn meaning_of(fault: &DefinitionError) -> &'static str
     }
 }
 
-/// A fault, and what it means.
+/// The name of a fault, and what it means, in words.
 pub fn fault_why(alloc: Global, fault: &DefinitionError) -> Result<Vec<u8>, AllocError>
     ensures { IfOk result (λ v. v.items ≡ fault_why fault.now) }
 {
