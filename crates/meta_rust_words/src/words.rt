@@ -101,7 +101,7 @@ fn is_later_word(name: &[u8]) -> bool
         || name == b"yield".as_slice()
 }
 
-/// Whether it is a keyword.
+/// Whether the name is a keyword of Rust.
 #[tactic(auto, unfolding(crate::specs::Words::is_keyword))]
 pub fn is_keyword(name: &[u8]) -> bool
     ensures { result ≡ is_keyword name.now }
@@ -159,7 +159,7 @@ fn is_plain_word(name: &[u8]) -> bool
     name != b"_".as_slice() && is_word(name)
 }
 
-/// Whether they may stand behind `r#`.
+/// Whether the name can stand after `r#`.
 #[tactic(auto, unfolding(crate::specs::Words::is_raw_word))]
 fn is_raw_word(name: &[u8]) -> bool
     ensures { result ≡ is_raw_word name.now }
@@ -186,7 +186,7 @@ fn is_identifier(name: &[u8]) -> bool
     is_plain_word(name) || is_raw_identifier(name)
 }
 
-/// Whether they name a variant of the prelude, raw or not.
+/// Whether the name is that of a variant of the prelude, with or without `r#`.
 #[tactic(auto, unfolding(crate::specs::Words::is_prelude_variant))]
 pub fn is_prelude_variant(name: &[u8]) -> bool
     ensures { result ≡ is_prelude_variant name.now }
@@ -197,7 +197,7 @@ pub fn is_prelude_variant(name: &[u8]) -> bool
         || is_named(b"Err", name)
 }
 
-/// Why a parameter, a field or a variable can't have the name.
+/// Why a parameter, a field or a variable can't have the name. `None` if it can.
 #[tactic(auto, unfolding(crate::specs::Words::word_why))]
 pub fn word_why(name: &[u8]) -> Option<Why>
     ensures { result ≡ word_why name.now }
