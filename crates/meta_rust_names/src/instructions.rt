@@ -190,7 +190,7 @@ fn push_control(
     )
 }
 
-/// Adds what is refused behind the instruction's own name. The variables of its operands are of the registry.
+/// Adds what is refused after the instruction's own name. The variables of its operands must be of the registry.
 #[tactic(auto, unfolding(crate::specs::Instructions::operands_refused))]
 fn push_operands(
     alloc: Global,
