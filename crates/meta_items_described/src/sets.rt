@@ -16,7 +16,7 @@ const ONE_LANE: u16 = 1;
 
 const NOTHING: u16 = 0;
 
-/// The lane counts and widths that there are, 256 the greatest.
+/// All lane counts and widths. The greatest is 256.
 const POWERS: [u16; 9] = [1, 2, 4, 8, 16, 32, 64, 128, 256];
 
 /// The range that goes on up to the number, or begins with it where none is open.
@@ -57,7 +57,7 @@ fn spans_of(alloc: Global, mask: u16) -> Result<Vec<Span>, AllocError> {
     Ok(spans)
 }
 
-/// The members that a mask has, of all that there are.
+/// The members that a mask has, of all that it can have.
 fn members_of(alloc: Global, mask: u16, all: u16) -> Result<Members, AllocError> {
     if mask == NOTHING {
         return Ok(Members::Nothing);

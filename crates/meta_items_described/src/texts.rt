@@ -32,7 +32,7 @@ fn are_word_bytes(bytes: &[u8]) -> bool
     !bytes.is_empty() && has_word_bytes(bytes)
 }
 
-/// Whether the bytes are a word that is no keyword.
+/// Whether the bytes are a word that isn't a keyword.
 #[tactic(auto, using(crate::proofs::Wording::is_word))]
 pub(crate) fn is_word(bytes: &[u8]) -> bool
     ensures says { result ≡ is_plain_word bytes.now }
@@ -69,7 +69,7 @@ pub(crate) fn name_of(alloc: Global, bytes: &[u8]) -> Result<Name, AllocError>
     Ok(Name::Quoted(owned))
 }
 
-/// The text, unless it is the same as what is told without it.
+/// The text, unless it is the same as what is shown without it.
 pub(crate) fn unless_same(
     alloc: Global,
     text: &[u8],
@@ -84,7 +84,7 @@ pub(crate) fn unless_same(
     Ok(Some(bytes_of(alloc, text)?))
 }
 
-/// The lines of a documentation, none where it is empty.
+/// The lines of a documentation, which has no lines if it is empty.
 pub(crate) fn docs_of(alloc: Global, text: &[u8]) -> Result<Docs, AllocError>
     ensures says { IfOk result (λ docs. docs ≡ doc_lines text.now) }
     ensures tells { IfOk result (λ docs. doc_text docs ≡ text.now) }

@@ -11,7 +11,7 @@ use meta_tokens::Bytes;
 use meta_types::DefinitionError;
 use std::alloc::{AllocError, Global};
 
-/// Adds a name as it is told.
+/// Adds a name as messages show it.
 fn write_shown(out: &mut Vec<u8>, name: &Name) -> Result<(), AllocError>
     ensures { OnOk result (out.new.items ≡ out.old.items ++ shown_name name.now) }
 {
@@ -21,7 +21,7 @@ fn write_shown(out: &mut Vec<u8>, name: &Name) -> Result<(), AllocError>
     }
 }
 
-/// Adds the name at a place among these, if there is one, as it is told.
+/// Adds the name at a place among these, if there is one, as messages show it.
 fn write_shown_at(out: &mut Vec<u8>, names: &[Name], place: usize) -> Result<(), AllocError>
     ensures { OnOk result (out.new.items ≡ out.old.items ++ option_map_or shown_name (slice_get names.now place) []) }
 {

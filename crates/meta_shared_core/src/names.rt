@@ -54,7 +54,7 @@ impl<'n> Names<'n> {
         self.formats.id(format)
     }
 
-    /// The kind that a word stands for. A derived variable is added to the variables if it isn't there.
+    /// The kind that a word stands for. A derived variable is added if the registry doesn't have it.
     pub(crate) fn kind(
         &self,
         alloc: Global,

@@ -48,7 +48,7 @@ fn whole_lines(text: &[u8]) -> &[u8]
     &text[..start]
 }
 
-/// The number of the line in which a text ends.
+/// The number of the line in which the byte after a text would stand.
 fn line_after(text: &[u8]) -> usize
     ensures { result ≡ line_after 1 text.now }
 {

@@ -43,7 +43,7 @@ const FIXED_ROWS: [(&str, u8); 9] = [
     ("x256", 8),
 ];
 
-/// The same of dynamic vectors.
+/// What comes after the lane in the names of dynamic vectors, and the rows of their numbers.
 const DYNAMIC_ROWS: [(&str, u8); 8] = [
     ("x2xN", 9),
     ("x4xN", 10),
