@@ -239,8 +239,7 @@ impl TypeVar {
     }
 
     /// Whether the stored type set is the variable's own coded image, and not that of the variable it is derived from. It is true for a
-    /// root. The variable must be of this registry. Memory never runs out here. In the crate
-    /// `get_raw_typeset` asserts this.
+    /// root. The variable must be of this registry. Memory never runs out here. In the crate `get_raw_typeset` asserts this.
     pub fn is_raw(self, alloc: Global, vars: &TypeVars) -> Result<bool, AllocError>
         requires { self < length vars.now }
         ensures { IsOkAnd result (λ raw. IsTrue raw ↔ IsRaw vars.now self) }
