@@ -79,7 +79,7 @@ one_piece line first pieces (OfInference q) h = let e = ap length (sym pieces �
 one_piece line first pieces (OfSetting name) h = let e = ap length (sym pieces ∙ asked_pieces line (OfSetting name) h) in omega (arith, e)
 
 module _ (line first behind : List ℕ) (pieces : pieces_of 32 line ≡ first ∷ pieces_of 32 behind) where
-  -- the words of the line are its command and what stands behind it
+  -- the words of the line are its command and what comes after it
   pub words_found : (c : QueryWord) (words : List (List ℕ)) → command_named first ≡ Some c
       → pieces_of 32 behind ≡ words → pieces_of 32 line ≡ command_text c ∷ words
   words_found c words named e = pieces ∙ (λ i. command_is first c named i ∷ e i)

@@ -150,7 +150,7 @@ module _ (t : WholeTables) where
   one_reply line r s (inr (bad, none)) (inl (q, asks, h)) = absurd (none q asks)
   one_reply line r s (inr (bad, none)) (inr (too, nothing)) = bad ∙ sym too
 
-  -- Tables answer lines with one text at most.
+  -- Tables answer lines with at most one text.
   pub same_answers : (lines : List (List ℕ)) (a b : List ℕ) → AreWrittenAnswers (IsTableReply t) lines a
       → AreWrittenAnswers (IsTableReply t) lines b → a ≡ b
   same_answers lines a b h g = one_list (IsTableReply t) one_reply lines a b h g

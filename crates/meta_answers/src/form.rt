@@ -5,7 +5,7 @@ ghost use Rattle.meta_answers.specs.Form.{command_named, words_in, name_in};
 
 use meta_words::{Pieces, cut};
 
-/// The first word of a line that asks.
+/// The first word of a line that asks something.
 #[derive(Clone, Copy)]
 pub(crate) enum QueryWord {
     Accept,
@@ -13,7 +13,7 @@ pub(crate) enum QueryWord {
     Setting,
 }
 
-/// The words behind `accept`. The last three may have no bytes.
+/// The words after `accept`. The last three can be empty.
 #[derive(Clone, Copy)]
 pub(crate) struct AcceptWords<'a> {
     pub(crate) name: &'a [u8],
@@ -22,14 +22,14 @@ pub(crate) struct AcceptWords<'a> {
     pub(crate) values: &'a [u8],
 }
 
-/// The words behind `infer`. The last may have no bytes.
+/// The words after `infer`. The last can be empty.
 #[derive(Clone, Copy)]
 pub(crate) struct InferWords<'a> {
     pub(crate) name: &'a [u8],
     pub(crate) control: &'a [u8],
 }
 
-/// The form of a line that asks, with its words behind the first.
+/// The form of a line that asks something, with the words after the first.
 #[derive(Clone, Copy)]
 pub(crate) enum QueryForm<'a> {
     Accept(AcceptWords<'a>),
@@ -37,7 +37,6 @@ pub(crate) enum QueryForm<'a> {
     Setting(&'a [u8]),
 }
 
-/// The command that the word is.
 fn command_of(word: &[u8]) -> Option<QueryWord>
     ensures { result ≡ command_named word.now }
 {
@@ -49,7 +48,7 @@ fn command_of(word: &[u8]) -> Option<QueryWord>
     }
 }
 
-/// The four words behind `accept`.
+/// The four words after `accept`.
 fn accept_words(behind: &[u8]) -> Option<AcceptWords<'_>>
     ensures words { IfSome result (λ w. pieces_of 32 behind.now ≡ w.name.now ∷ w.control.now ∷ w.results.now ∷ w.values.now ∷ []) }
     ensures named { IfSome result (λ w. 0 < length w.name.now) }
@@ -75,7 +74,7 @@ fn accept_words(behind: &[u8]) -> Option<AcceptWords<'_>>
     })
 }
 
-/// The two words behind `infer`.
+/// The two words after `infer`.
 fn infer_words(behind: &[u8]) -> Option<InferWords<'_>>
     ensures words { IfSome result (λ w. pieces_of 32 behind.now ≡ w.name.now ∷ w.control.now ∷ []) }
     ensures named { IfSome result (λ w. 0 < length w.name.now) }
@@ -93,7 +92,7 @@ fn infer_words(behind: &[u8]) -> Option<InferWords<'_>>
     Some(InferWords { name, control })
 }
 
-/// The one word behind `setting`.
+/// The one word after `setting`.
 fn setting_word(behind: &[u8]) -> Option<&[u8]>
     ensures words { IfSome result (λ name. pieces_of 32 behind.now ≡ name.now ∷ []) }
     ensures named { IfSome result (λ name. 0 < length name.now) }
@@ -110,7 +109,7 @@ fn setting_word(behind: &[u8]) -> Option<&[u8]>
     Some(name)
 }
 
-/// The form of the line, and `None` only where it asks nothing. A line that has a form asks where its words name types.
+/// The form of the line. `None` only if the line asks nothing. A line with a form asks something if its words name types.
 pub(crate) fn form_of(line: &[u8]) -> Option<QueryForm<'_>>
     ensures words { IfSome result (λ form. pieces_of 32 line.now ≡ words_in form) }
     ensures named { IfSome result (λ form. 0 < length (name_in form)) }

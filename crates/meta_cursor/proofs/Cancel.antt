@@ -11,7 +11,7 @@ use Rattle.meta_cursor.proofs.Ends.{first_behind, line_left}
 use Rattle.meta_cursor.proofs.Lacking.{any_number_lacks}
 use Rattle.meta_cursor.proofs.Reading.{all_first, all_behind}
 
--- behind the same front
+-- after the same front
 pub cancel_front : (front r s : List ℕ) → front ++ r ≡ front ++ s → r ≡ s
 cancel_front front r s e = sym (drop-append_seam front r) ∙ ap (drop (length front)) e ∙ drop-append_seam front s
 
@@ -34,12 +34,12 @@ cancel_number stop m n r s other small_m small_n stops_r stops_s e =
     (any_number_lacks stop other n) stops_r stops_s e in
     (decimal_injective m n small_m small_n digits, left)
 
--- behind a line
+-- after a line
 pub cancel_line : (x y r s : List ℕ) → is_line x ≡ true → is_line y ≡ true → x ++ r ≡ y ++ s → r ≡ s
 cancel_line x y r s is_x is_y e = sym (line_left x r is_x) ∙ ap (λ t. drop 1 (drop (position_or_len (λ c. c == 10) t) t)) e
     ∙ line_left y s is_y
 
--- behind equally many lines
+-- after the same count of lines
 pub cancel_lines : (xs ys : List (List ℕ)) (r s : List ℕ) → All (λ line. IsTrue (is_line line)) xs → All (λ line. IsTrue (is_line line)) ys
     → length xs ≡ length ys
     → flat_map (λ line. line) xs ++ r ≡ flat_map (λ line. line) ys ++ s → r ≡ s

@@ -12,7 +12,7 @@ use Rattle.std.specs.Char.{is_ascii_digit}
 use Rattle.std.specs.Fmt.{decimal}
 use Rattle.meta_cursor.specs.Spans.{lacks, begins_with, is_nothing, is_line, behind_line, behind_lines}
 
--- the first place of the byte is that behind the item
+-- the first place of the byte is the one after the item
 pub first_behind : (stop : ℕ) (item rest : List ℕ) → lacks stop item ≡ true → begins_with stop rest ≡ true
     → position_or_len (λ c. c == stop) (item ++ rest) ≡ length item
 first_behind stop [] [] free stops = absurd (cc)
@@ -25,7 +25,7 @@ first_behind stop (c ∷ item) rest free stops = by_test (c == stop) free (λ fr
     by_test true free below = absurd (cc)
     by_test false free below = let e = below free in omega (arith, e)
 
--- what is taken up to the end of the item, and what is left behind it
+-- what is taken up to the end of the item, and what is left after it
 pub item_taken : (text item rest : List ℕ) (end : ℕ) → text ≡ item ++ rest → end ≡ length item → take end text ≡ item
 item_taken text item rest end is at = (λ i. take (at i) (is i)) ∙ take-append_seam item rest
 
@@ -53,7 +53,7 @@ number_lacks stop other =
     (λ n ds big above. list_all-append (λ c. not (c == stop)) ds ((48 + n % 10) ∷ [])
     ∙ (λ i. above i && digit_lacks stop (n % 10) other (omega arith) i))
 
--- what is left behind a line
+-- what is left after a line
 pub line_left : (line rest : List ℕ) → is_line line ≡ true
     → drop 1 (drop (position_or_len (λ c. c == 10) (line ++ rest)) (line ++ rest)) ≡ rest
 line_left [] rest is = absurd (cc)
@@ -76,12 +76,12 @@ pub line_some : (line : List ℕ) → is_line line ≡ true → 1 ≤ length lin
 line_some [] is = absurd (cc)
 line_some (c ∷ cs) is = omega arith
 
--- behind one line more
+-- after one more line
 pub one_line_more : (count : ℕ) (text : List ℕ) → behind_lines (suc count) text ≡ behind_line (behind_lines count text)
 one_line_more zero text = refl
 one_line_more (suc count) text = one_line_more count (behind_line text)
 
--- behind as many lines as it has bytes, a text has nothing
+-- after as many lines as it has bytes, a text has nothing left
 none_behind : (count : ℕ) (text : List ℕ) → length text ≤ count → behind_lines count text ≡ []
 none_behind zero [] few = refl
 none_behind zero (c ∷ cs) few = absurd (omega (arith, few))
@@ -91,7 +91,7 @@ none_behind (suc count) text few =
     let behind = length-drop 1 (drop end text) in
     none_behind count (behind_line text) (omega (arith, few, first, behind))
 
--- and so behind any further lines
+-- and so after any further lines
 pub lines_passed : (count passed : ℕ) (text : List ℕ) → passed ≤ count → (passed < count → length text ≤ passed)
     → behind_lines passed text ≡ behind_lines count text
 lines_passed count passed text most few = ⊎_elim

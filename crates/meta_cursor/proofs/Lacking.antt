@@ -17,7 +17,7 @@ pub both_lack : (stop : ℕ) (front behind : List ℕ) → lacks stop front ≡ 
     → lacks stop (front ++ behind) ≡ true
 both_lack stop front behind f b = list_all-append (λ c. not (c == stop)) front behind ∙ (λ i. f i && b i)
 
--- behind what has no LF, a line ends one
+-- a text without an LF and then the end of a line are a line
 pub line_behind : (front behind : List ℕ) → lacks 10 front ≡ true → is_line behind ≡ true → is_line (front ++ behind) ≡ true
 line_behind [] behind free is = is
 line_behind (c ∷ front) behind free is = by_test (c == 10) free (λ free. line_behind front behind free is)

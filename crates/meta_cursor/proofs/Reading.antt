@@ -27,7 +27,7 @@ one_within P (x ∷ xs) i all within = (
   All-get_or P (x ∷ xs) i x within all,
 )
 
--- so many of the items are read, and the others are left, and then the rest
+-- the first i items are read, the others are left, and then the rest
 pub record AreRead {X : Type 0} (text : X → List ℕ) (items : List X) (rest : List ℕ) (i : ℕ) (so_far : List X) (now : List ℕ) : Type 0 where
   pub got : so_far ≡ take i items
   pub left : now ≡ flat_map text (drop i items) ++ rest
@@ -46,7 +46,7 @@ pub one_more_read : {X : Type 0} (text : X → List ℕ) (items : List X) (rest 
 one_more_read text items rest i x y got more left behind at read pushed same e =
     record { got = pushed ∙ (λ k. read.got k ++ same k ∷ []) ∙ sym at.taken; left = e }
 
--- what all have, the first has, and those behind it
+-- what all have, the first has, and so have those after it
 pub all_first : {X : Type 0} (P : X → Type 0) (x : X) (xs : List X) → All P (x ∷ xs) → P x
 all_first P x xs all = all 0 x (omega arith)
 

@@ -12,7 +12,7 @@ use std::alloc::{AllocError, Global};
 use std::marker::Model;
 use std::str;
 
-/// What is left of a text (this project's own).
+/// What is left of a text that is being read.
 #[derive(Drop)]
 pub struct Cursor<'t> {
     left: &'t [u8],
@@ -27,7 +27,7 @@ impl<'t> Model for Cursor<'t> {
 }
 
 impl<'t> Cursor<'t> {
-    /// At the front of the text.
+    /// Makes a cursor at the front of the text.
     pub fn new(text: &'t [u8]) -> Cursor<'t>
         ensures { result ≡ text.now }
     {
@@ -41,7 +41,7 @@ impl<'t> Cursor<'t> {
         self.left.len()
     }
 
-    /// Skips so many bytes, or all where fewer are left.
+    /// Skips `count` bytes, or all if fewer are left.
     pub fn skip(&mut self, count: usize)
         ensures { self.new ≡ drop count self.old }
     {
@@ -49,7 +49,7 @@ impl<'t> Cursor<'t> {
         self.left = self.left.split_at(count).1;
     }
 
-    /// Skips as many bytes as the text has.
+    /// Skips as many bytes as the text has. It doesn't compare them.
     pub fn pass(&mut self, text: &str)
         ensures item { (rest : List ℕ) → self.old ≡ text.now ++ rest → self.new ≡ rest }
         ensures left { self.new ≡ drop (length text.now) self.old }
@@ -57,7 +57,7 @@ impl<'t> Cursor<'t> {
         self.skip(text.len());
     }
 
-    /// Reads what stands up to the next byte `stop`, which stays, behind as many bytes as the text has.
+    /// Skips as many bytes as `before` has, and reads up to the next byte `stop`, which is left.
     pub fn until(&mut self, before: &str, stop: u8) -> &'t [u8]
         ensures item { (item rest : List ℕ) → IsTrue (lacks stop item) → IsTrue (begins_with stop rest)
             → self.old ≡ before.now ++ (item ++ rest) → (result.now ≡ item) × (self.new ≡ rest) }
@@ -70,7 +70,7 @@ impl<'t> Cursor<'t> {
     }
 }
 
-/// The number with these decimal digits, and 0 where they aren't those of a number.
+/// The number with these decimal digits. It is 0 if they aren't those of a number.
 fn number_of(digits: &[u8]) -> usize
     ensures { (n : ℕ) → n < 2 ^ 64 → digits.now ≡ decimal n → result ≡ n }
 {
@@ -80,7 +80,7 @@ fn number_of(digits: &[u8]) -> usize
     }
 }
 
-/// The text that these bytes are, and an empty one where they aren't UTF-8.
+/// The text with these bytes. It is empty if they aren't UTF-8.
 fn text_of(alloc: Global, bytes: &[u8]) -> Result<Text, AllocError>
     ensures { IfOk result (λ t. IsUtf8 bytes.now → t ≡ bytes.now) }
 {
@@ -90,7 +90,7 @@ fn text_of(alloc: Global, bytes: &[u8]) -> Result<Text, AllocError>
     }
 }
 
-/// The value of a digit up to `f`, and 0 of any other byte.
+/// The value of a hexadecimal digit. It is 0 for any other byte.
 fn value_of(digit: u8) -> u8
     ensures value { (d : ℕ) → d < 16 → digit ≡ digit_glyph false d → result ≡ d }
     ensures small { result < 16 }
@@ -103,7 +103,7 @@ fn value_of(digit: u8) -> u8
 }
 
 impl<'t> Cursor<'t> {
-    /// The byte at this place of what is left, and 0 where there is none.
+    /// The byte at this place of what is left. It is 0 if there is no such byte.
     pub fn byte_at(&self, place: usize) -> u8
         ensures { result ≡ slice_index self.now place }
     {
@@ -113,7 +113,8 @@ impl<'t> Cursor<'t> {
         }
     }
 
-    /// Reads the number up to the next byte `stop`, which isn't a digit and stays, behind as many bytes as the text has.
+    /// Skips as many bytes as `before` has, and reads a decimal number up to the next byte `stop`, which isn't a digit and is left. It
+    /// answers 0 if there isn't a number.
     pub fn number(&mut self, before: &str, stop: u8) -> usize
         ensures item { (n : ℕ) (rest : List ℕ) → n < 2 ^ 64 → is_ascii_digit stop ≡ false → IsTrue (begins_with stop rest)
             → self.old ≡ before.now ++ (decimal n ++ rest) → (result ≡ n) × (self.new ≡ rest) }
@@ -122,7 +123,7 @@ impl<'t> Cursor<'t> {
         number_of(self.until(before, stop))
     }
 
-    /// As `number`, where the number has 8 bits.
+    /// Reads a number of 8 bits, as `number` does.
     pub fn number_u8(&mut self, before: &str, stop: u8) -> u8
         ensures item { (n : ℕ) (rest : List ℕ) → n < 2 ^ 8 → is_ascii_digit stop ≡ false → IsTrue (begins_with stop rest)
             → self.old ≡ before.now ++ (decimal n ++ rest) → (result ≡ n) × (self.new ≡ rest) }
@@ -131,7 +132,7 @@ impl<'t> Cursor<'t> {
         u8::try_from(self.number(before, stop)).unwrap_or(0)
     }
 
-    /// As `number`, where the number has 16 bits.
+    /// Reads a number of 16 bits, as `number` does.
     pub fn number_u16(&mut self, before: &str, stop: u8) -> u16
         ensures item { (n : ℕ) (rest : List ℕ) → n < 2 ^ 16 → is_ascii_digit stop ≡ false → IsTrue (begins_with stop rest)
             → self.old ≡ before.now ++ (decimal n ++ rest) → (result ≡ n) × (self.new ≡ rest) }
@@ -140,7 +141,7 @@ impl<'t> Cursor<'t> {
         u16::try_from(self.number(before, stop)).unwrap_or(0)
     }
 
-    /// As `number`, where the number has 32 bits.
+    /// Reads a number of 32 bits, as `number` does.
     pub fn number_u32(&mut self, before: &str, stop: u8) -> u32
         ensures item { (n : ℕ) (rest : List ℕ) → n < 2 ^ 32 → is_ascii_digit stop ≡ false → IsTrue (begins_with stop rest)
             → self.old ≡ before.now ++ (decimal n ++ rest) → (result ≡ n) × (self.new ≡ rest) }
@@ -149,7 +150,8 @@ impl<'t> Cursor<'t> {
         u32::try_from(self.number(before, stop)).unwrap_or(0)
     }
 
-    /// Reads the text up to the next byte `stop`, which stays, behind as many bytes as the text before has.
+    /// Skips as many bytes as `before` has, and reads the text up to the next byte `stop`, which is left. It answers an empty text if the
+    /// bytes aren't UTF-8.
     pub fn text(&mut self, alloc: Global, before: &str, stop: u8) -> Result<Text, AllocError>
         ensures item { IfOk result (λ t. (item rest : List ℕ) → IsAscii item → IsTrue (lacks stop item) → IsTrue (begins_with stop rest)
             → self.old ≡ before.now ++ (item ++ rest) → (t ≡ item) × (self.new ≡ rest)) }
@@ -158,7 +160,7 @@ impl<'t> Cursor<'t> {
         text_of(alloc, self.until(before, stop))
     }
 
-    /// Reads a digit up to `f`.
+    /// Reads a hexadecimal digit.
     fn digit(&mut self) -> u8
         ensures value { (d : ℕ) (rest : List ℕ) → d < 16 → self.old ≡ digit_glyph false d ∷ rest → (result ≡ d) × (self.new ≡ rest) }
         ensures left { self.new ≡ drop 1 self.old }
@@ -169,7 +171,7 @@ impl<'t> Cursor<'t> {
         digit
     }
 
-    /// Reads a byte of two hexadecimal digits, behind as many bytes as the text has.
+    /// Skips as many bytes as `before` has, and reads a byte of two hexadecimal digits.
     pub fn hex(&mut self, before: &str) -> u8
         ensures item { (n : ℕ) (rest : List ℕ) → n < 256
             → self.old ≡ before.now ++ digit_glyph false (n / 16) ∷ digit_glyph false (n % 16) ∷ rest → (result ≡ n) × (self.new ≡ rest) }
@@ -181,7 +183,6 @@ impl<'t> Cursor<'t> {
         high * 16 + low
     }
 
-    /// Reads a binary digit.
     fn bit(&mut self) -> u8
         ensures value { (d : ℕ) (rest : List ℕ) → d < 2 → self.old ≡ digit_glyph false d ∷ rest → (result ≡ d) × (self.new ≡ rest) }
         ensures left { self.new ≡ drop 1 self.old }
@@ -190,7 +191,6 @@ impl<'t> Cursor<'t> {
         self.digit() % 2
     }
 
-    /// Reads four binary digits.
     fn four_bits(&mut self) -> u8
         ensures value { (a b c d : ℕ) (rest : List ℕ) → a < 2 → b < 2 → c < 2 → d < 2
             → self.old ≡ digit_glyph false a ∷ digit_glyph false b ∷ digit_glyph false c ∷ digit_glyph false d ∷ rest
@@ -205,7 +205,7 @@ impl<'t> Cursor<'t> {
         8 * eight + 4 * four + 2 * two + one
     }
 
-    /// Reads a byte of eight binary digits, behind as many bytes as the text has.
+    /// Skips as many bytes as `before` has, and reads a byte of eight binary digits.
     pub fn binary(&mut self, before: &str) -> u8
         ensures item { (n : ℕ) (rest : List ℕ) → n < 256
             → self.old ≡ before.now ++ (map (λ place. digit_glyph false (n / place % 2)) (128 ∷ 64 ∷ 32 ∷ 16 ∷ 8 ∷ 4 ∷ 2 ∷ 1 ∷ []) ++ rest)
@@ -218,7 +218,7 @@ impl<'t> Cursor<'t> {
         16 * high + low
     }
 
-    /// Skips the next line, with its end.
+    /// Skips the next line, including its LF.
     pub fn skip_line(&mut self)
         ensures item { (line rest : List ℕ) → IsTrue (is_line line) → self.old ≡ line ++ rest → self.new ≡ rest }
         ensures left { self.new ≡ behind_line self.old }
@@ -228,7 +228,7 @@ impl<'t> Cursor<'t> {
         self.skip(1);
     }
 
-    /// Skips so many lines, with their ends, or all where fewer are left.
+    /// Skips `count` lines, including their LFs, or all if fewer are left.
     pub fn skip_lines(&mut self, count: usize)
         ensures item { (lines : List (List ℕ)) (rest : List ℕ) → All (λ line. IsTrue (is_line line)) lines → count ≡ length lines
             → self.old ≡ flat_map (λ line. line) lines ++ rest → self.new ≡ rest }

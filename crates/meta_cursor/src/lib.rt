@@ -1,7 +1,7 @@
-//! What is left of a text while it is read, and the reading of numbers, names and lines off its front.
+//! A cursor: what is left of a text that is being read. Numbers, names and lines are read from its front.
 //!
-//! Each call answers for every text, and skips by counts of bytes or up to a byte: what it answers is an item only where that
-//! item stands there. Nothing is copied but the names, and each byte is looked at a fixed number of times.
+//! Each call answers for every text. It skips by counts of bytes or up to a byte, so that it answers an item only if that item stands
+//! there. Only names are copied, and each byte is looked at a fixed number of times.
 #![tactic(auto)]
 
 mod cursor;

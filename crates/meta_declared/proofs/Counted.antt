@@ -96,6 +96,6 @@ module _ (d : InstructionSet) (xs ys : List TypeSetParts) (hx : AreNeededSets d 
     apart = goes_apart;
   })
 
--- the sets that are needed are so many
+-- two lists of needed sets have the same length
 pub one_count : (d : InstructionSet) (xs ys : List TypeSetParts) → AreNeededSets d xs → AreNeededSets d ys → length xs ≡ length ys
 one_count d xs ys hx hy = let a = no_longer d xs ys hx hy in let b = no_longer d ys xs hy hx in omega arith

@@ -1,4 +1,4 @@
--- The names of instructions that show no fault are different.
+-- The names of instructions that have no fault are different.
 use Rattle.std.proofs.Common.{inr, refl}
 use Rattle.meta_types.specs.SharedNames.{AreDifferentNames}
 use Rattle.meta_types.proofs.SharedNames.{distinct_differ}

@@ -12,7 +12,7 @@ use Rattle.meta_settings.specs.Layout.{Layout}
 use Rattle.meta_settings.specs.LaidOut.{built_of}
 use Rattle.meta_declared.specs.AllDeclared.{IsFirstOfGroups, AreValidGroups}
 
--- the first so many groups are valid, and these are built of them
+-- the first n groups are valid, and these are built of them
 pub record AreBuiltTo (groups : List GroupDeclaration) (n : ℕ) (built : List Layout) : Type 0 where
   pub valid : (k : ℕ) (g : GroupDeclaration) → k < n → slice_get groups k ≡ Some g → IsValidGroup g
   pub are : built ≡ map built_of (take n groups)
@@ -44,7 +44,7 @@ pub all_built : (groups : List GroupDeclaration) (n : ℕ) (built : List Layout)
     → built ≡ map built_of groups
 all_built groups n built past so = so.are ∙ ap (map built_of) (take_all n groups past)
 
--- the group behind valid ones is the first that shows a fault
+-- the group after valid ones is the first that has a fault
 pub first_here : (groups : List GroupDeclaration) (n : ℕ) (g : GroupDeclaration) (e : DefinitionError) (built : List Layout)
     → slice_get groups n ≡ Some g → IsFirstGroupFault g n e → AreBuiltTo groups n built → IsFirstOfGroups groups e
 first_here groups n g e built at first so = record { place = n; group = g; at = at; first = first; earlier = so.valid }

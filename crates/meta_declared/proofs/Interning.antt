@@ -65,7 +65,7 @@ pub each_like : (F G : ℕ → TypeSetParts → Type 0) (n : ℕ) (a b : List Ty
 each_like F G zero a b to back h = h
 each_like F G (suc n) a b to back h = (h.0, each_like F G n a h.0 to back h.1, adds_like (F n) (G n) h.0 b (to n) (back n) h.2)
 
--- first the one at 0, and then those behind it
+-- first the one at 0, and then those after it
 pub each_behind : (F : ℕ → TypeSetParts → Type 0) (n : ℕ) (a b c : List TypeSetParts) → AddsSome (F 0) a b
     → AddsEach (λ k. F (suc k)) n b c → AddsEach F (suc n) a c
 each_behind F zero a b c first rest = (a, refl, subst (AddsSome (F 0) a) (sym rest) first)
@@ -81,7 +81,7 @@ one_later : (l q k p : ℕ) → ComesBefore l q k p → ComesBefore l q k (suc p
 one_later l q k p (inl b) = inl b
 one_later l q k p (inr h) = inr (h.0, omega (arith, h.1))
 
--- what isn't before comes behind all that is
+-- what isn't before comes after all that is
 behind : (l q k p m r : ℕ) → ComesBefore l q k p → (ComesBefore m r k p → ⊥) → ComesBefore l q m r
 behind l q k p m r before not = elim (cases_order m k) [
   | inl same ↦ ⊎_elim (λ less. absurd (not (inr (same, less)))) (λ more. at_same same more before) (cases_lt r p)
@@ -204,7 +204,7 @@ module _ (d : InstructionSet) where
       once : (i j : ℕ) (t : TypeSetParts) → slice_get (sets ++ s ∷ []) i ≡ Some t → slice_get (sets ++ s ∷ []) j ≡ Some t → i ≡ j
       once i j t a b = both i j t (at_place i t a) (at_place j t b)
 
-      -- the new set is first needed behind all others
+      -- the new set is first needed after all others
       behind_all : (i : ℕ) (t u : TypeSetParts) → slice_get sets i ≡ Some t → s ≡ u → IsNeededBefore d t u
       behind_all i t u at same =
           let (l, q, n, before) = h.needed i t at in

@@ -167,7 +167,7 @@ adds_control vars controls w v a b is = adds_one_set (IsControlSetOf vars contro
     (record { variable = v; controls_is = is; set = refl })
     (λ s h. h.set ∙ ap (λ n. sets_of vars (variable_at vars n).root) (same_variable (controls w) h.variable v h.controls_is is))
 
--- the control isn't there
+-- there is no such control
 pub adds_no_control : (vars : List TypeVarContent) (controls : Which → Option ℕ) (w : Which) (sets : List TypeSetParts) → controls w ≡ None
     → AddsSome (IsControlSetOf vars controls w) sets sets
 adds_no_control vars controls w sets is = adds_none (IsControlSetOf vars controls w) sets (λ s h. let no : None ≡ Some h.variable = sym is
@@ -211,7 +211,7 @@ module _ (vars : List TypeVarContent) (controls : Which → Option ℕ) (n : ℕ
   adds_fixed sets fixed =
       adds_none (IsFreeSetOf vars controls n) sets (λ s h. h.several (subst HasOne (sym h.set) (one_of.0 (sym is ∙ fixed))))
 
-  -- none is, and it is none of the controls
+  -- no type is fixed, and it isn't a control
   pub adds_open : (a b : List TypeSetParts) (is_one : Bool) → r ≡ false → (IsTrue is_one ↔ IsOneOf controls n) → is_one ≡ false
       → Adds own_set a b → AddsSome (IsFreeSetOf vars controls n) a b
   adds_open a b is_one open_set told other = adds_one_set (IsFreeSetOf vars controls n) own_set a b

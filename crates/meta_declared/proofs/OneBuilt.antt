@@ -46,7 +46,7 @@ module _ {A : Type 0} (R : A → A → Type 0) (strict : (a b : A) → R a b →
   same_first x y xs ys a b (suc k) e (suc j) f =
       absurd (strict x y (a zero (suc j) x y (omega arith) refl f) (b zero (suc k) y x (omega arith) refl e))
 
-  -- what stands behind the first of the one stands behind the first of the other
+  -- what comes after the first of one list comes after the first of the other
   behind : (x y a : A) (xs ys : List A) → x ≡ y → InOrder (x ∷ xs) → (j : ℕ) → slice_get xs j ≡ Some a → (k : ℕ)
       → slice_get (y ∷ ys) k ≡ Some a → Stands ys a
   behind x y a xs ys same o j e zero f =

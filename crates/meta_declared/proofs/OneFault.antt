@@ -1,4 +1,4 @@
--- Declarations show one first fault at most.
+-- Declarations have at most one first fault.
 use Rattle.std.proofs.Common.{◌≡◌, ◌<◌, ◌≤◌, ◌+◌, inl, inr, ⊎_elim, ℕ, List, [], ◌∷◌, length, get_or, if◌then◌else◌, ◌==◌, refl, sym, ap}
 use Rattle.std.proofs.Common.{◌∙◌, subst, arith}
 use Rattle.std.proofs.lemmas.Option.{same_Some, slice_get_within}
@@ -117,7 +117,7 @@ module _ (d : InstructionSet) where
   pub searchable : IsSearchable position_key (ShowsAt d) 4 places_of rules_of
   searchable = record { position_of = position_of; known = known; one = one_shown; within = within }
 
--- Declarations show one first fault at most.
+-- Declarations have at most one first fault.
 pub one_fault : (d : InstructionSet) (e f : DefinitionError) → IsFirstFault d e → IsFirstFault d f → e ≡ f
 one_fault d = one_first_shown (searchable d)
 

@@ -4,7 +4,7 @@ use Rattle.std.specs.Result.{IfErr, IsErrAnd}
 use Rattle.meta_types.specs.declared.fault.DefinitionError.{DefinitionError}
 use Rattle.meta_types.specs.declared.fault.DefinitionError.TheVariants.{OutOfMemory}
 
--- an error that is no want of memory shows what it showed
+-- an error is passed on with what it says, unless memory ran out
 pub handed_on : {T : Type 0} (f : DefinitionError) (r : Result T DefinitionError) (Shows : DefinitionError → Type 0)
     → IsErrAnd r (λ e. e ≡ f) → (f ≢ OutOfMemory → Shows f) → IfErr r (λ e. e ≢ OutOfMemory → Shows e)
 handed_on f (Ok t) Shows is shows = tt

@@ -13,7 +13,7 @@ pub record Declared : Type 0 where
   pub set : InstructionSet
   pub groups : List GroupDeclaration
 
--- no group shows a fault
+-- no group has a fault
 abbrev pub AreValidGroups : List GroupDeclaration → Type 0
 AreValidGroups groups = (k : ℕ) (g : GroupDeclaration) → slice_get groups k ≡ Some g → IsValidGroup g
 
@@ -29,7 +29,7 @@ pub record IsFirstOfGroups (groups : List GroupDeclaration) (e : DefinitionError
 abbrev pub ShowsFirst : Declared → DefinitionError → Type 0
 ShowsFirst d e = IsFirstFault d.set e ⊎ (IsValid d.set × IsFirstOfGroups d.groups e)
 
--- neither the instruction set nor a group shows a fault
+-- neither the instruction set nor a group has a fault
 pub record AreValid (d : Declared) : Type 0 where
   pub set : IsValid d.set
   pub groups : AreValidGroups d.groups

@@ -1,5 +1,5 @@
 -- What is built of declarations.
---     AreBuilt b      the parts are what is built of the declarations, which show no fault
+--     AreBuilt b      the parts are what is built of the declarations, which have no fault
 use Rattle.std.specs.Prelude.{◌≡◌, ◌≤◌, ℕ, List, length, map}
 use Rattle.meta_typevar.specs.Registry.{IsRegistry}
 use Rattle.meta_typevar.specs.TypeSetParts.{TypeSetParts}
@@ -21,9 +21,9 @@ pub record BuiltDeclarations : Type 0 where
   pub groups : List Layout
   pub type_sets : List TypeSetParts
 
--- the variables are a registry and the instructions are of it and of the formats; the declarations show no fault, each
--- instruction and each group is built in its order, the formats are those in use by their names, and the type sets are those
--- that the instructions need, each once, in order of first need, at most 4,095
+-- the variables are a registry and the instructions are of it and of the formats; the declarations have no fault, each instruction and each
+-- group is built in its order, the formats are those in use by their names, and the type sets are those that the instructions need, each
+-- once, in order of first need, at most 4,095
 pub record AreBuilt (b : BuiltDeclarations) : Type 0 where
   pub registry : IsRegistry b.declared.set.vars
   pub fits : AreOfRegistries b.declared.set.vars b.declared.set.formats b.declared.set.instructions

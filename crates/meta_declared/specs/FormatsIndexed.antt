@@ -23,7 +23,7 @@ pub record IsPlaceOf {K : Type 0} (has : UsedFormat → K → Type 0) (used : Li
   pub at : slice_get used place ≡ Some format
   pub is : has format key
 
--- a look-up gives each key the place of the format that has it, and nothing where there is none
+-- a look-up gives each key the place of the format that has it, and nothing if there is no such format
 pub record ArePlaces {K : Type 0} (has : UsedFormat → K → Type 0) (used : List UsedFormat) (look_up : K → Option ℕ) : Type 0 where
   pub sound : (key : K) (place : ℕ) → look_up key ≡ Some place → IsPlaceOf has used key place
   pub complete : (key : K) (place : ℕ) → IsPlaceOf has used key place → look_up key ≡ Some place

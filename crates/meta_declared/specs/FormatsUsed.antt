@@ -14,7 +14,7 @@ pub record IsAmong (used : List UsedFormat) (f : ℕ) : Type 0 where
   pub at : slice_get used place ≡ Some format
   pub is : format.id ≡ f
 
--- the format is none of these
+-- the format isn't among these
 abbrev pub IsNotAmong : List UsedFormat → ℕ → Type 0
 IsNotAmong used f = (k : ℕ) (format : UsedFormat) → slice_get used k ≡ Some format → format.id ≢ f
 

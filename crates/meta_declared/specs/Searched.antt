@@ -13,11 +13,11 @@ use Rattle.meta_inst.specs.Faults.{IsAt, FormatNameRule, OfFormat, Position, pos
 use Rattle.meta_declared.specs.declared.formats.UsedFormat.{UsedFormat}
 use Rattle.meta_declared.specs.FormatsUsed.{AreUsedBefore, IsNotAmong}
 
--- the declarations show no fault before the position
+-- the declarations have no fault before the position
 abbrev pub IsCleanBefore : InstructionSet → Position → Type 0
 IsCleanBefore d p = ShowsNoneBefore position_key (ShowsAt d) (position_key p)
 
--- building was refused by what comes before shared names: a bad name, or want of memory
+-- building was refused by what comes before clashes of names: a bad name, or memory that ran out
 abbrev pub IsRefusedFirst : Result BuiltInstruction DefinitionError → Type 0
 IsRefusedFirst built = ((p : Place) × (built ≡ Err (BadName p))) ⊎ (built ≡ Err OutOfMemory)
 

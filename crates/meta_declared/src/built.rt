@@ -24,10 +24,10 @@ use meta_unique::UniqueTable;
 use std::alloc::Global;
 use std::marker::Model;
 
-/// The most instructions that may be declared: opcodes have the numbers 1 to 4,095.
+/// The most instructions that can be declared: opcodes are the numbers 1 to 4,095.
 pub const MAX_OPCODES: usize = 4095;
 
-/// The most type sets that may be needed: their places in tables have 16 bits, and 65,535 stands for none.
+/// The most type sets that instructions can need. Their places in tables have 16 bits, and 65,535 says that there is no type set.
 pub const MAX_TYPE_SETS: usize = 4095;
 
 /// What is built of an instruction set: its instructions, the formats that they use, and the type sets that they need.
@@ -38,8 +38,7 @@ struct BuiltSet<'d> {
     type_sets: UniqueTable<'d, TypeSet>,
 }
 
-/// The formats in use of an instruction set whose instructions show no fault, which are refused by the first fault that the set
-/// shows.
+/// The formats in use of an instruction set whose instructions have no fault. The error is the first fault of the set.
 fn checked_formats(alloc: Global, set: &DeclaredSet) -> Result<Vec<UsedFormat>, DefinitionError>
     requires { IsCleanBefore set.now (OfFormat 0 FormatNameRule) }
     ensures refused { IfErr result (λ e. e ≢ OutOfMemory → IsFirstFault set.now e) }
@@ -51,7 +50,7 @@ fn checked_formats(alloc: Global, set: &DeclaredSet) -> Result<Vec<UsedFormat>, 
     used_formats(alloc, set.formats(), set.instructions())
 }
 
-/// The same formats by their names.
+/// The formats in use, sorted by their names.
 fn formats_by_name(alloc: Global, set: &DeclaredSet) -> Result<Vec<FormatId>, DefinitionError>
     requires { IsCleanBefore set.now (OfFormat 0 FormatNameRule) }
     ensures refused { IfErr result (λ e. e ≢ OutOfMemory → IsFirstFault set.now e) }
@@ -62,7 +61,7 @@ fn formats_by_name(alloc: Global, set: &DeclaredSet) -> Result<Vec<FormatId>, De
     Ok(by_name(alloc, set.formats(), &used)?)
 }
 
-/// What is built of the instruction set. It is refused exactly where it shows a fault, by the first one that it shows.
+/// Builds the instruction set. It is refused exactly if it has a fault, and the error is its first one.
 fn build_set<'d>(alloc: Global, set: &'d DeclaredSet) -> Result<BuiltSet<'d>, DefinitionError>
     ensures refused { IfErr result (λ e. e ≢ OutOfMemory → IsFirstFault set.now e) }
     ensures valid { OnOk result (IsValid set.now) }
@@ -88,8 +87,7 @@ fn build_set<'d>(alloc: Global, set: &'d DeclaredSet) -> Result<BuiltSet<'d>, De
     })
 }
 
-/// The groups as they are built, in order, which are refused exactly where one shows a fault, by the first fault of the first
-/// one that does.
+/// Builds the groups, in order. They are refused exactly if one has a fault, and the error is the first fault of the first such group.
 fn build_groups(
     alloc: Global,
     groups: &[SettingGroupBuilder],
@@ -105,8 +103,8 @@ fn build_groups(
     Ok(built)
 }
 
-/// What is built of declarations, which it borrows: the instructions and the groups of settings, in order, the formats in use by
-/// their names, and the type sets that the instructions need. `build_all` alone makes it (this project's own).
+/// What is built of declarations, which it borrows: the instructions and the groups of settings, in order; the formats in use, sorted by
+/// their names; and the type sets that the instructions need. Only `build_all` makes one.
 #[derive(Drop)]
 pub struct Built<'d> {
     declarations: &'d Declarations,
@@ -137,7 +135,7 @@ impl<'d> Model for Built<'d> {
 }
 
 impl<'d> Built<'d> {
-    /// The declarations that were given. They show no fault.
+    /// The declarations that were given. They are valid.
     pub fn declarations(&self) -> &'d Declarations
         ensures declarations { result.now ≡ self.now.declared }
         ensures valid { AreValid self.now.declared }
@@ -146,7 +144,7 @@ impl<'d> Built<'d> {
         self.declarations
     }
 
-    /// The instructions as they are built, in order.
+    /// The built instructions, in order.
     pub fn instructions(&self) -> &[InstructionContent]
         ensures instructions { result.now ≡ self.now.instructions }
         ensures built { AreInstructionsOf self.now.declared.set self.now.instructions }
@@ -162,7 +160,7 @@ impl<'d> Built<'d> {
         &self.set.formats
     }
 
-    /// The groups of settings as they are built, in order.
+    /// The built groups of settings, in order.
     pub fn groups(&self) -> &[SettingGroup]
         ensures groups { result.now ≡ self.now.groups }
         ensures built { self.now.groups ≡ map built_of self.now.declared.groups }
@@ -170,7 +168,7 @@ impl<'d> Built<'d> {
         &self.groups
     }
 
-    /// The type sets that the instructions need, each once, in order of first need. There are at most 4,095.
+    /// The type sets that the instructions need, each once, in the order in which they are first needed. There are at most 4,095.
     pub fn type_sets(&self) -> &UniqueTable<'d, TypeSet>
         ensures type_sets { result.now ≡ self.now.type_sets }
         ensures needed { AreSetsByNeed self.now.declared.set self.now.type_sets }
@@ -180,8 +178,8 @@ impl<'d> Built<'d> {
     }
 }
 
-/// What is built of the declarations. They are refused exactly where they show a fault, by the first one that they show, with its
-/// numbers; `OutOfMemory` may come in any case (this project's own).
+/// Builds the declarations. Those with a fault are refused, and no others: the error is their first fault, with its numbers. `OutOfMemory`
+/// may come in any case.
 pub fn build_all<'d>(
     alloc: Global,
     declarations: &'d Declarations,
@@ -190,7 +188,7 @@ pub fn build_all<'d>(
     ensures valid { OnOk result (AreValid declarations.now) }
     ensures declarations { IfOk result (λ b. b.declared ≡ declarations.now) }
 {
-    // Their clauses say that the instructions are of the variables, which are a registry, and of the formats.
+    // The clauses of these calls say that the instructions are of the variables, which are a registry, and of the formats.
     let _vars = declarations.vars();
     let _instructions = declarations.instructions();
     let set = build_set(alloc, declarations.set())?;

@@ -9,9 +9,8 @@ use meta_settings::SettingGroupBuilder;
 use meta_typevar::TypeVars;
 use std::marker::Model;
 
-/// What is declared: an instruction set, which is its type variables, its formats and its instructions, and groups of settings.
-/// The format of each instruction is of the formats, and the variable of each of its value operands is of the variables (this
-/// project's own).
+/// Declarations: an instruction set, which is its type variables, formats and instructions, and groups of settings. The format of each
+/// instruction is one of the formats, and the variable of each of its value operands is one of the variables.
 #[derive(Drop)]
 pub struct Declarations {
     set: DeclaredSet,
@@ -27,15 +26,16 @@ impl Model for Declarations {
 }
 
 impl Declarations {
-    /// Whether each instruction's format is of the formats, and the variable of each of its value operands of the variables.
+    /// Whether the format of each instruction is one of the formats, and the variable of each of its value operands and its second control
+    /// are among the variables.
     pub fn fits(vars: &TypeVars, formats: &FormatTable, instructions: &AllInstructions) -> bool
         ensures { IsTrue result ↔ AreOfRegistries vars.now formats.now instructions.now }
     {
         DeclaredSet::fits(vars, formats, instructions)
     }
 
-    /// These declarations, where `fits` tells that the instructions are of the variables and formats. The groups are numbered
-    /// from 0.
+    /// Makes declarations of these parts. The instructions must be of the variables and formats, which `fits` tests. Groups are numbered
+    /// from 0, in this order.
     pub fn new(
         vars: TypeVars,
         formats: FormatTable,
@@ -51,14 +51,13 @@ impl Declarations {
         }
     }
 
-    /// The instruction set.
     pub(crate) fn set(&self) -> &DeclaredSet
         ensures { result.now ≡ self.now.set }
     {
         &self.set
     }
 
-    /// The type variables, whose sets are sets of types.
+    /// The type variables. Their type sets are sets of types.
     pub fn vars(&self) -> &TypeVars
         ensures vars { result.now ≡ self.now.set.vars }
         ensures sets { HoldTypeSets self.now.set.vars }
@@ -74,7 +73,7 @@ impl Declarations {
         self.set.formats()
     }
 
-    /// The instructions, each of which is of the variables and formats.
+    /// The instructions. Each is of the variables and formats.
     pub fn instructions(&self) -> &AllInstructions
         ensures instructions { result.now ≡ self.now.set.instructions }
         ensures fits { AreOfRegistries self.now.set.vars self.now.set.formats self.now.set.instructions }

@@ -7,8 +7,8 @@ use meta_operands::FormatTable;
 use meta_typevar::TypeVars;
 use std::marker::Model;
 
-/// An instruction set as it is declared: its type variables, its formats and its instructions. The format of each
-/// instruction is of the formats, and the variable of each of its value operands is of the variables (this project's own).
+/// A declared instruction set: its type variables, formats and instructions. The format of each instruction is one of the formats, and the
+/// variable of each of its value operands is one of the variables.
 #[derive(Drop)]
 pub(crate) struct DeclaredSet {
     vars: TypeVars,
@@ -27,7 +27,8 @@ impl Model for DeclaredSet {
 }
 
 impl DeclaredSet {
-    /// Whether each instruction's format is of the formats, and the variable of each of its value operands of the variables.
+    /// Whether the format of each instruction is one of the formats, and the variable of each of its value operands and its second control
+    /// are among the variables.
     pub(crate) fn fits(
         vars: &TypeVars,
         formats: &FormatTable,
@@ -43,7 +44,7 @@ impl DeclaredSet {
         true
     }
 
-    /// These declarations, which `fits` tells to be of one another.
+    /// Makes an instruction set of these parts, for which `fits` must be true.
     pub(crate) fn new(
         vars: TypeVars,
         formats: FormatTable,
@@ -59,25 +60,24 @@ impl DeclaredSet {
         }
     }
 
-    /// The type variables, whose sets are sets of types.
+    /// The type variables. Their type sets are sets of types.
     pub(crate) fn vars(&self) -> &TypeVars
         ensures vars { result.now ≡ self.now.vars }
         ensures sets { HoldTypeSets self.now.vars }
         ensures registry { IsRegistry self.now.vars }
     {
-        // a count says what a registry keeps
+        // the clause of this call says what a registry keeps
         let _count = self.vars.len();
         &self.vars
     }
 
-    /// The formats.
     pub(crate) fn formats(&self) -> &FormatTable
         ensures formats { result.now ≡ self.now.formats }
     {
         &self.formats
     }
 
-    /// The instructions, each of which is of the variables and formats.
+    /// The instructions. Each is of the variables and formats.
     pub(crate) fn instructions(&self) -> &AllInstructions
         ensures instructions { result.now ≡ self.now.instructions }
         ensures fits { AreOfRegistries self.now.vars self.now.formats self.now.instructions }

@@ -29,16 +29,14 @@ pub(crate) struct UsedFormat {
     pub(crate) structure: FormatStructure,
 }
 
-/// Whether the format has more blocks than a format may.
 fn has_too_many_blocks(format: &InstructionFormat) -> bool
     ensures { IsTrue result ↔ ((2 < format.now.num_block_operands) ⊎ (1 < format.now.num_raw_block_operands)) }
 {
     format.num_block_operands > MAX_BLOCKS || format.num_raw_block_operands > MAX_RAW_BLOCKS
 }
 
-/// The format of the table with its structure, which is used besides those in use. It is refused by the first fault that it shows,
-/// in this order: that of its name, then that it has too many blocks, and then that it can't stand beside one of those, the first
-/// of which the fault names.
+/// The format of the table with its structure, to be used beside those in use. It is refused by its first fault, in this order: a bad name,
+/// too many blocks, a clash with a format in use, of which the fault names the first.
 fn next_used(
     alloc: Global,
     formats: &FormatTable,
@@ -74,9 +72,8 @@ fn next_used(
     Ok(this)
 }
 
-/// The formats in use, in the order of their first uses. They are refused by the first fault that one shows, in this order: that
-/// of a format's name, then that it has too many blocks, and then that it can't stand beside one that is used earlier, the first
-/// of which the fault names.
+/// The formats in use, in the order of their first uses. They are refused by the first fault that one has, in this order: a bad name, too
+/// many blocks, a clash with a format that is used earlier, of which the fault names the first.
 pub(crate) fn used_formats(
     alloc: Global,
     formats: &FormatTable,
@@ -107,7 +104,7 @@ pub(crate) fn used_formats(
     Ok(used.into_used())
 }
 
-/// The formats, by their names, no two of which are the same.
+/// Sorts the formats by their names, no two of which are the same.
 pub(crate) fn by_name(
     alloc: Global,
     formats: &FormatTable,

@@ -11,7 +11,7 @@ use meta_types::Text;
 use std::alloc::{AllocError, Global};
 use std::collections::{BTreeMap, HashMap};
 
-/// Formats in use, no two of which clash, and how each is found among them.
+/// The formats in use so far, no two of which clash, and how each is found among them.
 #[derive(Drop)]
 pub(crate) struct FormatsInUse<'f> {
     formats: &'f FormatTable,
@@ -23,7 +23,7 @@ pub(crate) struct FormatsInUse<'f> {
     by_structure: HashMap<FormatStructure, usize>,
 }
 
-/// The first of two places, where there is one.
+/// The first of two places, if there is one.
 fn first_place(one: Option<usize>, other: Option<usize>) -> Option<usize>
     ensures none { IfNone result ((one ≡ None) × (other ≡ None)) }
     ensures first { IfSome result (IsFirstOf one other) }
@@ -51,7 +51,7 @@ fn put_structure(
 }
 
 impl<'f> FormatsInUse<'f> {
-    /// None yet of the formats of a table.
+    /// Makes a list without formats, for the formats of a table.
     pub(crate) fn new(alloc: Global, formats: &'f FormatTable) -> Result<Self, AllocError>
         ensures formats { IfOk result (λ f. f.formats.now ≡ formats.now) }
         ensures used { IfOk result (λ f. f.used.items ≡ []) }
@@ -66,7 +66,7 @@ impl<'f> FormatsInUse<'f> {
         })
     }
 
-    /// Whether the format is one of these.
+    /// Whether the format is among these.
     pub(crate) fn contains(&self, id: FormatId) -> bool
         requires of_table { id < length self.now.formats.now }
         requires indexed { AreIndexed self.now }
@@ -75,7 +75,7 @@ impl<'f> FormatsInUse<'f> {
         self.is_used[id.number() as usize]
     }
 
-    /// The first of these that the format can't stand beside: they share their name or their structure.
+    /// The first of these formats that clashes with the format: they have the same name or the same structure.
     pub(crate) fn first_clash(&self, format: &UsedFormat) -> Option<FormatId>
         requires of_table { IsOfTable self.now.formats.now format.now }
         requires indexed { AreIndexed self.now }
@@ -91,7 +91,7 @@ impl<'f> FormatsInUse<'f> {
         }
     }
 
-    /// Adds the format behind the others, with none of which it clashes. After an error they aren't to be used again.
+    /// Adds the format at the end. It must not clash with any of these. After an error the list must not be used again.
     pub(crate) fn add(&mut self, alloc: Global, format: UsedFormat) -> Result<(), AllocError>
         requires of_table { IsOfTable self.old.formats.now format }
         requires apart { ClashesWithNone self.old.formats.now self.old.used.items format.id }
@@ -108,7 +108,7 @@ impl<'f> FormatsInUse<'f> {
         put_structure(alloc, &mut self.by_structure, content, place)
     }
 
-    /// These formats, in the order in which they were added.
+    /// The formats, in the order in which they were added.
     pub(crate) fn into_used(self) -> Vec<UsedFormat>
         ensures { result.items ≡ self.entry.used.items }
     {

@@ -11,7 +11,7 @@ use meta_inst::InstructionContent;
 use meta_types::{DefinitionError, EarlierNames, Place};
 use std::alloc::Global;
 
-/// Whether the instruction is refused by what comes before shared names: its bad name, or want of memory.
+/// Whether the instruction is refused before its name is compared with others: it has a bad name, or memory ran out.
 fn is_refused_first(built: &Result<InstructionContent, DefinitionError>) -> bool
     ensures { IsTrue result ↔ IsRefusedFirst built.now }
 {
@@ -21,8 +21,8 @@ fn is_refused_first(built: &Result<InstructionContent, DefinitionError>) -> bool
     }
 }
 
-/// Adds the name of the instruction at this place, counted from 0, to `names`, which are those of the earlier ones. It is refused
-/// where it can't stand beside one of them.
+/// Adds the name of the instruction at this place, from 0, to the names of the earlier instructions. It is refused if it clashes with one
+/// of them.
 fn add_name<'d>(
     alloc: Global,
     set: &'d DeclaredSet,
@@ -44,8 +44,8 @@ fn add_name<'d>(
     Ok(())
 }
 
-/// The instruction at this place, counted from 0, as it is built, where no fault is shown before and `names` are those of the
-/// earlier ones. It is refused by the first fault, if it shows one, and else its name is added.
+/// Builds the instruction at this place, from 0, if no fault comes before. `names` has the names of the earlier instructions. The error is
+/// the first fault, if this instruction has it. Else its name is added.
 fn built_instruction<'d>(
     alloc: Global,
     set: &'d DeclaredSet,
@@ -69,8 +69,7 @@ fn built_instruction<'d>(
     add_name(alloc, set, place, names).and(built)
 }
 
-/// The instructions as they are built, in their order, where no fault is shown before. They are refused by the first fault, if one
-/// of them shows it.
+/// Builds the instructions, in order, if no fault comes before. The error is the first fault, if one of them has it.
 pub(crate) fn built_instructions(
     alloc: Global,
     set: &DeclaredSet,

@@ -5,7 +5,7 @@ ghost use Rattle.meta_declared.specs.BuiltDeclarations.{BuiltDeclarations, AreBu
 
 use meta_settings::one_group_fault;
 
-/// Declarations show one first fault at most, and none where they are valid.
+/// Declarations have at most one first fault, and none if they are valid.
 pub fn one_first_fault()
     ensures same { (d : Declared) (e f : DefinitionError) → ShowsFirst d e → ShowsFirst d f → e ≡ f }
     ensures valid { (d : Declared) (e : DefinitionError) → AreValid d → ShowsFirst d e → ⊥ }
@@ -13,7 +13,7 @@ pub fn one_first_fault()
     one_group_fault();
 }
 
-/// What is built of declarations is one.
+/// Declarations determine what is built of them.
 pub fn one_built()
     ensures { (a b : BuiltDeclarations) → AreBuilt a → AreBuilt b → a.declared ≡ b.declared → a ≡ b }
 {}

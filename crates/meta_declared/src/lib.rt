@@ -1,4 +1,4 @@
-//! Declarations, the first fault that they show, and what is built of them.
+//! Declarations, their first fault, and what is built of them.
 //!
 //! `build_all` refuses `Declarations` by their first fault, or answers what is built of them.
 #![tactic(auto)]

@@ -16,7 +16,7 @@ use meta_typevar::{TypeSet, TypeVar, TypeVars};
 use meta_unique::UniqueTable;
 use std::alloc::{AllocError, Global};
 
-/// Adds the set of the variable's root, where no equal one is there yet.
+/// Adds the type set of the variable's root, unless an equal one was added before.
 fn intern_set<'d>(
     type_sets: &mut UniqueTable<'d, TypeSet>,
     vars: &'d TypeVars,
@@ -30,7 +30,7 @@ fn intern_set<'d>(
     Ok(())
 }
 
-/// Adds the set of this control, if it is there.
+/// Adds the type set of this control, if there is such a control.
 fn intern_control<'d>(
     type_sets: &mut UniqueTable<'d, TypeSet>,
     vars: &'d TypeVars,
@@ -46,7 +46,7 @@ fn intern_control<'d>(
     }
 }
 
-/// Adds the set of the variable, where it is underived, none of the controls, and no type is fixed for it.
+/// Adds the type set of the variable, if that is underived, isn't a control and has no fixed type.
 fn intern_operand<'d>(
     type_sets: &mut UniqueTable<'d, TypeSet>,
     vars: &'d TypeVars,
@@ -68,7 +68,7 @@ fn intern_operand<'d>(
     intern_set(type_sets, vars, tv)
 }
 
-/// Adds the sets of the underived variables that are none of the controls and for which no type is fixed.
+/// Adds the type sets of the variables that are underived, aren't controls and have no fixed type.
 fn intern_free<'d>(
     type_sets: &mut UniqueTable<'d, TypeSet>,
     vars: &'d TypeVars,
@@ -84,7 +84,7 @@ fn intern_free<'d>(
     Ok(())
 }
 
-/// Adds the sets that the built instruction needs: first that of its control, then that of its second control, and then those of its
+/// Adds the type sets that the built instruction needs: first that of its control, then that of its second control, then those of its
 /// operands.
 fn intern_instruction<'d>(
     type_sets: &mut UniqueTable<'d, TypeSet>,
@@ -107,7 +107,7 @@ fn intern_instruction<'d>(
     intern_free(type_sets, vars, &controls, operands.variables())
 }
 
-/// The type sets that the instructions need, each once, in order of first need, where these are built of them.
+/// The type sets that the built instructions need, each once, in the order in which they are first needed.
 pub(crate) fn needed_sets<'d>(
     alloc: Global,
     set: &'d DeclaredSet,

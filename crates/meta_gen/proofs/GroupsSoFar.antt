@@ -16,7 +16,7 @@ use Rattle.meta_setting_tables.specs.GroupTables.{GroupContents, AreTablesOfGrou
 use Rattle.meta_setting_tables.specs.WellFormed.{IsWellFormedGroup}
 use Rattle.meta_gen.specs.WholeTables.{AreTablesOfGroups}
 
--- these are the tables of the first so many groups
+-- these are the tables of the first n groups
 pub record GroupsTo (groups : List Layout) (n : ℕ) (tables : List GroupContents) : Type 0 where
   pub count : length tables ≡ n
   pub each : (k : ℕ) (g : Layout) (t : GroupContents) → slice_get groups k ≡ Some g → slice_get tables k ≡ Some t → AreTablesOfGroup g t

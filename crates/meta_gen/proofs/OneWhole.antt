@@ -1,4 +1,4 @@
--- Parts have one well-formed table at most.
+-- Parts have at most one well-formed table.
 use Rattle.std.proofs.Common.{◌≡◌, ◌<◌, ℕ, List, All, Some, sym, ap, ◌∙◌, arith}
 use Rattle.meta_lists.proofs.Everywhere.{at_place}
 use Rattle.meta_lists.proofs.Places.{get_there, same_places}

@@ -20,7 +20,6 @@ use meta_settings::SettingGroup;
 use meta_types::DefinitionError;
 use std::alloc::{AllocError, Global};
 
-/// The tables of groups that are built, in order.
 fn group_tables(alloc: Global, groups: &[SettingGroup]) -> Result<Vec<GroupTables>, AllocError>
     requires { (k : ℕ) (g : Layout) → slice_get groups.now k ≡ Some g → IsBuiltLayout g }
     ensures count { IfOk result (λ v. length v.items ≡ length groups.now) }
@@ -35,12 +34,10 @@ fn group_tables(alloc: Global, groups: &[SettingGroup]) -> Result<Vec<GroupTable
     Ok(tables)
 }
 
-/// The tables of what is built of declarations. The only error is want of memory (this project's own, in place of the writers of
-/// `gen_inst.rs` and `gen_settings.rs`).
+/// Makes the tables of what is built of declarations. They stand in place of what the crate's `gen_inst.rs` and `gen_settings.rs` write.
 ///
-/// The tables hold each instruction, in order, under its name: opcode 1 is the first. Read by the decoding, they allow
-/// exactly what the declarations accept, and they give exactly the results that the declarations infer. They hold each group of
-/// settings, in order.
+/// The tables hold each instruction under its name, in order: opcode 1 is the first. Read by the decoding, they allow exactly what the
+/// declarations accept, and give exactly the results that the declarations infer. They hold each group of settings, in order.
 pub fn tables_of(alloc: Global, built: &Built<'_>) -> Result<Tables, AllocError>
     ensures tables { IfOk result (λ t. AreWholeTablesOf built.now.declared t) }
     ensures well_formed { IfOk result IsWellFormed }
@@ -56,8 +53,8 @@ pub fn tables_of(alloc: Global, built: &Built<'_>) -> Result<Tables, AllocError>
     Ok(Tables::new(opcodes, groups))
 }
 
-/// The tables of the declarations, as `tables_of` makes them. They are refused exactly where the declarations show a fault, by the
-/// first one that they show, with its numbers; `OutOfMemory` may come in any case (this project's own).
+/// Makes the tables of declarations, as `tables_of` does. Declarations with a fault are refused, and no others: the error is their first
+/// fault, with its numbers. `OutOfMemory` may come in any case.
 pub fn generate(alloc: Global, declarations: &Declarations) -> Result<Tables, DefinitionError>
     ensures refused { IfErr result (λ e. e ≢ OutOfMemory → ShowsFirst declarations.now e) }
     ensures valid { OnOk result (AreValid declarations.now) }

@@ -6,8 +6,8 @@ ghost use Rattle.meta_gen.specs.WholeTables.{WholeTables, AreWholeTablesOf};
 use meta_opcode_tables::one_table_of_an_instruction_set;
 use meta_setting_tables::one_table_of_a_group;
 
-/// Declarations have one value of tables: two that are those of the same declarations are the same in all their parts. The variables
-/// have sets of types, as those of `Declarations` always do.
+/// Declarations determine their tables: two tables of the same declarations are equal in all parts. The type variables must have type sets,
+/// as those of `Declarations` always do.
 pub fn one_table_of_declarations()
     ensures { (d : Declared) (one other : WholeTables) → HoldTypeSets d.set.vars → AreWholeTablesOf d one
         → AreWholeTablesOf d other → one ≡ other }

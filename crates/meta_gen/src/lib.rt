@@ -1,8 +1,8 @@
 //! The tables of declarations, and how they are read.
 //!
-//! `generate` refuses `Declarations` by their first fault, or makes `Tables` of what is built of them, as `tables_of` does, and
-//! `tables_from_parts` makes them of parts that are well-formed. `Tables::accepts2` is the decoding, and `Tables::infer_results2`
-//! gives the types that it leaves no choice for. A `Reply` is what is answered to a line that asks.
+//! `generate` refuses `Declarations` by their first fault, or makes their `Tables`. `tables_of` makes the tables of what is built, and
+//! `tables_from_parts` those of well-formed parts. `Tables::accepts2` is the decoding, and `Tables::infer_results2` infers the types of
+//! results. A `Reply` is the answer to a line that asks something.
 #![tactic(auto)]
 
 mod generation;

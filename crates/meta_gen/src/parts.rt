@@ -15,16 +15,16 @@ use meta_types::Text;
 use meta_typevar::Masks;
 use std::alloc::{AllocError, Global};
 
-/// What tables are made of: all but the slots of names, which follow from the names (this project's own).
+/// The parts that tables are made of: all but the slots of names, which follow from the names.
 #[derive(Debug, Drop)]
 pub struct TableParts {
     /// The name of each opcode, from opcode 1 on.
     pub names: Vec<Text>,
     /// The name of each opcode's format.
     pub formats: Vec<Text>,
-    /// The type sets, by the places that the constraints name.
+    /// The type sets. Constraints name them by their places here.
     pub type_sets: Vec<Masks>,
-    /// The one list of operand constraints.
+    /// The one list of operand constraints of all opcodes.
     pub operand_constraints: Vec<Constraint>,
     /// The constraints of each opcode.
     pub constraints: Vec<OpcodeConstraints>,
@@ -32,7 +32,7 @@ pub struct TableParts {
     pub groups: Vec<GroupParts>,
 }
 
-/// The tables of groups with these parts, in order, and `None` exactly where no well-formed tables of some group have its parts.
+/// The tables of groups with these parts, in order. `None` if some group's parts are those of no well-formed tables.
 fn groups_from_parts(
     alloc: Global,
     parts: Vec<GroupParts>,
@@ -52,8 +52,8 @@ fn groups_from_parts(
     Ok(Some(groups))
 }
 
-/// The tables with these parts, and with the slots of their names; `None` exactly where no well-formed tables have them (this
-/// project's own). It costs the length of the parts, and the logarithm of the counts of names. The only error is want of memory.
+/// Makes the tables that have these parts, and the slots of their names. It answers `None` exactly if no well-formed tables have these
+/// parts. The cost is the length of the parts, and the logarithm of the count of names for each name.
 pub fn tables_from_parts(alloc: Global, parts: TableParts) -> Result<Option<Tables>, AllocError>
     ensures some { IfOk result (λ o. IfSome o (HasParts parts)) }
     ensures well_formed { IfOk result (λ o. IfSome o IsWellFormed) }
@@ -76,7 +76,7 @@ pub fn tables_from_parts(alloc: Global, parts: TableParts) -> Result<Option<Tabl
     Ok(Some(Tables::new(opcodes, groups)))
 }
 
-/// Slots follow from names, so that parts have one well-formed table at most.
+/// Parts determine well-formed tables: at most one has all these parts, since slots follow from names.
 pub fn one_table_has_all_parts()
     ensures { (parts : TableParts) (one other : WholeTables) → IsWellFormed one → IsWellFormed other
         → HasParts parts one → HasParts parts other → one ≡ other }

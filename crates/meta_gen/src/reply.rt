@@ -3,20 +3,20 @@ ghost use Rattle.meta_gen.specs.Reply.{reply_text};
 
 use meta_types::Text;
 
-/// The reply to a line (this project's own).
+/// The reply to a line.
 #[derive(Debug, Drop, PartialEq, Eq)]
 pub enum Reply {
     /// The instruction accepts the types.
     Accept,
-    /// The instruction doesn't accept the types, or infers nothing of them.
+    /// The instruction doesn't accept the types, or no types of results fit the controls.
     Refuse,
-    /// Nothing has the name.
+    /// No instruction, or no setting, has the name.
     Unknown,
     /// The line asks nothing.
     Bad,
-    /// The line that tells of the results that are inferred.
+    /// The line with the types of the results that are inferred.
     Results(Text),
-    /// The line that tells of the setting.
+    /// The line that describes the setting.
     Setting(Text),
 }
 

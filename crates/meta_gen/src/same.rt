@@ -2,7 +2,6 @@ ghost use Rattle.std.specs.Prelude.{◌≡◌, ◌↔◌, IsTrue};
 
 use meta_setting_tables::GroupTables;
 
-/// Whether the tables of the groups are the same, in the same order.
 pub(crate) fn same_groups(one: &[GroupTables], other: &[GroupTables]) -> bool
     ensures { IsTrue result ↔ (one.now ≡ other.now) }
 {

@@ -33,10 +33,12 @@ use meta_unique::Steps;
 use std::marker::Model;
 use std::sync::ledger::Ledger;
 
-/// The tables of declarations (this project's own). Of the instruction set they have by opcode the name, the name of the format
-/// and the constraints, the type sets and the one list of operand constraints that these refer to, and the slots by which a name
-/// is looked up; opcodes are numbered from 1. Of each group of settings they have its entries, and what is found by an entry;
-/// groups and entries are numbered from 0. They are well-formed: what they refer to is there.
+/// The tables of declarations.
+///
+/// For each opcode, from 1, they have its name, the name of its format and its constraints. Beside these they have the type sets and the
+/// one list of operand constraints, which the constraints refer to, and the slots by which a name is looked up. For each group of settings,
+/// from 0, they have its entries, from 0, and what a look-up of an entry needs. They are well-formed: no reference points to something that
+/// is missing.
 #[derive(Debug, Drop)]
 pub struct Tables {
     opcodes: OpcodeTables,
@@ -71,7 +73,7 @@ impl Tables {
         &self.opcodes
     }
 
-    /// How many opcodes there are, at most 4,095: they are 1 to this number.
+    /// How many opcodes there are, at most 4,095. They are the numbers from 1 to this count.
     pub fn opcode_count(&self) -> u16
         ensures count { result ≡ length self.now.opcodes.entries }
         ensures named { length self.now.opcodes.names ≡ length self.now.opcodes.entries }
@@ -81,35 +83,35 @@ impl Tables {
         self.opcodes.opcode_count()
     }
 
-    /// How many groups of settings there are: they are 0 to one less.
+    /// How many groups of settings there are. Their numbers begin with 0.
     pub fn group_count(&self) -> usize
         ensures { result ≡ length self.now.groups }
     {
         self.groups.len()
     }
 
-    /// Whether these tables and the others are the same: all their parts are equal.
+    /// Whether these tables and the others are equal in all parts.
     pub fn same(&self, other: &Tables) -> bool
         ensures { IsTrue result ↔ (self.now ≡ other.now) }
     {
         self.opcodes.same(&other.opcodes) && same_groups(&self.groups, &other.groups)
     }
 
-    /// The type sets, by the places that the constraints name.
+    /// The type sets. Constraints name them by their places here.
     pub fn type_sets(&self) -> &[Masks]
         ensures { result.now ≡ self.now.opcodes.type_sets }
     {
         self.opcodes.type_sets()
     }
 
-    /// The one list of operand constraints, which the offsets of opcodes point into.
+    /// The one list of operand constraints. The constraints of an opcode say where its own begin.
     pub fn operand_constraints(&self) -> &[Constraint]
         ensures { map number_constraint_of result.now ≡ self.now.opcodes.operand_constraints }
     {
         self.opcodes.operand_constraints()
     }
 
-    /// The constraints of an opcode, and `None` exactly where it isn't 1 to `opcode_count`.
+    /// The constraints of an opcode. `None` exactly if `opcode` isn't 1 to `opcode_count`.
     pub fn constraints(&self, opcode: u16) -> Option<OpcodeConstraints>
         ensures opcode { IsSome result ↔ IsOpcode self.now.opcodes opcode }
         ensures entry { IfSome result (λ e. at_opcode self.now.opcodes.entries opcode ≡ Some (entry_of e)) }
@@ -119,7 +121,7 @@ impl Tables {
         self.opcodes.constraints(opcode)
     }
 
-    /// The name of an opcode, and `None` exactly where it isn't 1 to `opcode_count`.
+    /// The name of an opcode. `None` exactly if `opcode` isn't 1 to `opcode_count`.
     pub fn opcode_name(&self, opcode: u16) -> Option<&Text>
         ensures opcode { IsSome result ↔ IsOpcode self.now.opcodes opcode }
         ensures name { IfSome result (λ name. at_opcode self.now.opcodes.names opcode ≡ Some name.now) }
@@ -128,7 +130,7 @@ impl Tables {
         self.opcodes.opcode_name(opcode)
     }
 
-    /// The name of the format of an opcode, and `None` exactly where it isn't 1 to `opcode_count`.
+    /// The name of the format of an opcode. `None` exactly if `opcode` isn't 1 to `opcode_count`.
     pub fn opcode_format(&self, opcode: u16) -> Option<&Text>
         ensures opcode { IsSome result ↔ IsOpcode self.now.opcodes opcode }
         ensures format { IfSome result (λ name. at_opcode self.now.opcodes.formats opcode ≡ Some name.now) }
@@ -137,8 +139,8 @@ impl Tables {
         self.opcodes.opcode_format(opcode)
     }
 
-    /// The slots that a look-up of a name probes: each opcode stands where the hash of its name and the opcodes before it
-    /// put it.
+    /// The slots that a look-up of a name probes. The place of each opcode follows from the hash of its name and from the opcodes before
+    /// it.
     pub fn opcode_slots(&self) -> &[Option<u16>]
         ensures slots { result.now ≡ self.now.opcodes.opcode_slots }
         ensures names { AreNameSlots 1 self.now.opcodes.names self.now.opcodes.opcode_slots }
@@ -146,8 +148,8 @@ impl Tables {
         self.opcodes.opcode_slots()
     }
 
-    /// The opcode that has the name, of which there is one at most, and `None` exactly where none has it. It costs the length
-    /// of the name, and that of the look-up in the slots.
+    /// The opcode that has the name, of which there is at most one. `None` exactly if no opcode has it. The cost is the length of the name,
+    /// and that of the look-up in the slots.
     pub fn find_opcode(&self, name: &[u8]) -> Option<u16>
         ensures found { IfSome result (IsFirst (IsOpcodeNamed self.now.opcodes.names name.now)) }
         ensures finds { (op : ℕ) → at_opcode self.now.opcodes.names op ≡ Some name.now → result ≡ Some op }
@@ -157,7 +159,7 @@ impl Tables {
         self.opcodes.find_opcode(name)
     }
 
-    /// As `find_opcode`, and `steps` rises by the length of the look-up, the number of slots that were looked at.
+    /// Finds an opcode as `find_opcode` does. `steps` rises by the number of slots that were looked at.
     pub fn find_opcode_counted<L: Ledger>(&self, name: &[u8], steps: &mut Steps<L>) -> Option<u16>
         ensures found { IfSome result (IsFirst (IsOpcodeNamed self.now.opcodes.names name.now)) }
         ensures finds { (op : ℕ) → at_opcode self.now.opcodes.names op ≡ Some name.now → result ≡ Some op }
@@ -170,9 +172,9 @@ impl Tables {
         self.opcodes.find_opcode_counted(name, steps)
     }
 
-    /// Whether the opcode accepts these types, by their numbers: the controlling type, the types of the value results and
-    /// those of the value inputs, without a second controlling type. It is false for a number that no type has, and for an
-    /// opcode that there isn't.
+    /// Whether the opcode accepts these types, given by their numbers: `ctrl` is the controlling type, `results` and `values` the types of
+    /// the value results and value inputs. There is no second controlling type. The answer is false if a number isn't that of a type, or
+    /// `opcode` isn't an opcode.
     pub fn accepts(&self, opcode: u16, ctrl: Option<u16>, results: &[u16], values: &[u16]) -> bool
         ensures decoding { IsTrue result ↔ Allows self.now.opcodes opcode ctrl None results.now values.now }
         ensures meaning { (d : InstructionSet) → HoldTypeSets d.vars → AreTablesOf d self.now.opcodes
@@ -181,7 +183,8 @@ impl Tables {
         self.opcodes.accepts(opcode, ctrl, results, values)
     }
 
-    /// As `accepts`, with the number of the second controlling type, which an opcode that names a second control has.
+    /// Whether the opcode accepts these types, as `accepts`, with `second` as the number of the second controlling type. An opcode with a
+    /// second control needs one, and any other has none.
     pub fn accepts2(
         &self,
         opcode: u16,
@@ -197,8 +200,8 @@ impl Tables {
         self.opcodes.accepts2(opcode, ctrl, second, results, values)
     }
 
-    /// The number itself, exactly where the designated operand's variable controls the opcode and its type set contains the
-    /// number: then a designated value of this type has the controlling type.
+    /// The controlling type, if it can be read off the designated value: `value` itself, the number of that value's type. It is `None`
+    /// unless the designated value's variable is the control of the opcode and its type set contains the type.
     pub fn infer_control(&self, opcode: u16, value: u16) -> Option<u16>
         ensures value { IfSome result (λ n. n ≡ value) }
         ensures some { IsSome result ↔ InfersControl self.now.opcodes opcode value }
@@ -209,7 +212,7 @@ impl Tables {
         self.opcodes.infer_control(opcode, value)
     }
 
-    /// As `infer_results2`, without a second controlling type.
+    /// Infers the types of the results, as `infer_results2`, without a second controlling type.
     pub fn infer_results(&self, opcode: u16, ctrl: Option<u16>, out: &mut [u16; 7]) -> Option<usize>
         ensures given { IfSome result (λ count. GivesResults self.now.opcodes opcode ctrl None (take count out.new)) }
         ensures few { IfSome result (λ count. count ≤ 7) }
@@ -227,9 +230,9 @@ impl Tables {
         self.opcodes.infer_results(opcode, ctrl, out)
     }
 
-    /// The numbers of the results' types, as far as the controlling types determine them: how many results there are, with one
-    /// number each at the front of `out`, 0 for a result of several possible types. `None` where the controlling types aren't
-    /// those that the opcode has, or a result can have no type under them; then no combination with them is accepted.
+    /// Infers the types of an opcode's results from the numbers of its controlling types. It answers how many results there are, and writes
+    /// the number of each one's type to the front of `out`: 0 if a result can have several types. `None` if the opcode can't have these
+    /// controlling types, or some result can have no type under them. Then no types are accepted with them.
     pub fn infer_results2(
         &self,
         opcode: u16,
@@ -253,7 +256,7 @@ impl Tables {
         self.opcodes.infer_results2(opcode, ctrl, second, out)
     }
 
-    /// The name of a group, and `None` exactly where there is no such group.
+    /// The name of a group. `None` exactly if there is no such group.
     pub fn group_name(&self, group: usize) -> Option<&Text>
         ensures { option_map (λ name. name.now) result ≡ part_in self.now group (λ t. t.name) }
     {
@@ -261,7 +264,7 @@ impl Tables {
         Some(tables.name())
     }
 
-    /// How many bytes the settings of a group take, and `None` exactly where there is no such group.
+    /// How many bytes the settings of a group take. `None` exactly if there is no such group.
     pub fn settings_size(&self, group: usize) -> Option<u8>
         ensures size { result ≡ part_in self.now group (λ t. length t.defaults) }
         ensures meaning { OfGroup self.now group (λ t. (g : Layout) → AreTablesOfGroup g t → result ≡ Some g.settings_size) }
@@ -270,8 +273,8 @@ impl Tables {
         Some(tables.settings_size())
     }
 
-    /// The one list of the values of all enums of a group, in which the descriptor of an enum says where its own stand, and
-    /// `None` exactly where there is no such group.
+    /// The names of the values of all enums of a group, in one list. The descriptor of an enum says where its own begin. `None` exactly if
+    /// there is no such group.
     pub fn enumerators(&self, group: usize) -> Option<&[Text]>
         ensures { option_map (λ list. list.now) result ≡ part_in self.now group (λ t. t.enumerators) }
     {
@@ -279,8 +282,8 @@ impl Tables {
         Some(tables.enumerators())
     }
 
-    /// The default bytes of a group, one a setting byte, with the declared defaults joined, and `None` exactly where there is no
-    /// such group.
+    /// The default bytes of a group, one for each setting byte. Declared defaults of booleans are joined in a byte. `None` exactly if there
+    /// is no such group.
     pub fn defaults(&self, group: usize) -> Option<&[u8]>
         ensures { option_map (λ bytes. bytes.now) result ≡ part_in self.now group (λ t. t.defaults) }
     {
@@ -288,8 +291,8 @@ impl Tables {
         Some(tables.defaults())
     }
 
-    /// The masks of the presets of a group, one a preset and setting byte, preset after preset, and `None` exactly where there
-    /// is no such group.
+    /// The masks of the presets of a group, preset after preset, each with one mask for each setting byte. `None` exactly if there is no
+    /// such group.
     pub fn preset_masks(&self, group: usize) -> Option<&[u8]>
         ensures { option_map (λ masks. masks.now) result ≡ part_in self.now group (λ t. t.preset_masks) }
     {
@@ -297,7 +300,7 @@ impl Tables {
         Some(tables.preset_masks())
     }
 
-    /// The slots of the names of the entries of a group, and `None` exactly where there is no such group.
+    /// The slots of the names of a group's entries. `None` exactly if there is no such group.
     pub fn setting_slots(&self, group: usize) -> Option<&[Option<u16>]>
         ensures slots { option_map (λ slots. slots.now) result ≡ part_in self.now group (λ t. t.slots) }
         ensures names { OfGroup self.now group (λ t. AreNameSlots 0 (names_in t.descriptors) t.slots) }
@@ -306,7 +309,7 @@ impl Tables {
         Some(tables.setting_slots())
     }
 
-    /// The entries of a group, by their numbers from 0, and `None` exactly where there is no such group. There are at most 65,535.
+    /// The entries of a group, by their numbers from 0. There are at most 65,535. `None` exactly if there is no such group.
     pub fn descriptors(&self, group: usize) -> Option<&[Descriptor]>
         ensures entries { option_map (λ list. list.now) result ≡ part_in self.now group (λ t. t.descriptors) }
         ensures few { IfSome result (λ list. length list.now ≤ 65535) }
@@ -315,7 +318,7 @@ impl Tables {
         Some(tables.descriptors())
     }
 
-    /// The entry of a group with this number, from 0, and `None` exactly where there is no such group or entry.
+    /// The entry of a group with the number `index`, from 0. `None` exactly if there is no such group or entry.
     pub fn descriptor(&self, group: usize, index: u16) -> Option<&Descriptor>
         ensures entry { OfGroup self.now group (λ t. option_map (λ d. d.now) result ≡ slice_get t.descriptors index) }
         ensures no_group { HasNoGroup self.now group → result ≡ None }
@@ -327,8 +330,8 @@ impl Tables {
         tables.descriptor(index)
     }
 
-    /// What the setting of a group with this number is by default: 0 or 1 for a boolean, 0 for an enum, which is its first
-    /// value, and the number. It is `None` exactly for a preset and where there is no such group or entry.
+    /// The default of the setting of a group with the number `index`: 0 or 1 for a boolean, 0 for an enum, which is its first value, and
+    /// the declared number. `None` exactly if the entry is a preset, or there is no such group or entry.
     pub fn default_value(&self, group: usize, index: u16) -> Option<u8>
         ensures entry { OfGroup self.now group (λ t. (d : Descriptor) → slice_get t.descriptors index ≡ Some d
             → result ≡ default_in (slice_index_or t.defaults d.offset 0) d.detail) }
@@ -340,15 +343,15 @@ impl Tables {
         tables.default_value(index)
     }
 
-    /// The tables of a group, by which all of it is asked at once, and `None` exactly where there is no such group.
+    /// The tables of a group, which answer all about it. `None` exactly if there is no such group.
     pub fn group(&self, group: usize) -> Option<&GroupTables>
         ensures { option_map (λ t. t.now) result ≡ slice_get self.now.groups group }
     {
         self.groups.get(group)
     }
 
-    /// The number of the entry of a group that has the name, and `None` exactly where none has it or there is no such group. It
-    /// costs the length of the name, and that of the look-up in the slots.
+    /// The number of the entry of a group that has the name. `None` exactly if no entry has it, or there is no such group. The cost is the
+    /// length of the name, and that of the look-up in the slots.
     pub fn find_setting(&self, group: usize, name: &[u8]) -> Option<u16>
         ensures found { OfGroup self.now group (λ t. FindsEntry (names_in t.descriptors) name.now result) }
         ensures no_group { HasNoGroup self.now group → result ≡ None }
@@ -358,8 +361,8 @@ impl Tables {
         tables.find_setting(name)
     }
 
-    /// As `find_setting`, and `steps` rises by the length of the look-up, the number of slots that were looked at. Where there is
-    /// no such group it doesn't rise.
+    /// Finds an entry as `find_setting` does. `steps` rises by the number of slots that were looked at, and not at all if there is no such
+    /// group.
     pub fn find_setting_counted<L: Ledger>(
         &self,
         group: usize,
@@ -378,9 +381,8 @@ impl Tables {
         tables.find_setting_counted(name, steps)
     }
 
-    /// Turns on the bits of what a preset of a group turns on, in setting bytes, where `preset` is the number of its entry. It
-    /// answers false and changes nothing exactly where that is no preset of the group, there is no such group, or there aren't
-    /// `settings_size` bytes.
+    /// Turns on the bits of a preset in the setting bytes of a group. `preset` is the number of its entry. It answers false, and changes
+    /// nothing, exactly if that entry isn't a preset of the group, there is no such group, or the length of `bytes` isn't `settings_size`.
     pub fn apply_preset(&self, group: usize, preset: u16, bytes: &mut [u8]) -> bool
         ensures answer { OfGroup self.now group
             (λ t. (IsTrue result ↔ (((d : Descriptor) × IsPresetIn t.descriptors preset d) × (length bytes.old ≡ length t.defaults)))) }

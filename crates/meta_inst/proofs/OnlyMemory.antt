@@ -1,4 +1,4 @@
--- A call that fails for want of memory alone shows no fault.
+-- A call that fails only because memory runs out answers no fault.
 use Rattle.std.proofs.Common.{◌≡◌, ◌≢◌, Result, Ok, Err, IfErr, IsErrAnd}
 use Rattle.meta_types.specs.declared.fault.DefinitionError.{DefinitionError}
 use Rattle.meta_types.specs.declared.fault.DefinitionError.TheVariants.{OutOfMemory}

@@ -7,7 +7,7 @@ use Rattle.std.proofs.lemmas.List.Elements.{filter_map-append}
 use Rattle.meta_operands.specs.declared.operand.Operand.{Operand}
 use Rattle.meta_inst.specs.Content.{place_where, places_where}
 
--- what stands behind a list is counted on
+-- after a list, counting goes on
 enumerate_from-append : {X : Type 0} (n : ℕ) (xs ys : List X)
     → enumerate_from n (xs ++ ys) ≡ enumerate_from n xs ++ enumerate_from (n + length xs) ys
 enumerate_from-append n [] ys = ap (λ k. enumerate_from k ys) (omega arith)

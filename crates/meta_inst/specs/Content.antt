@@ -101,7 +101,7 @@ abbrev pub outputs_text : List Operand → List ℕ
 outputs_text [] = []
 outputs_text (o ∷ others) = names_text (o ∷ others) ++ codes " = "
 
--- the inputs' names behind it
+-- the inputs' names, after the instruction's name
 abbrev pub inputs_text : List Operand → List ℕ
 inputs_text [] = []
 inputs_text (o ∷ others) = codes " " ++ names_text (o ∷ others)

@@ -1,7 +1,7 @@
 -- The faults of declarations, and the order in which they are looked for.
---     ShowsAt d p e          the declarations show the fault e at the position p
---     IsFirstFault d e       e is the first fault that they show
---     IsValid d              they show none
+--     ShowsAt d p e          the declarations have the fault e at the position p
+--     IsFirstFault d e       e is the first fault that they have
+--     IsValid d              they have no fault
 use Rattle.std.specs.Prelude.{◌≡◌, ◌≢◌, ◌<◌, ◌+◌, ◌⊎◌, ℕ, List, [], length, map, slice_get, Option, Some}
 use Rattle.meta_types.specs.Name.{IsName}
 use Rattle.meta_types.specs.SharedNames.{IsDuplicate}
@@ -159,7 +159,7 @@ pub record FormatBreaksAt (d : InstructionSet) (k : ℕ) (rule : FormatRule) (e 
   pub first_use : IsFirstUse d format k
   pub breaks : FormatBreaks d k format rule e
 
--- The declarations show the fault, with its numbers, at the position. An instruction set shows no faults of groups.
+-- The declarations have the fault, with its numbers, at the position. An instruction set has no faults of groups.
 abbrev pub ShowsAt : InstructionSet → Position → DefinitionError → Type 0
 ShowsAt d OfOpcodes e = (e ≡ TooManyOpcodes (length d.instructions)) × HasTooManyOpcodes d
 ShowsAt d (OfInstruction k rule) e = BreaksAt d k rule e ⊎ SharesNameAt d k rule e

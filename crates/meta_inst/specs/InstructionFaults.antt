@@ -77,8 +77,8 @@ NamesBadSecond vars formats b = HasBadSecond (sets_of vars) (instruction_of_buil
 abbrev pub IsDerivedBadlyAt : List TypeVarContent → List InstructionFormat → Builder → ℕ → Type 0
 IsDerivedBadlyAt vars formats b place = DerivesBadly (sets_of vars) (instruction_of_builder vars formats b) place
 
--- of so many value results and inputs there are too many: eight or more results, and how many; or, with fewer results, eight
--- or more inputs, and how many
+-- with these counts of value results and inputs, one is too large: eight or more results, and how many; or, with fewer results, eight or
+-- more inputs, and how many
 abbrev pub AreTooMany : ℕ → ℕ → ℕ → Type 0
 AreTooMany results values count = ((7 < results) × (count ≡ results)) ⊎ ((results ≤ 7) × (7 < values) × (count ≡ values))
 

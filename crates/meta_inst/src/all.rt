@@ -4,7 +4,7 @@ use super::builder::InstructionBuilder;
 use std::alloc::{AllocError, Global};
 use std::marker::Model;
 
-/// The instructions that are declared, in order. Instructions are numbered from 1, and places here from 0.
+/// The declared instructions, in order. Places here are from 0, and the instruction at place k has the number k + 1.
 #[derive(Drop)]
 pub struct AllInstructions {
     builders: Vec<InstructionBuilder>,
@@ -20,7 +20,7 @@ impl Model for AllInstructions {
 }
 
 impl AllInstructions {
-    /// No instructions.
+    /// Makes an empty list.
     pub fn new(alloc: Global) -> Self
         ensures { result ≡ [] }
     {
@@ -36,7 +36,7 @@ impl AllInstructions {
         self.builders.len()
     }
 
-    /// The instruction at a place below `len`.
+    /// The instruction at a place, which must be below `len`.
     pub fn get(&self, index: usize) -> &InstructionBuilder
         requires { index < length self.now }
         ensures { slice_get self.now index ≡ Some result.now }
@@ -53,7 +53,7 @@ impl AllInstructions {
     }
 }
 
-/// Adds instructions to the list that it was made for.
+/// A builder that adds instructions to a list.
 #[derive(Drop)]
 pub struct InstructionGroupBuilder<'all> {
     all: &'all mut AllInstructions,
@@ -62,7 +62,7 @@ pub struct InstructionGroupBuilder<'all> {
 impl InstructionGroupBuilder<'_> {
     ghost use Rattle.meta_inst.specs.Group.{instructions_of, list_name};
 
-    /// A builder that adds to this list.
+    /// Makes a builder that adds to this list.
     pub fn new(all_instructions: &mut AllInstructions) -> InstructionGroupBuilder<'_>
         ensures list { instructions_of result ≡ all_instructions.old }
         ensures same_list { list_name result ≡ all_instructions.entry.ghost_name }
@@ -72,7 +72,7 @@ impl InstructionGroupBuilder<'_> {
         }
     }
 
-    /// Adds the instruction at the end. One that is refused for want of memory is lost, and the list stays.
+    /// Adds the instruction at the end of the list. If memory runs out, the instruction is lost and the list stays as it was.
     pub fn push(&mut self, builder: InstructionBuilder) -> Result<(), AllocError>
         ensures added { OnOk result (instructions_of self.new ≡ instructions_of self.old ++ builder ∷ []) }
         ensures unchanged { OnErr result (instructions_of self.new ≡ instructions_of self.old) }

@@ -26,7 +26,7 @@ use meta_typevar::{TypeVar, TypeVars};
 use std::alloc::{AllocError, Global};
 use std::marker::Model;
 
-/// An instruction while it is declared.
+/// An instruction that is being declared.
 #[derive(Drop)]
 pub struct InstructionBuilder {
     name: Text,
@@ -46,8 +46,7 @@ struct Texts {
     doc: Text,
 }
 
-/// The places of the operands of an instruction that is built: the values and the immediates among its inputs, and the values
-/// among its outputs.
+/// The places of the operands of a built instruction: the values and the immediates among its inputs, and the values among its outputs.
 #[derive(Drop)]
 struct Places {
     value_opnums: Vec<usize>,
@@ -80,7 +79,7 @@ impl Model for InstructionBuilder {
 }
 
 impl InstructionBuilder {
-    /// An instruction of this name, doc and format, without operands.
+    /// Makes an instruction with this name, documentation and format. It has no operands yet.
     pub fn new(_alloc: Global, name: Text, doc: Text, format: FormatId) -> Self
         ensures { result ≡ record {
           name = name;
@@ -117,7 +116,7 @@ impl InstructionBuilder {
         self.format
     }
 
-    /// The inputs that were given, none where they weren't set.
+    /// The inputs that were given. The list is empty if they weren't set.
     pub fn inputs(&self) -> &[Operand]
         ensures { result.now ≡ inputs_of self.now }
     {
@@ -127,7 +126,7 @@ impl InstructionBuilder {
         }
     }
 
-    /// The outputs that were given, none where they weren't set.
+    /// The outputs that were given. The list is empty if they weren't set.
     pub fn outputs(&self) -> &[Operand]
         ensures { result.now ≡ outputs_of self.now }
     {
@@ -151,7 +150,7 @@ impl InstructionBuilder {
         self.operands_out.is_some()
     }
 
-    /// Sets the inputs, which weren't set before.
+    /// Sets the inputs, which must not have been set before.
     pub fn operands_in(mut self, operands: Vec<Operand>) -> Self
         requires { self.operands_in ≡ None }
         ensures { result ≡ record self { operands_in = Some operands.items } }
@@ -160,7 +159,7 @@ impl InstructionBuilder {
         self
     }
 
-    /// Sets the outputs, which weren't set before.
+    /// Sets the outputs, which must not have been set before.
     pub fn operands_out(mut self, operands: Vec<Operand>) -> Self
         requires { self.operands_out ≡ None }
         ensures { result ≡ record self { operands_out = Some operands.items } }
@@ -176,14 +175,14 @@ impl InstructionBuilder {
         self.second.is_some()
     }
 
-    /// The second control, where one was named.
+    /// The second control, if one was named.
     pub fn second(&self) -> Option<TypeVar>
         ensures { result ≡ self.now.second }
     {
         self.second
     }
 
-    /// Names the second control, which wasn't named before.
+    /// Names the second control, which must not have been named before.
     pub fn second_control(mut self, tv: TypeVar) -> Self
         requires { self.second ≡ None }
         ensures { result ≡ record self { second = Some tv } }
@@ -192,7 +191,7 @@ impl InstructionBuilder {
         self
     }
 
-    /// Marks it as one that ends a block.
+    /// Marks the instruction as one that ends a block.
     pub fn terminates_block(mut self) -> Self
         ensures { result ≡ record self { marks = terminator self.marks } }
     {
@@ -200,7 +199,7 @@ impl InstructionBuilder {
         self
     }
 
-    /// Marks it as a branch, which ends a block too.
+    /// Marks the instruction as a branch, which also ends a block.
     pub fn branches(mut self) -> Self
         ensures { result ≡ record self { marks = branch self.marks } }
     {
@@ -209,7 +208,7 @@ impl InstructionBuilder {
         self
     }
 
-    /// Marks it as a call.
+    /// Marks the instruction as a call.
     pub fn call(mut self) -> Self
         ensures { result ≡ record self { marks = record self.marks { is_call = true } } }
     {
@@ -217,7 +216,7 @@ impl InstructionBuilder {
         self
     }
 
-    /// Marks it as a return, which ends a block too.
+    /// Marks the instruction as a return, which also ends a block.
     pub fn returns(mut self) -> Self
         ensures { result ≡ record self { marks = returning self.marks } }
     {
@@ -226,7 +225,7 @@ impl InstructionBuilder {
         self
     }
 
-    /// Marks it as one that may read memory.
+    /// Marks the instruction as one that may read memory.
     pub fn can_load(mut self) -> Self
         ensures { result ≡ record self { marks = record self.marks { can_load = true } } }
     {
@@ -234,7 +233,7 @@ impl InstructionBuilder {
         self
     }
 
-    /// Marks it as one that may write memory.
+    /// Marks the instruction as one that may write memory.
     pub fn can_store(mut self) -> Self
         ensures { result ≡ record self { marks = record self.marks { can_store = true } } }
     {
@@ -242,7 +241,7 @@ impl InstructionBuilder {
         self
     }
 
-    /// Marks it as one that may trap.
+    /// Marks the instruction as one that may trap.
     pub fn can_trap(mut self) -> Self
         ensures { result ≡ record self { marks = record self.marks { can_trap = true } } }
     {
@@ -250,7 +249,7 @@ impl InstructionBuilder {
         self
     }
 
-    /// Marks it as one with other effects.
+    /// Marks the instruction as one with effects beside those of the other marks.
     pub fn other_side_effects(mut self) -> Self
         ensures { result ≡ record self { marks = record self.marks { other_side_effects = true } } }
     {
@@ -258,7 +257,7 @@ impl InstructionBuilder {
         self
     }
 
-    /// Marks its effects as idempotent.
+    /// Marks the effects of the instruction as idempotent: done twice they are the same as once.
     pub fn side_effects_idempotent(mut self) -> Self
         ensures { result ≡ record self { marks = record self.marks { side_effects_idempotent = true } } }
     {
@@ -266,14 +265,16 @@ impl InstructionBuilder {
         self
     }
 
-    /// Says whether the builder has a method for it that takes an immediate for the last value input.
+    /// Says whether the written instruction builder gets a second method for this instruction, which takes an immediate for the last value
+    /// input.
     pub fn inst_builder_imm_method(mut self, enabled: bool) -> Self
         ensures { result ≡ record self { marks = record self.marks { inst_builder_imm_method = enabled } } }
     {
         self.marks.inst_builder_imm_method = enabled;
         self
     }
-    /// Whether the format is of the table, and the variable of each value operand of the registry.
+    /// Whether the format is of the table `formats`, and the type variable of each value operand and the second control are of the registry
+    /// `vars`.
     pub fn fits(&self, vars: &TypeVars, formats: &FormatTable) -> bool
         ensures { IsTrue result ↔ FitsBuilder vars.now formats.now self.now }
     {
@@ -289,7 +290,7 @@ impl InstructionBuilder {
         are_operands_of(vars, self.inputs())
     }
 
-    /// Whether a method is asked for that takes an immediate, and none can.
+    /// Whether the instruction asks for a method that takes an immediate, but can't have one.
     fn has_bad_imm_method(&self, format: &InstructionFormat, results: usize, values: usize) -> bool
         ensures { IsTrue result ↔ ((self.now.marks.inst_builder_imm_method ≡ true) × TakesNoImmediate format.now results values) }
     {
@@ -299,8 +300,8 @@ impl InstructionBuilder {
         takes_no_immediate(format, results, values)
     }
 
-    /// The first fault that is told before anything is asked of the operands' types: a bad name, a bad output, or another
-    /// format.
+    /// The first fault of the instruction's form: a bad name, a bad output, or inputs that don't match the format. The types of operands
+    /// aren't looked at.
     fn form_fault(&self, formats: &FormatTable, number: u64) -> Option<DefinitionError>
         requires { self.now.format < length formats.now }
         ensures none { IfNone result ((vars : List TypeVarContent) → KeepsRulesBefore vars formats.now self.now ControlRule) }
@@ -318,8 +319,8 @@ impl InstructionBuilder {
         None
     }
 
-    /// The first fault of the instruction, whose form has none, of those that it shows by itself. Its operands and what was
-    /// found of its control are at hand.
+    /// The first fault that the instruction has by itself in its operands, if its form has no fault. The operands, and what was found of
+    /// the control, are given.
     fn operands_fault(
         &self,
         vars: &TypeVars,
@@ -356,7 +357,7 @@ impl InstructionBuilder {
         None
     }
 
-    /// Its name, its name in camel case and its documentation, as texts of their own.
+    /// Copies of the name and the documentation, and the name in camel case.
     fn texts(&self, alloc: Global) -> Result<Texts, AllocError>
         ensures name { IfOk result (λ t. t.name ≡ self.now.name) }
         ensures camel_name { IfOk result (λ t. t.camel_name ≡ camel_case_of self.now.name) }
@@ -369,7 +370,7 @@ impl InstructionBuilder {
         })
     }
 
-    /// The places of its values and immediates.
+    /// The places of the values and immediates.
     fn places(&self, alloc: Global) -> Result<Places, AllocError>
         ensures value_opnums { IfOk result (λ p. p.value_opnums.items ≡ places_where is_value_operand (inputs_of self.now)) }
         ensures imm_opnums { IfOk result (λ p. p.imm_opnums.items ≡ places_where is_immediate_or_entityref_operand (inputs_of self.now)) }
@@ -382,7 +383,6 @@ impl InstructionBuilder {
         })
     }
 
-    /// Equal operands of their own.
     fn operands(&self, alloc: Global) -> Result<OperandLists, AllocError>
         ensures inputs { IfOk result (λ o. o.inputs.items ≡ inputs_of self.now) }
         ensures outputs { IfOk result (λ o. o.outputs.items ≡ outputs_of self.now) }
@@ -393,7 +393,7 @@ impl InstructionBuilder {
         })
     }
 
-    /// What is built of the instruction, with its value operands and what is kept of its control.
+    /// The built instruction, of its value operands and what is kept of its control.
     fn content(
         &self,
         alloc: Global,
@@ -422,10 +422,10 @@ impl InstructionBuilder {
         })
     }
 
-    /// The instruction as it is built, or the first fault that it shows by itself, with this number: a bad name, a bad
-    /// output, another format, no control, a bad second control, a bad derivation, too many operands, or a bad immediate
-    /// method. `OutOfMemory` may come in any case. That the instruction is of the registries is told by `fits` (in the crate
-    /// it is private, takes the builder, and panics).
+    /// Builds the instruction. One with a fault by itself is refused, and no other: the error is its first fault, with `number` as the
+    /// number of the instruction. The faults are a bad name, a bad output, inputs that don't match the format, a missing control, a bad
+    /// second control, a bad derivation, too many operands, and a bad immediate method. `OutOfMemory` may come in any case. The instruction
+    /// must be of the registries, which `fits` tests. In the crate the call is private, takes the builder, and panics.
     pub fn build(
         &self,
         alloc: Global,
@@ -452,7 +452,7 @@ impl InstructionBuilder {
     }
 }
 
-/// Whether the second control, if one is named, is of the registry.
+/// Whether the second control is of the registry if one is named.
 fn is_second_of(vars: &TypeVars, second: Option<TypeVar>) -> bool
     ensures { IsTrue result ↔ SecondIsOf vars.now second }
 {
@@ -462,7 +462,7 @@ fn is_second_of(vars: &TypeVars, second: Option<TypeVar>) -> bool
     }
 }
 
-/// Whether the variable of the operand, if it is a value, is of the registry.
+/// Whether the variable of the operand is of the registry if the operand is a value.
 fn is_operand_of(vars: &TypeVars, operand: &Operand) -> bool
     ensures { IsTrue result ↔ AreOf vars.now (variables_of (operand.now ∷ [])) }
 {
@@ -472,7 +472,6 @@ fn is_operand_of(vars: &TypeVars, operand: &Operand) -> bool
     }
 }
 
-/// Whether the variable of each value operand is of the registry.
 fn are_operands_of(vars: &TypeVars, operands: &[Operand]) -> bool
     ensures { IsTrue result ↔ AreOf vars.now (variables_of operands.now) }
 {

@@ -4,7 +4,7 @@ ghost use Rattle.meta_inst.specs.InstructionFaults.{is_bad_output, AreTooMany, T
 
 use meta_operands::{InstructionFormat, Operand};
 
-/// The most value results, and the most value inputs, that an instruction may have: each count has three bits.
+/// The most value results, and the most value inputs, of an instruction: each count has three bits in the tables.
 pub(crate) const MAX_OPERANDS: usize = 7;
 
 /// The place of the first output that is neither a value nor varargs.
@@ -16,7 +16,7 @@ pub(crate) fn bad_output(outputs: &[Operand]) -> Option<usize>
         .position(|o| !o.is_value() && !o.is_varargs())
 }
 
-/// How many value results, or else value inputs, there are, where these are too many.
+/// The count of value results if it is too large, or else the count of value inputs if that is.
 pub(crate) fn too_many(results: usize, values: usize) -> Option<usize>
     ensures found { IfSome result (AreTooMany results values) }
     ensures none { IfNone result ((count : ℕ) → AreTooMany results values count → ⊥) }

@@ -16,7 +16,7 @@ use std::alloc::{AllocError, Global};
 use std::fmt;
 use std::marker::Model;
 
-/// An instruction that is built: well declared, with its control (`cdsl/instructions.rs`).
+/// A built instruction: it has no fault by itself, and its control is known (`InstructionContent` of the crate's `cdsl/instructions.rs`).
 #[derive(Drop)]
 pub struct InstructionContent {
     pub(crate) name: Text,
@@ -33,7 +33,7 @@ pub struct InstructionContent {
     pub(crate) value_operands: Operands,
 }
 
-/// An instruction that is built, which is owned (in the crate it is counted).
+/// A built instruction, which is owned. In the crate it is reference-counted.
 pub type Instruction = InstructionContent;
 
 impl Model for InstructionContent {
@@ -57,7 +57,7 @@ impl Model for InstructionContent {
     } };
 }
 
-/// Adds the place, where the test holds.
+/// Adds the place if `holds`.
 fn push_place(places: &mut Vec<usize>, place: usize, holds: bool) -> Result<(), AllocError>
     ensures { OnOk result (places.new.items ≡ (if holds then (places.old.items ++ place ∷ []) else places.old.items)) }
 {
@@ -96,7 +96,7 @@ pub(crate) fn immediate_places(
     Ok(places)
 }
 
-/// Equal operands of their own.
+/// A copy of the operands.
 pub(crate) fn copied_operands(
     alloc: Global,
     operands: &[Operand],
@@ -146,21 +146,21 @@ impl InstructionContent {
         self.operands_out.as_slice()
     }
 
-    /// The number of the format.
+    /// The format, by its number in the table of formats.
     pub fn format(&self) -> FormatId
         ensures { result ≡ self.now.format }
     {
         self.format
     }
 
-    /// What controls the instruction; `None` exactly where it isn't polymorphic.
+    /// The control of the instruction and what goes with it. `None` exactly if the instruction isn't polymorphic.
     pub fn polymorphic_info(&self) -> Option<PolymorphicInfo>
         ensures { result ≡ self.now.polymorphic_info }
     {
         self.polymorphic_info
     }
 
-    /// The variable that controls the instruction; `None` exactly where it isn't polymorphic.
+    /// The type variable that is the control. `None` exactly if the instruction isn't polymorphic.
     pub fn ctrl_typevar(&self) -> Option<TypeVar>
         ensures { result ≡ ctrl_number self.now.polymorphic_info }
     {
@@ -170,7 +170,7 @@ impl InstructionContent {
         }
     }
 
-    /// The variables that control the instruction: its control and its second control (this project's own).
+    /// The control and the second control of the instruction.
     pub fn controls(&self) -> Controls
         ensures { result ≡ control_numbers self.now }
     {
@@ -178,105 +178,105 @@ impl InstructionContent {
         self.value_operands().controls(control)
     }
 
-    /// The places among the inputs, from 0, of the values.
+    /// The places of the values among the inputs, from 0.
     pub fn value_opnums(&self) -> &[usize]
         ensures { result.now ≡ self.now.value_opnums }
     {
         self.value_opnums.as_slice()
     }
 
-    /// The places among the inputs, from 0, of the immediates and entity references, blocks among them.
+    /// The places of the immediates and entity references among the inputs, from 0. Blocks are entity references.
     pub fn imm_opnums(&self) -> &[usize]
         ensures { result.now ≡ self.now.imm_opnums }
     {
         self.imm_opnums.as_slice()
     }
 
-    /// The places among the outputs, from 0, of the values.
+    /// The places of the values among the outputs, from 0.
     pub fn value_results(&self) -> &[usize]
         ensures { result.now ≡ self.now.value_results }
     {
         self.value_results.as_slice()
     }
 
-    /// The value operands: the variables of the results and then of the values, and which of them the format designates.
+    /// The value operands: the type variables of the results and then of the value inputs, and which value is the designated one.
     pub fn value_operands(&self) -> &Operands
         ensures { result.now ≡ self.now.value_operands }
     {
         &self.value_operands
     }
 
-    /// Whether it ends a block.
+    /// Whether the instruction ends a block.
     pub fn is_terminator(&self) -> bool
         ensures { result ≡ self.now.marks.is_terminator }
     {
         self.marks.is_terminator
     }
 
-    /// Whether it branches to a block.
+    /// Whether the instruction branches to a block.
     pub fn is_branch(&self) -> bool
         ensures { result ≡ self.now.marks.is_branch }
     {
         self.marks.is_branch
     }
 
-    /// Whether it calls a function.
+    /// Whether the instruction calls a function.
     pub fn is_call(&self) -> bool
         ensures { result ≡ self.now.marks.is_call }
     {
         self.marks.is_call
     }
 
-    /// Whether it returns from the function.
+    /// Whether the instruction returns from the function.
     pub fn is_return(&self) -> bool
         ensures { result ≡ self.now.marks.is_return }
     {
         self.marks.is_return
     }
 
-    /// Whether it may read memory.
+    /// Whether the instruction may read memory.
     pub fn can_load(&self) -> bool
         ensures { result ≡ self.now.marks.can_load }
     {
         self.marks.can_load
     }
 
-    /// Whether it may write memory.
+    /// Whether the instruction may write memory.
     pub fn can_store(&self) -> bool
         ensures { result ≡ self.now.marks.can_store }
     {
         self.marks.can_store
     }
 
-    /// Whether it may trap.
+    /// Whether the instruction may trap.
     pub fn can_trap(&self) -> bool
         ensures { result ≡ self.now.marks.can_trap }
     {
         self.marks.can_trap
     }
 
-    /// Whether it has other effects.
+    /// Whether the instruction has effects beside those of the other marks.
     pub fn other_side_effects(&self) -> bool
         ensures { result ≡ self.now.marks.other_side_effects }
     {
         self.marks.other_side_effects
     }
 
-    /// Whether its effects, done twice, are those of once.
+    /// Whether the effects of the instruction are idempotent: done twice they are the same as once.
     pub fn side_effects_idempotent(&self) -> bool
         ensures { result ≡ self.now.marks.side_effects_idempotent }
     {
         self.marks.side_effects_idempotent
     }
 
-    /// Whether the builder has a method for it that takes an immediate for the last value input.
+    /// Whether the written instruction builder has a second method for this instruction, which takes an immediate for the last value input.
     pub fn inst_builder_imm_method(&self) -> bool
         ensures { result ≡ self.now.marks.inst_builder_imm_method }
     {
         self.marks.inst_builder_imm_method
     }
 
-    /// The name in the code that is written, where `return` is `return_`.
+    /// The name in the written Rust source. `return` is written `return_`, since it is a keyword.
     pub fn snake_name(&self) -> &str
         ensures { result.now ≡ snake_name_of self.now.name }
     {
@@ -287,7 +287,7 @@ impl InstructionContent {
     }
 }
 
-/// Operand names after another one.
+/// Writes the names of operands after the first.
 fn write_more<W: fmt::Write>(f: &mut fmt::Formatter<W>, operands: &[Operand]) -> fmt::Result
     ensures { DisplaysOnOk W.write_str_gives f.old result (Some (more_names_text operands.now)) f.new }
 {
@@ -298,7 +298,7 @@ fn write_more<W: fmt::Write>(f: &mut fmt::Formatter<W>, operands: &[Operand]) ->
     Ok(())
 }
 
-/// The outputs before the name.
+/// Writes the outputs, which stand before the name.
 fn write_outputs<W: fmt::Write>(f: &mut fmt::Formatter<W>, operands: &[Operand]) -> fmt::Result
     ensures { DisplaysOnOk W.write_str_gives f.old result (Some (outputs_text operands.now)) f.new }
 {
@@ -310,7 +310,7 @@ fn write_outputs<W: fmt::Write>(f: &mut fmt::Formatter<W>, operands: &[Operand])
     f.write_str(" = ")
 }
 
-/// The inputs behind the name.
+/// Writes the inputs, which stand after the name.
 fn write_inputs<W: fmt::Write>(f: &mut fmt::Formatter<W>, operands: &[Operand]) -> fmt::Result
     ensures { DisplaysOnOk W.write_str_gives f.old result (Some (inputs_text operands.now)) f.new }
 {
@@ -322,7 +322,7 @@ fn write_inputs<W: fmt::Write>(f: &mut fmt::Formatter<W>, operands: &[Operand]) 
     write_more(f, rest)
 }
 
-/// As `a = iadd x, y`.
+/// Writes the instruction as in `a = iadd x, y`.
 impl fmt::Display for InstructionContent {
     ghost use Rattle.std.specs.Prelude.{Some};
     ghost use Rattle.meta_inst.specs.Content.{instruction_text};

@@ -5,16 +5,16 @@ ghost use Rattle.meta_inst.specs.Controls.{which_of, IsOneOf};
 use meta_typevar::TypeVar;
 use std::marker::Model;
 
-/// One of the two controls that an instruction may have (this project's own).
+/// One of the two controls that an instruction can have.
 #[derive(Clone, Copy, Debug, PartialEq, Eq)]
 pub enum Which {
-    /// The control, whose type is the controlling type.
+    /// The control. Its type is the controlling type.
     First,
-    /// The second control, whose type is the second controlling type.
+    /// The second control. Its type is the second controlling type.
     Second,
 }
 
-/// The variables that control an instruction, where there are such: its control and its second control (this project's own).
+/// The control and the second control of an instruction, if it has them.
 #[derive(Clone, Copy)]
 pub struct Controls {
     first: Option<TypeVar>,
@@ -45,14 +45,13 @@ fn is_named(control: &Option<TypeVar>, tv: TypeVar) -> bool
 }
 
 impl Controls {
-    /// These two.
     pub(crate) fn new(first: Option<TypeVar>, second: Option<TypeVar>) -> Controls
         ensures { result ≡ both first second }
     {
         Controls { first, second }
     }
 
-    /// One of them, where it is there.
+    /// The control that `which` names, if the instruction has it.
     pub fn get(&self, which: Which) -> &Option<TypeVar>
         ensures { result.now ≡ self.now (which_of which) }
     {
@@ -76,7 +75,7 @@ impl Controls {
         is_named(self.get(Which::Second), tv)
     }
 
-    /// Which of them the variable is, and `None` exactly where it is neither. It is the first where it is both.
+    /// Which of the controls the variable is, the first if it is both. `None` exactly if it is neither.
     pub fn find(&self, tv: TypeVar) -> Option<Which>
         ensures found { IfSome result (λ a. self.now (which_of a) ≡ Some tv) }
         ensures first { self.now First ≡ Some tv → result ≡ Some Which.First }
@@ -98,7 +97,7 @@ impl Controls {
         self.find(tv).is_some()
     }
 
-    /// Which of them a variable is that is one of them. It is the first where it is both.
+    /// Which of the controls the variable is, the first if it is both. It must be one of them.
     pub fn which(&self, tv: TypeVar) -> Which
         requires { IsOneOf self.now tv }
         ensures is { self.now (which_of result) ≡ Some tv }

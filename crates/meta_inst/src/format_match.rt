@@ -60,8 +60,8 @@ fn is_field(operand: &Operand) -> bool
         && (!operand.kind.is_raw_block() && operand.is_immediate_or_entityref())
 }
 
-/// The fields that are left behind the one that holds the operand, all where none does; `None` where the first of them isn't
-/// the one that holds it.
+/// The fields that are left after the one that holds the operand, or all if no field holds it. `None` if the first field isn't the one that
+/// holds it.
 fn fields_after<'a>(fields: &'a [FormatField], operand: &Operand) -> Option<&'a [FormatField]>
     ensures left { IfSome result (λ rest. map format_field_name fields.now
         ≡ field_names (operand.now ∷ []) ++ map format_field_name rest.now) }
@@ -78,7 +78,7 @@ fn fields_after<'a>(fields: &'a [FormatField], operand: &Operand) -> Option<&'a 
     Some(rest)
 }
 
-/// Whether the operands that fields hold have the names of these fields, one for one in order.
+/// Whether the operands that fields hold have the names of these fields, in order and one for one.
 fn are_fields(operands: &[Operand], fields: &[FormatField]) -> bool
     ensures { IsTrue result ↔ (field_names operands.now ≡ map format_field_name fields.now) }
 {
@@ -92,7 +92,7 @@ fn are_fields(operands: &[Operand], fields: &[FormatField]) -> bool
     left.is_empty()
 }
 
-/// Whether the inputs are stored as the format says (`verify_format` of `cdsl/instructions.rs`).
+/// Whether the inputs match the format (`verify_format` of the crate's `cdsl/instructions.rs`).
 pub(crate) fn matches_format(inputs: &[Operand], format: &InstructionFormat) -> bool
     ensures { IsTrue result ↔ MatchesFormat format.now inputs.now }
 {

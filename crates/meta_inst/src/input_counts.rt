@@ -7,14 +7,14 @@ use meta_typevar::TypeVar;
 use std::alloc::{AllocError, Global};
 use std::collections::BTreeMap;
 
-/// How often each variable stands at the value inputs of an instruction.
+/// How often each type variable stands at the value inputs of an instruction.
 #[derive(Drop)]
 pub(crate) struct InputCounts {
     counts: BTreeMap<TypeVar, usize>,
 }
 
 impl InputCounts {
-    /// The counts of these variables, which are those of the inputs.
+    /// Counts the variables of the inputs.
     pub(crate) fn of(alloc: Global, inputs: &[TypeVar]) -> Result<InputCounts, AllocError>
         ensures { IfOk result (λ c. AreInputCounts inputs.now (get nat_cmp c.counts)) }
     {
@@ -26,7 +26,7 @@ impl InputCounts {
         Ok(InputCounts { counts })
     }
 
-    /// Whether the variable stands at one input alone.
+    /// Whether the variable stands at exactly one input.
     pub(crate) fn is_once(&self, tv: TypeVar) -> bool
         ensures { IsTrue result ↔ (get nat_cmp self.now.counts tv ≡ Some 1) }
     {

@@ -5,7 +5,7 @@ ghost use Rattle.meta_operands.specs.declared.format.InstructionFormat.{Instruct
 ghost use Rattle.meta_inst.specs.Builder.{Builder};
 ghost use Rattle.meta_inst.specs.InstructionFaults.{IsFirstOwnFault, IsWellMade};
 
-/// An instruction shows one first fault by itself at most, and none where it is well made (this project's own).
+/// An instruction has at most one first fault by itself, and none if it is well made.
 pub fn one_own_fault()
     ensures same { (vars : List TypeVarContent) (formats : List InstructionFormat) (b : Builder) (n : ℕ)
         (e f : DefinitionError) → IsFirstOwnFault vars formats b n e → IsFirstOwnFault vars formats b n f → e ≡ f }

@@ -1,4 +1,4 @@
-//! Instructions: their declarations and what controls them (`cdsl/instructions.rs`).
+//! Instructions: their declarations and what controls them, as in the crate's `cdsl/instructions.rs`.
 #![tactic(auto)]
 
 mod all;

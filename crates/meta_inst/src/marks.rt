@@ -1,26 +1,26 @@
-/// What an instruction may do beside giving its results, and whether a method of its own builds it (the marks of
-/// `InstructionContent` of `cdsl/instructions.rs`).
+/// The marks of an instruction: what it may do beside giving its results, and whether it gets a second builder method. In the crate they
+/// are fields of `InstructionContent` of `cdsl/instructions.rs`.
 #[derive(Clone, Copy, Debug, PartialEq, Eq)]
 pub struct Marks {
-    /// It ends a block.
+    /// The instruction ends a block.
     pub is_terminator: bool,
-    /// It branches to a block.
+    /// The instruction branches to a block.
     pub is_branch: bool,
-    /// It calls a function.
+    /// The instruction calls a function.
     pub is_call: bool,
-    /// It returns from the function.
+    /// The instruction returns from the function.
     pub is_return: bool,
-    /// It may read memory.
+    /// The instruction may read memory.
     pub can_load: bool,
-    /// It may write memory.
+    /// The instruction may write memory.
     pub can_store: bool,
-    /// It may trap.
+    /// The instruction may trap.
     pub can_trap: bool,
-    /// It has other effects than the ones above.
+    /// The instruction has effects beside those of the other marks.
     pub other_side_effects: bool,
-    /// Done twice, its effects are those of once.
+    /// The effects of the instruction are idempotent: done twice they are the same as once.
     pub side_effects_idempotent: bool,
-    /// The builder has a method for it that takes an immediate for the last value input.
+    /// The written instruction builder has a second method for this instruction, which takes an immediate for the last value input.
     pub inst_builder_imm_method: bool,
 }
 
@@ -28,7 +28,6 @@ impl Marks {
     ghost use Rattle.std.specs.Prelude.{◌≡◌};
     ghost use Rattle.meta_inst.specs.Marks.{no_marks};
 
-    /// No mark.
     pub(crate) fn none() -> Marks
         ensures { result ≡ no_marks }
     {

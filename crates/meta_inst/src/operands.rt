@@ -27,10 +27,10 @@ use meta_typevar::{TypeVar, TypeVars};
 use std::alloc::{AllocError, Global};
 use std::marker::Model;
 
-/// How many value operands there is room for at first: few instructions have more.
+/// How many value operands have room at first. Few instructions have more.
 const FEW_OPERANDS: usize = 8;
 
-/// The type variables of the value operands among these, added in order.
+/// Adds the type variables of the value operands, in order.
 fn push_variables(out: &mut Vec<TypeVar>, operands: &[Operand]) -> Result<(), AllocError>
     ensures { OnOk result (out.new.items ≡ out.old.items ++ variables_of operands.now) }
 {
@@ -40,7 +40,7 @@ fn push_variables(out: &mut Vec<TypeVar>, operands: &[Operand]) -> Result<(), Al
     Ok(())
 }
 
-/// The type variable of the operand, added where it is a value.
+/// Adds the type variable of the operand if the operand is a value.
 fn push_variable(out: &mut Vec<TypeVar>, operand: &Operand) -> Result<(), AllocError>
     ensures { OnOk result (out.new.items ≡ out.old.items ++ variables_of (operand.now ∷ [])) }
 {
@@ -50,7 +50,7 @@ fn push_variable(out: &mut Vec<TypeVar>, operand: &Operand) -> Result<(), AllocE
     Ok(())
 }
 
-/// Whether there is an operand and the first is a value.
+/// Whether there is a first operand and it is a value.
 fn begins_with_value(operands: &[Operand]) -> bool
     ensures { result ≡ begins_with_value operands.now }
 {
@@ -60,7 +60,7 @@ fn begins_with_value(operands: &[Operand]) -> bool
     }
 }
 
-/// Whether the variable's root can have one type alone.
+/// Whether the variable's root can have one type only.
 fn has_one_type(vars: &TypeVars, tv: TypeVar) -> bool
     requires { tv < length vars.now }
     ensures { IsTrue result ↔ HasOneType vars.now tv }
@@ -76,7 +76,7 @@ fn is_underived(vars: &TypeVars, tv: TypeVar) -> bool
     vars.content(tv).base.is_none()
 }
 
-/// Whether the variable at this place, which is that of an input, stands at no other input. It is asked of few inputs.
+/// Whether the variable at this place, which is that of an input, stands at no other input. It is used if there are few inputs.
 fn stands_alone(variables: &[TypeVar], from: usize, place: usize) -> bool
     requires input { from ≤ place }
     requires within { place < length variables.now }
@@ -90,7 +90,7 @@ fn stands_alone(variables: &[TypeVar], from: usize, place: usize) -> bool
     true
 }
 
-/// The counts of the inputs, where there are more than an instruction may have.
+/// The counts of the inputs' variables if there are more inputs than an instruction may have.
 fn counted_inputs(alloc: Global, inputs: &[TypeVar]) -> Result<Option<InputCounts>, AllocError>
     ensures { IfOk result (λ o. IfSome o (λ c. AreInputCounts inputs.now (get nat_cmp c.counts))) }
 {
@@ -100,7 +100,7 @@ fn counted_inputs(alloc: Global, inputs: &[TypeVar]) -> Result<Option<InputCount
     Ok(Some(InputCounts::of(alloc, inputs)?))
 }
 
-/// Whether the variable at this place lets these be the controls.
+/// Whether the variable at this place allows these controls.
 fn lets_control(vars: &TypeVars, operands: &Operands, controls: &Controls, place: usize) -> bool
     requires variables { AreOf vars.now operands.now.variables }
     requires within { place < length operands.now.variables }
@@ -117,7 +117,7 @@ fn lets_control(vars: &TypeVars, operands: &Operands, controls: &Controls, place
     is_underived(vars, tv) && operands.is_alone(place)
 }
 
-/// Whether `v` may control: it is underived and not the second control, and each variable lets it control beside that.
+/// Whether `v` can be the control: it is underived and isn't the second control, and the variable of each operand allows it beside that.
 fn may_control(vars: &TypeVars, operands: &Operands, v: TypeVar) -> bool
     requires variables { AreOf vars.now operands.now.variables }
     requires of { v < length vars.now }
@@ -138,7 +138,7 @@ fn may_control(vars: &TypeVars, operands: &Operands, v: TypeVar) -> bool
     true
 }
 
-/// Whether some variable's root can have other types than one.
+/// Whether the root of some variable can have several types.
 fn is_polymorphic(vars: &TypeVars, variables: &[TypeVar]) -> bool
     requires { AreOf vars.now variables.now }
     ensures { MatchBool result (HasSeveralTypes vars.now variables.now) (AllHaveOneType vars.now variables.now) }
@@ -181,7 +181,7 @@ fn is_no_second(vars: &TypeVars, variables: &[TypeVar], s: TypeVar) -> bool
     !is_polymorphic(vars, variables)
 }
 
-/// The candidate, if there is one and it may control.
+/// The candidate, if there is one and it can be the control.
 fn eligible(vars: &TypeVars, operands: &Operands, candidate: Option<TypeVar>) -> Option<TypeVar>
     requires variables { AreOf vars.now operands.now.variables }
     requires of { IfSome candidate (λ v. v < length vars.now) }
@@ -202,9 +202,9 @@ fn eligible(vars: &TypeVars, operands: &Operands, candidate: Option<TypeVar>) ->
 pub enum Controlling {
     /// The instruction isn't polymorphic: each of its operands has one type.
     NotPolymorphic,
-    /// This variable controls.
+    /// This variable is the control.
     By(TypeVar),
-    /// The instruction is polymorphic, and neither the designated operand's variable nor the first output's may control.
+    /// The instruction is polymorphic, and neither the variable of the designated value nor that of the first output can be the control.
     Missing,
 }
 
@@ -230,7 +230,8 @@ impl Controlling {
     }
 }
 
-/// What controls an instruction with these operands: the designated variable, if it may control, and else the first.
+/// What controls an instruction with these operands: the variable of the designated value if it can be the control, and else that of the
+/// first output.
 fn control_of(
     vars: &TypeVars,
     operands: &Operands,
@@ -254,7 +255,7 @@ fn control_of(
     Controlling::Missing
 }
 
-/// Whether the variable is derived, no type is fixed for it, and its parent is none of the controls.
+/// Whether the variable is derived and has no fixed type, and its parent isn't a control.
 fn is_badly_derived(vars: &TypeVars, controls: &Controls, tv: TypeVar) -> bool
     requires of { tv < length vars.now }
     requires controls { AreControlsOf vars.now controls.now }
@@ -269,7 +270,7 @@ fn is_badly_derived(vars: &TypeVars, controls: &Controls, tv: TypeVar) -> bool
     tv.fixed_type(vars).is_none()
 }
 
-/// The place of the first of the variables that is badly derived.
+/// The place of the first variable that is badly derived.
 fn first_bad(vars: &TypeVars, controls: &Controls, variables: &[TypeVar]) -> Option<usize>
     requires variables { AreOf vars.now variables.now }
     requires controls { AreControlsOf vars.now controls.now }
@@ -284,13 +285,13 @@ fn first_bad(vars: &TypeVars, controls: &Controls, variables: &[TypeVar]) -> Opt
     None
 }
 
-/// The value operands of an instruction, for the checks of its declaration: the variables of the results and then of the
-/// values.
+/// The value operands of an instruction, as the checks of its declaration need them: the type variables of the results and then of the
+/// value inputs.
 #[derive(Drop)]
 pub struct Operands {
     variables: Vec<TypeVar>,
     result_count: usize,
-    // where there are more inputs than an instruction may have
+    // if there are more inputs than an instruction may have
     input_counts: Option<InputCounts>,
     designated: Option<usize>,
     begins_with_value: bool,
@@ -323,7 +324,7 @@ impl Operands {
     ghost use Rattle.meta_inst.specs.InstructionSet.{instruction_of_builder, FitsBuilder};
     ghost use Rattle.meta_inst.specs.Builder.{inputs_of, outputs_of};
 
-    /// The value operands of the instruction, whose format is of the table.
+    /// The value operands of the instruction, whose format must be of the table.
     pub fn of(
         alloc: Global,
         builder: &InstructionBuilder,
@@ -353,7 +354,7 @@ impl Operands {
         })
     }
 
-    /// The variables of the results and then of the values.
+    /// The type variables of the results and then of the value inputs.
     pub fn variables(&self) -> &[TypeVar]
         ensures { result.now ≡ self.now.variables }
     {
@@ -368,21 +369,21 @@ impl Operands {
         self.result_count
     }
 
-    /// The second control, where one is named.
+    /// The second control, if one is named.
     pub fn second(&self) -> &Option<TypeVar>
         ensures { result.now ≡ self.now.second }
     {
         &self.second
     }
 
-    /// The controls, of which this is the first.
+    /// The controls: `control` and the second control of these operands.
     pub(crate) fn controls(&self, control: Option<TypeVar>) -> Controls
         ensures { result ≡ both control self.now.second }
     {
         Controls::new(control, self.second)
     }
 
-    /// The variable of the value input that the format designates.
+    /// The type variable of the designated value, if the instruction has one.
     pub fn designated(&self) -> Option<TypeVar>
         ensures { result ≡ designated_number self.now }
     {
@@ -391,7 +392,7 @@ impl Operands {
         values.get(place).copied()
     }
 
-    /// The variable of the first result.
+    /// The type variable of the first result, if there is a result.
     pub fn first_result(&self) -> Option<TypeVar>
         ensures { result ≡ slice_get (take self.now.result_count self.now.variables) 0 }
     {
@@ -399,7 +400,7 @@ impl Operands {
         results.first().copied()
     }
 
-    /// The variable of the first output, where that is a value.
+    /// The type variable of the first output if that is a value.
     fn first(&self) -> Option<TypeVar>
         ensures { result ≡ first_number self.now }
     {
@@ -410,7 +411,7 @@ impl Operands {
         }
     }
 
-    /// Whether the variable at this place is a value input, and stands at no other one.
+    /// Whether the variable at this place is that of a value input, and stands at no other one.
     fn is_alone(&self, place: usize) -> bool
         requires { place < length self.now.variables }
         ensures { IsTrue result ↔ IsAlone self.now.variables self.now.result_count place }
@@ -424,7 +425,7 @@ impl Operands {
         }
     }
 
-    /// Does nothing: it says what a registry keeps, and that the results are among the variables.
+    /// This function does nothing. Its contract says what a registry keeps, and that the results are among the variables.
     fn holds_with(&self, vars: &TypeVars)
         ensures registry { IsRegistry vars.now }
         ensures within { self.now.result_count ≤ length self.now.variables }
@@ -433,8 +434,8 @@ impl Operands {
         let _results = self.result_count();
     }
 
-    /// What controls the instruction, whose variables are of the registry: the designated operand's variable, if that may
-    /// control, and else the first output's (`verify_polymorphic` of `cdsl/instructions.rs`).
+    /// What controls the instruction: the variable of the designated value if it can be the control, and else that of the first output
+    /// (`verify_polymorphic` of the crate's `cdsl/instructions.rs`). The variables must be of the registry.
     pub fn control(&self, vars: &TypeVars) -> Controlling
         requires variables { AreOf vars.now self.now.variables }
         requires second { SecondIsOf vars.now self.now.second }
@@ -445,7 +446,7 @@ impl Operands {
         control_of(vars, self, self.designated(), self.first())
     }
 
-    /// Whether a second control is named that can't be one.
+    /// Whether a second control is named, but can't be one.
     pub fn has_bad_second(&self, vars: &TypeVars) -> bool
         requires variables { AreOf vars.now self.now.variables }
         requires second { SecondIsOf vars.now self.now.second }
@@ -458,8 +459,8 @@ impl Operands {
         }
     }
 
-    /// The place, among results and then values, of the first operand that is derived, has no fixed type, and whose parent
-    /// is none of the controls, which are of the registry as the variables are; `None` exactly where there is none.
+    /// The place, among results and then values, of the first operand with a bad derivation: its variable is derived and has no fixed type,
+    /// and its parent isn't a control. `None` exactly if there is no such operand. The variables and the controls must be of the registry.
     pub fn bad_derivation(&self, vars: &TypeVars, control: &Controlling) -> Option<usize>
         requires variables { AreOf vars.now self.now.variables }
         requires control { IsOf vars.now control.now }
@@ -474,14 +475,14 @@ impl Operands {
         first_bad(vars, &controls, self.variables())
     }
 
-    /// Whether the variable is that of the designated operand.
+    /// Whether the variable is that of the designated value.
     fn is_designated(&self, tv: TypeVar) -> bool
         ensures { IsTrue result ↔ (designated_number self.now ≡ Some tv) }
     {
         self.designated() == Some(tv)
     }
 
-    /// What is kept of the control, which was found for these operands.
+    /// What is kept of the control that was found for these operands.
     pub(crate) fn polymorphic_info(
         &self,
         vars: &TypeVars,

@@ -1,12 +1,12 @@
 use meta_typevar::TypeVar;
 
-/// What controls a polymorphic instruction (`cdsl/instructions.rs`).
+/// What controls a polymorphic instruction, as in the crate's `cdsl/instructions.rs`.
 #[derive(Clone, Copy, Debug, PartialEq, Eq)]
 pub struct PolymorphicInfo {
-    /// Whether the designated operand's variable is the control.
+    /// Whether the variable of the designated value is the control.
     pub use_typevar_operand: bool,
-    /// The variable that controls, which is underived.
+    /// The type variable that is the control. It is underived.
     pub ctrl_typevar: TypeVar,
-    /// The second control, where one is named.
+    /// The second control, if one is named.
     pub second_typevar: Option<TypeVar>,
 }

@@ -5,7 +5,7 @@ use Rattle.std.specs.Cmp.Lexicographic.{pointwise}
 use Rattle.std.proofs.lemmas.List.{at_drop_more, drop_all}
 use Rattle.meta_items.specs.Words.{written_so}
 
--- the one at a place, in front of those behind it, by whether the word is its own
+-- the one at a place, and those after it, by whether the word is its own
 at_place : {A : Type 0} (text : A → List ℕ) (xs : List A) (i : ℕ) (d : A) (w t : List ℕ) (b c : Bool) → i < length xs
     → t ≡ text (get_or xs i d) → c ≡ pointwise eqb w t → c ≡ b
     → written_so text (drop i xs) w ≡ cond b (Some (get_or xs i d)) (written_so text (drop (i + 1) xs) w)

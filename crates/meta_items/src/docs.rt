@@ -2,7 +2,7 @@ use meta_tokens::Bytes;
 use std::alloc::{AllocError, Global};
 use std::marker::Model;
 
-/// The lines of documentation above an item; none where there is no documentation. A contract sees the list of the lines.
+/// The lines of documentation above an item. The list is empty if there is no documentation. A contract sees the list of the lines.
 #[derive(Drop)]
 pub struct Docs {
     lines: Vec<Bytes>,
@@ -19,7 +19,7 @@ impl Model for Docs {
 ghost use Rattle.std.specs.Prelude.{◌≡◌, IfOk};
 ghost use Rattle.meta_items.specs.Named.{doc_text};
 
-/// The lines as one text, a line end between each two.
+/// The lines as one text, with a line end between each two.
 fn text_of(alloc: Global, lines: &[Bytes]) -> Result<Vec<u8>, AllocError>
     ensures { IfOk result (λ v. v.items ≡ doc_text lines.now) }
 {
@@ -35,21 +35,21 @@ fn text_of(alloc: Global, lines: &[Bytes]) -> Result<Vec<u8>, AllocError>
 }
 
 impl Docs {
-    /// These lines.
+    /// Makes documentation of these lines.
     pub fn of(lines: Vec<Bytes>) -> Docs
         ensures { result ≡ lines.items }
     {
         Docs { lines }
     }
 
-    /// The lines in order, each without what marks it and without its line end.
+    /// The lines in order, each without its slashes and its line end.
     pub fn as_slice(&self) -> &[Bytes]
         ensures { result.now ≡ self.now }
     {
         self.lines.as_slice()
     }
 
-    /// The text of the documentation: its lines, a line end between each two.
+    /// The text of the documentation: its lines, with a line end between each two.
     pub fn text(&self, alloc: Global) -> Result<Vec<u8>, AllocError>
         ensures { IfOk result (λ v. v.items ≡ doc_text self.now) }
     {

@@ -1,24 +1,24 @@
 use super::listed::Listed;
 use meta_tokens::Bytes;
 
-/// What a format stores at a place.
+/// What a format stores in one place.
 #[derive(Drop)]
 pub enum Slot {
     /// `value`
     Value,
-    /// `designated value`: the value whose type is tried first.
+    /// `designated value`: the designated value, whose type is tried first as the control.
     Designated,
-    /// A kind, by its word.
+    /// An operand of a kind, by the word of the kind.
     Kind(Bytes),
 }
 
-/// A format: `format WORD: SLOT, SLOT`, or `none`, and the name that is shown, if it isn't the word.
+/// A format: `format WORD: SLOT, SLOT`, or `none` in place of the slots. After these stands the name that is shown, if it isn't the word.
 #[derive(Drop)]
 pub struct FormatItem {
-    /// The word that instructions name it by.
+    /// The word by which instructions name the format.
     pub word: Bytes,
-    /// The name that is shown; `None` where it is the word.
+    /// The name that is shown. `None` if it is the word.
     pub shown: Option<Bytes>,
-    /// What it stores, in order; nothing for `none`.
+    /// What the format stores, in order. The list is empty for `none`.
     pub slots: Listed<Slot>,
 }

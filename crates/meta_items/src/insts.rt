@@ -7,15 +7,15 @@ use meta_tokens::Bytes;
 /// An operand: its name, its type or kind, and a text that documents it.
 #[derive(Drop)]
 pub struct Operand {
-    /// Its name.
+    /// The name of the operand.
     pub name: Name,
-    /// Its type, or the word of its kind.
+    /// The type of the operand, or the word of its kind.
     pub what: TypeExpr,
-    /// The text that documents it, if one is there.
+    /// The text that documents the operand, if there is one.
     pub text: Option<Bytes>,
 }
 
-/// What an instruction does.
+/// A property of an instruction.
 #[derive(Clone, Copy, PartialEq, Eq)]
 pub enum Property {
     /// `terminates_block`
@@ -43,33 +43,33 @@ pub enum Property {
 /// A mark of an instruction.
 #[derive(Drop)]
 pub enum Mark {
-    /// What it does.
+    /// A property.
     Is(Property),
-    /// `second TYPE`: the second type that controls.
+    /// `second TYPE`: the second control.
     Second(TypeExpr),
 }
 
-/// An instruction: `inst NAME: WORD(OPERAND, OPERAND) -> OPERAND [MARK, MARK]`, where the word is that of its format.
+/// An instruction: `inst NAME: WORD(OPERAND, OPERAND) -> OPERAND [MARK, MARK]`. The word is that of its format.
 #[derive(Drop)]
 pub struct InstItem {
-    /// The lines of documentation above it.
+    /// The lines of documentation above the instruction.
     pub docs: Docs,
-    /// Its name.
+    /// The name of the instruction.
     pub name: Name,
-    /// The word of its format.
+    /// The word of the instruction's format.
     pub format: Bytes,
     /// The inputs in order.
     pub inputs: Listed<Operand>,
-    /// The outputs; none where no arrow stands.
+    /// The outputs in order. The list is empty if there is no arrow.
     pub outputs: Listed<Operand>,
-    /// The marks; `None` where no brackets stand.
+    /// The marks. `None` if there are no brackets.
     pub marks: Option<Listed<Mark>>,
 }
 
 ghost use Rattle.std.specs.Prelude.{◌≡◌};
 ghost use Rattle.meta_items.specs.Words.{property_text, property_of};
 
-/// All that an instruction may do.
+/// All properties.
 const PROPERTIES: [Property; 10] = [
     Property::TerminatesBlock,
     Property::Branches,
@@ -84,7 +84,7 @@ const PROPERTIES: [Property; 10] = [
 ];
 
 impl Property {
-    /// The word that it is.
+    /// The property as a word.
     pub fn as_slice(self) -> &'static [u8]
         ensures { result.now ≡ property_text self }
     {
@@ -102,7 +102,7 @@ impl Property {
         }
     }
 
-    /// The mark that a word is, if it is one.
+    /// The property with this word, if there is one.
     pub fn of(word: &[u8]) -> Option<Property>
         ensures { result ≡ property_of word.now }
     {

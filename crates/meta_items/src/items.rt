@@ -10,54 +10,54 @@ use meta_tokens::Bytes;
 /// A boolean of a group: `bool NAME = true`, and a comment.
 #[derive(Drop)]
 pub struct BoolItem {
-    /// The lines of documentation above it.
+    /// The lines of documentation above the boolean.
     pub docs: Docs,
-    /// Its name.
+    /// The name of the boolean.
     pub name: Name,
-    /// Its default.
+    /// The default of the boolean.
     pub default: bool,
-    /// The text behind it, if one is there.
+    /// The comment after the boolean, if there is one.
     pub comment: Option<Bytes>,
 }
 
 /// A number of a group: `num NAME = 16`, and a comment.
 #[derive(Drop)]
 pub struct NumItem {
-    /// The lines of documentation above it.
+    /// The lines of documentation above the number.
     pub docs: Docs,
-    /// Its name.
+    /// The name of the number.
     pub name: Name,
-    /// Its default.
+    /// The default of the number.
     pub default: u8,
-    /// The text behind it, if one is there.
+    /// The comment after the number, if there is one.
     pub comment: Option<Bytes>,
 }
 
-/// An enum of a group: `enum NAME(VALUE, VALUE)`, and a comment. Its first value is its default.
+/// An enum of a group: `enum NAME(VALUE, VALUE)`, and a comment. The first value is the default.
 #[derive(Drop)]
 pub struct EnumItem {
-    /// The lines of documentation above it.
+    /// The lines of documentation above the enum.
     pub docs: Docs,
-    /// Its name.
+    /// The name of the enum.
     pub name: Name,
-    /// Its values in order.
+    /// The values in order.
     pub values: Listed<Name>,
-    /// The text behind it, if one is there.
+    /// The comment after the enum, if there is one.
     pub comment: Option<Bytes>,
 }
 
-/// A preset of a group: `preset NAME(NAME, NAME)`. The names are of booleans, and of earlier presets of the group.
+/// A preset of a group: `preset NAME(NAME, NAME)`. The names in parentheses are those of booleans and of earlier presets of the group.
 #[derive(Drop)]
 pub struct PresetItem {
-    /// The lines of documentation above it.
+    /// The lines of documentation above the preset.
     pub docs: Docs,
-    /// Its name.
+    /// The name of the preset.
     pub name: Name,
-    /// The names that it lists, in order.
+    /// The names that the preset lists, in order.
     pub args: Listed<Name>,
 }
 
-/// An item of a file.
+/// An item of a file: one declaration.
 #[derive(Drop)]
 pub enum Item {
     /// A type variable.
@@ -70,14 +70,14 @@ pub enum Item {
     Format(FormatItem),
     /// An instruction.
     Inst(InstItem),
-    /// `group NAME`: the settings below belong to it, up to the next group.
+    /// `group NAME`. The settings and presets below, up to the next group, belong to it.
     Group(Name),
-    /// A boolean.
+    /// A boolean of a group.
     Bool(BoolItem),
-    /// A number.
+    /// A number of a group.
     Num(NumItem),
-    /// One of some values.
+    /// An enum of a group.
     Enum(EnumItem),
-    /// A preset.
+    /// A preset of a group.
     Preset(PresetItem),
 }

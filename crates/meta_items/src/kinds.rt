@@ -4,23 +4,23 @@ use super::name::Name;
 use super::types::TypeExpr;
 use meta_tokens::Bytes;
 
-/// A name of a number, and the name that it has in Rust: `eq = Equal`.
+/// A value of an enum immediate: its name, and its name in Rust, such as `eq = Equal`.
 #[derive(Drop)]
 pub struct EnumValue {
-    /// Its name.
+    /// The name of the value.
     pub name: Name,
-    /// Its name in Rust.
+    /// The name of the value in Rust.
     pub rust: Name,
 }
 
-/// The sort of a kind of operand.
+/// The sort of a kind of operands.
 #[derive(Drop)]
 pub enum Sort {
-    /// `entity`: a reference.
+    /// `entity`: a reference to an entity of the function.
     Entity,
     /// `imm`: a number.
     Imm,
-    /// `imm_enum(..)`: one of these names.
+    /// `imm_enum(..)`: one of these values.
     ImmEnum(Listed<EnumValue>),
     /// `varargs`: any number of values.
     Varargs,
@@ -28,17 +28,17 @@ pub enum Sort {
     Value(TypeExpr),
 }
 
-/// A kind of operand: `kind WORD: SORT "RUST"`, and the name of its field, if it isn't the word.
+/// A kind of operands: `kind WORD: SORT "RUST"`. After these stands the name of its field, if it isn't the word.
 #[derive(Drop)]
 pub struct KindItem {
-    /// The lines of documentation above it.
+    /// The lines of documentation above the kind.
     pub docs: Docs,
-    /// The word that names it.
+    /// The word that names the kind.
     pub word: Bytes,
-    /// Its sort.
+    /// The sort of the kind.
     pub sort: Sort,
-    /// Its type in Rust.
+    /// The type of the kind in Rust.
     pub rust: Bytes,
-    /// The name of its field; `None` where it is the word.
+    /// The name of the kind's field. `None` if it is the word.
     pub field: Option<Name>,
 }

@@ -1,6 +1,6 @@
 use std::marker::Model;
 
-/// Things in order. A contract sees the list.
+/// A list in a file. A contract sees the list.
 #[derive(Drop)]
 pub struct Listed<T: Drop> {
     things: Vec<T>,
@@ -17,14 +17,14 @@ impl<T: Drop> Model for Listed<T> {
 ghost use Rattle.std.specs.Prelude.{◌≡◌};
 
 impl<T: Drop> Listed<T> {
-    /// These things.
+    /// Makes a list of these things.
     pub fn of(things: Vec<T>) -> Listed<T>
         ensures { result ≡ things.items }
     {
         Listed { things }
     }
 
-    /// The things in order.
+    /// The things, in order.
     pub fn as_slice(&self) -> &[T]
         ensures { result.now ≡ self.now }
     {

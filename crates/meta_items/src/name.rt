@@ -3,7 +3,7 @@ use meta_tokens::Bytes;
 /// A name: a word, or a text in quotes.
 #[derive(Drop)]
 pub enum Name {
-    /// A word that is no keyword.
+    /// A word that isn't a keyword.
     Plain(Bytes),
     /// A text in quotes.
     Quoted(Bytes),
@@ -13,7 +13,7 @@ ghost use Rattle.std.specs.Prelude.{◌≡◌};
 ghost use Rattle.meta_items.specs.Named.{name_bytes};
 
 impl Name {
-    /// What is named: the bytes of the word, or of the text.
+    /// The bytes of the name: those of the word, or of the text.
     pub fn as_slice(&self) -> &[u8]
         ensures { result.now ≡ name_bytes self.now }
     {

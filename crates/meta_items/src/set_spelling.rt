@@ -92,7 +92,7 @@ impl Spelled for Mark {
 }
 
 impl Speller {
-    /// Adds `)` for each.
+    /// Adds a `)` for each function.
     fn add_closed(&mut self, functions: &[Function]) -> Result<(), AllocError>
         ensures { OnOk result (self.new.tokens.items ≡ self.old.tokens.items ++ closed functions.now) }
     {
@@ -102,7 +102,6 @@ impl Speller {
         Ok(())
     }
 
-    /// Adds a type.
     fn add_type(&mut self, what: &TypeExpr) -> Result<(), AllocError>
         ensures { OnOk result (self.new.tokens.items ≡ self.old.tokens.items ++ type_expr what.now) }
     {
@@ -125,7 +124,7 @@ impl Speller {
         }
     }
 
-    /// Adds what a part has.
+    /// Adds the members of a part.
     fn add_members(&mut self, members: &Members) -> Result<(), AllocError>
         ensures { OnOk result (self.new.tokens.items ≡ self.old.tokens.items ++ part_members members.now) }
     {
@@ -136,7 +135,7 @@ impl Speller {
         }
     }
 
-    /// Adds a set of types.
+    /// Adds a type set.
     fn add_set(&mut self, set: &SetExpr) -> Result<(), AllocError>
         ensures { OnOk result (self.new.tokens.items ≡ self.old.tokens.items ++ set_expr set.now) }
     {
@@ -149,7 +148,7 @@ impl Speller {
         }
     }
 
-    /// Adds a type variable behind its keyword.
+    /// Adds what follows the keyword of a type variable.
     pub(crate) fn add_type_item(&mut self, item: &TypeItem) -> Result<(), AllocError>
         ensures { OnOk result (self.new.tokens.items ≡ self.old.tokens.items ++ type_item item.now) }
     {
@@ -159,7 +158,7 @@ impl Speller {
         self.add_set(&item.set)
     }
 
-    /// Adds another word for a type behind its keyword.
+    /// Adds what follows the keyword of another word for a type.
     pub(crate) fn add_alias(&mut self, item: &AliasItem) -> Result<(), AllocError>
         ensures { OnOk result (self.new.tokens.items ≡ self.old.tokens.items ++ alias_item item.now) }
     {
@@ -168,7 +167,6 @@ impl Speller {
         self.add_type(&item.means)
     }
 
-    /// Adds the sort of a kind.
     fn add_sort(&mut self, sort: &Sort) -> Result<(), AllocError>
         ensures { OnOk result (self.new.tokens.items ≡ self.old.tokens.items ++ kind_sort sort.now) }
     {
@@ -204,7 +202,7 @@ impl Speller {
         }
     }
 
-    /// Adds a kind behind its keyword.
+    /// Adds what follows the keyword of a kind.
     pub(crate) fn add_kind(&mut self, item: &KindItem) -> Result<(), AllocError>
         ensures { OnOk result (self.new.tokens.items ≡ self.old.tokens.items ++ kind_item item.now) }
     {
@@ -215,7 +213,7 @@ impl Speller {
         self.add_field(&item.field)
     }
 
-    /// Adds what a format stores.
+    /// Adds the slots of a format.
     fn add_slots(&mut self, slots: &[Slot]) -> Result<(), AllocError>
         ensures { OnOk result (self.new.tokens.items ≡ self.old.tokens.items ++ format_slots slots.now) }
     {
@@ -225,7 +223,7 @@ impl Speller {
         }
     }
 
-    /// Adds a format behind its keyword.
+    /// Adds what follows the keyword of a format.
     pub(crate) fn add_format(&mut self, item: &FormatItem) -> Result<(), AllocError>
         ensures { OnOk result (self.new.tokens.items ≡ self.old.tokens.items ++ format_item item.now) }
     {
@@ -235,7 +233,7 @@ impl Speller {
         self.add_slots(item.slots.as_slice())
     }
 
-    /// Adds outputs behind an arrow, if there are any.
+    /// Adds an arrow and the outputs, if there are any.
     fn add_outputs(&mut self, operands: &[Operand]) -> Result<(), AllocError>
         ensures { OnOk result (self.new.tokens.items ≡ self.old.tokens.items ++ outputs operands.now) }
     {
@@ -249,7 +247,7 @@ impl Speller {
         }
     }
 
-    /// Adds marks between brackets, if brackets stand.
+    /// Adds the marks in brackets, if there are brackets.
     fn add_marks(&mut self, marks: &Option<Listed<Mark>>) -> Result<(), AllocError>
         ensures { OnOk result (self.new.tokens.items ≡ self.old.tokens.items ++ mark_list marks.now) }
     {
@@ -274,7 +272,7 @@ impl Speller {
         self.add(Token::Sign(b')'))
     }
 
-    /// Adds an instruction behind its keyword.
+    /// Adds what follows the keyword of an instruction.
     pub(crate) fn add_inst(&mut self, item: &InstItem) -> Result<(), AllocError>
         ensures { OnOk result (self.new.tokens.items ≡ self.old.tokens.items ++ inst_item item.now) }
     {

@@ -7,24 +7,23 @@ use super::name::Name;
 use meta_tokens::{Bytes, Keyword, Token};
 use std::alloc::{AllocError, Global};
 
-/// What stands in lists.
+/// A thing that stands in lists, and has tokens.
 pub(crate) trait Spelled {
-    // Its tokens.
+    // The tokens of the thing.
     ghost tokens: { Self → List Token };
 
-    /// Adds its tokens.
+    /// Adds the tokens of the thing.
     fn add_to(&self, speller: &mut Speller) -> Result<(), AllocError>
         ensures { OnOk result (speller.new.tokens.items ≡ speller.old.tokens.items ++ tokens self.now) };
 }
 
-/// Tokens that are being made.
+/// A list of tokens that is being made.
 #[derive(Drop)]
 pub(crate) struct Speller {
     alloc: Global,
     tokens: Vec<Token>,
 }
 
-/// The token of a name.
 fn name_token(alloc: Global, named: &Name) -> Result<Token, AllocError>
     ensures { IfOk result (λ t. t ≡ name named.now) }
 {
@@ -34,7 +33,6 @@ fn name_token(alloc: Global, named: &Name) -> Result<Token, AllocError>
     }
 }
 
-/// The token of a number.
 fn number_token(alloc: Global, value: u16) -> Result<Token, AllocError>
     ensures { IfOk result (λ t. t ≡ number value) }
 {
@@ -43,7 +41,6 @@ fn number_token(alloc: Global, value: u16) -> Result<Token, AllocError>
 }
 
 impl Speller {
-    /// No tokens yet.
     pub(crate) fn new(alloc: Global) -> Speller
         ensures { result.tokens.items ≡ [] }
     {
@@ -53,14 +50,12 @@ impl Speller {
         }
     }
 
-    /// The tokens.
     pub(crate) fn into_tokens(self) -> Vec<Token>
         ensures { result.items ≡ self.tokens.items }
     {
         self.tokens
     }
 
-    /// Adds a token.
     pub(crate) fn add(&mut self, token: Token) -> Result<(), AllocError>
         ensures { OnOk result (self.new.tokens.items ≡ self.old.tokens.items ++ token ∷ []) }
     {
@@ -68,7 +63,6 @@ impl Speller {
         Ok(())
     }
 
-    /// Adds a word.
     pub(crate) fn add_word(&mut self, word: &[u8]) -> Result<(), AllocError>
         ensures { OnOk result (self.new.tokens.items ≡ self.old.tokens.items ++ Word word.now ∷ []) }
     {
@@ -76,7 +70,7 @@ impl Speller {
         self.add(Token::Word(word))
     }
 
-    /// Adds a text.
+    /// Adds a text in quotes.
     pub(crate) fn add_text(&mut self, text: &Bytes) -> Result<(), AllocError>
         ensures { OnOk result (self.new.tokens.items ≡ self.old.tokens.items ++ Quoted text.now ∷ []) }
     {
@@ -84,7 +78,6 @@ impl Speller {
         self.add(Token::Quoted(text))
     }
 
-    /// Adds a name.
     pub(crate) fn add_name(&mut self, named: &Name) -> Result<(), AllocError>
         ensures { OnOk result (self.new.tokens.items ≡ self.old.tokens.items ++ name named.now ∷ []) }
     {
@@ -92,7 +85,6 @@ impl Speller {
         self.add(token)
     }
 
-    /// Adds a number.
     pub(crate) fn add_number(&mut self, value: u16) -> Result<(), AllocError>
         ensures { OnOk result (self.new.tokens.items ≡ self.old.tokens.items ++ number value ∷ []) }
     {
@@ -100,7 +92,7 @@ impl Speller {
         self.add(token)
     }
 
-    /// Adds a truth value.
+    /// Adds `true` or `false`.
     pub(crate) fn add_truth(&mut self, value: bool) -> Result<(), AllocError>
         ensures { OnOk result (self.new.tokens.items ≡ self.old.tokens.items ++ truth value ∷ []) }
     {
@@ -110,7 +102,6 @@ impl Speller {
         self.add_word(b"false")
     }
 
-    /// Adds lines of documentation.
     pub(crate) fn add_docs(&mut self, lines: &[Bytes]) -> Result<(), AllocError>
         ensures { OnOk result (self.new.tokens.items ≡ self.old.tokens.items ++ docs lines.now) }
     {
@@ -120,7 +111,7 @@ impl Speller {
         Ok(())
     }
 
-    /// Adds documentation and a keyword.
+    /// Adds documentation and a keyword, with which an item begins.
     pub(crate) fn begin(&mut self, lines: &[Bytes], keyword: Keyword) -> Result<(), AllocError>
         ensures { OnOk result (self.new.tokens.items ≡ self.old.tokens.items ++ (docs lines.now ++ Key keyword ∷ [])) }
     {
@@ -128,7 +119,7 @@ impl Speller {
         self.add(Token::Key(keyword))
     }
 
-    /// Adds a text, if there is one.
+    /// Adds a comment, which is a text in quotes, if there is one.
     pub(crate) fn add_comment(&mut self, text: &Option<Bytes>) -> Result<(), AllocError>
         ensures { OnOk result (self.new.tokens.items ≡ self.old.tokens.items ++ comment text.now) }
     {
@@ -138,7 +129,7 @@ impl Speller {
         }
     }
 
-    /// Adds parts, one behind the other.
+    /// Adds the tokens of the parts, one after another.
     pub(crate) fn add_all<T: Spelled>(&mut self, parts: &[T]) -> Result<(), AllocError>
         ensures { OnOk result (self.new.tokens.items ≡ self.old.tokens.items ++ each_behind [] T.tokens parts.now) }
     {
@@ -148,7 +139,7 @@ impl Speller {
         Ok(())
     }
 
-    /// Adds parts, each behind a comma.
+    /// Adds the tokens of the parts, each after a comma.
     fn add_more<T: Spelled>(&mut self, parts: &[T]) -> Result<(), AllocError>
         ensures { OnOk result (self.new.tokens.items ≡ self.old.tokens.items ++ each_behind comma T.tokens parts.now) }
     {
@@ -159,7 +150,7 @@ impl Speller {
         Ok(())
     }
 
-    /// Adds parts, a comma between each two.
+    /// Adds the tokens of the parts, with a comma between each two.
     pub(crate) fn add_listed<T: Spelled>(&mut self, parts: &[T]) -> Result<(), AllocError>
         ensures { OnOk result (self.new.tokens.items ≡ self.old.tokens.items ++ listed T.tokens parts.now) }
     {

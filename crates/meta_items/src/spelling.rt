@@ -8,7 +8,7 @@ use meta_tokens::{Keyword, Token, write_tokens};
 use std::alloc::{AllocError, Global};
 
 impl Speller {
-    /// Adds a boolean behind its keyword.
+    /// Adds what follows the keyword of a boolean.
     fn add_bool(&mut self, item: &BoolItem) -> Result<(), AllocError>
         ensures { OnOk result (self.new.tokens.items ≡ self.old.tokens.items ++ bool_item item.now) }
     {
@@ -18,7 +18,7 @@ impl Speller {
         self.add_comment(&item.comment)
     }
 
-    /// Adds a number behind its keyword.
+    /// Adds what follows the keyword of a number.
     fn add_num(&mut self, item: &NumItem) -> Result<(), AllocError>
         ensures { OnOk result (self.new.tokens.items ≡ self.old.tokens.items ++ num_item item.now) }
     {
@@ -28,7 +28,7 @@ impl Speller {
         self.add_comment(&item.comment)
     }
 
-    /// Adds an enum behind its keyword.
+    /// Adds what follows the keyword of an enum.
     fn add_enum(&mut self, item: &EnumItem) -> Result<(), AllocError>
         ensures { OnOk result (self.new.tokens.items ≡ self.old.tokens.items ++ enum_item item.now) }
     {
@@ -39,7 +39,7 @@ impl Speller {
         self.add_comment(&item.comment)
     }
 
-    /// Adds a preset behind its keyword.
+    /// Adds what follows the keyword of a preset.
     fn add_preset(&mut self, item: &PresetItem) -> Result<(), AllocError>
         ensures { OnOk result (self.new.tokens.items ≡ self.old.tokens.items ++ preset_item item.now) }
     {
@@ -49,7 +49,6 @@ impl Speller {
         self.add(Token::Sign(b')'))
     }
 
-    /// Adds an item.
     fn add_item(&mut self, item: &Item) -> Result<(), AllocError>
         ensures { OnOk result (self.new.tokens.items ≡ self.old.tokens.items ++ spelled item.now) }
     {
@@ -98,7 +97,7 @@ impl Speller {
     }
 }
 
-/// The tokens of the items, one item after the other.
+/// The tokens of the items, one item after another.
 pub fn spell(alloc: Global, items: &[Item]) -> Result<Vec<Token>, AllocError>
     ensures { IfOk result (λ v. v.items ≡ spelled_all items.now) }
 {
@@ -109,7 +108,7 @@ pub fn spell(alloc: Global, items: &[Item]) -> Result<Vec<Token>, AllocError>
     Ok(speller.into_tokens())
 }
 
-/// The canonical text of the items: each item and each line of documentation begins a line.
+/// The canonical text of the items. Each item and each line of documentation begins a line.
 pub fn write_items(alloc: Global, items: &[Item]) -> Result<Vec<u8>, AllocError>
     ensures { IfOk result (λ v. v.items ≡ laid (spelled_all items.now)) }
 {

@@ -2,7 +2,7 @@ use super::docs::Docs;
 use super::listed::Listed;
 use meta_tokens::Bytes;
 
-/// What derives a type from another.
+/// A derived function, which derives a type from another.
 #[derive(Clone, Copy, PartialEq, Eq)]
 pub enum Function {
     /// `lane_of`
@@ -25,21 +25,22 @@ pub enum Function {
     Wider,
 }
 
-/// A type: a word, or what functions derive from it: `narrower(lane_of(Any))`.
+/// A type: a word, or what functions derive from it, such as `narrower(lane_of(Any))`.
 #[derive(Drop)]
 pub struct TypeExpr {
-    /// The functions as they stand: the last one is derived from the word, and each other one from what stands behind it.
+    /// The functions in the order in which they are written. The last one is applied to the word, and each other one to what the next one
+    /// gives.
     pub functions: Listed<Function>,
-    /// The word of the type that they derive from.
+    /// The word of the type that the functions are applied to.
     pub word: Bytes,
 }
 
-/// A part of a set of types.
+/// A dimension: what a part of a type set is about.
 #[derive(Clone, Copy, PartialEq, Eq)]
 pub enum Dimension {
     /// `lanes`
     Lanes,
-    /// `dynamic`: the least lanes of dynamic vectors.
+    /// `dynamic`: the least lane counts of dynamic vectors.
     Dynamic,
     /// `ints`
     Ints,
@@ -47,65 +48,65 @@ pub enum Dimension {
     Floats,
 }
 
-/// A number of a part, or all from one number to another: `8`, `8..64`.
+/// A number of a part, or a range of numbers, such as `8` or `8..64`.
 #[derive(Clone, Copy)]
 pub struct Span {
-    /// The number, or the lower end.
+    /// The number, or the lower end of the range.
     pub low: u16,
-    /// The upper end, which belongs to the range; `None` for a number alone.
+    /// The upper end of the range, which is in it. `None` for a single number.
     pub high: Option<u16>,
 }
 
-/// What a part has.
+/// The numbers of a part.
 #[derive(Drop)]
 pub enum Members {
     /// `all`
     All,
     /// `none`
     Nothing,
-    /// Numbers and ranges, one at least.
+    /// Numbers and ranges, at least one.
     Spans(Listed<Span>),
 }
 
-/// A part of a set of types, and what it has: `lanes 1..4`.
+/// A part of a type set: a dimension and its numbers, such as `lanes 1..4`.
 #[derive(Drop)]
 pub struct Part {
-    /// Which part it is.
+    /// The dimension of the part.
     pub dimension: Dimension,
-    /// What it has.
+    /// The numbers of the part.
     pub members: Members,
 }
 
-/// The set of a type variable.
+/// The type set of a type variable.
 #[derive(Drop)]
 pub enum SetExpr {
-    /// Parts, one at least.
+    /// Parts, at least one.
     Parts(Listed<Part>),
-    /// `like WORD`: the set of another.
+    /// `like WORD`: the type set of another variable.
     Like(Bytes),
 }
 
-/// A type variable: `type WORD: PART, PART`, and the text that is shown, if it isn't the word.
+/// A type variable: `type WORD: PART, PART`. After these stands the text that is shown, if it isn't the word.
 #[derive(Drop)]
 pub struct TypeItem {
-    /// The lines of documentation above it.
+    /// The lines of documentation above the variable.
     pub docs: Docs,
-    /// The word that names it.
+    /// The word that names the variable.
     pub word: Bytes,
-    /// The text that is shown; `None` where it is the word.
+    /// The text that is shown. `None` if it is the word.
     pub shown: Option<Bytes>,
-    /// Its set.
+    /// The type set of the variable.
     pub set: SetExpr,
 }
 
-/// Another word for a type: `type WORD = TYPE`.
+/// An alias, which is another word for a type: `type WORD = TYPE`.
 #[derive(Drop)]
 pub struct AliasItem {
-    /// The lines of documentation above it.
+    /// The lines of documentation above the alias.
     pub docs: Docs,
-    /// The word that names it.
+    /// The word that the alias declares.
     pub word: Bytes,
-    /// The type.
+    /// The type that the word stands for.
     pub means: TypeExpr,
 }
 
@@ -126,7 +127,7 @@ const FUNCTIONS: [Function; 9] = [
 ];
 
 impl Function {
-    /// The word that it is.
+    /// The function as a word.
     pub fn as_slice(self) -> &'static [u8]
         ensures { result.now ≡ function_text self }
     {
@@ -143,7 +144,7 @@ impl Function {
         }
     }
 
-    /// The function that a word is, if it is one.
+    /// The function with this word, if there is one.
     pub fn of(word: &[u8]) -> Option<Function>
         ensures { result ≡ function_of word.now }
     {
@@ -156,7 +157,7 @@ impl Function {
     }
 }
 
-/// All parts.
+/// All dimensions.
 const DIMENSIONS: [Dimension; 4] = [
     Dimension::Lanes,
     Dimension::Dynamic,
@@ -165,7 +166,7 @@ const DIMENSIONS: [Dimension; 4] = [
 ];
 
 impl Dimension {
-    /// The word that it is.
+    /// The dimension as a word.
     pub fn as_slice(self) -> &'static [u8]
         ensures { result.now ≡ dimension_text self }
     {
@@ -177,7 +178,7 @@ impl Dimension {
         }
     }
 
-    /// The part that a word is, if it is one.
+    /// The dimension with this word, if there is one.
     pub fn of(word: &[u8]) -> Option<Dimension>
         ensures { result ≡ dimension_of word.now }
     {

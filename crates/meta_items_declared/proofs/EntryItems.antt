@@ -132,7 +132,7 @@ no_preset known (item.Num i) e = refl
 no_preset known (item.Enum i) e = refl
 no_preset known (item.Preset i) e = absurd (cc)
 
--- the n-th preset is declared by an item behind these
+-- the n-th preset is declared by an item after these
 record IsPresetFrom (s : ℕ) (above items : List Item) (n : ℕ) (p : PresetDeclaration) : Type 0 where
   pub behind : ℕ
   pub preset : PresetItem

@@ -16,7 +16,7 @@ use lib.Pointwise.{pointwise}
 use Rattle.meta_items_declared.specs.Named.{first_place}
 use Rattle.meta_items_declared.specs.FirstNumbers.{number_in, or_of, LeadsTo}
 
--- ---- the first place that passes, with one more behind
+-- ---- the first place that passes, with one more after it
 
 from_more : {X : Type 0} (t : X → Bool) (i : ℕ) (xs : List X) (y : X)
     → position_from t i (xs ++ y ∷ []) ≡ option_or (position_from t i xs) (cond (t y) (Some (i + length xs)) None)

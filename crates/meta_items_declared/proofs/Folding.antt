@@ -1,4 +1,4 @@
--- What items declare behind one item more, and what is wrong with that.
+-- What items declare after one more item, and what is wrong with that.
 use Rattle.std.proofs.Common.{◌≡◌, ℕ, zero, suc, ◌+◌, List, [], ◌∷◌, ◌++◌, Option, Some, None, length, take, slice_get, refl, sym, ap}
 use Rattle.std.proofs.Common.{◌∙◌, arith}
 use Rattle.std.proofs.Common.{add-zero}

@@ -96,7 +96,7 @@ opened items g group h =
       is = from.is;
     }
 
--- ---- the entries behind it
+-- ---- the entries after it
 
 -- no group stands among these
 abbrev pub HasNoGroup : List Item → Type 0

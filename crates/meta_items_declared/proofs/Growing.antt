@@ -20,7 +20,7 @@ use Rattle.meta_items_declared.proofs.Kept.{name_of_boolean, name_of_other, name
 
 -- ---- the entries of the last group
 
--- those behind one item more
+-- those after one more item
 abbrev pub more_entries : Option (List Item) → Item → Option (List Item)
 more_entries above (item.Group n) = Some []
 more_entries above (item.Type i) = option_map (λ es. es ++ item.Type i ∷ []) above
@@ -292,7 +292,7 @@ one_more items place done g i new h at e =
           (drop (place + 1) items)) last ∙ groups);
     }
 
--- behind all of them
+-- after all of them
 all_closed : (done : List GroupDeclaration) (g : Option GroupDeclaration) (above : Option (List Item)) → AreKnown g above
     → resumed done g above [] ≡ closed_by done g
 all_closed done None above h = append-nil done

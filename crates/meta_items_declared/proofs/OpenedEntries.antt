@@ -44,7 +44,7 @@ below_taken [] (suc p) j i h = absurd (cc)
 below_taken (x ∷ xs) (suc p) zero i h = omega arith
 below_taken (x ∷ xs) (suc p) (suc j) i h = let l = below_taken xs p j i h in omega (arith, l)
 
--- up to an item behind a group
+-- up to an item after a group
 parts : (xs : List Item) (k : ℕ) (x : Item) (j : ℕ) → slice_get xs k ≡ Some x
     → take (k + 1 + j) xs ≡ take k xs ++ x ∷ take j (drop (k + 1) xs)
 parts [] k x j h = absurd (cc)

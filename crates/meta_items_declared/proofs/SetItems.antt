@@ -21,7 +21,7 @@ use Rattle.meta_items_declared.specs.AllItems.{AllRight}
 use Rattle.meta_items_declared.proofs.NthPlaces.{places_more}
 use Rattle.meta_items_declared.proofs.Folding.{said_more, insts_right, length_taken}
 
--- the item at place k is an instruction, and this is what it says behind the items above it
+-- the item at place k is an instruction, and this is what it says after the items above it
 pub record IsInstAt (items : List Item) (k : ℕ) (meant : MeantInst) : Type 0 where
   pub inst : InstItem
   pub at : slice_get items k ≡ Some (item.Inst inst)

@@ -1,5 +1,5 @@
 -- What all items declare: types and kinds, formats and instructions, and groups of settings.
---     wrong_in items k           what is wrong with the item at place k, behind the items above it
+--     wrong_in items k           what is wrong with the item at place k, after the items above it
 --     IsFirstWrong items k r     the item at place k is the first that is wrong, and r is wrong with it
 --     Declares items d           nothing is wrong with the items, and these are the declarations that they make
 use Rattle.std.specs.Prelude.{◌≡◌, ◌<◌, ℕ, List, length, take, slice_get, Option, Some, None, option_map, option_and_then}
@@ -21,11 +21,11 @@ use Rattle.meta_items_declared.specs.Said.{groups_of}
 
 -- ---- what is wrong
 
--- with a type, a kind, a format or an instruction, behind what the items above it declare
+-- with a type, a kind, a format or an instruction, after what the items above it declare
 abbrev pub wrong_of_set : insts.Above → Item → Option Reason
 wrong_of_set above i = option_or (option_map OfType (types.wrong_with above.types i)) (option_map OfInst (insts.wrong_with above i))
 
--- with an item, behind what the items above it declare, and by the names of the group that it belongs to, if there is one
+-- with an item, after what the items above it declare, and by the names of the group that it belongs to, if there is one
 abbrev pub wrong_with : insts.Above → Option Known → Item → Option Reason
 wrong_with above known i = option_or (wrong_of_set above i) (groups.wrong_with known i)
 

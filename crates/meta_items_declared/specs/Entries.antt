@@ -18,7 +18,7 @@ pub record DeclaresGroup (items : List Item) (groups : List GroupDeclaration) (k
   pub above : count_by is_group (take k items) ≡ n
   pub stands : slice_get groups n ≡ Some (group_with name (before_group (drop (k + 1) items)))
 
--- the entry that an item is, behind these of its group
+-- the entry that an item is, after these of its group
 abbrev pub entry_below : List Item → Item → Option Entry
 entry_below above (item.Group n) = None
 entry_below above (item.Type i) = None
@@ -44,7 +44,7 @@ number_below g above (item.Num i) = Some (count_by is_setting above)
 number_below g above (item.Enum i) = Some (count_by is_setting above)
 number_below g above (item.Preset i) = Some (length g.settings + count_by is_preset above)
 
--- the item at place k, behind these entries of the n-th group, is the e-th entry of the group
+-- the item at place k, after these entries of the n-th group, is the e-th entry of the group
 pub record DeclaresEntry (items : List Item) (groups : List GroupDeclaration) (k n e : ℕ) : Type 0 where
   pub item : Item
   pub above : List Item

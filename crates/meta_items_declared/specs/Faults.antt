@@ -23,7 +23,7 @@ use Rattle.meta_items_declared.specs.AllItems.{registry_of}
 
 -- ---- what an item at a place declares
 
--- the item at place k is the n-th `inst`, from 0, and the n-th instruction is what it says behind the items above it
+-- the item at place k is the n-th `inst`, from 0, and the n-th instruction is what it says after the items above it
 pub record DeclaresInst (items : List Item) (set : InstructionSet) (k n : ℕ) : Type 0 where
   pub inst : InstItem
   pub meant : MeantInst

@@ -52,7 +52,7 @@ meant_at (Some k) p = Some (BoolSetting k)
 meant_at None (Some k) = Some (OtherPreset k)
 meant_at None None = None
 
--- what a name stands for: the first boolean of the name, by its place among the booleans of the group, or where there is none the first
--- preset, by its place among the presets
+-- what a name stands for: the first boolean of the name, by its place among the booleans of the group, or if there is no such boolean the
+-- first preset, by its place among the presets
 abbrev pub meant : Known → List ℕ → Option PresetType
 meant known name = meant_at (first_place known.booleans name) (first_place known.presets name)

@@ -41,7 +41,7 @@ IsKeptOpen (Some g) = IsKept g
 abbrev pub known_in : Option OpenGroup → Option Known
 known_in g = option_map known_of (group_in g)
 
--- ---- the groups behind an item
+-- ---- the groups after an item
 
 pub record GroupsSoFar : Type 0 where
   pub done : List GroupDeclaration

@@ -146,7 +146,7 @@ entry_places items = places_of is_setting items ++ places_of is_preset items
 abbrev pub laid_places : List Item → List ℕ
 laid_places items = places_of is_valued items ++ places_of is_bool items
 
--- the place of an entry of the group that is opened at a place: the items of the group stand behind it
+-- the place of an entry of the group that is opened at a place: the items of the group come after it
 abbrev pub entry_behind : List Item → ℕ → ℕ → Option ℕ
 entry_behind items e p = option_map (λ k. p + 1 + k) (slice_get (entry_places (before_group (drop (p + 1) items))) e)
 
@@ -170,8 +170,8 @@ item_of_place items (Entry g e) = place_of_entry items g e
 
 -- ---- faults
 
--- what the fault names, where this is how many instructions are declared: the first of them that is one too many, or the last one where
--- there are too many sets of types. Want of memory names nothing
+-- what the fault names, under this count of declared instructions: the first of them that is one too many, or the last one if there are too
+-- many type sets. `OutOfMemory` names nothing.
 abbrev pub named_by : ℕ → DefinitionError → Option Place
 named_by count (BadName p) = Some p
 named_by count (DuplicateName p earlier) = Some p

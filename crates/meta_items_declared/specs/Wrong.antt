@@ -1,6 +1,6 @@
 -- What is wrong with a group or an entry, if anything is.
 --     wrong_with known i        what is wrong with the item, by the names that are known of its group
---     known_behind items        the names that stand for something below these items
+--     known_behind items        the names that stand for something after these items
 use Rattle.std.specs.Prelude.{ℕ, Bool, true, false, List, [], ◌∷◌, Option, Some, None, option_map, is_none, if◌then◌else◌}
 use Rattle.std.specs.List.{position}
 use Rattle.std.specs.Option.{option_or}
@@ -45,7 +45,7 @@ wrong_if false reason = Some NotText
 abbrev pub wrong_with : Option Known → Item → Option Reason
 wrong_with known i = wrong_if (are_texts (item_texts i)) (misplaced known i)
 
--- the entries of the last group: what stands behind the last `group` among the items, if there is one
+-- the entries of the last group: what comes after the last `group` among the items, if there is one
 abbrev pub last_entries : List Item → Option (List Item)
 last_entries [] = None
 last_entries (i ∷ is) = option_or (last_entries is) (if is_group i then Some is else None)

@@ -21,7 +21,7 @@ use meta_items_insts::Insts;
 use meta_items_types::Types;
 use std::alloc::{AllocError, Global};
 
-/// What the items so far declare.
+/// The declarations of the items so far.
 #[derive(Drop)]
 struct Declaring {
     types: Types,
@@ -29,7 +29,8 @@ struct Declaring {
     groups: Groups,
 }
 
-/// Adds what an item, which stands at a place among all items, declares of types, kinds, formats and instructions, or says what is wrong.
+/// Adds what an item declares of types, kinds, formats and instructions, or says what is wrong with it. `place` is the place of the item
+/// among all items.
 fn add_to_set(
     alloc: Global,
     types: &mut Types,
@@ -39,10 +40,10 @@ fn add_to_set(
 ) -> Result<(), DeclareError>
     ghost above: { Above }
     requires { HoldsSet types.old insts.old above }
-    // Nothing is wrong with it, and what is declared up to this one is kept.
+    // Nothing is wrong with the item, and what the items up to this one declare is kept.
     ensures right { OnOk result (wrong_of_set above item.now ≡ None) }
     ensures kept { OnOk result (HoldsSet types.new insts.new (after above place item.now)) }
-    // What is wrong with it.
+    // The error says what is wrong with the item.
     ensures refused { (k : ℕ) (reason : spec_Reason) → result ≡ Err (Refused k reason)
         → (k ≡ place) × (wrong_of_set above item.now ≡ Some reason) }
 {
@@ -56,7 +57,6 @@ fn add_to_set(
 }
 
 impl Declaring {
-    /// What no items declare.
     fn new(alloc: Global) -> Declaring
         ensures set { HoldsSet result.types result.insts nothing_said }
         ensures groups { groups_so_far result.groups.done.items (group_in result.groups.current) ≡ no_groups }
@@ -77,14 +77,14 @@ impl Declaring {
         requires set { HoldsSet self.old.types self.old.insts above }
         requires kept { IsKeptOpen self.old.groups.current }
         requires known { known_in self.old.groups.current ≡ known_behind (take place items.now) }
-        // What the items declare up to this one, with which nothing is wrong.
+        // What the items up to this one declare is kept, and nothing is wrong with them.
         ensures set { OnOk result (HoldsSet self.new.types self.new.insts (said (take (place + 1) items.now))) }
         ensures kept { OnOk result (IsKeptOpen self.new.groups.current) }
         ensures groups { (item : spec_Item) → slice_get items.now place ≡ Some item
             → OnOk result (groups_so_far self.new.groups.done.items (group_in self.new.groups.current)
             ≡ groups_after (groups_so_far self.old.groups.done.items (group_in self.old.groups.current)) item) }
         ensures right { OnOk result (wrong_in items.now place ≡ None) }
-        // What is wrong with this one.
+        // The error says what is wrong with this item.
         ensures refused { (k : ℕ) (reason : spec_Reason) → result ≡ Err (Refused k reason)
             → (k ≡ place) × (wrong_in items.now place ≡ Some reason) }
     {
@@ -96,7 +96,8 @@ impl Declaring {
         }
     }
 
-    /// The declarations. Instructions that aren't of the types and formats are handled as want of memory: these are.
+    /// Makes declarations of what was added. The instructions must be of the types and formats, which these always are; else the error is
+    /// the same as if memory ran out.
     fn close(self) -> Result<Declarations, AllocError>
         ensures vars { IfOk result (λ d. d.set.vars ≡ vars_in self.types) }
         ensures formats { IfOk result (λ d. d.set.formats ≡ formats_in self.insts) }
@@ -114,14 +115,14 @@ impl Declaring {
     }
 }
 
-/// The declarations that items make (this project's own). Items are refused exactly where something is wrong with one of them, by the first
-/// such one and by what is wrong with it. `Memory` may come in any case.
+/// Makes the declarations of items. They are refused exactly if something is wrong with an item: the error has the first such item, and
+/// what is wrong with it. `Memory` may come in any case.
 pub fn declare(alloc: Global, items: &[Item]) -> Result<Declarations, DeclareError>
-    // Item by item what the declarations are.
+    // The declarations are those that each item says.
     ensures said { IfOk result (Declares items.now) }
-    // The first item that is wrong, and why.
+    // The error names the first item that is wrong, and why.
     ensures refused { (place : ℕ) (reason : spec_Reason) → result ≡ Err (Refused place reason) → IsFirstWrong items.now place reason }
-    // Items of which none is wrong aren't refused.
+    // Items are refused only if one is wrong.
     ensures only { (d : Declared) → Declares items.now d → (place : ℕ) (reason : spec_Reason) → ¬ (result ≡ Err (Refused place reason)) }
 {
     items_say_one_thing();

@@ -4,7 +4,7 @@ ghost use Rattle.meta_items_declared.specs.FirstNumbers.{number_in, or_of};
 use std::alloc::{AllocError, Global};
 use std::collections::BTreeMap;
 
-/// The number of a name, if it has one. It costs the logarithm of their count.
+/// The number of a name, if it has one. The cost is the logarithm of the count of names.
 pub(crate) fn number_of<N: Copy>(numbers: &BTreeMap<Vec<u8>, N>, name: &[u8]) -> Option<N>
     ensures { result ≡ number_in numbers.now name.now }
 {

@@ -16,7 +16,6 @@ pub(crate) struct Groups {
 }
 
 impl Groups {
-    /// No groups.
     pub(crate) fn new(alloc: Global) -> Groups
         ensures done { result.done.items ≡ [] }
         ensures none_open { result.current ≡ None }
@@ -27,7 +26,7 @@ impl Groups {
         }
     }
 
-    /// Closes the group that is open.
+    /// Closes the open group, if there is one.
     pub(crate) fn close(&mut self) -> Result<(), AllocError>
         ensures done { OnOk result (self.new.done.items ≡ closed_by self.old.done.items (group_in self.old.current)) }
         ensures none_open { self.new.current ≡ None }
@@ -38,7 +37,6 @@ impl Groups {
         Ok(())
     }
 
-    /// Opens a group.
     fn open_group(&mut self, alloc: Global, name: &Name) -> Result<(), AllocError>
         ensures done { OnOk result (self.new.done.items ≡ closed_by self.old.done.items (group_in self.old.current)) }
         ensures opened { OnOk result (group_in self.new.current ≡ Some (empty_group (name_bytes name.now))) }
@@ -50,7 +48,7 @@ impl Groups {
         Ok(())
     }
 
-    /// Adds what an item declares, with which nothing is wrong.
+    /// Adds what an item declares. Nothing may be wrong with it.
     pub(crate) fn add(&mut self, alloc: Global, item: &Item) -> Result<(), AllocError>
         requires { IsKeptOpen self.old.current }
         ensures kept { OnOk result (IsKeptOpen self.new.current) }

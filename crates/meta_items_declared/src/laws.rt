@@ -13,7 +13,7 @@ ghost use Rattle.meta_items_declared.specs.AllItems.{AllRight, IsFirstWrong, Dec
 ghost use Rattle.meta_items_declared.specs.Faults.{HasItsItem};
 ghost use Rattle.meta_items_declared.specs.declared.refused.Reason.{Reason as spec_Reason};
 
-/// Items declare nothing where an item is wrong. One item is the first that is wrong, and one thing is wrong with it.
+/// If an item is wrong, the items don't make declarations. At most one item is the first that is wrong, and one thing is wrong with it.
 pub fn items_say_one_thing()
     ensures right { (items : List Item) (d : Declared) (place : ℕ) (reason : spec_Reason) → Declares items d
         → IsFirstWrong items place reason → ⊥ }
@@ -26,25 +26,25 @@ pub fn one_declaration()
     ensures { (items : List Item) (d e : Declared) → Declares items d → Declares items e → d ≡ e }
 {}
 
-/// Items with which nothing is wrong declare something.
+/// If no item is wrong, the items make declarations.
 pub fn right_items_declare()
     ensures { (items : List Item) → AllRight items (length items) → (d : Declared) × Declares items d }
 {}
 
-/// Items that open groups or are entries of them declare no instruction set.
+/// Groups and their entries alone declare no instruction set.
 pub fn settings_stand_alone()
     ensures { (items : List Item) (d : Declared) → Declares items d → AreOfGroups items
         → d.set ≡ record { vars = []; formats = []; instructions = [] } }
 {}
 
-/// Where items declare something, each name of a preset stands for something above it, and that is the argument at its place.
+/// If items make declarations, each name in a preset stands for an entry above it, and that entry is the argument at its place.
 pub fn each_name_has_its_argument()
     ensures { (items : List Item) (d : Declared) (k : ℕ) (i : PresetItem) (known : Known) → Declares items d
         → slice_get items k ≡ Some (Preset i) → known_behind (take k items) ≡ Some known
         → map (λ a. Some a) (preset_of known i).args ≡ map (meant known) (names_in i.args) }
 {}
 
-/// The first fault that the declarations of items show has an item: `place_of_fault` finds it, and it declares what the fault names.
+/// The first fault of the declarations of items has an item: `place_of_fault` finds it, and it declares what the fault names.
 pub fn faults_have_their_items()
     ensures { (items : List Item) (d : Declared) (e : DefinitionError) → Declares items d → ShowsFirst d e → HasItsItem items d e }
 {}

@@ -1,7 +1,7 @@
 //! What the items of a file declare: types and kinds, formats and instructions, and groups of settings.
 //!
-//! `declare` makes declarations of items, or says which item is the first that is wrong, and why. `place_of_fault` says which item
-//! a fault of those declarations is about.
+//! `declare` makes declarations of items, or says which item is the first that is wrong, and why. `place_of_fault` says which item a fault
+//! of those declarations is about.
 #![tactic(auto)]
 
 mod declaring;

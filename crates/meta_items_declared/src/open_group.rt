@@ -16,18 +16,17 @@ use meta_types::Text;
 use std::alloc::{AllocError, Global};
 use std::collections::BTreeMap;
 
-/// The group that is open: what is declared of it so far, and what names stand for in its presets.
+/// The open group: what is declared of it so far, and what names stand for in its presets.
 #[derive(Drop)]
 pub(crate) struct OpenGroup {
-    /// What is declared.
+    /// The declarations so far.
     pub(crate) builder: SettingGroupBuilder,
-    /// The number of the first of its booleans that has a name, and of the first of its presets.
+    /// The numbers of its booleans and of its presets, by their names. Of several with the same name it has the first.
     booleans: BTreeMap<Vec<u8>, BoolSettingIndex>,
     presets: BTreeMap<Vec<u8>, PresetIndex>,
 }
 
 impl OpenGroup {
-    /// A group of this name without settings and presets.
     pub(crate) fn new(alloc: Global, name: Text) -> OpenGroup
         ensures group { result.builder ≡ empty_group name }
         ensures kept { IsKept result }
@@ -39,7 +38,7 @@ impl OpenGroup {
         }
     }
 
-    /// What a name stands for in a preset of the group.
+    /// What a name stands for in a preset of the group, if it stands for something.
     fn meant(&self, name: &[u8]) -> Option<PresetType>
         requires { IsKept self.now }
         ensures { result ≡ meant (known_of self.now.builder) name.now }
@@ -51,7 +50,7 @@ impl OpenGroup {
         Some(PresetType::from(index))
     }
 
-    /// The first of the names that stands for nothing.
+    /// The place of the first name that doesn't stand for anything, if there is one.
     pub(crate) fn missing_in(&self, names: &[Name]) -> Option<usize>
         requires { IsKept self.now }
         ensures { result ≡ missing_in (known_of self.now.builder) names.now }
@@ -78,7 +77,6 @@ impl OpenGroup {
         Ok(meant)
     }
 
-    /// Adds a boolean.
     fn add_bool(&mut self, alloc: Global, item: &BoolItem) -> Result<(), AllocError>
         requires { IsKept self.old }
         ensures added { OnOk result (self.new.builder ≡ with_setting self.old.builder (bool_setting item.now)) }
@@ -97,7 +95,6 @@ impl OpenGroup {
         Ok(())
     }
 
-    /// Adds a number.
     fn add_num(&mut self, alloc: Global, item: &NumItem) -> Result<(), AllocError>
         requires { IsKept self.old }
         ensures added { OnOk result (self.new.builder ≡ with_setting self.old.builder (num_setting item.now)) }
@@ -113,7 +110,6 @@ impl OpenGroup {
             .add_num(name, description, comment, item.default)
     }
 
-    /// Adds an enum.
     fn add_enum(&mut self, alloc: Global, item: &EnumItem) -> Result<(), AllocError>
         requires { IsKept self.old }
         ensures added { OnOk result (self.new.builder ≡ with_setting self.old.builder (enum_setting item.now)) }
@@ -148,7 +144,7 @@ impl OpenGroup {
 }
 
 impl OpenGroup {
-    /// Adds the setting or the preset that an item declares; any other item adds nothing.
+    /// Adds the setting or the preset that an item declares. Any other item adds nothing.
     pub(crate) fn add(&mut self, alloc: Global, item: &Item) -> Result<(), AllocError>
         requires { IsKept self.old }
         ensures added { OnOk result (self.new.builder ≡ with_item self.old.builder item.now) }

@@ -8,26 +8,25 @@ ghost use Rattle.meta_items_declared.specs.Sorts.{is_of};
 use meta_items::Item;
 use meta_types::{DefinitionError, Place};
 
-/// What an item declares.
+/// A sort of items, by what they declare.
 #[derive(Clone, Copy)]
 enum Sort {
-    /// It opens one.
+    /// A group.
     Group,
-    /// It declares a setting.
+    /// A setting.
     Setting,
-    /// It declares a preset.
+    /// A preset.
     Preset,
-    /// It declares a format.
+    /// A format.
     Format,
-    /// It declares an instruction.
+    /// An instruction.
     Inst,
-    /// It declares a setting that has a byte of its own: an enum or a number.
+    /// A setting that has a byte of its own: an enum or a number.
     Valued,
-    /// It declares a boolean.
+    /// A boolean.
     Bool,
 }
 
-/// Whether the item is of the sort.
 fn is_of(sort: Sort, item: &Item) -> bool
     ensures { result ≡ is_of sort item.now }
 {
@@ -56,7 +55,7 @@ fn count_of(sort: Sort, items: &[Item]) -> u64
     count
 }
 
-/// The place of the n-th item of the sort, from 0.
+/// The place of the n-th item of the sort. Both are from 0.
 fn nth(sort: Sort, items: &[Item], n: u64) -> Option<usize>
     ensures place { result ≡ slice_get (places_of (is_of sort) items.now) n }
     ensures within { IfSome result (λ place. place < length items.now) }
@@ -93,7 +92,7 @@ fn before_group(items: &[Item]) -> &[Item]
     }
 }
 
-/// The place of the n-th item, from 0, of those of the one sort and then those of the other.
+/// The place of the n-th item of those of the first sort and then those of the second. Both are from 0.
 fn nth_of_both(first: Sort, second: Sort, items: &[Item], n: u64) -> Option<usize>
     ensures place { result ≡ slice_get (places_of (is_of first) items.now ++ places_of (is_of second) items.now) n }
     ensures within { IfSome result (λ place. place < length items.now) }
@@ -113,9 +112,9 @@ fn entry_in(items: &[Item], entry: u64) -> Option<usize>
     nth_of_both(Sort::Setting, Sort::Preset, items, entry)
 }
 
-/// The place, among the items behind one that opens a group, of the item that declares this setting of the group, from 0, in the order in
-/// which the group is laid out: its enums and numbers, and then its booleans, each in the order of declaration. `None` where the group has
-/// no such setting.
+/// The place of the item that declares a setting of a group, among the items after the one that opens the group. `setting` is its number in
+/// the layout of the group, from 0: enums and numbers come first, then booleans, each in order of declaration. `None` if the group has no
+/// such setting.
 pub fn laid_setting(behind: &[Item], setting: u64) -> Option<usize>
     ensures { result ≡ slice_get (laid_places (before_group behind.now)) setting }
 {
@@ -132,7 +131,7 @@ fn place_of_entry(items: &[Item], group: u64, entry: u64) -> Option<usize>
     Some(place + 1 + within)
 }
 
-/// The place of the item that declares this instruction, which counts from 1.
+/// The place of the item that declares the instruction with this number, from 1.
 fn place_of_inst(items: &[Item], number: u64) -> Option<usize>
     ensures { result ≡ place_of_inst items.now number }
 {
@@ -142,7 +141,7 @@ fn place_of_inst(items: &[Item], number: u64) -> Option<usize>
     nth(Sort::Inst, items, number - 1)
 }
 
-/// The place of the item that declares what stands at this place of declarations.
+/// The place of the item that declares what this place of declarations names.
 fn item_of_place(items: &[Item], place: &Place) -> Option<usize>
     ensures { result ≡ item_of_place items.now place.now }
 {
@@ -154,7 +153,7 @@ fn item_of_place(items: &[Item], place: &Place) -> Option<usize>
     }
 }
 
-/// What a fault names, where this is how many instructions are declared.
+/// What a fault names. `count` is the count of declared instructions.
 fn named_by(count: u64, fault: &DefinitionError) -> Option<Place>
     ensures { result ≡ named_by count fault.now }
 {
@@ -180,10 +179,10 @@ fn named_by(count: u64, fault: &DefinitionError) -> Option<Place>
     }
 }
 
-/// The place of the item, from 0, that a fault of declarations is about, which these items make: the one that declares the instruction,
-/// the format, the group, the setting or the preset that it names; the first instruction that is one too many; the last one, where there
-/// are too many sets of types. `None` where it names what the items don't have, as want of memory does; the first fault that the
-/// declarations of these items show names what they have (`faults_have_their_items`).
+/// The place of the item, from 0, that a fault is about. These items must make the declarations. It is the item that declares the
+/// instruction, format, group, setting or preset that the fault names; if there are too many instructions, the first that is one too many;
+/// and if there are too many type sets, the last instruction. `None` if the fault names what the items don't have, as `OutOfMemory` does.
+/// The first fault of the declarations always names what they have (`faults_have_their_items`).
 pub fn place_of_fault(items: &[Item], fault: &DefinitionError) -> Option<usize>
     ensures { result ≡ place_of_fault items.now fault.now }
 {

@@ -6,27 +6,27 @@ use meta_items_insts::{InstError, InstReason};
 use meta_items_types::TypeError;
 use std::alloc::{AllocError, AllocFailed};
 
-/// What is wrong with an item (this project's own).
+/// What is wrong with an item.
 #[derive(Clone, Copy, Debug, PartialEq, Eq)]
 pub enum Reason {
-    /// A name, a comment or a line of the documentation of a group or an entry isn't UTF-8.
+    /// A text of a group or an entry isn't UTF-8: a name, a comment or a line of documentation.
     NotText,
     /// A setting or a preset stands before the first group.
     NoGroup,
-    /// The preset's name at this place, from 0, is that of no boolean and of no preset that its group has above.
+    /// The preset's name at this place, from 0, isn't that of a boolean or a preset above in its group.
     NoEntry(usize),
-    /// This is wrong with a type or a kind.
+    /// Something is wrong with a type or a kind.
     OfType(meta_items_types::Reason),
-    /// This is wrong with a format or an instruction.
+    /// Something is wrong with a format or an instruction.
     OfInst(InstReason),
 }
 
-/// Why items declare nothing (this project's own).
+/// Why items don't make declarations.
 #[derive(Clone, Copy, Debug)]
 pub enum DeclareError {
     /// Memory ran out.
     Memory,
-    /// The first item that is wrong, by its place from 0, and what is wrong with it.
+    /// An item is wrong. It is the first such item, by its place from 0, with what is wrong.
     Refused(usize, Reason),
 }
 
@@ -46,7 +46,7 @@ impl<T: Drop> From<AllocFailed<T>> for DeclareError {
     }
 }
 
-/// Why there is no answer, where the item at a place declares no type or kind.
+/// The error for the item at this place, from that of its types.
 pub(crate) fn type_error(place: usize, error: TypeError) -> DeclareError
     ensures { result ≡ type_error_at place error }
 {
@@ -56,7 +56,7 @@ pub(crate) fn type_error(place: usize, error: TypeError) -> DeclareError
     }
 }
 
-/// The same, where it declares no format or instruction.
+/// The error for the item at this place, from that of its formats and instructions.
 pub(crate) fn inst_error(place: usize, error: InstError) -> DeclareError
     ensures { result ≡ inst_error_at place error }
 {

@@ -9,7 +9,6 @@ use meta_tokens::Bytes;
 use meta_types::Text;
 use std::alloc::{AllocError, Global};
 
-/// Whether each of the names is UTF-8.
 fn are_names(names: &[Name]) -> bool
     ensures { result ≡ are_texts (names_in names.now) }
 {
@@ -21,7 +20,7 @@ fn are_names(names: &[Name]) -> bool
     true
 }
 
-/// The bytes of a text that may be left out.
+/// The bytes of a text, and no bytes if it is left out.
 fn bytes_or_none(text: &Option<Bytes>) -> &[u8]
     ensures { result.now ≡ text_of text.now }
 {
@@ -38,7 +37,7 @@ fn is_setting_text(name: &Name, comment: &Option<Bytes>, docs: &Docs) -> bool
     is_text(name.as_slice()) && is_text(bytes_or_none(comment)) && are_lines(docs.as_slice())
 }
 
-/// Whether all texts of a group or of an entry are UTF-8; those of other items are tested where they are declared.
+/// Whether all texts of a group or of an entry are UTF-8. Texts of other items are tested where they are declared.
 pub(crate) fn is_text_item(item: &Item) -> bool
     ensures { result ≡ are_texts (item_texts item.now) }
 {

@@ -7,7 +7,7 @@ use super::refused::Reason;
 use super::texts::is_text_item;
 use meta_items::Item;
 
-/// Why an item whose texts are UTF-8 can't stand behind the group that is open.
+/// Why an item, whose texts are UTF-8, can't stand after the open group.
 fn misplaced(current: &Option<OpenGroup>, item: &Item) -> Option<Reason>
     requires { IsKeptOpen current.now }
     ensures { result ≡ misplaced (known_in current.now) item.now }
@@ -31,7 +31,7 @@ fn misplaced(current: &Option<OpenGroup>, item: &Item) -> Option<Reason>
     }
 }
 
-/// What is wrong with an item behind the group that is open, if anything is.
+/// What is wrong with an item after the open group, if anything is.
 pub(crate) fn wrong_with(current: &Option<OpenGroup>, item: &Item) -> Option<Reason>
     requires { IsKeptOpen current.now }
     ensures { result ≡ wrong_with (known_in current.now) item.now }

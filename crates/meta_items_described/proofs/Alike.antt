@@ -80,6 +80,6 @@ pub described : ((items : List Item) (d e : Declared) → Declares items d → D
 described law items d f declares h =
     subst (λ (x : Declared). HaveSameTables d x × HaveSameTexts d x) (law items h.declared f h.declares declares) (h.tables, h.texts)
 
--- what has the same texts shows no fault
+-- what has the same texts is valid
 pub texts_valid : (d e : Declared) → HaveSameTexts d e → AreValid e
 texts_valid d e h = subst AreValid h.of_other.declared h.of_other.built.valid

@@ -34,9 +34,9 @@ use Rattle.meta_items_described.proofs.NamesMeant.{names_of, meant_again}
 use Rattle.meta_items_described.proofs.GroupsAgain.{booleans_again, same_booleans}
 use Rattle.meta_items_described.proofs.TextsAgain.{name_alone, setting_texts, preset_texts}
 
--- ---- items behind others
+-- ---- items after others
 
--- nothing is wrong with these behind those above them
+-- nothing is wrong with these after those above them
 abbrev pub AreRight : List Item → List Item → Type 0
 AreRight above [] = Unit {0}
 AreRight above (i ∷ is) = (wrong_below above i ≡ None) × AreRight (above ++ i ∷ []) is
@@ -82,7 +82,7 @@ right_by above i of texts placed =
     ap (λ (o : Option Reason). option_or o (groups.wrong_with (known_behind above) i)) (set_right (said above) i of)
     ∙ ap (λ (b : Bool). wrong_if b (misplaced (known_behind above) i)) texts ∙ placed
 
--- an entry stands behind a `group`
+-- an entry stands after a `group`
 placed_by : (above es : List Item) (i : Item) → last_entries above ≡ Some es → misplaced (Some (known_below es)) i ≡ None
     → misplaced (known_behind above) i ≡ None
 placed_by above es i last h = ap (λ (o : Option (List Item)). misplaced (option_map known_below o) i) last ∙ h

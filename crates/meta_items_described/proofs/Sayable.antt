@@ -26,7 +26,7 @@ pub record IsSayableSetting (s : PlacedSetting) : Type 0 where
   pub values : All IsName (values_in s.specific)
   pub comment : IsUtf8 s.comment
 
--- a preset has a name, its description needs no escape, and there is each boolean that it turns on, where there are so many
+-- a preset has a name, its description needs no escape, and each boolean that it turns on exists, under this count
 pub record IsSayablePreset (booleans : ℕ) (p : BuiltPreset) : Type 0 where
   pub name : IsName p.name
   pub description : All IsPlainByte p.description
@@ -37,7 +37,7 @@ abbrev pub AreNamedApart : List PlacedSetting → Type 0
 AreNamedApart settings = (i j : ℕ) (a b : PlacedSetting) → slice_get settings i ≡ Some a → slice_get settings j ≡ Some b
     → a.name ≡ b.name → i ≡ j
 
--- its settings and its presets can be said, no two booleans have one name, and the booleans stand behind the other settings
+-- its settings and its presets can be said, no two booleans have one name, and the booleans come after the other settings
 pub record IsSayable (g : Layout) : Type 0 where
   pub name : IsName g.name
   pub settings : All IsSayableSetting g.settings

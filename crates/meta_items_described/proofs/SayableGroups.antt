@@ -23,7 +23,7 @@ use Rattle.meta_items_described.proofs.LaidAgain.{booleans_there}
 use Rattle.meta_items_described.proofs.ValidAgain.{valid_again}
 use Rattle.meta_items_described.proofs.Sayable.{is_boolean, IsSayableSetting, IsSayablePreset, IsSayable}
 
--- ---- booleans stand behind the other settings
+-- ---- booleans come after the other settings
 
 module _ {X : Type 0} (p : X → Bool) where
   -- what passes a test

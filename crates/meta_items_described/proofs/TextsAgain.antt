@@ -56,7 +56,7 @@ doc_texts (c ∷ cs) h = ap are_texts (plain_lines (c ∷ cs) h) ∙ text_more (
 
 -- ---- those of a setting
 
--- its name and its comment, and others behind them
+-- its name and its comment, and others after them
 texts_behind : (s : PlacedSetting) → IsSayableSetting s → (ts : List (List ℕ)) → are_texts ts ≡ true
     → are_texts (name_bytes (name_for s.name) ∷ (text_of (comment_for s.comment) ∷ ts)) ≡ true
 texts_behind s h ts k =

@@ -76,7 +76,7 @@ entry_names_again d =
 
 -- ---- entries
 
--- what an entry has that breaks no rule of its own, where there are so many booleans
+-- what an entry has that breaks no rule of its own, under this count of booleans
 record IsSound (booleans : ℕ) (x : Entry) : Type 0 where
   named : IsWellNamed x
   good : (IfSome x.values IsGoodEnum → ⊥) → ⊥

@@ -123,11 +123,11 @@ line_goes_on : (lines : List (List ℕ)) (line : List ℕ) (c : ℕ) (rest : Lis
     → lines ++ joined (line ++ c ∷ []) (lines_between rest) ≡ lines ++ joined line (lines_between (c ∷ rest))
 line_goes_on lines line c rest is = goes_on_by (c == 10) lines line c rest is
 
--- the byte behind so many, and those behind it
+-- the byte after the first n, and those after it
 rest_at : (text : List ℕ) (n : ℕ) → n < length text → drop n text ≡ get_or text n 0 ∷ drop (n + 1) text
 rest_at text n lt = rw (add-one, drop-cons text n 0) refl
 
--- the lines, and the one that has begun in front of those behind so many bytes, are the lines of the text
+-- the lines, and the one that has begun in front of the bytes after the first n, are the lines of the text
 abbrev pub AreLinesSoFar : List ℕ → ℕ → List (List ℕ) → List ℕ → Type 0
 AreLinesSoFar text n lines line = lines ++ joined line (lines_between (drop n text)) ≡ lines_between text
 
@@ -155,7 +155,7 @@ some_doc_lines : (text : List ℕ) → 0 < length text → lines_between text �
 some_doc_lines [] some = absurd (omega arith)
 some_doc_lines (c ∷ cs) some = refl
 
--- behind the last byte the line that has begun is the last one
+-- after the last byte the line that has begun is the last one
 pub all_lines : (text : List ℕ) (n : ℕ) (lines : List (List ℕ)) (line : List ℕ) → 0 < length text → length text ≤ n
     → AreLinesSoFar text n lines line → lines ++ line ∷ [] ≡ doc_lines text
 all_lines text n lines line some past so =

@@ -29,7 +29,7 @@ pub record HaveSameTables (d e : Declared) : Type 0 where
   pub of_one : AreWholeTablesOf d tables
   pub of_other : AreWholeTablesOf e tables
 
--- this is what is built of the declarations, which show no fault
+-- this is what is built of the declarations, which are valid
 pub record IsBuiltOf (d : Declared) (b : BuiltDeclarations) : Type 0 where
   pub built : AreBuilt b
   pub declared : b.declared ≡ d
@@ -60,7 +60,7 @@ pub record IsDescription (text : List ℕ) (d : Declared) : Type 0 where
   pub read : read_in text ≡ spelled_all items
   pub describes : Describes items d
 
--- their instruction sets are one, the layouts of their groups are the same, and the other show no fault
+-- their instruction sets are the same, the layouts of their groups are the same, and the second are valid
 pub record AreBuiltAlike (d e : Declared) : Type 0 where
   pub set : d.set ≡ e.set
   pub groups : map built_of d.groups ≡ map built_of e.groups

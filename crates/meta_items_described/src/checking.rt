@@ -17,7 +17,6 @@ use meta_settings_text::settings_text;
 use meta_types::DefinitionError;
 use std::alloc::{AllocError, Global};
 
-/// Whether the bytes are the same.
 pub(crate) fn are_same(one: &[u8], other: &[u8]) -> bool
     ensures { IsTrue result ↔ (one.now ≡ other.now) }
 {
@@ -103,7 +102,7 @@ fn are_alike(alloc: Global, built: &Built<'_>, other: &Built<'_>) -> Result<bool
     Ok(tables && texts)
 }
 
-/// Whether these declarations show no fault, and what is built of them has the same tables and texts.
+/// Whether these declarations are valid, and what is built of them has the same tables and texts.
 #[tactic(auto, using(crate::proofs::Alike::describes, crate::proofs::Alike::described))]
 fn are_declared_alike(
     alloc: Global,
@@ -123,8 +122,8 @@ fn are_declared_alike(
     }
 }
 
-/// Whether the items describe the declarations, of which this is built: nothing is wrong with them, and what they declare has the same
-/// tables and the same texts of Rust source (this project's own).
+/// Whether the items describe the declarations, of which `built` is built: nothing is wrong with them, and what they declare has the same
+/// tables and the same texts of Rust source.
 pub fn is_described(alloc: Global, built: &Built<'_>, items: &[Item]) -> Result<bool, AllocError>
     ensures describes { IfOk result (λ described. IsTrue described ↔ Describes items.now built.now.declared) }
     // Items that declare something of which the same is built describe them.

@@ -25,7 +25,6 @@ use std::alloc::{AllocError, Global};
 use std::collections::BTreeSet;
 use std::str;
 
-/// The items for the groups.
 fn group_items(alloc: Global, built: &Built<'_>) -> Result<Vec<Item>, AllocError>
     ensures says { IfOk result (λ v. v.items ≡ items_of_groups built.now.groups) }
     ensures fit { OnOk result (AllFit (items_of_groups built.now.groups)) }
@@ -35,7 +34,6 @@ fn group_items(alloc: Global, built: &Built<'_>) -> Result<Vec<Item>, AllocError
     Ok(items)
 }
 
-/// Adds the items for types and kinds, formats, and instructions.
 fn push_before_groups(
     alloc: Global,
     built: &Built<'_>,
@@ -64,7 +62,8 @@ fn items_for(
     Ok(items)
 }
 
-/// The items for what is built of declarations, if they can say the kinds of the formats in use. Without instructions none is.
+/// The items for what is built of declarations, if items can say the kinds of the formats in use. If there are no instructions, no format
+/// is in use.
 fn tried_items(alloc: Global, built: &Built<'_>) -> Result<Option<Vec<Item>>, AllocError>
     ensures settings { built.now.instructions ≡ []
         → IfOk result (λ o. option_map (λ v. v.items) o ≡ Some (items_of_groups built.now.groups)) }
@@ -81,13 +80,13 @@ fn tried_items(alloc: Global, built: &Built<'_>) -> Result<Option<Vec<Item>>, Al
     Ok(Some(items_for(alloc, built, &formats)?))
 }
 
-/// The items, in one form, that describe declarations, of which this is built: a type for each root in use that isn't a plain type's,
-/// kinds, the formats in use, the instructions, and the groups, whose settings stand in the order of their layout, and whose presets name
-/// the booleans that they turn on (this project's own).
+/// The items that describe declarations, in one form. `built` is what is built of the declarations. There are a type for each root in use
+/// that isn't a plain type's, kinds, the formats in use, the instructions, and the groups. Settings stand in the order of their layout, and
+/// presets name the booleans that they turn on.
 ///
-/// The items are made, declared and compared. `None` comes where they would declare something else or be refused, as where the kind of
-/// a format's field is of values whose variable is of another registry, or where a variable has more functions behind its root than a
-/// type may have, or has some where the root's name has more than 4,096 bytes.
+/// The items are made, declared and compared. `None` comes if they would declare something else or be refused. That is so if the kind of a
+/// format's field is of values whose variable is of another registry. It is also so if more functions lead from its root to a variable than
+/// a type can have, or if some do and the root's name has more than 4,096 bytes.
 pub fn describe(alloc: Global, built: &Built<'_>) -> Result<Option<Vec<Item>>, AllocError>
     // What the items declare has the same tables and the same texts.
     ensures describes { IfOk result (λ o. IfSome o (λ v. Describes v.items built.now.declared)) }
@@ -108,8 +107,7 @@ pub fn describe(alloc: Global, built: &Built<'_>) -> Result<Option<Vec<Item>>, A
     Ok(None)
 }
 
-/// Whether a text is the canonical one of the items that it reads as, and these describe the declarations, of which this is built (this
-/// project's own).
+/// Whether a text is the canonical one of the items that it reads as, and these describe the declarations, of which this is built.
 #[tactic(auto, using(crate::proofs::Alike::description))]
 pub fn is_description(alloc: Global, built: &Built<'_>, text: &[u8]) -> Result<bool, AllocError>
     ensures describes { IfOk result (λ described. IsTrue described ↔ IsDescription text.now built.now.declared) }
@@ -141,7 +139,7 @@ fn text_of(alloc: Global, bytes: &[u8]) -> Result<String, AllocError>
     }
 }
 
-/// The text of a file that describes declarations, of which this is built, by the items that `describe` makes (this project's own).
+/// The text of a file that describes declarations, of which this is built, by the items that `describe` makes.
 ///
 /// The text is made, read, declared and compared. `None` comes where it would declare something else or be refused.
 pub fn write_description(alloc: Global, built: &Built<'_>) -> Result<Option<String>, AllocError>

@@ -140,7 +140,7 @@ impl FormatWords {
         Ok(given)
     }
 
-    /// The word of a format in use. One that isn't is handled as want of memory.
+    /// The word of a format in use. For another format the error is the same as if memory ran out.
     pub(crate) fn word(&self, alloc: Global, id: FormatId) -> Result<Bytes, AllocError> {
         match self.words.get(&id) {
             Some(word) => word.copy(alloc),

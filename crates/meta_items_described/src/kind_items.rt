@@ -39,7 +39,7 @@ fn sort_of(
     }
 }
 
-/// The documentation of a kind; that of a kind of values is told nowhere.
+/// The documentation of a kind; that of a kind of values stands nowhere.
 fn kind_docs(alloc: Global, roots: &Roots<'_>, kind: &OperandKind) -> Result<Docs, AllocError> {
     match kind.fields {
         OperandKindFields::TypeVar(_) => docs_of(alloc, b""),

@@ -110,7 +110,7 @@ impl<'d> Kinds<'d> {
         &self.roots
     }
 
-    /// The word of the kind of a format's field. A kind that isn't there is handled as want of memory.
+    /// The word of the kind of a format's field. For another kind the error is the same as if memory ran out.
     pub(crate) fn field_word(
         &self,
         alloc: Global,

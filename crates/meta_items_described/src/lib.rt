@@ -1,7 +1,7 @@
 //! Declarations as a file of declarations: the items that describe what is built of them.
 //!
-//! `describe` makes items in one form, declares them, and answers them where what they declare has the same tables and the same texts of
-//! Rust source; `write_description` does so with their text, which it reads first.
+//! `describe` makes items in one form, declares them, and answers them if what they declare has the same tables and the same texts of Rust
+//! source. `write_description` does so with their text, which it reads first.
 #![tactic(auto)]
 
 mod checking;

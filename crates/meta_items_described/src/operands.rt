@@ -27,7 +27,7 @@ pub(crate) fn is_kind_of(vars: &TypeVars, kind: &OperandKind) -> bool {
     }
 }
 
-/// The documentation of an operand. A variable that isn't of the registry is handled as want of memory.
+/// The documentation of an operand. If its variable isn't of the registry, the error is the same as if memory ran out.
 fn doc_of(alloc: Global, vars: &TypeVars, operand: &Operand) -> Result<Text, AllocError> {
     if !is_of(vars, operand) {
         return Err(AllocError);

@@ -164,7 +164,7 @@ impl<'d> Roots<'d> {
         Ok(roots)
     }
 
-    /// The type of a variable in use. One that isn't is handled as want of memory.
+    /// The type of a variable in use. For another variable the error is the same as if memory ran out.
     pub(crate) fn type_expr(
         &self,
         alloc: Global,

@@ -16,7 +16,7 @@ const ONE_LANE: u16 = 1;
 
 const NOTHING: u16 = 0;
 
-/// The lane counts and widths that there are, 256 the greatest.
+/// All lane counts and widths. The greatest is 256.
 const POWERS: [u16; 9] = [1, 2, 4, 8, 16, 32, 64, 128, 256];
 
 /// The range that goes on up to the number, or begins with it where none is open.
@@ -57,7 +57,7 @@ fn spans_of(alloc: Global, mask: u16) -> Result<Vec<Span>, AllocError> {
     Ok(spans)
 }
 
-/// The members that a mask has, of all that there are.
+/// The members that a mask has, of all that it can have.
 fn members_of(alloc: Global, mask: u16, all: u16) -> Result<Members, AllocError> {
     if mask == NOTHING {
         return Ok(Members::Nothing);
@@ -93,8 +93,8 @@ fn push_part(
     Ok(())
 }
 
-/// The set of types with these masks, in one form: a part for each dimension in which it differs from that of no part, and `ints none`
-/// where there is none.
+/// The type set with these masks, in one form: a part for each dimension in which it differs from that of no part, and `ints none` if there
+/// is no such dimension.
 pub(crate) fn set_of(alloc: Global, masks: Masks) -> Result<SetExpr, AllocError> {
     let mut parts = Vec::new(alloc);
     push_part(alloc, &mut parts, Dimension::Lanes, masks.lanes)?;

@@ -51,7 +51,7 @@ fn setting_of(alloc: Global, setting: &Setting) -> Result<Item, AllocError>
     }
 }
 
-/// The names of the booleans that a preset turns on. A preset that isn't of the group is handled as want of memory.
+/// The names of the booleans that a preset turns on. If the preset isn't of the group, the error is the same as if memory ran out.
 fn args_of(alloc: Global, group: &SettingGroup, preset: &Preset) -> Result<Vec<Name>, AllocError>
     ensures { IfOk result (λ names. names.items ≡ map name_for (names_turned_on group.now preset.now)) }
 {

@@ -32,7 +32,7 @@ fn are_word_bytes(bytes: &[u8]) -> bool
     !bytes.is_empty() && has_word_bytes(bytes)
 }
 
-/// Whether the bytes are a word that is no keyword.
+/// Whether the bytes are a word that isn't a keyword.
 #[tactic(auto, using(crate::proofs::Wording::is_word))]
 pub(crate) fn is_word(bytes: &[u8]) -> bool
     ensures says { result ≡ is_plain_word bytes.now }
@@ -51,7 +51,6 @@ pub(crate) fn begins_as_name(bytes: &[u8]) -> bool
     }
 }
 
-/// Equal bytes of their own.
 pub(crate) fn bytes_of(alloc: Global, bytes: &[u8]) -> Result<Bytes, AllocError>
     ensures { IfOk result (λ owned. owned ≡ bytes.now) }
 {
@@ -70,7 +69,7 @@ pub(crate) fn name_of(alloc: Global, bytes: &[u8]) -> Result<Name, AllocError>
     Ok(Name::Quoted(owned))
 }
 
-/// The text, unless it is the same as what is told without it.
+/// The text, unless it is the same as what is shown without it.
 pub(crate) fn unless_same(
     alloc: Global,
     text: &[u8],
@@ -85,7 +84,7 @@ pub(crate) fn unless_same(
     Ok(Some(bytes_of(alloc, text)?))
 }
 
-/// The lines of a documentation, none where it is empty.
+/// The lines of a documentation, which has no lines if it is empty.
 pub(crate) fn docs_of(alloc: Global, text: &[u8]) -> Result<Docs, AllocError>
     ensures says { IfOk result (λ docs. docs ≡ doc_lines text.now) }
     ensures tells { IfOk result (λ docs. doc_text docs ≡ text.now) }
@@ -107,7 +106,8 @@ pub(crate) fn docs_of(alloc: Global, text: &[u8]) -> Result<Docs, AllocError>
     Ok(Docs::of(lines))
 }
 
-/// The last name of a path in small letters, with a `_` before each capital behind another sign than a capital: `imm64`, `func_ref`.
+/// The last name of a path in small letters, with a `_` before each capital that comes after a sign other than a capital, such as `imm64`
+/// or `func_ref`.
 pub(crate) fn snake_case(alloc: Global, path: &[u8]) -> Result<Vec<u8>, AllocError> {
     let mut word = Vec::new(alloc);
     let mut is_behind_small = false;

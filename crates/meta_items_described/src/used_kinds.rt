@@ -28,7 +28,7 @@ pub(crate) struct UsedKinds<'d> {
 }
 
 impl<'d> UsedKinds<'d> {
-    /// Adds a kind, of which this is the key, if it isn't there.
+    /// Adds a kind with this key, unless it is there.
     fn add(
         &mut self,
         alloc: Global,

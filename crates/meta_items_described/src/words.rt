@@ -10,7 +10,7 @@ use meta_tokens::Bytes;
 use std::alloc::{AllocError, Global};
 use std::collections::BTreeMap;
 
-/// The name with a number behind it, and `_` between two digits.
+/// The name and the number after it, with `_` between two digits.
 fn with_number(alloc: Global, name: &[u8], number: usize) -> Result<Vec<u8>, AllocError> {
     let mut word = Vec::from_slice(alloc, name)?;
     if let Some(last) = name.last() {
@@ -26,12 +26,11 @@ fn with_number(alloc: Global, name: &[u8], number: usize) -> Result<Vec<u8>, All
 /// The words that are given to things of which each has one of its own.
 #[derive(Drop)]
 pub(crate) struct Words {
-    /// The words, and names behind which numbers stand, each with the greatest of the numbers behind it.
+    /// The words, and the names that have numbers after them, each with the greatest of these numbers.
     given: BTreeMap<Vec<u8>, usize>,
 }
 
 impl Words {
-    /// No words.
     pub(crate) fn new(alloc: Global) -> Words
         ensures { (word : List ℕ) → is_given result word ≡ false }
     {
@@ -40,7 +39,7 @@ impl Words {
         }
     }
 
-    /// Whether the word is given, or numbers stand behind it.
+    /// Whether the word is given, or has numbers after it.
     fn has(&self, word: &[u8]) -> bool
         ensures { result ≡ is_given self.now word.now }
     {
@@ -56,7 +55,7 @@ impl Words {
         is_word(word) && !self.has(word) && !has_own_meaning(word)
     }
 
-    /// Keeps the word, or the name, with the greatest number behind it.
+    /// Keeps the word or the name, with the greatest number after it.
     fn keep(&mut self, alloc: Global, word: &[u8], number: usize) -> Result<(), AllocError>
         ensures { OnOk result ((other : List ℕ) → is_given self.new other
             ≡ (pointwise ◌==◌ other word.now || is_given self.old other)) }
@@ -66,7 +65,7 @@ impl Words {
         Ok(())
     }
 
-    /// The greatest of the numbers behind the name.
+    /// The greatest of the numbers after the name.
     fn last_number(&self, name: &[u8]) -> usize {
         match self.given.get(name) {
             Some(number) => *number,
@@ -104,7 +103,7 @@ impl Words {
         Ok(Bytes::of(word))
     }
 
-    /// A word for what has this name: the name itself where nothing else has it and it can be given, or else with a number behind it.
+    /// A word for what has this name: the name itself if nothing else has it and it can be given, or else the name with a number after it.
     #[tactic(auto, using(crate::proofs::FreeWords::itself, crate::proofs::FreeWords::stays))]
     pub(crate) fn give(
         &mut self,

@@ -190,7 +190,7 @@ operands_grow r roots entries h side k (o ∷ os) =
 
 -- ---- the second type
 
--- the type behind `second` is there, where one is meant
+-- the registry has the type after `second`, if one is meant
 abbrev IsSecondThere : Registered → List Entry → (ℕ × TypeExpr) → Type 0
 IsSecondThere r entries s = IfOk (type_of entries s.1) (λ m. IsThere r (TypeSense m))
 

@@ -26,13 +26,13 @@ use Rattle.meta_items_insts.specs.Insts.{seconds_from, second_by, second_of}
 use Rattle.meta_items_insts.specs.Mentioned.{after_mark}
 use Rattle.meta_items_insts.specs.Registered.{IsSecondIn}
 
--- the second type behind one more mark, which stands at a place, where it is this one behind those before, if they name one
+-- the second control after one more mark at a place, if the marks before name m, or none
 abbrev second_behind : List Entry → Option MeantType → ℕ → Mark → Result (Option MeantType) InstReason
 second_behind words m k (marks.Is property) = Ok m
 second_behind words None k (marks.Second t) = in_spot (spots.Mark k) (type_of words t) >>= λ m. Ok (Some m)
 second_behind words (Some m) k (marks.Second t) = Err (SecondTwice k)
 
--- the second type behind more marks, where it is this one behind those before, if they name one
+-- the second control after more marks, if the marks before name m, or none
 abbrev second_from : List Entry → Option MeantType → ℕ → List Mark → Result (Option MeantType) InstReason
 second_from words m k [] = Ok m
 second_from words m k (x ∷ xs) = second_behind words m k x >>= λ m. second_from words m (k + 1) xs
@@ -66,7 +66,7 @@ with_none words k (marks.Second t ∷ xs) =
 
 -- ---- the marks before a place
 
--- those behind others
+-- those after others
 parts : (words : List Entry) (m : Option MeantType) (k : ℕ) (xs ys : List Mark)
     → second_from words m k (xs ++ ys) ≡ (second_from words m k xs >>= λ m. second_from words m (k + length xs) ys)
 parts words m k [] ys = ap (λ (n : ℕ). second_from words m n ys) (sym (add-zero k))
@@ -112,7 +112,7 @@ fails_here words all k (Wrong reason) h =
     ap (second_of words) (sym (take-append-drop k all)) ∙ split words (take k all) (drop k all)
     ∙ ap (λ (a : Result (Option MeantType) InstReason). a >>= λ m. second_from words m (length (take k all)) (drop k all)) h
 
--- behind the marks before place k the second type is this one, if they name one, which is so by P
+-- the marks before place k name this second control, if they name one, and it has P
 pub record IsSecondSoFar (words : List Entry) (all : List Mark) (k : ℕ) (P : Option MeantType → Type 0) : Type 0 where
   pub meant : Option MeantType
   pub so_far : second_of words (take k all) ≡ Ok meant

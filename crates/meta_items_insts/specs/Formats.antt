@@ -1,4 +1,4 @@
--- What formats mean behind the words that the items above declare.
+-- What formats mean after the words that the items above declare.
 --     MeantFormat                 a format: its name, what it stores, and which value it designates
 --     FormatEntry                 a format that an item declares, by its word
 --     format_named formats w      which format the word names

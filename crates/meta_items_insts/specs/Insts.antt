@@ -1,5 +1,5 @@
--- What instructions mean behind the words that the items above declare.
---     MeantInst                     an instruction: its name, documentation, format, operands, marks, and second type
+-- What instructions mean after the words that the items above declare.
+--     MeantInst                     an instruction: its name, documentation, format, operands, marks, and second control
 --     inst_of words formats i       the instruction that an item declares, or the first thing that is wrong with the item
 use Rattle.std.specs.Prelude.{ℕ, ◌+◌, true, List, [], ◌∷◌, Option, Some, None, Result, Ok, Err}
 use Rattle.meta_inst.specs.Marks.{no_marks, terminator, branch, returning}
@@ -86,7 +86,7 @@ marks_in (Some marks) = marks
 
 -- ---- the second type
 
--- the types behind `second`, each with the place of its mark, of which the first is k
+-- the types after `second`, each with the place of its mark, of which the first is k
 abbrev pub seconds_from : ℕ → List Mark → List (ℕ × TypeExpr)
 seconds_from k [] = []
 seconds_from k (marks.Is property ∷ more) = seconds_from (k + 1) more

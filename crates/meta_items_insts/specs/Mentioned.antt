@@ -1,7 +1,7 @@
 -- What instructions mention of types: their operands and their second types, in the order in which they stand.
---     after_operands s operands    what is declared and mentioned behind operands
---     after_marks s marks          behind marks
---     after_inst s i               behind an instruction: its inputs, its outputs, its marks
+--     after_operands s operands    what is declared and mentioned after operands
+--     after_marks s marks          after marks
+--     after_inst s i               after an instruction: its inputs, its outputs, its marks
 use Rattle.std.specs.Prelude.{List, [], ◌∷◌}
 use Rattle.meta_items.specs.declared.insts.Operand.{Operand}
 use Rattle.meta_items.specs.declared.insts.Mark.{Mark}
@@ -15,7 +15,7 @@ use Rattle.meta_items_insts.specs.Insts.{marks_in}
 
 -- ---- operands
 
--- the type variables that are mentioned behind these operands
+-- the type variables that are mentioned after these operands
 abbrev pub with_operands : List Entry → List Symbol → List Operand → List Symbol
 with_operands words symbols [] = symbols
 with_operands words symbols (o ∷ more) = with_operands words (with_sense symbols (operand_of words o.what)) more
@@ -25,7 +25,7 @@ after_operands s operands = record { words = s.words; roots = s.roots; symbols =
 
 -- ---- marks
 
--- behind a mark: the second type, where it names one
+-- after a mark: the second control, if it names one
 abbrev pub with_second : List Entry → List Symbol → Mark → List Symbol
 with_second words symbols (marks.Is property) = symbols
 with_second words symbols (marks.Second t) = with_meant symbols (type_of words t)

@@ -1,7 +1,7 @@
 -- What items declare of types and kinds, and of formats and instructions.
 --     said items               what the items declare and mention of types and kinds, the formats with their words, and the instructions
---     after a place i          what is declared where the item i stands at a place behind what the items above it declare
---     wrong_with a i           what is wrong with an item behind what the items above it declare, if anything is
+--     after a place i          what is declared where the item i stands at a place after what the items above it declare
+--     wrong_with a i           what is wrong with an item after what the items above it declare, if anything is
 use Rattle.std.specs.Prelude.{ℕ, ◌+◌, List, [], ◌∷◌, ◌++◌, Option, None, Result, Ok, Err}
 use Rattle.meta_items.specs.declared.insts.InstItem.{InstItem}
 use Rattle.meta_items.specs.declared.items.Item.{Item}
@@ -81,7 +81,7 @@ wrong_with a (item.Preset i) = None
 abbrev pub nothing_said : Above
 nothing_said = record { types = types.nothing_said; insts = record { formats = []; insts = [] } }
 
--- what is declared behind these items, the first of which stands at a place
+-- what is declared after these items, the first of which stands at a place
 abbrev pub said_from : Above → ℕ → List Item → Above
 said_from a place [] = a
 said_from a place (i ∷ is) = said_from (after a place i) (place + 1) is

@@ -29,7 +29,7 @@ use meta_items_types::{Types, doc_text, shown_or, text_in};
 use meta_operands::{FormatId, InstructionFormatBuilder};
 use std::alloc::{AllocError, Global};
 
-/// The format of an item, where its texts are UTF-8.
+/// The format of an item, whose texts must be UTF-8.
 fn format_of(
     alloc: Global,
     types: &Types,
@@ -46,7 +46,7 @@ fn format_of(
     Ok(designating(builder, marked_in(slots))?)
 }
 
-/// The instruction of an item, which is of no format yet that is looked at, without operands and marks.
+/// The instruction of an item, without operands and marks. It has no format yet that is looked at.
 fn without_operands(
     alloc: Global,
     format: FormatId,
@@ -67,7 +67,7 @@ fn without_operands(
     Ok(InstructionBuilder::new(alloc, name, doc, format))
 }
 
-/// The instruction of an item, where its texts are UTF-8 and its format has this number.
+/// The instruction of an item with this format. The item's texts must be UTF-8.
 fn inst_of(
     alloc: Global,
     types: &mut Types,
@@ -88,7 +88,6 @@ fn inst_of(
     Ok(with_marks(builder, marks_in(item)))
 }
 
-/// Adds an instruction at the end.
 fn push(all: &mut AllInstructions, builder: InstructionBuilder) -> Result<(), AllocError>
     ensures { OnOk result (all.new ≡ all.old ++ builder ∷ []) }
 {
@@ -97,7 +96,7 @@ fn push(all: &mut AllInstructions, builder: InstructionBuilder) -> Result<(), Al
 }
 
 impl Insts {
-    /// Adds a format at the end, and its word.
+    /// Adds a format and its word.
     fn declare_format(
         &mut self,
         alloc: Global,
@@ -118,7 +117,6 @@ impl Insts {
         self.words.insert(alloc, word, FormatWord { place, id })
     }
 
-    /// Adds a format.
     fn add_format(
         &mut self,
         alloc: Global,
@@ -143,7 +141,6 @@ impl Insts {
         Ok(self.declare_format(alloc, place, word, format)?)
     }
 
-    /// Adds an instruction.
     fn add_inst(
         &mut self,
         alloc: Global,
@@ -169,9 +166,9 @@ impl Insts {
         Ok(push(&mut self.insts, builder)?)
     }
 
-    /// Adds what an item, which stands at a place among all items, declares; any item but a format and an instruction declares nothing
-    /// here. The types are those that the items above declare and mention, and this one, where it is about types or kinds; they get what
-    /// an instruction mentions. `Wrong` comes exactly where something is wrong with the item, and says what is first.
+    /// Adds what an item declares of formats and instructions. `place` is the place of the item among all items. Any other item declares
+    /// nothing here. `types` has what the items above declare and mention, and this one if it is about types or kinds; the types that an
+    /// instruction mentions are added. The error is `Wrong` exactly if something is wrong with the item, and says what is wrong first.
     #[tactic(auto, using(crate::proofs::AddedItems::registry_same))]
     pub fn add(
         &mut self,
@@ -183,14 +180,14 @@ impl Insts {
         ghost above: { Above }
         requires types { held.Holds types.old above.types }
         requires insts { Holds (held.registered types.old above.types) self.old above.insts }
-        // Nothing is wrong with the item, and what it declares and mentions is kept. The registry has what it had.
+        // Nothing is wrong with the item, and what it declares and mentions is kept. The registry keeps what it had.
         ensures right { OnOk result (wrong_with above item.now ≡ None) }
         ensures types { OnOk result (held.Holds types.new (with_insts above place item.now).types) }
         ensures insts { let behind = with_insts above place item.now in
             OnOk result (Holds (held.registered types.new behind.types) self.new behind.insts) }
         ensures extends { OnOk result
             (Extends (held.registered types.old above.types) (held.registered types.new (with_insts above place item.now).types)) }
-        // What is wrong with it.
+        // The error says what is wrong with the item.
         ensures wrong { (reason : spec_InstReason) → result ≡ Err (Wrong reason) → wrong_with above item.now ≡ Some reason }
     {
         match item {

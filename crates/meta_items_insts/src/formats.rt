@@ -16,7 +16,7 @@ use meta_operands::InstructionFormatBuilder;
 use meta_types::Text;
 use std::alloc::{AllocError, Global};
 
-/// The format with what the word of a slot says.
+/// The format with what the word of a slot stands for.
 fn with_named(
     alloc: Global,
     types: &Types,
@@ -78,7 +78,7 @@ fn with_slot(
     }
 }
 
-/// The format of this name with these slots, of whose values none is designated yet.
+/// The format with this name and these slots. None of its values is designated yet.
 pub(crate) fn with_slots(
     alloc: Global,
     types: &Types,
@@ -98,7 +98,7 @@ pub(crate) fn with_slots(
     Ok(builder)
 }
 
-/// The place, among the values, of the one that is marked.
+/// The place of the marked value among the values, if one is marked.
 pub(crate) fn marked_in(slots: &[Slot]) -> Option<usize>
     ensures { result ≡ marked_from 0 slots.now }
 {
@@ -113,7 +113,8 @@ pub(crate) fn marked_in(slots: &[Slot]) -> Option<usize>
     None
 }
 
-/// The format where this value is designated, if one is told. A value that can't be is handled as want of memory: it is one of its own.
+/// The format with this designated value, if one is given. It must be a value of the format; else the error is the same as if memory ran
+/// out.
 pub(crate) fn designating(
     builder: InstructionFormatBuilder,
     marked: Option<usize>,

@@ -8,10 +8,10 @@ use meta_inst::AllInstructions;
 use meta_operands::FormatTable;
 use std::alloc::Global;
 
-/// What the items so far declare of formats and instructions.
+/// The declarations of the items so far: formats and instructions.
 #[derive(Drop)]
 pub struct Insts {
-    /// The formats, each with the number that its `format` item has among these.
+    /// The formats. Each has the number of its `format` item among such items.
     pub(crate) formats: FormatTable,
     pub(crate) words: FormatWords,
     /// The instructions, in order.
@@ -19,7 +19,7 @@ pub struct Insts {
 }
 
 impl Insts {
-    /// What no items declare.
+    /// Makes the declarations of no items.
     pub fn new(alloc: Global) -> Insts
         ensures { (r : Registered) → Holds r result nothing_said.insts }
     {
@@ -44,7 +44,7 @@ impl Insts {
         &self.insts
     }
 
-    /// The formats and the instructions, where no item is added any more.
+    /// Takes out the formats and the instructions. No item can be added any more.
     pub fn into_parts(self) -> (FormatTable, AllInstructions)
         ensures formats { result.0 ≡ formats_in self }
         ensures instructions { result.1 ≡ insts_in self }

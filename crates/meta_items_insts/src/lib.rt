@@ -1,7 +1,7 @@
 //! What the items of a file declare of formats and instructions.
 //!
-//! `Insts` keeps what the items so far declare. `add` adds an item, or says what is wrong with it; it stands beside the `Types` of
-//! `meta_items_types`, which say what the words of types and kinds stand for.
+//! `Insts` keeps what the items so far declare. `add` adds an item, or says what is wrong with it. The `Types` of `meta_items_types` stand
+//! beside it, and say what the words of types and kinds stand for.
 #![tactic(auto)]
 
 mod adding;

@@ -17,7 +17,7 @@ use meta_items_types::Types;
 use meta_typevar::TypeVar;
 use std::alloc::Global;
 
-/// The instruction which does this too.
+/// The instruction with this property.
 fn with_property(builder: InstructionBuilder, property: Property) -> InstructionBuilder
     ensures { result ≡ record builder { marks = with_property builder.marks property } }
 {
@@ -35,7 +35,7 @@ fn with_property(builder: InstructionBuilder, property: Property) -> Instruction
     }
 }
 
-/// The instruction with one more mark: a second type is named elsewhere.
+/// The instruction with one more mark. A mark `second` changes nothing here.
 fn with_mark(builder: InstructionBuilder, mark: &Mark) -> InstructionBuilder
     ensures { result ≡ record builder { marks = with_mark builder.marks mark.now } }
 {
@@ -55,7 +55,7 @@ pub(crate) fn with_marks(mut builder: InstructionBuilder, marks: &[Mark]) -> Ins
     builder
 }
 
-/// The marks in the brackets, none where no brackets stand.
+/// The marks in the brackets. The list is empty if there are no brackets.
 pub(crate) fn marks_in(item: &InstItem) -> &[Mark]
     ensures { result.now ≡ marks_in item.now.marks }
 {
@@ -65,7 +65,7 @@ pub(crate) fn marks_in(item: &InstItem) -> &[Mark]
     }
 }
 
-/// The variable of the second type that these marks name up to the one at a place, where it is this one up to there.
+/// The variable of the second control after the mark at a place. `second` is the one that the marks before name, if they do.
 fn second_at(
     alloc: Global,
     types: &mut Types,
@@ -95,7 +95,7 @@ fn second_at(
     }
 }
 
-/// The variable of the second type that controls, if one of the instruction's marks names one.
+/// The variable of the second control, if a mark of the instruction names one.
 pub(crate) fn second_in(
     alloc: Global,
     types: &mut Types,
@@ -117,7 +117,7 @@ pub(crate) fn second_in(
     Ok(second)
 }
 
-/// The instruction that names this second type, if there is one.
+/// The instruction with this second control, if one is given.
 pub(crate) fn with_second(
     builder: InstructionBuilder,
     second: Option<TypeVar>,

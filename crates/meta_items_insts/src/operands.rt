@@ -23,14 +23,14 @@ use std::alloc::Global;
 /// A side of an instruction.
 #[derive(Clone, Copy)]
 pub(crate) enum Side {
-    /// What goes in.
+    /// The inputs.
     Inputs,
-    /// What comes out.
+    /// The outputs.
     Outputs,
 }
 
 impl Side {
-    /// Where the operand at a place stands.
+    /// The spot of the operand at a place of this side.
     fn spot(self, place: usize) -> Spot
         ensures { result ≡ spot_at self place }
     {
@@ -40,7 +40,7 @@ impl Side {
         }
     }
 
-    /// The operands that stand here.
+    /// The operands of this side.
     fn operands(self, item: &InstItem) -> &[meta_items::Operand]
         ensures { result.now ≡ operands_on self item.now }
     {
@@ -91,7 +91,7 @@ fn kind_in(
     }
 }
 
-/// The operand with its documentation, where it has one of its own.
+/// The operand with its documentation, if it has one of its own.
 fn documented(operand: Operand, doc: Option<Text>) -> Operand
     requires { own_doc operand ≡ None }
     ensures name { result.name ≡ operand.name }

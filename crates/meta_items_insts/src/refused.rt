@@ -5,37 +5,37 @@ ghost use Rattle.meta_items_insts.specs.declared.refused.InstError.TheVariants.{
 use meta_items_types::{Reason, TypeError};
 use std::alloc::{AllocError, AllocFailed};
 
-/// Where something stands in an item. Places count from 0.
+/// Where something stands in an item. All places are from 0.
 #[derive(Clone, Copy, Debug, PartialEq, Eq)]
 pub enum Spot {
-    /// The format's slot at this place.
+    /// The slot at this place in a format.
     Slot(usize),
-    /// The instruction's input at this place.
+    /// The input at this place in an instruction.
     Input(usize),
-    /// The instruction's output at this place.
+    /// The output at this place in an instruction.
     Output(usize),
-    /// The instruction's mark at this place.
+    /// The mark at this place in an instruction.
     Mark(usize),
 }
 
-/// What is wrong with a format or an instruction. Places count from 0.
+/// What is wrong with a format or an instruction. All places are from 0.
 #[derive(Clone, Copy, Debug, PartialEq, Eq)]
 pub enum InstReason {
     /// A text of the item isn't UTF-8.
     NotText,
-    /// The item at this place declares the format's word.
+    /// The word of the format is declared by the item at this place.
     Declared(usize),
-    /// The slot at this place is a designated value, as an earlier one is.
+    /// The slot at this place is a designated value, and so is an earlier one.
     TwoDesignated(usize),
-    /// No format above has the word of the instruction's format.
+    /// The word of the instruction's format isn't declared above.
     UnknownFormat,
-    /// The mark at this place names a second type that controls, as an earlier one does.
+    /// The mark at this place names a second control, and so does an earlier one.
     SecondTwice(usize),
-    /// This is wrong with the type or the kind in this spot.
+    /// Something is wrong with the type or the kind in this spot.
     In(Spot, Reason),
 }
 
-/// Why there is no answer.
+/// Why a format or an instruction can't be declared.
 #[derive(Clone, Copy, Debug)]
 pub enum InstError {
     /// Memory ran out.
@@ -61,7 +61,7 @@ impl<T: Drop> From<AllocFailed<T>> for InstError {
 }
 
 impl Spot {
-    /// Why there is no answer, where a type or a kind in this spot has none.
+    /// The error for a type or a kind in this spot.
     pub(crate) fn error(self, error: TypeError) -> InstError
         ensures { result ≡ error_in self error }
     {

@@ -1,10 +1,10 @@
 ghost use Rattle.std.specs.Prelude.{◌≡◌};
 ghost use Rattle.meta_items_insts.specs.Formats.{slot_word};
 
-/// A word of a slot that names no kind of a field.
+/// A word of a slot that doesn't name the kind of a field.
 #[derive(Clone, Copy)]
 pub(crate) enum SlotWord {
-    /// `block`: a block with arguments.
+    /// `block`: a block that takes arguments.
     Block,
     /// `raw_block`: a block without arguments.
     RawBlock,
@@ -13,7 +13,7 @@ pub(crate) enum SlotWord {
 }
 
 impl SlotWord {
-    /// The one that a word is, if it is one of these.
+    /// The slot word with these bytes, if there is one.
     #[tactic(auto, unfolding(crate::specs::Formats::slot_word))]
     pub(crate) fn of(word: &[u8]) -> Option<SlotWord>
         ensures { result ≡ slot_word word.now }

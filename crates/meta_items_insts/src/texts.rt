@@ -8,7 +8,7 @@ use meta_tokens::Bytes;
 use meta_types::Text;
 use std::alloc::{AllocError, Global};
 
-/// Whether a text is UTF-8, if there is one.
+/// Whether a text is UTF-8, if there is a text.
 fn is_text_or_none(text: &Option<Bytes>) -> bool
     ensures { result ≡ are_texts (text_in text.now) }
 {
@@ -47,8 +47,8 @@ pub(crate) fn is_text_inst(item: &InstItem) -> bool
         && are_operands(item.outputs.as_slice())
 }
 
-/// The text that these bytes are, where there are some. Bytes that are no UTF-8 are handled as want of memory: the texts of an item are
-/// tested before.
+/// The text with these bytes, if there are any. They must be UTF-8: the texts of an item are tested before. For other bytes the error is
+/// the same as if memory ran out.
 pub(crate) fn text_or_none(alloc: Global, text: &Option<Bytes>) -> Result<Option<Text>, AllocError>
     ensures { IfOk result (λ t. t ≡ text.now) }
 {

@@ -6,7 +6,7 @@ use meta_operands::FormatId;
 use std::alloc::{AllocError, Global};
 use std::collections::BTreeMap;
 
-/// What is kept of a format's word: the place of the item that declares it, and the format's number.
+/// What is kept of a format's word: the place of the item that declares it, and the number of the format.
 #[derive(Clone, Copy)]
 pub(crate) struct FormatWord {
     pub(crate) place: usize,
@@ -20,7 +20,6 @@ pub(crate) struct FormatWords {
 }
 
 impl FormatWords {
-    /// No words.
     pub(crate) fn new(alloc: Global) -> FormatWords
         ensures { (w : List ℕ) → word_at result w ≡ None }
     {
@@ -29,7 +28,7 @@ impl FormatWords {
         }
     }
 
-    /// What is kept of a word.
+    /// What is kept of a word, if an item declares it.
     pub(crate) fn get(&self, word: &[u8]) -> Option<FormatWord>
         ensures { result ≡ word_at self.now word.now }
     {
@@ -37,7 +36,6 @@ impl FormatWords {
         Some(*kept)
     }
 
-    /// Adds a word.
     pub(crate) fn insert(
         &mut self,
         alloc: Global,

@@ -356,7 +356,7 @@ unfolding items_at
 items_first n [] some = absurd (omega arith)
 items_first n (t ∷ ts) some = refl
 
--- reading on, behind an item
+-- reading on, after an item
 reads_on : (i : Item) (n : ℕ) (more : List Token) → Fits i → ends more ≡ true
     → items_at (suc n) (spelled i ++ more) ≡ (items_at n more >>= λ xs. Ok (i ∷ xs))
 reads_on i n more fit h =
@@ -398,7 +398,7 @@ none_stands ts g (i ∷ is) more e fit apart s =
     let read : item_at ts ≡ Ok b.0 = ap item_at (s ∙ append_assoc (spelled i) (spelled_all is) more) ∙ b.1 in
     absurd (cc)
 
--- the longest items behind an item that was read are the longest with it
+-- the longest items after an item that was read are the longest with it
 abbrev pub Longest : List Token → List Token → Type 0
 Longest ts rest = (is : List Item) (more : List Token) → AllFit is → LastApart is more → ts ≡ spelled_all is ++ more
     → length rest ≤ length more
@@ -422,7 +422,7 @@ longest_with ts x rest read short later (i ∷ j ∷ js) more fit apart s =
     let same : x ≡ (i, tail) = ok_is x (i, tail) (sym read ∙ again) in
     later (j ∷ js) more fit.1 apart (ap (λ (y : Item × List Token). y.1) same)
 
--- what is left behind the items behind an item is left behind them with it
+-- what is left after items that come after an item is left after them with it
 last_with : (ts : List Token) (x : Item × List Token) (front : List Item) (rest : List Token) → item_at ts ≡ Ok x
     → x.1 ≡ spelled_all front ++ rest → LastApart front rest → LastApart (x.0 ∷ front) rest
 last_with ts x [] rest is e last = subst (Apart x.0) e (item_leaves ts x is)
@@ -441,11 +441,11 @@ pub record IsFault (ts : List Token) (place : ℕ) : Type 0 where
   pub within : place ≤ length ts
   pub begun : BeginItems (take place ts)
 
--- with so many tokens left
+-- with this count of tokens left
 abbrev pub RefusedBefore : ℕ → List Token → Type 0
 RefusedBefore left ts = (left ≤ length ts) × IsFault ts (length ts - left)
 
--- behind an item that was read
+-- after an item that was read
 refused_behind : (ts : List Token) (x : Item × List Token) (left : ℕ) → item_at ts ≡ Ok x → RefusedBefore left x.1 → RefusedBefore left ts
 refused_behind ts x left is (few, r) =
     let all : length x.1 ≡ length (spelled_all r.front) + length r.rest = ap length r.are

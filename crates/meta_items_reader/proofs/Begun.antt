@@ -30,7 +30,7 @@ use Rattle.meta_items_reader.proofs.TypeLaws.{function_is, function_takes, calls
 abbrev pub Starts : {A : Type 0} → (A → List Token) → (A → Type 0) → List Token → Type 0
 Starts {A} part good d = (x : A) × (more : List Token) × good x × (part x ≡ d ++ more)
 
--- so many tokens are left behind such
+-- this count of tokens is left after such
 abbrev pub Before : (List Token → Type 0) → List Token → ℕ → Type 0
 Before P ts left = (d : List Token) × (rest : List Token) × (ts ≡ d ++ rest) × (length rest ≡ left) × P d
 
@@ -65,7 +65,7 @@ pub told_bind : {A B : Type 0} (P : List Token → Type 0) (ts : List Token) (r 
 told_bind P ts (Ok x) f h g = g x refl
 told_bind P ts (Err e) f h g = h
 
--- a part, and what is read behind it
+-- a part, and what is read after it
 pub told_part : {A B : Type 0} (P : List Token → Type 0) (part : A → List Token) (good : A → Type 0)
     (at : List Token → Result (A × List Token) Fault) (ts : List Token) (f : A × List Token → Result (B × List Token) Fault)
     → Takes part at → Begins part good at → ((d : List Token) → Starts part good d → P d)
@@ -74,14 +74,14 @@ told_part P part good at ts f takes begins h g =
     told_bind P ts (at ts) f (told_as (Starts part good) P ts (at ts) h (begins ts))
     (λ x e. told_behind P (part x.0) x.1 ts (f x) (takes ts x e) (g x e))
 
--- a part, behind which nothing fails
+-- a part after which nothing fails
 pub told_last : {A B : Type 0} (P : List Token → Type 0) (part : A → List Token) (good : A → Type 0)
     (at : List Token → Result (A × List Token) Fault) (ts : List Token) (f : A × List Token → B)
     → Begins part good at → ((d : List Token) → Starts part good d → P d) → Told P ts (at ts >>= λ x. Ok (f x))
 told_last P part good at ts f begins h =
     told_bind P ts (at ts) (λ x. Ok (f x)) (told_as (Starts part good) P ts (at ts) h (begins ts)) (λ x e. tt)
 
--- with more behind, or before
+-- with more after it, or before
 pub with_tail : (a d m tail : List Token) → a ≡ d ++ m → a ++ tail ≡ d ++ (m ++ tail)
 with_tail a d m tail e = ap (λ (u : List Token). u ++ tail) e ∙ append_assoc d m tail
 
@@ -146,7 +146,7 @@ chosen_told P w meaning (Sign c ∷ ts) p = at_front P (Sign c ∷ ts) p
 chosen_told P w meaning (Doc d ∷ ts) p = at_front P (Doc d ∷ ts) p
 chosen_told P w meaning (Stray f ∷ ts) p = at_front P (Stray f ∷ ts) p
 
--- and what is read behind them
+-- and what is read after them
 pub told_name : {B : Type 0} (P : List Token → Type 0) (w : Wanted) (ts : List Token) (f : Name × List Token → Result B Fault) → P []
     → ((x : Name × List Token) → Told (λ d. P (name x.0 ∷ d)) x.1 (f x)) → Told P ts (name_at w ts >>= f)
 told_name P w ts f p g =
@@ -200,7 +200,7 @@ separator_told P layouts.Commas ts p = no_fault P ts (sign_first 44 ts)
 separator_told P layouts.Numbers ts p = tt
 separator_told P layouts.Calls ts p = tt
 
--- what begins the parts of a list behind one
+-- what begins the parts of a list after one
 abbrev More : {A : Type 0} → (A → List Token) → (A → Type 0) → Layout → (List Token → Type 0) → Type 0
 More {A} part good l P = (ys : List A) (d more : List Token) → Every good ys
     → each_behind (separator l) part ys ++ closing l ≡ d ++ more → P d

@@ -615,7 +615,7 @@ preset_told ds ts =
 
 -- ---- items
 
--- behind documentation
+-- after documentation
 abbrev Documented : List (List ℕ) → List Token → Type 0
 Documented ds d = Starts spelled Fits (docs ds ++ d)
 
@@ -628,7 +628,7 @@ docs_start ds = (
   sym (append_assoc (docs ds) [] (Key key.Bool ∷ name a_name ∷ Sign 61 ∷ truth true ∷ [])),
 )
 
--- behind a keyword
+-- after a keyword
 behind_key : {A : Type 0} (ds : List (List ℕ)) (k : Keyword) (ts : List Token) (r : Result A Fault) → Told (OfItem ds k) ts r
     → Told (Documented ds) (Key k ∷ ts) r
 behind_key ds k ts r h = told_behind (Documented ds) (Key k ∷ []) ts (Key k ∷ ts) r refl h

@@ -1,4 +1,4 @@
--- Reading `)` so many times, as a loop does.
+-- Reading `)` a number of times, as a loop does.
 use Rattle.std.proofs.Common.{◌≡◌, ℕ, suc, ◌-◌, ◌+◌, ◌≤◌, ◌<◌, List, Result, Ok, Err, refl, sym, ◌∙◌, arith}
 use Rattle.meta_tokens.specs.declared.token.Token.{Token}
 use Rattle.meta_items_reader.specs.declared.fault.Fault.{Fault}

@@ -317,7 +317,7 @@ marks_within : Keeps marks_at
 unfolding marks_at
 marks_within ts = marks_within_by ts (sign_first 91 ts)
 
--- without brackets none begin behind
+-- without brackets no brackets begin after
 abbrev MarksApart : Option (List Mark) → List Token → Type 0
 MarksApart None ts = sign_first 91 ts ≡ false
 MarksApart (Some ms) ts = Unit {0}
@@ -333,7 +333,7 @@ marks_again (Some ms) rest end =
           (every_mark ms) last refl,
     ) refl
 
--- behind outputs stand marks, or the item ends
+-- after outputs come marks, or the item ends
 outputs_parted : (os : List Operand) (ts : List Token) → OutputsApart os (Sign 91 ∷ ts)
 outputs_parted [] ts = refl
 outputs_parted (o ∷ os) ts = (refl, last_parted (o ∷ os) 91 ts refl)

@@ -48,7 +48,7 @@ of_plain (Sign c ∷ ts) h = let k = of_plain ts h in omega arith
 of_plain (Doc d ∷ ts) h = let k = of_plain ts h in omega arith
 of_plain (Stray f ∷ ts) h = absurd cc
 
--- documentation, a keyword, and no other behind it
+-- documentation, a keyword, and no other after it
 of_item : (ds : List (List ℕ)) (k : Keyword) (body : List Token) → keys body ≡ 0 → keys (docs ds ++ Key k ∷ body) ≡ 1
 of_item ds k body e = let h = of_docs ds in let all = keys_append (docs ds) (Key k ∷ body) in omega arith
 

@@ -68,7 +68,7 @@ value_again w v rest = rw (
 abbrev AnyValue : EnumValue → Type 0
 AnyValue v = Unit {0}
 
--- whatever stands behind
+-- whatever comes after
 abbrev Always : EnumValue → List Token → Type 0
 Always v ts = Unit {0}
 

@@ -1,4 +1,4 @@
--- What is left behind an item doesn't go on with it.
+-- What is left after an item doesn't go on with it.
 use Rattle.std.proofs.Common.{List, ◌∷◌, length, ℕ, []}
 use Rattle.std.specs.Prelude.{◌==◌}
 use Rattle.meta_tokens.specs.declared.token.Token.{Token}

@@ -19,7 +19,7 @@ use Rattle.meta_items_reader.specs.Lists.{closes_first}
 use Rattle.meta_items_reader.specs.Lists.{list_at}
 use Rattle.meta_items_reader.proofs.PartLaws.{bind_ok, ok_is, Shorter, shorter_bind, sign_is, drop_less}
 
--- what stands between two parts, and behind the last
+-- what stands between two parts, and after the last
 abbrev pub separator : Layout → List Token
 separator layouts.Parentheses = comma
 separator layouts.Brackets = comma
@@ -34,7 +34,7 @@ closing layouts.Commas = []
 closing layouts.Numbers = []
 closing layouts.Calls = []
 
--- ---- what stands behind a part
+-- ---- what comes after a part
 
 abbrev pub Parted : List Token → List Token → List Token → Bool × List Token → Type 0
 Parted between close ts (true, rest) = ts ≡ between ++ rest
@@ -248,7 +248,7 @@ list_within at l keeps ts = list_by_within at l keeps ts (closes_first l ts)
 
 -- ---- what is spelled so is read
 
--- the parts of a list are read off their tokens, where what stands behind a part doesn't go on with it
+-- the parts of a list are read off their tokens, where what comes after a part doesn't go on with it
 pub record Again {A : Type 0} (part : A → List Token) (at : List Token → Result (A × List Token) Fault) (l : Layout) (Good : A → Type 0)
     (Free : A → List Token → Type 0) : Type 0 where
   pub again : (x : A) (rest : List Token) → Good x → Free x rest → at (part x ++ rest) ≡ Ok (x, rest)
@@ -261,7 +261,7 @@ pub record Again {A : Type 0} (part : A → List Token) (at : List Token → Res
 abbrev pub Ends : Layout → List Token → Type 0
 Ends l rest = separator_at l (closing l ++ rest) ≡ Ok (false, rest)
 
--- what stands behind the list doesn't go on with its last part
+-- what comes after the list doesn't go on with its last part
 abbrev pub LastFree : {A : Type 0} → Layout → (A → List Token → Type 0) → List Token → List A → Type 0
 LastFree l Free rest xs = OfLast (λ x. Free x (closing l ++ rest)) xs
 
@@ -392,7 +392,7 @@ step_leaves Free at l endless leaves ts x e =
     let a = bind_ok (separator_at l ts) (λ s. part_behind at s.0 s.1) x e in
     part_leaves Free at l endless leaves ts a.0.0 a.0.1 x a.1 a.2
 
--- behind this part
+-- after this part
 abbrev MoreLeaves : {A : Type 0} → (A → List Token → Type 0) → Layout → A → List A × List Token → Type 0
 MoreLeaves Free l y x = Ended l x.1 × OfLast (λ z. Free z x.1) (y ∷ x.0)
 

@@ -42,7 +42,7 @@ one x = Some x
 pub some_is : {A : Type 0} (x y : A) → one x ≡ one y → x ≡ y
 some_is x y e = cc
 
--- what is left behind a reader, or at its fault, is no more than what it got
+-- what is left after a reader, or at its fault, is no more than what it got
 abbrev pub Shorter : {A : Type 0} → List Token → Result (A × List Token) Fault → Type 0
 Shorter ts (Ok x) = length x.1 ≤ length ts
 Shorter ts (Err f) = f.left ≤ length ts

@@ -25,7 +25,7 @@ use Rattle.meta_items_reader.proofs.PartLaws.{byte_within, comment_again, commen
 use Rattle.meta_items_reader.proofs.ListLaws.{Keeps, list_takes, list_within, Again, list_again}
 use Rattle.meta_items_reader.proofs.Ends.{of_last}
 
--- documentation, a keyword and what stands behind it are what an item is spelled as
+-- documentation, a keyword and what comes after it are what an item is spelled as
 abbrev pub Spelled : List (List ℕ) → Keyword → List Token → List (List ℕ) → List Token → List Token → Type 0
 Spelled before k ts lines body rest = docs before ++ Key k ∷ ts ≡ (docs lines ++ Key k ∷ body) ++ rest
 
@@ -37,7 +37,7 @@ together ds k ts body rest e = ap (λ (r : List Token). docs ds ++ Key k ∷ r) 
 abbrev AnyName : Name → Type 0
 AnyName n = Unit {0}
 
--- whatever stands behind
+-- whatever comes after
 abbrev Always : Name → List Token → Type 0
 Always n ts = Unit {0}
 
@@ -84,7 +84,7 @@ bool_again i rest h = rw (
   comment_again i.comment rest h,
 ) refl
 
--- whatever stands behind
+-- whatever comes after
 pub bool_begins : (i : BoolItem) (rest : List Token) → (x : BoolItem × List Token)
     × (bool_item_at i.docs (bool_item i ++ rest) ≡ Ok x) × (length x.1 ≤ length rest)
 unfolding bool_item_at

@@ -20,7 +20,7 @@ use Rattle.meta_items_reader.proofs.AllItems.{item_takes, err_is, then_err, fewe
 use Rattle.meta_items_reader.proofs.Stuck.{Other, Near, FaultCalls, Firm, further}
 use Rattle.meta_items_reader.proofs.StuckItems.{item_local}
 
--- ---- where a function is wanted, a word stands that is none
+-- ---- where a function is wanted, a word stands that isn't one
 
 firm_by : (n : ℕ) (t : Token) (ts : List Token) (f : Fault) (r : Result (Item × List Token) Fault) → item_at (t ∷ ts) ≡ r
     → Firm (t ∷ ts) r → ((x : Item × List Token) → item_at (t ∷ ts) ≡ Ok x → items_at n x.1 ≡ Err f → FaultCalls (t ∷ ts) f)
@@ -50,7 +50,7 @@ some_left ts f c =
 
 -- ---- no items go on with the token at which reading fails
 
--- what stands behind the tokens that both have opens a function, where reading fails since a word is none
+-- what comes after the tokens that both have opens a function, where reading fails since a word isn't one
 abbrev Opens : Fault → List Token → List Token → Type 0
 Opens f rest more = f.wanted ≡ wanted.Function → f.left ≡ suc (length rest) → sign_first 40 more ≡ true
 
@@ -88,7 +88,7 @@ stuck_items (suc n) (suc m) (t ∷ q) rest more f is le e lt opens ok =
     (λ x read. let some = fewer (t ∷ (q ++ rest)) x read in omega arith) e lt opens a.1 b.1
     (λ p few next later. stuck_items n m p rest more f b.0 few next lt opens later)
 
--- ---- the word that is no function is passed, where no `(` stands behind it
+-- ---- the word that isn't a function is passed, if no `(` comes after it
 
 -- reading ends in these last tokens
 abbrev EndsIn : List Token → Result (List Item) Fault → Type 0
@@ -163,7 +163,7 @@ known : (w : Wanted) (place : ℕ) → ((w ≡ wanted.Function) × (stuck_at w p
 known wanted.Function place = inl (refl, refl)
 known w place = inr (λ e. absurd cc, refl)
 
--- the tokens up to the word that is no function, and those behind it
+-- the tokens up to the word that isn't a function, and those after it
 pub record Called (ts : List Token) (f : Fault) (k : ℕ) : Type 0 where
   pub read : items_at (length ts) (take k ts ++ drop k ts) ≡ Err f
   pub all : length (take k ts ++ drop k ts) ≡ length ts
@@ -211,7 +211,7 @@ called_there ts f e w =
     ∙ drop-append_seam d c.0 in
     subst (λ (u : List Token). CallNone u) (sym last) c.3
 
--- no items begin with the tokens up to the place and behind it
+-- no items begin with the tokens up to the place and after it
 stuck_behind : (ts : List Token) (f : Fault) (k : ℕ) → items_at (length ts) ts ≡ Err f → length ts - f.left < k → k ≤ length ts
     → (f.wanted ≡ wanted.Function → f.left ≡ suc (length ts - k) → ⊥) → BeginItems (take k ts) → ⊥
 stuck_behind ts f k e past within other begin =

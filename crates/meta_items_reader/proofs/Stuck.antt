@@ -1,4 +1,4 @@
--- What a reader answers rests on the tokens that it has read, and on none behind the token at which it fails.
+-- What a reader answers rests on the tokens that it has read, and on none after the token at which it fails.
 use Rattle.std.proofs.Common.{◌≡◌, ◌∙◌, ℕ, zero, suc, ◌<◌, Bool, true, false, cond, List, [], ◌∷◌, ◌++◌, length, drop, Option}
 use Rattle.std.proofs.Common.{Some, None, Result, Ok, Err, refl, sym, ap, subst, arith, length-append, append_assoc}
 use Rattle.std.specs.Prelude.{◌==◌}
@@ -30,9 +30,9 @@ Other w = w ≡ wanted.Function → ⊥
 abbrev pub Failed : {A : Type 0} → Result A Fault → Type 0
 Failed {A} s = (g : Fault) × (s ≡ Err g)
 
--- Two lists of tokens begin with the same tokens, and then the one goes on with these, and the other with those. Where reading the one ends
--- before they part, reading the other ends there too. Where a word is refused since it is no function, what stands behind it counts: with
--- `(` it is refused too, and else it is passed.
+-- Two lists of tokens begin with the same tokens, and then go on with different ones. If reading the first ends before they part, reading
+-- the other ends there too. If a word is refused since it isn't a function, what comes after it counts: with `(` it is refused too, and
+-- else it is passed.
 abbrev pub Near : {A : Type 0} → List Token → List Token → Result (A × List Token) Fault → Result (A × List Token) Fault → Type 0
 Near {A} rest more (Ok x) s = length rest < length x.1 → (q : List Token) × (x.1 ≡ q ++ rest) × (s ≡ Ok (x.0, q ++ more))
 Near rest more (Err f) s = length rest < f.left
@@ -43,11 +43,11 @@ Near rest more (Err f) s = length rest < f.left
 abbrev pub Behind : List Token → List Token → Type 0
 Behind ts us = (d : List Token) × (ts ≡ d ++ us)
 
--- at the fault a word stands that is no function, and `(` behind it
+-- at the fault a word stands that isn't a function, and `(` after it
 abbrev pub FaultCalls : List Token → Fault → Type 0
 FaultCalls ts f = (us : List Token) × (length us ≡ f.left) × Behind ts us × CallNone us
 
--- What is left is the last of what was there. Where a function is wanted, a word stands that is none.
+-- What is left is the last of what was there. Where a function is wanted, a word stands that isn't one.
 abbrev pub Firm : {A : Type 0} → List Token → Result (A × List Token) Fault → Type 0
 Firm ts (Ok x) = Behind ts x.1
 Firm ts (Err f) = f.wanted ≡ wanted.Function → FaultCalls ts f
@@ -62,7 +62,7 @@ pub record Local {A : Type 0} (at : List Token → Result (A × List Token) Faul
 
 -- ---- what the two answers are
 
--- where the one ends behind the tokens that both have, nothing is said of the other
+-- where the one ends after the tokens that both have, nothing is said of the other
 pub near_out : {A : Type 0} (rest more : List Token) (r s : Result (A × List Token) Fault) → Shorter rest r → Near rest more r s
 near_out rest more (Ok x) s short = λ lt. absurd (omega arith)
 near_out rest more (Err f) s short = λ lt. absurd (omega arith)
@@ -96,7 +96,7 @@ short_behind : {A B : Type 0} (ts : List Token) (s : Result (A × List Token) Fa
 short_behind ts (Ok x) g h k = longer x.1 ts (g x) h (k x refl)
 short_behind ts (Err e) g h k = h
 
--- two readers one behind the other
+-- two readers, one after the other
 pub near_bind : {A B : Type 0} (rest more : List Token) (r s : Result (A × List Token) Fault)
     (f g : A × List Token → Result (B × List Token) Fault) → Near rest more r s
     → ((x : A × List Token) → r ≡ Ok x → Shorter x.1 (f x)) → ((x : A × List Token) → s ≡ Ok x → Shorter x.1 (g x))
@@ -155,7 +155,7 @@ near_drop : {A : Type 0} (at : List Token → Result (A × List Token) Fault) �
 near_drop at one [] rest more = near_out rest more (at (drop 1 rest)) (at (drop 1 more)) (kept_drop at one rest).0
 near_drop at one (t ∷ q) rest more = one.near q rest more
 
--- behind the first token
+-- after the first token
 pub behind_local : {A : Type 0} (at : List Token → Result (A × List Token) Fault) → Local at → Local (λ ts. at (drop 1 ts))
 behind_local at one = record { near = near_drop at one; keeps = kept_drop at one }
 
@@ -236,7 +236,7 @@ chosen_on w o meaning (Stray f) = (λ ts. wants w ts, wants_local w (o), λ ts. 
 pub chosen_local : {A : Type 0} (w : Wanted) → Other w → (meaning : List ℕ → Option A) → Local (chosen_at w meaning)
 chosen_local w o meaning = local_cases (chosen_at w meaning) (omega arith, λ e. absurd (o e)) (chosen_on w o meaning)
 
--- a sign, and what is read behind it
+-- a sign, and what is read after it
 sign_case : {B : Type 0} (w : Wanted) (c : ℕ) (f : List Token → Result (B × List Token) Fault) → Other w → Local f → (b : Bool)
     → (g : List Token → Result (B × List Token) Fault) × Local g
     × ((ts : List Token) → (cond b (Ok ts) (wants w (Sign c ∷ ts)) >>= f) ≡ g (Sign c ∷ ts))
@@ -509,7 +509,7 @@ bind_assoc : {A B C : Type 0} (r : Result A Fault) (g : A → Result B Fault) (h
 bind_assoc (Ok x) g h = refl
 bind_assoc (Err e) g h = refl
 
--- the functions in front, and what is read behind them
+-- the functions in front, and what is read after them
 abbrev Calls : {B : Type 0} → ℕ → (List Function → List Token → Result (B × List Token) Fault) → List Token → Result (B × List Token) Fault
 Calls n f ts = more_at (function_at wanted.Function) layouts.Calls n ts >>= λ xs. f xs.0 xs.1
 
@@ -536,7 +536,7 @@ calls_go : {B : Type 0} (n : ℕ) (f : List Function → List Token → Result (
 calls_go n f w ts x opens is =
     ap (λ (u : List Token). Calls (suc n) f (Word w ∷ u)) (sign_is 40 ts opens) ∙ calls_function n f w (drop 1 ts) x is
 
--- whatever is read behind the functions is local, and passes a word
+-- whatever is read after the functions is local, and passes a word
 abbrev Passes : {B : Type 0} → (List Function → List Token → Result (B × List Token) Fault) → Type 0
 Passes f = (xs : List Function) → Local (f xs) × ((w : List ℕ) (ts : List Token) → Shorter ts (f xs (Word w ∷ ts)))
 
@@ -583,7 +583,7 @@ near_as {A} rest more p q r s e d h =
     subst (λ (u : Result (A × List Token) Fault). Near rest more u r) (sym e)
     (subst (λ (u : Result (A × List Token) Fault). Near rest more q u) (sym d) h)
 
--- where the word is the last token that both have, and what stands behind it opens a function in the one
+-- where the word is the last token that both have, and what comes after it opens a function in one of them
 last_known : {B : Type 0} (n m : ℕ) (f : List Function → List Token → Result (B × List Token) Fault) → Passes f → (w : List ℕ)
     (rest more : List Token) → length rest < n → sign_first 40 rest ≡ true → (o : Option Function) → function_of w ≡ o
     → Near rest more (Calls (suc n) f (Word w ∷ rest)) (Calls (suc m) f (Word w ∷ more))
@@ -610,7 +610,7 @@ last_word {B} n m f pass w rest more lt false is =
     near_out rest more (Calls (suc n) f (Word w ∷ rest)) (Calls (suc m) f (Word w ∷ more))
     (subst (λ (r : Result (B × List Token) Fault). Shorter rest r) (sym (calls_none n f (Word w ∷ rest) is)) ((pass []).1 w rest))
 
--- where both have a token behind the word
+-- where both have a token after the word
 both_known : {B : Type 0} (n m : ℕ) (f : List Function → List Token → Result (B × List Token) Fault) → (w : List ℕ) (t : Token)
     (q rest more : List Token) → ((us : List Token) → sign_first 40 (t ∷ us) ≡ true)
     → ((x : Function) → Near rest more (Calls n (λ xs. f (x ∷ xs)) (q ++ rest)) (Calls m (λ xs. f (x ∷ xs)) (q ++ more)))
@@ -654,7 +654,7 @@ near_calls (suc n) (suc m) f pass (Sign c ∷ q) rest more lt less = (pass []).0
 near_calls (suc n) (suc m) f pass (Doc d ∷ q) rest more lt less = (pass []).0.near (Doc d ∷ q) rest more
 near_calls (suc n) (suc m) f pass (Stray e ∷ q) rest more lt less = (pass []).0.near (Stray e ∷ q) rest more
 
--- `)`, so many times, and what is read behind them
+-- `)` as many times as this, and what is read after them
 closed_local : {B : Type 0} (n : ℕ) (f : List Token → Result (B × List Token) Fault) → Local f → Local (λ ts. closed_at n ts >>= f)
 unfolding closed_at
 closed_local zero f later = later
@@ -663,7 +663,7 @@ closed_local (suc n) f later =
     (λ ts. bind_assoc (sign_or_at (wanted.Sign 41) 41 ts) (λ after. closed_at n after) f)
     (sign_local (wanted.Sign 41) 41 (λ after. closed_at n after >>= f) (λ e. absurd cc) (closed_local n f later))
 
--- a type behind its functions
+-- a type after its functions
 abbrev Rest : List Function → List Token → Result (TypeExpr × List Token) Fault
 Rest fs ts = word_at wanted.Type ts >>= λ w. closed_at (length fs) w.1 >>= λ after. Ok (record { functions = fs; word = w.0 }, after)
 

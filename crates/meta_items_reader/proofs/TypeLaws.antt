@@ -64,7 +64,7 @@ function_again w f rest = rw (function_known f) refl
 abbrev AnyFunction : Function → Type 0
 AnyFunction f = Unit {0}
 
--- whatever stands behind
+-- whatever comes after
 abbrev Always : Function → List Token → Type 0
 Always f ts = Unit {0}
 

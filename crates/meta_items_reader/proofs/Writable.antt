@@ -39,7 +39,7 @@ both_fine (t ∷ ts) b h g = (h.0, both_fine ts b h.1 g)
 
 -- ---- bytes
 
--- before and behind an ASCII byte
+-- before and after an ASCII byte
 beside : (xs : List ℕ) (c : ℕ) (ys : List ℕ) → c < 128 → IsUtf8 (xs ++ c ∷ ys) → IsUtf8 xs × IsUtf8 ys
 beside xs c ys small u =
     let in_it : length xs < length (xs ++ c ∷ ys) = omega (arith, length-append xs (c ∷ ys)) in
@@ -147,7 +147,7 @@ data Where : Type 0 where
   AtComment : Where
   AtLost : Where
 
--- each as that behind some bytes, from any state on
+-- each as the one after some bytes, from any state on
 abbrev state_of : State → Where → List ℕ → State
 state_of s AtFront bs = in_mode (after s.mode [] 10).mode bs
 state_of s AtBetween bs = in_mode (next (after s.mode [] 10).mode [] 44).mode bs
@@ -198,7 +198,7 @@ rest_of AtLost bs cs k = k
 less : (c : ℕ) (cs : List ℕ) → Rest (c ∷ cs) → Rest cs
 less c cs r = (r.0 ++ c ∷ [], subst IsUtf8 (sym (append_assoc r.0 (c ∷ []) cs)) r.1)
 
--- a state that is known, behind tokens that are fine
+-- a state that is known, after tokens that are fine
 abbrev Step : State → List Token → State → List ℕ → Type 0
 Step seed ts s cs = (w : Where) × (bs : List ℕ) × Known w bs cs × AllFine ts × (s ≡ state_of seed w bs)
 

@@ -35,7 +35,7 @@ use Rattle.meta_items.specs.Spelling.{outputs, mark, mark_list, spelled, spelled
 use Rattle.meta_items.specs.Words.{function_text, dimension_text, property_text}
 use Rattle.meta_items_reader.proofs.Bodies.{docs_of, keyword_of_item, body_of, in_parts}
 
--- these tokens stay, whatever stands behind them
+-- these tokens stay, whatever comes after them
 abbrev Stay : List Token → Type 0
 Stay ts = (rest : List Token) → squeezed (ts ++ rest) ≡ ts ++ squeezed rest
 
@@ -56,7 +56,7 @@ text t ts h rest = ap (λ (r : List Token). Quoted t ∷ r) (h rest)
 sign : (c : ℕ) (ts : List Token) → (c == 44) ≡ false → Stay ts → Stay (Sign c ∷ ts)
 sign c ts e h rest = rw e (ap (λ (r : List Token). Sign c ∷ r) (h rest))
 
--- a comma stays where no closing sign stands behind it
+-- a comma stays if no closing sign comes after it
 behind_comma : (ts : List Token) → ((rest : List Token) → ends_first (ts ++ rest) ≡ false) → Stay ts → Stay (Sign 44 ∷ ts)
 behind_comma ts e h rest = rw (e rest) (ap (λ (r : List Token). Sign 44 ∷ r) (h rest))
 

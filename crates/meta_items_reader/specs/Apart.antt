@@ -1,4 +1,4 @@
--- What stands behind an item doesn't go on with it: its first token is none that the item could have next.
+-- What stands after an item doesn't go on with it: its first token isn't one that the item could have next.
 use Rattle.std.specs.Prelude.{◌≡◌, ℕ, false, List, [], ◌∷◌, Option, Some, None, codes}
 use Rattle.meta_tokens.specs.declared.token.Token.{Token}
 use Rattle.meta_items.specs.declared.name.Name.{Name}
@@ -23,7 +23,7 @@ OfLast Good [] = Unit {0}
 OfLast Good (x ∷ []) = Good x
 OfLast Good (x ∷ y ∷ ys) = OfLast Good (y ∷ ys)
 
--- a word goes on with `(`; behind the `)` of a function a type has ended
+-- a word goes on with `(`; after the `)` of a function a type has ended
 abbrev pub FunctionsApart : List Function → List Token → Type 0
 FunctionsApart [] ts = sign_first 40 ts ≡ false
 FunctionsApart (f ∷ fs) ts = Unit {0}
@@ -31,7 +31,7 @@ FunctionsApart (f ∷ fs) ts = Unit {0}
 abbrev pub TypeApart : TypeExpr → List Token → Type 0
 TypeApart t ts = FunctionsApart t.functions ts
 
--- a number goes on with `..`; behind the upper end a range has ended
+-- a number goes on with `..`; after the upper end a range has ended
 abbrev pub HighApart : Option ℕ → List Token → Type 0
 HighApart None ts = sign_first 46 ts ≡ false
 HighApart (Some n) ts = Unit {0}
@@ -81,9 +81,9 @@ abbrev pub InstApart : List Operand → Option (List Mark) → List Token → Ty
 InstApart os None ts = (sign_first 91 ts ≡ false) × OutputsApart os ts
 InstApart os (Some ms) ts = Unit {0}
 
--- A group and a setting end whatever stands behind them: at most a text goes on with a setting, which is its comment, and ends it. What
--- goes on with another item may be more than one token, and where the first of them stands without the others, no item is read, though one
--- stands in front of it.
+-- A group and a setting end, whatever comes after them: at most a text goes on with a setting, which is its comment, and ends it. What goes
+-- on with another item can be more than one token. If the first of them stands without the others, no item is read, although one stands in
+-- front of it.
 abbrev pub Apart : Item → List Token → Type 0
 Apart (item.Type i) ts = SetApart i.set ts
 Apart (item.Alias i) ts = TypeApart i.means ts
@@ -96,6 +96,6 @@ Apart (item.Num i) ts = Unit {0}
 Apart (item.Enum i) ts = Unit {0}
 Apart (item.Preset i) ts = Unit {0}
 
--- what stands behind some items doesn't go on with the last one
+-- what comes after some items doesn't go on with the last one
 abbrev pub LastApart : List Item → List Token → Type 0
 LastApart is ts = OfLast (λ i. Apart i ts) is

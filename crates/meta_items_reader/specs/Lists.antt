@@ -12,7 +12,7 @@ use Rattle.meta_items_reader.specs.declared.lists.Layout.{Layout}
 use Rattle.meta_items_reader.specs.declared.lists.Layout.TheVariants as layouts
 use Rattle.meta_items_reader.specs.Parts.{◌>>=◌, Fails, wants, sign_first, digit_first, call_first}
 
--- behind a part: `,` and one more, or this sign
+-- after a part: `,` and one more part, or this sign
 abbrev pub comma_or : ℕ → Wanted → List Token → Result (Bool × List Token) Fault
 comma_or s w [] = wants w []
 comma_or s w (Key k ∷ ts) = wants w (Key k ∷ ts)
@@ -22,7 +22,7 @@ comma_or s w (Sign c ∷ ts) = if c == s then Ok (false, ts) else (if c == 44 th
 comma_or s w (Doc d ∷ ts) = wants w (Doc d ∷ ts)
 comma_or s w (Stray f ∷ ts) = wants w (Stray f ∷ ts)
 
--- whether one part more stands, and what is left for it, or behind the list
+-- whether one more part comes, and what is left for it or after the list
 abbrev pub separator_at : Layout → List Token → Result (Bool × List Token) Fault
 separator_at layouts.Parentheses ts = comma_or 41 wanted.CommaOrClose ts
 separator_at layouts.Brackets ts = comma_or 93 wanted.CommaOrBracket ts
@@ -30,7 +30,7 @@ separator_at layouts.Commas ts = if sign_first 44 ts then Ok (true, drop 1 ts) e
 separator_at layouts.Numbers ts = Ok (digit_first ts, ts)
 separator_at layouts.Calls ts = Ok (call_first ts, ts)
 
--- the part that is behind a separator, if one is
+-- the part after a separator, if there is one
 abbrev pub part_behind : {A : Type 0} → (List Token → Result (A × List Token) Fault) → Bool → List Token
     → Result (Option A × List Token) Fault
 part_behind part true ts = part ts >>= λ x. Ok (Some x.0, x.1)
@@ -45,7 +45,7 @@ abbrev pub with_step : {A : Type 0} → Option A → List Token → Result (List
 with_step None ts later = Ok ([], ts)
 with_step (Some x) ts later = later >>= λ xs. Ok (x ∷ xs.0, xs.1)
 
--- the parts behind a part: so many steps at most
+-- the parts after a part, in at most this many steps
 unfoldable pub more_at : {A : Type 0} → (List Token → Result (A × List Token) Fault) → Layout → ℕ → List Token
     → Result (List A × List Token) Fault
 more_at part layout zero ts = wants wanted.CommaOrClose ts

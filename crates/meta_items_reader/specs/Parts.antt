@@ -1,4 +1,4 @@
--- Reading parts of items off tokens, with the first thing that isn't there.
+-- Reading parts of items off tokens, with the first thing that is missing.
 use Rattle.std.specs.Prelude.{◌≡◌, ℕ, zero, suc, ◌+◌, ◌==◌, nat_le, ◌&&◌, Bool, true, false, List, [], ◌∷◌, length, Option}
 use Rattle.std.specs.Prelude.{Some, None}
 use Rattle.std.specs.Prelude.{Result, Ok, Err, codes, if◌then◌else◌}
@@ -174,7 +174,7 @@ digit_first (Sign c ∷ ts) = false
 digit_first (Doc d ∷ ts) = false
 digit_first (Stray f ∷ ts) = false
 
--- a word behind which `(` stands
+-- a word with `(` after it
 abbrev pub call_first : List Token → Bool
 call_first [] = false
 call_first (Key k ∷ ts) = false

@@ -1,4 +1,4 @@
--- Reading items off tokens, with the first thing that isn't there.
+-- Reading items off tokens, with the first thing that is missing.
 use Rattle.std.specs.Prelude.{ℕ, zero, suc, ◌==◌, List, [], ◌∷◌, ◌++◌, length}
 use Rattle.std.specs.Prelude.{Result, Ok, if◌then◌else◌}
 use Rattle.meta_tokens.specs.declared.token.Token.{Token}
@@ -19,7 +19,7 @@ use Rattle.meta_items_reader.specs.Parts.{◌>>=◌, wants, name_at, sign_at, tr
 use Rattle.meta_items_reader.specs.Lists.{list_at}
 use Rattle.meta_items_reader.specs.SetReading.{type_item_at, kind_item_at, format_item_at, inst_item_at}
 
--- ---- items, behind their keywords
+-- ---- items, after their keywords
 
 unfoldable pub bool_item_at : List (List ℕ) → List Token → Result (BoolItem × List Token) Fault
 bool_item_at docs ts = do
@@ -51,7 +51,7 @@ preset_item_at docs ts = do
 
 -- ---- items
 
--- what is wanted where an item begins, or behind documentation
+-- what is wanted where an item begins, or after documentation
 abbrev pub wanted_item : List (List ℕ) → Wanted
 wanted_item docs = if length docs == 0 then wanted.Item else wanted.Documented
 
@@ -76,7 +76,7 @@ item_by docs key.Num ts = num_item_at docs ts >>= λ x. Ok (item.Num x.0, x.1)
 item_by docs key.Enum ts = enum_item_at docs ts >>= λ x. Ok (item.Enum x.0, x.1)
 item_by docs key.Preset ts = preset_item_at docs ts >>= λ x. Ok (item.Preset x.0, x.1)
 
--- an item behind its documentation
+-- an item after its documentation
 abbrev pub item_behind : List (List ℕ) → List Token → Result (Item × List Token) Fault
 item_behind docs [] = wants (wanted_item docs) []
 item_behind docs (Key k ∷ ts) = item_by docs k ts
@@ -89,7 +89,7 @@ item_behind docs (Stray f ∷ ts) = wants (wanted_item docs) (Stray f ∷ ts)
 unfoldable pub item_at : List Token → Result (Item × List Token) Fault
 item_at ts = item_behind (docs_at ts).0 (docs_at ts).1
 
--- all items, of so many at most
+-- all items, if they are at most as many as this
 unfoldable pub items_at : ℕ → List Token → Result (List Item) Fault
 items_at zero [] = Ok []
 items_at zero (t ∷ ts) = wants wanted.Item (t ∷ ts)

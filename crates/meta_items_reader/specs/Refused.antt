@@ -27,7 +27,7 @@ pub record BeginItems (ts : List Token) : Type 0 where
   pub fit : AllFit is
   pub are : spelled_all is ≡ ts ++ more
 
--- a word that is no function, and `(` behind it
+-- a word that isn't a function, and `(` after it
 pub record CallNone (ts : List Token) : Type 0 where
   pub word : List ℕ
   pub behind : List Token
@@ -35,17 +35,16 @@ pub record CallNone (ts : List Token) : Type 0 where
   pub none : function_of word ≡ None
   pub opens : sign_first 40 behind ≡ true
 
--- The place of the token that can't stand there. It is the place that is told, unless a function is wanted: then a word is told that is
--- none, and what can't stand there is the `(` behind it, since the word alone may be a type.
+-- The place of the token that can't stand there. It is the place of the refusal, unless a function is wanted. Then the refusal names a word
+-- that isn't a function, and what can't stand there is the `(` after it, since the word alone may be a type.
 abbrev pub stuck_at : Wanted → ℕ → ℕ
 stuck_at wanted.Function place = place + 1
 stuck_at w place = place
 
--- The tokens are some items that fit, and then others, one at least, which don't go on with the last of them. No items that fit reach
--- further, one behind the other, unless what stands behind them goes on with the last of them: so the items are these alone. The place is
--- that of one of the others, or the end.
--- It is the right one: the tokens before the one that can't stand there begin some items that fit, and with this one they begin none. Where
--- all tokens begin items, the place is the end, and they are none themselves.
+-- The tokens are some items that fit, and then at least one other token, and these don't go on with the last item. No items that fit reach
+-- further, one after another, unless what comes after them goes on with the last of them: so the items are these alone. The place is that
+-- of one of the others, or the end. It is the right one: the tokens before the one that can't stand there begin some items that fit, and
+-- with this one they begin none. If all tokens begin items, the place is the end, and they aren't items themselves.
 pub record AreRefused (ts : List Token) (w : Wanted) (place : ℕ) : Type 0 where
   pub front : List Item
   pub rest : List Token

@@ -46,7 +46,7 @@ function_at w ts = do
 unfoldable pub calls_at : List Token → Result (List Function × List Token) Fault
 calls_at ts = if call_first ts then some_at (function_at wanted.Function) layouts.Calls ts else Ok ([], ts)
 
--- `)`, so many times
+-- `)`, as many times as this
 unfoldable pub closed_at : ℕ → List Token → Result (List Token) Fault
 closed_at zero ts = Ok ts
 closed_at (suc n) ts = sign_at 41 ts >>= λ after. closed_at n after
@@ -91,16 +91,16 @@ set_at ts =
     if word_first (codes "like") ts then (word_at wanted.Type (drop 1 ts) >>= λ w. Ok (sets.Like w.0, w.1))
     else (some_at (part_at wanted.Dimension) layouts.Commas ts >>= λ ps. Ok (sets.Parts ps.0, ps.1))
 
--- behind a word `:` or `=` stands, and `:` behind the text that is shown
+-- after a word stands `:` or `=`, and after the text that is shown `:`
 abbrev pub wanted_colon : Option (List ℕ) → Wanted
 wanted_colon None = wanted.ColonOrEquals
 wanted_colon (Some t) = wanted.Sign 58
 
--- another word for a type, behind `=`
+-- another word for a type, after `=`
 unfoldable pub alias_at : List (List ℕ) → List ℕ → List Token → Result (Item × List Token) Fault
 alias_at docs word ts = type_at ts >>= λ t. Ok (item.Alias (record { docs = docs; word = word; means = t.0 }), t.1)
 
--- a type variable, behind its word
+-- a type variable, after its word
 unfoldable pub variable_at : List (List ℕ) → List ℕ → List Token → Result (Item × List Token) Fault
 variable_at docs word ts = do
   after ← sign_or_at (wanted_colon (comment_at ts).0) 58 (comment_at ts).1
@@ -120,14 +120,14 @@ enum_value_at w ts = do
   r ← name_at wanted.RustValue after
   Ok (record { name = n.0; rust = r.0 }, r.1)
 
--- behind `imm_enum`
+-- after `imm_enum`
 unfoldable pub imm_enum_at : List Token → Result (Sort × List Token) Fault
 imm_enum_at ts = do
   after ← sign_at 40 ts
   vs ← list_at (enum_value_at wanted.Value) layouts.Parentheses after
   Ok (sorts.ImmEnum vs.0, vs.1)
 
--- behind `value`
+-- after `value`
 unfoldable pub value_of_at : List Token → Result (Sort × List Token) Fault
 value_of_at ts = do
   after ← sign_at 40 ts
@@ -158,7 +158,7 @@ kind_item_at docs ts = do
 
 -- ---- formats
 
--- behind `designated`
+-- after `designated`
 unfoldable pub designated_at : List Token → Result (Slot × List Token) Fault
 designated_at ts = if word_first (codes "value") ts then Ok (slots.Designated, drop 1 ts) else wants wanted.ValueWord ts
 
@@ -187,7 +187,7 @@ operand_at w ts = do
   t ← type_at after
   Ok (record { name = n.0; what = t.0; text = (comment_at t.1).0 }, (comment_at t.1).1)
 
--- outputs behind an arrow, if there is one
+-- outputs after an arrow, if there is one
 unfoldable pub outputs_at : List Token → Result (List Operand × List Token) Fault
 outputs_at ts = if sign_first 45 ts then (sign_or_at wanted.Arrow 62 (drop 1 ts)
     >>= λ after. some_at (operand_at wanted.OperandName) layouts.Commas after) else Ok ([], ts)

@@ -10,7 +10,7 @@ use std::alloc::{AllocError, AllocFailed};
 pub enum Wanted {
     /// A keyword, or documentation.
     Item,
-    /// Behind documentation the keyword of an item that has documentation.
+    /// After documentation: the keyword of an item that can have documentation.
     Documented,
     /// The name of a group.
     GroupName,
@@ -34,7 +34,7 @@ pub enum Wanted {
     Type,
     /// A function that derives a type.
     Function,
-    /// The word of a part of a set of types.
+    /// The word of a dimension of a type set.
     Dimension,
     /// `all`, `none` or a number.
     Members,
@@ -44,7 +44,7 @@ pub enum Wanted {
     Sort,
     /// A text in quotes.
     Text,
-    /// What a format stores at a place.
+    /// A slot of a format.
     Slot,
     /// `value`.
     ValueWord,
@@ -74,39 +74,39 @@ pub enum Wanted {
     Byte,
 }
 
-/// What isn't there, and how many tokens were left.
+/// What is missing in a list of tokens: what was wanted, and how many tokens were left.
 #[derive(Clone, Copy)]
 pub struct Fault {
-    /// How many tokens were left: the one that stands there, and those behind it.
+    /// How many tokens were left: the one that stands there, and those after it.
     pub left: usize,
     /// What was wanted.
     pub wanted: Wanted,
 }
 
-/// Why a part of an item was not read.
+/// Why a part of an item wasn't read.
 #[derive(Drop)]
 pub(crate) enum PartError {
     Memory,
     Fault(Fault),
 }
 
-/// The first thing of a text that no item has there.
+/// Why a text isn't items: the first token that can't stand where it does.
 #[derive(Drop)]
 pub struct Refusal {
-    /// The line in which it stands; at the end of the text the last line.
+    /// The line of the token, or the last line at the end of the text.
     pub line: usize,
     /// What was wanted.
     pub wanted: Wanted,
-    /// What stands there; `None` at the end of the text.
+    /// The token that stands there. `None` at the end of the text.
     pub found: Option<Token>,
 }
 
-/// Why no items were read.
+/// Why a text wasn't read as items.
 #[derive(Drop)]
 pub enum ReadError {
-    /// There is no memory.
+    /// Memory ran out.
     Memory,
-    /// The text is no items.
+    /// The text isn't items.
     Refused(Refusal),
 }
 

@@ -8,7 +8,7 @@ use meta_items::{FormatItem, Listed, Slot};
 use meta_tokens::Token;
 use std::alloc::Global;
 
-/// Reads `value` behind `designated`.
+/// Reads `value` after `designated`.
 #[tactic(auto, unfolding(crate::specs::SetReading::designated_at))]
 fn designated(tokens: &[Token]) -> Result<(Slot, &[Token]), PartError>
     ensures { Gives (λ x. (x.0, x.1.now)) result (designated_at tokens.now) }
@@ -44,7 +44,7 @@ impl Element for Slot {
     }
 }
 
-/// Reads what a format stores.
+/// Reads the slots of a format.
 #[tactic(auto, unfolding(crate::specs::SetReading::slots_at))]
 fn slots(alloc: Global, tokens: &[Token]) -> Result<(Listed<Slot>, &[Token]), PartError>
     ensures { Gives (λ x. (x.0, x.1.now)) result (slots_at tokens.now) }
@@ -55,7 +55,7 @@ fn slots(alloc: Global, tokens: &[Token]) -> Result<(Listed<Slot>, &[Token]), Pa
     some(alloc, tokens, Layout::Commas, Wanted::Slot)
 }
 
-/// Reads a format behind its keyword.
+/// Reads a format, after its keyword.
 #[tactic(auto, unfolding(crate::specs::SetReading::format_item_at))]
 pub(crate) fn format_item(
     alloc: Global,

@@ -31,7 +31,7 @@ impl Element for Operand {
     }
 }
 
-/// Reads outputs behind an arrow, if there is one.
+/// Reads an arrow and outputs, if there is an arrow.
 #[tactic(auto, unfolding(crate::specs::SetReading::outputs_at))]
 fn outputs(alloc: Global, tokens: &[Token]) -> Result<(Listed<Operand>, &[Token]), PartError>
     ensures { Gives (λ x. (x.0, x.1.now)) result (outputs_at tokens.now) }
@@ -43,7 +43,7 @@ fn outputs(alloc: Global, tokens: &[Token]) -> Result<(Listed<Operand>, &[Token]
     some(alloc, rest, Layout::Commas, Wanted::OperandName)
 }
 
-/// Reads the word of a mark.
+/// Reads the word of a property.
 fn property(tokens: &[Token], wanted: Wanted) -> Result<(Property, &[Token]), PartError>
     ensures { Gives (λ x. (x.0, x.1.now)) result (chosen_at wanted property_of tokens.now) }
 {
@@ -80,7 +80,7 @@ impl Element for Mark {
     }
 }
 
-/// Reads marks between brackets, if there are brackets.
+/// Reads marks in brackets, if there are brackets.
 #[tactic(auto, unfolding(crate::specs::SetReading::marks_at))]
 fn marks(alloc: Global, tokens: &[Token]) -> Result<(Option<Listed<Mark>>, &[Token]), PartError>
     ensures { Gives (λ x. (x.0, x.1.now)) result (marks_at tokens.now) }
@@ -92,7 +92,7 @@ fn marks(alloc: Global, tokens: &[Token]) -> Result<(Option<Listed<Mark>>, &[Tok
     Ok((Some(marks), rest))
 }
 
-/// Reads the word of a format, and inputs between parentheses.
+/// Reads the word of a format, and inputs in parentheses.
 #[tactic(auto, unfolding(crate::specs::SetReading::inputs_at))]
 fn inputs(
     alloc: Global,
@@ -106,7 +106,7 @@ fn inputs(
     Ok(((format, inputs), rest))
 }
 
-/// Reads an instruction behind its keyword.
+/// Reads an instruction, after its keyword.
 #[tactic(auto, unfolding(crate::specs::SetReading::inst_item_at))]
 pub(crate) fn inst_item(
     alloc: Global,

@@ -13,7 +13,7 @@ use meta_items::{Docs, Item};
 use meta_tokens::{Keyword, Token};
 use std::alloc::Global;
 
-/// What is wanted where an item begins, behind this documentation.
+/// What is wanted where an item begins, after this documentation.
 fn wanted_item(docs: &Docs) -> Wanted
     ensures { result ≡ wanted_item docs.now }
 {
@@ -24,7 +24,7 @@ fn wanted_item(docs: &Docs) -> Wanted
     }
 }
 
-/// Reads a format behind its keyword, where no documentation stands before it.
+/// Reads a format, after its keyword. It must have no documentation.
 fn format_behind<'t>(
     alloc: Global,
     docs: &Docs,
@@ -42,7 +42,7 @@ fn format_behind<'t>(
     Ok((Item::Format(item), rest))
 }
 
-/// Reads a group behind its keyword, where no documentation stands before it.
+/// Reads a group, after its keyword. It must have no documentation.
 fn group_behind<'t>(
     alloc: Global,
     docs: &Docs,
@@ -60,7 +60,7 @@ fn group_behind<'t>(
     Ok((Item::Group(name), rest))
 }
 
-/// Reads an item behind its keyword.
+/// Reads an item, after its keyword.
 fn item_by(
     alloc: Global,
     docs: Docs,
@@ -100,7 +100,7 @@ fn item_by(
     }
 }
 
-/// Reads an item behind its documentation.
+/// Reads an item, after its documentation.
 fn item_behind(alloc: Global, docs: Docs, tokens: &[Token]) -> Result<(Item, &[Token]), PartError>
     ensures { Gives (λ x. (x.0, x.1.now)) result (item_behind docs tokens.now) }
 {
@@ -113,7 +113,6 @@ fn item_behind(alloc: Global, docs: Docs, tokens: &[Token]) -> Result<(Item, &[T
     }
 }
 
-/// Reads an item.
 #[tactic(auto, unfolding(crate::specs::Reading::item_at))]
 fn item_of(alloc: Global, tokens: &[Token]) -> Result<(Item, &[Token]), PartError>
     ensures { Gives (λ x. (x.0, x.1.now)) result (item_at tokens.now) }

@@ -27,7 +27,7 @@ impl Element for EnumValue {
     }
 }
 
-/// Reads values behind `imm_enum`.
+/// Reads values, after `imm_enum`.
 #[tactic(auto, unfolding(crate::specs::SetReading::imm_enum_at))]
 fn imm_enum(alloc: Global, tokens: &[Token]) -> Result<(Sort, &[Token]), PartError>
     ensures { Gives (λ x. (x.0, x.1.now)) result (imm_enum_at tokens.now) }
@@ -37,7 +37,7 @@ fn imm_enum(alloc: Global, tokens: &[Token]) -> Result<(Sort, &[Token]), PartErr
     Ok((Sort::ImmEnum(values), rest))
 }
 
-/// Reads a type behind `value`.
+/// Reads a type, after `value`.
 #[tactic(auto, unfolding(crate::specs::SetReading::value_of_at))]
 fn value_of(alloc: Global, tokens: &[Token]) -> Result<(Sort, &[Token]), PartError>
     ensures { Gives (λ x. (x.0, x.1.now)) result (value_of_at tokens.now) }
@@ -48,7 +48,6 @@ fn value_of(alloc: Global, tokens: &[Token]) -> Result<(Sort, &[Token]), PartErr
     Ok((Sort::Value(what), rest))
 }
 
-/// Reads the sort of a kind.
 #[tactic(auto, unfolding(crate::specs::SetReading::sort_at))]
 fn sort(alloc: Global, tokens: &[Token]) -> Result<(Sort, &[Token]), PartError>
     ensures { Gives (λ x. (x.0, x.1.now)) result (sort_at tokens.now) }
@@ -86,7 +85,7 @@ fn field(alloc: Global, tokens: &[Token]) -> Result<(Option<Name>, &[Token]), Pa
     Ok((Some(name), rest))
 }
 
-/// Reads a kind behind its keyword.
+/// Reads a kind, after its keyword.
 #[tactic(auto, unfolding(crate::specs::SetReading::kind_item_at))]
 pub(crate) fn kind_item(
     alloc: Global,

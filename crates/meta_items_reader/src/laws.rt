@@ -14,30 +14,30 @@ ghost use Rattle.meta_items_reader.specs.Refused.{stuck_at, AreRefused, items_in
 
 use meta_tokens::what_is_laid_is_read;
 
-/// A text reads as items exactly where they fit and its tokens are theirs, one item behind the other. Else it is some items, the longest
-/// that nothing goes on with, and then other tokens: it is refused at one of these or at the end, behind what begins items, where no items
-/// go on.
+/// A text reads as items exactly if their numbers and words fit and its tokens are theirs, one item after another. Any other text is
+/// refused. Its tokens are some items, the longest that can't be continued, and then other tokens. The refusal stands at one of these or at
+/// the end, after tokens that begin items but can't go on as items.
 pub fn what_is_read()
     ensures read { (text : List ℕ) (is : List Item) → (items_in text ≡ Ok is) ↔ (AllFit is × (read_in text ≡ spelled_all is)) }
     ensures refused { (text : List ℕ) (f : Fault) → items_in text ≡ Err f
         → AreRefused (read_in text) f.wanted (length (read_in text) - f.left) }
 {}
 
-/// One token at most is the first that can't stand where it does. Its place is told, or that of the word before it, where a function is
-/// wanted there; so one place at most is told with what is wanted.
+/// A text is refused at one place: that of the first token that can't follow those before it. If a function was wanted, it is the place of
+/// the word before that token. What was wanted there is determined too.
 pub fn one_refused_place()
     ensures stuck { (ts : List Token) (v w : Wanted) (p q : ℕ) → AreRefused ts v p → AreRefused ts w q → stuck_at v p ≡ stuck_at w q }
     ensures told { (ts : List Token) (w : Wanted) (p q : ℕ) → AreRefused ts w p → AreRefused ts w q → p ≡ q }
 {}
 
-/// A text reads as one list of items at most.
+/// A text reads as at most one list of items.
 pub fn one_list_of_items()
     ensures { (text : List ℕ) (is js : List Item) → AllFit is → AllFit js → read_in text ≡ spelled_all is
         → read_in text ≡ spelled_all js → is ≡ js }
 {}
 
-/// The text that `write_items` makes of items is spelled as these items, where each of their tokens can be written, and reads as them,
-/// where they fit too.
+/// A text that `write_items` makes reads as the same items. Each of their tokens must be one that can be written, and their numbers and
+/// words must fit.
 pub fn what_is_written_is_read()
     ensures spelled { (is : List Item) → CanWriteAll (spelled_all is) → read_in (laid (spelled_all is)) ≡ spelled_all is }
     ensures read { (is : List Item) → AllFit is → CanWriteAll (spelled_all is) → items_in (laid (spelled_all is)) ≡ Ok is }
@@ -53,7 +53,7 @@ pub fn what_is_read_can_be_written()
     what_is_written_is_read();
 }
 
-/// Lines are read one by one: no token, and no flaw either, goes on behind a line end.
+/// Lines are read one by one: no token and no flaw goes on after a line end.
 pub fn lines_are_read_alone()
     ensures bytes { (a b : List ℕ) → tokens_in (a ++ 10 ∷ b) ≡ tokens_in a ++ tokens_in b }
     ensures texts { (a b : List ℕ) → IsUtf8 a → IsUtf8 b → text_tokens (a ++ 10 ∷ b) ≡ text_tokens a ++ text_tokens b }

@@ -1,4 +1,4 @@
-//! The reading of items off the text of a file of declarations.
+//! The reader of the text of a file of declarations, which answers its items.
 #![tactic(auto)]
 
 mod fault;

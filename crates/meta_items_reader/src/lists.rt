@@ -12,12 +12,12 @@ use meta_items::{Listed, Name};
 use meta_tokens::Token;
 use std::alloc::Global;
 
-/// What lists are of.
+/// A thing that lists in a file have.
 pub(crate) trait Element: Drop {
-    // Reading one, where this is wanted.
+    // Reading such a thing, if this is wanted.
     ghost at: { Wanted → List Token → Read (Self × List Token) Fault };
 
-    /// Reads one.
+    /// Reads one such thing. `wanted` is what the error names.
     fn read(alloc: Global, tokens: &[Token], wanted: Wanted) -> Result<(Self, &[Token]), PartError>
         ensures { Gives (λ x. (x.0, x.1.now)) result (at wanted tokens.now) };
 }
@@ -43,15 +43,15 @@ pub(crate) enum Layout {
     Parentheses,
     /// Commas, up to `]`.
     Brackets,
-    /// Commas: the list ends where none stands.
+    /// Commas. The list ends if no comma follows a part.
     Commas,
-    /// Nothing: the list ends where no word stands that begins with a digit.
+    /// Nothing. The list ends if no word follows that begins with a digit.
     Numbers,
-    /// Nothing: the list ends where no word stands behind which `(` stands.
+    /// Nothing. The list ends if no word follows that has a `(` after it.
     Calls,
 }
 
-/// Reads a comma, and that a part follows, or the sign that closes the list.
+/// Reads a comma, or the sign that closes the list. The answer says whether a part follows.
 fn comma_or(tokens: &[Token], close: u8, wanted: Wanted) -> Result<(bool, &[Token]), PartError>
     ensures { Gives (λ x. (x.0, x.1.now)) result (comma_or close wanted tokens.now) }
 {
@@ -65,7 +65,7 @@ fn comma_or(tokens: &[Token], close: u8, wanted: Wanted) -> Result<(bool, &[Toke
     }
 }
 
-/// Reads what stands between two parts: whether a part follows.
+/// Reads what stands between two parts. The answer says whether a part follows.
 fn separator(tokens: &[Token], layout: Layout) -> Result<(bool, &[Token]), PartError>
     ensures { Gives (λ x. (x.0, x.1.now)) result (separator_at layout tokens.now) }
 {
@@ -100,7 +100,7 @@ fn next_part<T: Element>(
     Ok((Some(part), rest))
 }
 
-/// Reads the parts behind the first: so many at most.
+/// Reads the parts after the first. There are at most as many as tokens.
 fn more<'t, T: Element>(
     alloc: Global,
     parts: &mut Vec<T>,
@@ -126,7 +126,7 @@ fn more<'t, T: Element>(
     }))
 }
 
-/// Reads one part and more.
+/// Reads one or more parts.
 #[tactic(auto, unfolding(crate::specs::Lists::some_at))]
 pub(crate) fn some<T: Element>(
     alloc: Global,
@@ -155,7 +155,7 @@ fn closes_first(tokens: &[Token], layout: Layout) -> bool
     }
 }
 
-/// Reads parts up to the sign that closes the list.
+/// Reads parts up to the sign that closes the list. There may be none.
 #[tactic(auto, unfolding(crate::specs::Lists::list_at))]
 pub(crate) fn list<T: Element>(
     alloc: Global,

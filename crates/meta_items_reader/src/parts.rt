@@ -11,7 +11,6 @@ use meta_tokens::{Bytes, Token};
 use meta_words::{number_u8, number_u16};
 use std::alloc::Global;
 
-/// Reads a name.
 pub(crate) fn name_of(
     alloc: Global,
     tokens: &[Token],
@@ -29,7 +28,6 @@ pub(crate) fn name_of(
     }
 }
 
-/// Reads a word.
 pub(crate) fn word_of(
     alloc: Global,
     tokens: &[Token],
@@ -46,7 +44,6 @@ pub(crate) fn word_of(
     }
 }
 
-/// Reads a text in quotes.
 pub(crate) fn text_of(alloc: Global, tokens: &[Token]) -> Result<(Bytes, &[Token]), PartError>
     ensures { Gives (λ x. (x.0, x.1.now)) result (text_at tokens.now) }
 {
@@ -59,7 +56,7 @@ pub(crate) fn text_of(alloc: Global, tokens: &[Token]) -> Result<(Bytes, &[Token
     }
 }
 
-/// Reads a sign, where this is wanted.
+/// Reads a sign. `wanted` is what the error names.
 pub(crate) fn behind_sign_or(
     tokens: &[Token],
     sign: u8,
@@ -76,14 +73,13 @@ pub(crate) fn behind_sign_or(
     }
 }
 
-/// Reads a sign.
 pub(crate) fn behind_sign(tokens: &[Token], sign: u8) -> Result<&[Token], PartError>
     ensures { Gives (λ x. x.now) result (sign_at sign tokens.now) }
 {
     behind_sign_or(tokens, sign, Wanted::Sign(sign))
 }
 
-/// The truth value that a word is, if it is one.
+/// The truth value with this word, if there is one.
 fn truth_of(word: &[u8]) -> Option<bool>
     ensures { result ≡ truth_of word.now }
 {
@@ -96,7 +92,7 @@ fn truth_of(word: &[u8]) -> Option<bool>
     None
 }
 
-/// Reads a truth value.
+/// Reads `true` or `false`.
 pub(crate) fn truth(tokens: &[Token]) -> Result<(bool, &[Token]), PartError>
     ensures { Gives (λ x. (x.0, x.1.now)) result (truth_at tokens.now) }
 {
@@ -124,7 +120,6 @@ fn byte_of(word: &[u8]) -> Option<u8>
     }
 }
 
-/// Reads a number from 0 to 255.
 pub(crate) fn byte(tokens: &[Token]) -> Result<(u8, &[Token]), PartError>
     ensures { Gives (λ x. (x.0, x.1.now)) result (byte_at tokens.now) }
 {
@@ -161,7 +156,7 @@ fn part_number_of(word: &[u8]) -> Option<u16>
     }
 }
 
-/// Reads a number from 0 to 256.
+/// Reads a number from 0 to 256. `wanted` is what the error names.
 pub(crate) fn part_number(tokens: &[Token], wanted: Wanted) -> Result<(u16, &[Token]), PartError>
     ensures { Gives (λ x. (x.0, x.1.now)) result (chosen_at wanted (number_of 256) tokens.now) }
 {
@@ -178,7 +173,7 @@ pub(crate) fn part_number(tokens: &[Token], wanted: Wanted) -> Result<(u16, &[To
     }
 }
 
-/// Whether this word is the first token.
+/// Whether the first token is this word.
 pub(crate) fn begins_with_word(tokens: &[Token], word: &[u8]) -> bool
     ensures is { result ≡ word_first word.now tokens.now }
     ensures some { IsTrue result → 0 < length tokens.now }
@@ -189,7 +184,7 @@ pub(crate) fn begins_with_word(tokens: &[Token], word: &[u8]) -> bool
     }
 }
 
-/// Whether this sign is the first token.
+/// Whether the first token is this sign.
 pub(crate) fn begins_with_sign(tokens: &[Token], sign: u8) -> bool
     ensures is { result ≡ sign_first sign tokens.now }
     ensures some { IsTrue result → 0 < length tokens.now }
@@ -220,7 +215,7 @@ pub(crate) fn begins_with_digit(tokens: &[Token]) -> bool
     }
 }
 
-/// Whether the first token is a word behind which `(` stands.
+/// Whether the first token is a word, and `(` comes after it.
 pub(crate) fn begins_with_call(tokens: &[Token]) -> bool
     ensures { result ≡ call_first tokens.now }
 {
@@ -243,7 +238,7 @@ pub(crate) fn comment(
     }
 }
 
-/// The line of documentation at the front, and what stands behind it.
+/// The line of documentation at the front, and the tokens after it.
 fn first_doc(tokens: &[Token]) -> Option<(&Bytes, &[Token])>
     ensures some { IfSome result (λ x. tokens.now ≡ Doc x.0.now ∷ x.1.now) }
     ensures none { IfNone result (docs_at tokens.now ≡ ([], tokens.now)) }
@@ -254,7 +249,7 @@ fn first_doc(tokens: &[Token]) -> Option<(&Bytes, &[Token])>
     }
 }
 
-/// Reads lines of documentation.
+/// Reads lines of documentation. There may be none.
 pub(crate) fn docs_of(alloc: Global, tokens: &[Token]) -> Result<(Docs, &[Token]), PartError>
     ensures { Gives (λ x. (x.0, x.1.now)) result (Ok (docs_at tokens.now)) }
 {

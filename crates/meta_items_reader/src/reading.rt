@@ -22,11 +22,11 @@ use std::alloc::{AllocError, Global};
 pub struct ReadItems {
     /// The items in order.
     pub items: Vec<Item>,
-    /// The line of each item: that of its keyword.
+    /// The line of each item, which is that of its keyword.
     pub lines: Vec<usize>,
 }
 
-/// Adds the line of a token, if it is a keyword.
+/// Adds the line of a token if the token is a keyword.
 fn add_key_line(found: &mut Vec<usize>, token: &Token, line: usize) -> Result<(), AllocError>
     ensures { OnOk result (found.new.items ≡ found.old.items ++ key_line token.now line) }
 {
@@ -51,7 +51,7 @@ fn key_lines(alloc: Global, tokens: &[Token], lines: &[usize]) -> Result<Vec<usi
     Ok(found)
 }
 
-/// An equal token to that at a place, if one is there.
+/// A copy of the token at a place, if there is one.
 fn token_at(alloc: Global, tokens: &[Token], place: usize) -> Result<Option<Token>, AllocError>
     ensures { IfOk result (λ found. found ≡ slice_get tokens.now place) }
 {
@@ -61,7 +61,7 @@ fn token_at(alloc: Global, tokens: &[Token], place: usize) -> Result<Option<Toke
     }
 }
 
-/// The refusal that a fault is.
+/// The refusal of a text with this fault.
 fn refusal_of(alloc: Global, read: &Tokens, fault: Fault) -> Result<Refusal, AllocError>
     requires { fault.left ≤ length read.now.tokens.items }
     ensures { IfOk result (λ r. IsRefusalOf read.now.tokens.items read.now.lines.items read.now.last_line fault r) }
@@ -91,7 +91,7 @@ fn items_of(alloc: Global, read: &Tokens) -> Result<ReadItems, PartError>
     })
 }
 
-/// The items that the text is, or the refusal that its first fault is.
+/// The items of the text, or the refusal for its first fault.
 #[tactic(auto, using(crate::proofs::AllItems::left_fits, crate::proofs::Refusals::gives_refusal))]
 fn read_text(alloc: Global, text: &[u8]) -> Result<ReadItems, ReadError>
     ensures lines { IfOk result (λ v. v.lines.items ≡ key_lines (read_in text.now) (read_lines text.now)) }
@@ -109,22 +109,22 @@ fn read_text(alloc: Global, text: &[u8]) -> Result<ReadItems, ReadError>
     }
 }
 
-/// The items that the text is.
+/// Reads the items of a text. The error is `Refused` exactly if the text isn't items, and names the first place where it goes wrong.
 pub fn read_items(alloc: Global, text: &[u8]) -> Result<ReadItems, ReadError>
-    // What is read is spelled so.
+    // The items that are read are spelled as the text is.
     ensures found { IfOk result (λ v. read_in text.now ≡ spelled_all v.items.items) }
-    // Its numbers are in their ranges, and its words mean what they are.
+    // The numbers of the items are in their ranges, and their words mean what they are.
     ensures fit { IfOk result (λ v. AllFit v.items.items) }
-    // A text that isn't UTF-8 is no items.
+    // A text that isn't UTF-8 isn't items.
     ensures utf8 { IfOk result (λ _. IsUtf8 text.now) }
     // Each item has the line of its keyword.
     ensures lines { IfOk result (λ v. v.lines.items ≡ key_lines (read_in text.now) (read_lines text.now)) }
     ensures each { IfOk result (λ v. length v.lines.items ≡ length v.items.items) }
-    // What is spelled by items that fit is read, unless memory runs out.
+    // If the text is that of items that fit, it is read as these, unless memory runs out.
     ensures only { (is : List Item) → AllFit is → read_in text.now ≡ spelled_all is
         → GivesItems (λ v. v.items.items) text.now result (Ok is) }
-    // What is refused is some items, the longest behind which nothing goes on with the last, and then other tokens; the refusal stands at
-    // one of these, or at the end.
+    // A text that is refused is some items, the longest after which nothing goes on with the last one, and then other tokens. The refusal
+    // stands at one of these tokens, or at the end.
     ensures refused { (r : Refusal) → result ≡ Err (Refused r) → IsRefused text.now r }
     // Which refusal it is.
     ensures exact { GivesItems (λ v. v.items.items) text.now result (items_in text.now) }

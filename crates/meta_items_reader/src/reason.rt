@@ -15,7 +15,7 @@ pub fn write_back_quoted(text: &mut Vec<u8>, bytes: &[u8]) -> Result<(), AllocEr
     text.extend_from_slice(b"`")
 }
 
-/// What was wanted, in words. Of a sign they do not tell which it is.
+/// What was wanted, in words. For a sign they don't say which one.
 fn wanted_words(wanted: Wanted) -> &'static [u8]
     ensures { ((sign : ℕ) → wanted ≢ Sign sign) → result.now ≡ wanted_text wanted }
 {
@@ -68,7 +68,7 @@ fn write_wanted(text: &mut Vec<u8>, wanted: Wanted) -> Result<(), AllocError>
     }
 }
 
-/// A digit of a number to the base 16.
+/// The digit of a hexadecimal number with this value.
 fn hex_digit(digit: u8) -> u8
     requires { digit < 16 }
     ensures { result ≡ hex_digit digit }
@@ -76,7 +76,7 @@ fn hex_digit(digit: u8) -> u8
     if digit < 10 { b'0' + digit } else { 87 + digit }
 }
 
-/// Adds what is wrong with what is no token.
+/// Adds what is wrong with a flaw.
 fn write_flaw(text: &mut Vec<u8>, flaw: Flaw) -> Result<(), AllocError>
     ensures { OnOk result (text.new.items ≡ text.old.items ++ flaw_text flaw) }
 {
@@ -98,7 +98,7 @@ fn write_flaw(text: &mut Vec<u8>, flaw: Flaw) -> Result<(), AllocError>
     }
 }
 
-/// Adds what was found, which is a token of an item here.
+/// Adds that the token that was found is a token of items, but isn't wanted here.
 fn write_found(text: &mut Vec<u8>, wanted: Wanted, found: &[u8]) -> Result<(), AllocError>
     ensures { OnOk result (text.new.items ≡ text.old.items ++ wanted_found wanted found.now) }
 {
@@ -108,7 +108,7 @@ fn write_found(text: &mut Vec<u8>, wanted: Wanted, found: &[u8]) -> Result<(), A
     text.extend_from_slice(found)
 }
 
-/// Adds what was wanted, and what was found between back quotes.
+/// Adds what was wanted, and in back quotes what was found.
 fn write_found_word(text: &mut Vec<u8>, wanted: Wanted, found: &[u8]) -> Result<(), AllocError>
     ensures { OnOk result (text.new.items ≡ text.old.items ++ wanted_found wanted (back_quoted found.now)) }
 {
@@ -134,7 +134,7 @@ fn write_reason(text: &mut Vec<u8>, wanted: Wanted, found: &Option<Token>) -> Re
 }
 
 impl Refusal {
-    /// Why the text is refused, in words: what was wanted and what was found, or what is wrong with what is no token.
+    /// Why the text is refused, in words: what was wanted and what was found, or what is wrong with a part that isn't a token.
     #[tactic(auto, unfolding(crate::specs::Reason::reason_of))]
     pub fn reason(&self, alloc: Global) -> Result<Vec<u8>, AllocError>
         ensures { IfOk result (λ v. v.items ≡ reason_of self.now) }

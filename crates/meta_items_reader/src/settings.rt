@@ -8,7 +8,7 @@ use meta_items::{BoolItem, Docs, EnumItem, NumItem, PresetItem};
 use meta_tokens::Token;
 use std::alloc::Global;
 
-/// Reads a boolean behind its keyword.
+/// Reads a boolean, after its keyword.
 #[tactic(auto, unfolding(crate::specs::Reading::bool_item_at))]
 pub(crate) fn bool_item(
     alloc: Global,
@@ -30,7 +30,7 @@ pub(crate) fn bool_item(
     Ok((item, rest))
 }
 
-/// Reads a number behind its keyword.
+/// Reads a number, after its keyword.
 #[tactic(auto, unfolding(crate::specs::Reading::num_item_at))]
 pub(crate) fn num_item(
     alloc: Global,
@@ -52,7 +52,7 @@ pub(crate) fn num_item(
     Ok((item, rest))
 }
 
-/// Reads an enum behind its keyword.
+/// Reads an enum, after its keyword.
 #[tactic(auto, unfolding(crate::specs::Reading::enum_item_at))]
 pub(crate) fn enum_item(
     alloc: Global,
@@ -74,7 +74,7 @@ pub(crate) fn enum_item(
     Ok((item, rest))
 }
 
-/// Reads a preset behind its keyword.
+/// Reads a preset, after its keyword.
 #[tactic(auto, unfolding(crate::specs::Reading::preset_item_at))]
 pub(crate) fn preset_item(
     alloc: Global,

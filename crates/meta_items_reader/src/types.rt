@@ -17,7 +17,6 @@ use meta_items::{
 use meta_tokens::{Bytes, Token};
 use std::alloc::Global;
 
-/// Reads the word of a function.
 fn function_word(tokens: &[Token], wanted: Wanted) -> Result<(Function, &[Token]), PartError>
     ensures { Gives (λ x. (x.0, x.1.now)) result (chosen_at wanted function_of tokens.now) }
 {
@@ -62,7 +61,7 @@ fn calls(alloc: Global, tokens: &[Token]) -> Result<(Listed<Function>, &[Token])
     Ok((Listed::of(Vec::new(alloc)), tokens))
 }
 
-/// Reads `)`, so many times.
+/// Reads `count` times a `)`.
 fn behind_closed(tokens: &[Token], count: usize) -> Result<&[Token], PartError>
     ensures { Gives (λ x. x.now) result (closed_at count tokens.now) }
 {
@@ -73,7 +72,6 @@ fn behind_closed(tokens: &[Token], count: usize) -> Result<&[Token], PartError>
     Ok(rest)
 }
 
-/// Reads a type.
 #[tactic(auto, unfolding(crate::specs::SetReading::type_at))]
 pub(crate) fn type_expr(alloc: Global, tokens: &[Token]) -> Result<(TypeExpr, &[Token]), PartError>
     ensures { Gives (λ x. (x.0, x.1.now)) result (type_at tokens.now) }
@@ -114,7 +112,7 @@ impl Element for Span {
     }
 }
 
-/// Reads what a part has.
+/// Reads the members of a part.
 #[tactic(auto, unfolding(crate::specs::SetReading::members_at))]
 fn members(alloc: Global, tokens: &[Token]) -> Result<(Members, &[Token]), PartError>
     ensures { Gives (λ x. (x.0, x.1.now)) result (members_at tokens.now) }
@@ -135,7 +133,6 @@ fn members(alloc: Global, tokens: &[Token]) -> Result<(Members, &[Token]), PartE
     }))
 }
 
-/// Reads the word of a part.
 fn dimension(tokens: &[Token], wanted: Wanted) -> Result<(Dimension, &[Token]), PartError>
     ensures { Gives (λ x. (x.0, x.1.now)) result (chosen_at wanted dimension_of tokens.now) }
 {
@@ -169,7 +166,7 @@ impl Element for Part {
     }
 }
 
-/// Reads a set of types.
+/// Reads a type set.
 #[tactic(auto, unfolding(crate::specs::SetReading::set_at))]
 fn set(alloc: Global, tokens: &[Token]) -> Result<(SetExpr, &[Token]), PartError>
     ensures { Gives (λ x. (x.0, x.1.now)) result (set_at tokens.now) }
@@ -182,7 +179,7 @@ fn set(alloc: Global, tokens: &[Token]) -> Result<(SetExpr, &[Token]), PartError
     Ok((SetExpr::Parts(parts), rest))
 }
 
-/// What is wanted behind the word of a type, and the text that is shown.
+/// What is wanted after the word of a type, and after the text that is shown.
 fn wanted_colon(shown: &Option<Bytes>) -> Wanted
     ensures { result ≡ wanted_colon shown.now }
 {
@@ -192,7 +189,7 @@ fn wanted_colon(shown: &Option<Bytes>) -> Wanted
     }
 }
 
-/// Reads what a word means, behind `=`.
+/// Reads what a word stands for, after `=`.
 #[tactic(auto, unfolding(crate::specs::SetReading::alias_at))]
 fn alias(
     alloc: Global,
@@ -206,7 +203,7 @@ fn alias(
     Ok((Item::Alias(AliasItem { docs, word, means }), rest))
 }
 
-/// Reads a type variable behind its word.
+/// Reads a type variable, after its word.
 #[tactic(auto, unfolding(crate::specs::SetReading::variable_at))]
 fn variable(
     alloc: Global,
@@ -228,7 +225,7 @@ fn variable(
     Ok((Item::Type(item), rest))
 }
 
-/// Reads a type variable, or another word for a type, behind the keyword.
+/// Reads a type variable or another word for a type, after the keyword.
 #[tactic(auto, unfolding(crate::specs::SetReading::type_item_at))]
 pub(crate) fn type_item(
     alloc: Global,

@@ -1,4 +1,4 @@
--- How many functions stand behind the root of a variable, by what is kept of it.
+-- How many functions lead from the root to a variable, by what is kept of it.
 use Rattle.std.proofs.Common.{◌≡◌, ◌∙◌, ◌+◌, ℕ, List, [], ◌∷◌, length, sym, ap, subst}
 use Rattle.std.specs.Prelude.{Option, Some, None}
 use Rattle.std.proofs.lemmas.List.{length-append}

@@ -75,7 +75,7 @@ long_meant : (t : Types) (s : Said) (m : MeantType) (n : ℕ) → IsMentioned t 
     → long ≡ nat_lt longest_name (length (root_name_at t.vars n)) → has_long_name m ≡ long
 long_meant t s m n h long e = ap (λ (name : List ℕ). nat_lt longest_name (length name)) (sym h.type_is.name) ∙ sym e
 
--- what holds behind one function: what is kept, which type it is, and that the registry grew
+-- what holds after one function: what is kept, which type it is, and that the registry grew
 pub record IsStep (old new : Registered) (known : List PlainRoot) (words : Words) (roots : List MeantRoot) (entries : List Entry)
     (m : MeantType)
     (v : ℕ) : Type 0 where

@@ -166,7 +166,7 @@ module _ (roots : List MeantRoot) (entries : List Entry) where
     of_function : GrowsWith r (with_symbol r.symbols one) roots entries made
     of_function = function_by (known_or_new one r.symbols)
 
-  -- the same, behind what is mentioned already
+  -- the same, after what is mentioned already
   of_derived : (r : Registered) (m : MeantType) → GrowsWith r (with_type r.symbols m) roots entries m → (g : DerivedFunc)
       → GrowsWith r (with_type r.symbols (derived_by (function_of g) m)) roots entries (derived_by (function_of g) m)
   of_derived r m h g =

@@ -18,7 +18,7 @@ along_last root before (g ∷ gs) f =
     ∙ ap (λ (hs : List Function). symbols_along root (before ++ g ∷ []) gs ++ symbol root hs ∷ []) (append_assoc before (g ∷ [])
     (gs ++ f ∷ [])))
 
--- what is derived is mentioned behind that from which it is derived
+-- what is derived is mentioned after that from which it is derived
 pub with_derived : (symbols : List Symbol) (m : MeantType) (f : Function)
     → with_type symbols (derived_by f m) ≡ with_symbol (with_type symbols m) (symbol_of (derived_by f m))
 with_derived symbols m f =

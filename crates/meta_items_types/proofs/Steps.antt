@@ -98,7 +98,7 @@ module _ (words : List Entry) (i : KindItem) where
 -- ---- another word
 
 module _ (words : List Entry) (i : AliasItem) where
-  -- behind the texts
+  -- after the texts
   abbrev rest : Result MeantType Reason
   rest = type_of words i.means >>= λ m. unless (wrong_word words i.word) (Ok m)
 

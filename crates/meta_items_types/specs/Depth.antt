@@ -1,12 +1,12 @@
--- How many functions stand behind the root of a variable, and the name of that root.
---     depth_at vars n           how many
+-- How many functions lead from the root to a variable, and the name of that root.
+--     depth_at vars n           their count
 --     IsBehind vars p n         the variable n has one function more than p
 --     root_name_at vars n       the name of the root
 use Rattle.std.specs.Prelude.{◌≡◌, ◌<◌, ◌+◌, ℕ, List, [], length, slice_get, Option, Some, None}
 use Rattle.meta_typevar.specs.Registry.{variable_at}
 use Rattle.meta_typevar.specs.declared.content.TypeVarContent.{TypeVarContent}
 
--- how many functions stand behind the root of the variable with the number n
+-- how many functions lead from the root to the variable with the number n
 abbrev pub depth_at : List TypeVarContent → ℕ → ℕ
 depth_at vars n = length (variable_at vars n).chain
 

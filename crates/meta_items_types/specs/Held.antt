@@ -87,7 +87,7 @@ pub record HoldsIn (r : Registered) (plain : List PlainRoot) (words : Words) (ro
 abbrev pub Holds : Types → Said → Type 0
 Holds t s = HoldsIn (registered t s) t.plain.items t.words s.roots s.words
 
--- the type m is mentioned behind what is declared, and has the number n
+-- the type m is mentioned after what is declared, and has the number n
 pub record IsMentioned (t : Types) (s : Said) (m : MeantType) (n : ℕ) : Type 0 where
   pub holds : Holds t (mentioning s (Ok m))
   pub type_is : IsTypeIn (registered t (mentioning s (Ok m))) m n

@@ -1,8 +1,8 @@
 -- What operands of formats and instructions mean.
---     kind_named words w        the kind that a word stands for, or why it stands for none
+--     kind_named words w        the kind that a word stands for, or why it doesn't stand for a kind
 --     kind_by_word words t      the kind that an operand is, by its word
 --     operand_of words t        what an operand is: a kind by its word, or values of a type
---     after_operand s t         what is declared and mentioned behind an operand
+--     after_operand s t         what is declared and mentioned after an operand
 use Rattle.std.specs.Prelude.{◌≡◌, ℕ, List, [], ◌∷◌, Option, Some, None, Result, Ok, Err, codes}
 use Rattle.meta_items.specs.declared.types.Function.{Function as Word}
 use Rattle.meta_items.specs.declared.types.TypeExpr.{TypeExpr}
@@ -48,7 +48,7 @@ operand_by m (Some k) = Ok (KindSense k)
 abbrev pub operand_of : List Entry → TypeExpr → Result Sense Reason
 operand_of words t = operand_by (type_of words t) (kind_by_word words t)
 
--- what is mentioned behind an operand
+-- what is mentioned after an operand
 abbrev pub with_sense : List Symbol → Result Sense Reason → List Symbol
 with_sense symbols (Ok (TypeSense m)) = with_type symbols m
 with_sense symbols (Ok (KindSense k)) = symbols

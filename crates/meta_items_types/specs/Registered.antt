@@ -54,7 +54,7 @@ pub record IsDerivedAt (r : Registered) (s : Symbol) (n : ℕ) : Type 0 where
   pub derived : IsDerivation r.vars parent last content
   pub kept : IsKept r.vars n content
 
--- what is kept of the variable with the number n is that of the root behind which these functions stand
+-- what is kept of the variable with the number n is that of the root to which these functions are applied
 abbrev pub IsVariableAt : Registered → List MeantRoot → Symbol → List Function → ℕ → Type 0
 IsVariableAt r roots s [] n = IsRootAt r.vars roots s.root n
 IsVariableAt r roots s (f ∷ fs) n = IsDerivedAt r s n
@@ -100,7 +100,7 @@ pub record IsKindIn (r : Registered) (k : MeantKind) (kind : OperandKind) : Type
 
 -- ---- growing
 
--- the registry has some variables more, behind those that there were
+-- the registry has some more variables, after those that there were
 pub record Extends (old new : Registered) : Type 0 where
   pub more : List TypeVarContent
   pub symbols_more : List Symbol

@@ -1,7 +1,7 @@
 -- What items declare of types and kinds.
 --     Said                   the words with what they stand for, the type variables, each in order, and the symbols that are mentioned
---     after s place i        what is declared where the item i, which stands at this place among all items, stands behind what is declared
---     wrong_with s i         what is wrong with an item behind what the items above it declare, if anything is
+--     after s place i        what is declared where the item i, which stands at this place among all items, comes after what is declared
+--     wrong_with s i         what is wrong with an item after what the items above it declare, if anything is
 use Rattle.std.specs.Prelude.{ℕ, List, [], ◌∷◌, ◌++◌, length, Option, Some, None, Result, Ok, Err, if◌then◌else◌}
 use Rattle.meta_typevar.specs.TypeSetParts.{TypeSetParts}
 use Rattle.meta_items.specs.declared.types.TypeExpr.{TypeExpr}
@@ -40,11 +40,11 @@ with_meant symbols (Err reason) = symbols
 abbrev pub mentioning : Said → Result MeantType Reason → Said
 mentioning s meant = record { words = s.words; roots = s.roots; symbols = with_meant s.symbols meant }
 
--- behind a type expression
+-- after a type expression
 abbrev pub after_type : Said → TypeExpr → Said
 after_type s t = mentioning s (type_of s.words t)
 
--- behind the set of a type variable
+-- after the set of a type variable
 abbrev pub with_set : List Entry → List Symbol → SetExpr → List Symbol
 with_set words symbols (sets.Parts parts) = symbols
 with_set words symbols (sets.Like w) = with_meant symbols (type_named words w)
@@ -52,7 +52,7 @@ with_set words symbols (sets.Like w) = with_meant symbols (type_named words w)
 abbrev pub after_set : Said → SetExpr → Said
 after_set s set = record { words = s.words; roots = s.roots; symbols = with_set s.words s.symbols set }
 
--- behind what operands of a kind are
+-- after what operands of a kind are
 abbrev pub with_sort : List Entry → List Symbol → Sort → List Symbol
 with_sort words symbols sorts.Entity = symbols
 with_sort words symbols sorts.Imm = symbols

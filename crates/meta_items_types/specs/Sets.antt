@@ -1,5 +1,5 @@
 -- Sets of types, as an item gives them by parts.
---     wrong_parts above parts     what is wrong with the first wrong one of the parts, behind those above
+--     wrong_parts above parts     what is wrong with the first wrong one of the parts, after those above
 --     set_of_parts parts          the set that parts give
 use Rattle.std.specs.Prelude.{ℕ, ◌+◌, ◌&&◌, ◌==◌, nat_le, nat_lt, not, Bool, true, false, List, [], ◌∷◌, ◌++◌, length, Option, Some, None}
 use Rattle.std.specs.Prelude.{if◌then◌else◌}
@@ -100,7 +100,7 @@ wrong_members place numbers members.All = None
 wrong_members place numbers members.Nothing = None
 wrong_members place numbers (members.Spans spans) = wrong_spans place numbers 0 spans
 
--- with a part behind others: its dimension stands above, or one of its spans is wrong
+-- with a part after others: its dimension stands above, or one of its spans is wrong
 abbrev pub wrong_part : List Part → Part → Option Reason
 wrong_part above p =
     if list_any (is_of p.dimension) above then Some (PartTwice (length above))

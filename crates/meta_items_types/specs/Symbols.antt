@@ -1,6 +1,6 @@
 -- The type variables of a registry, in the order in which items first mention them: the number of each is its place.
 --     Symbol                     a type variable: its root, and the functions that derive it from there
---     with_type symbols m        the symbols, and behind them those of the type m that aren't among them
+--     with_type symbols m        the symbols, and after them those of the type m that aren't among them
 use Rattle.std.specs.Prelude.{ℕ, ◌==◌, ◌&&◌, Bool, false, List, [], ◌∷◌, ◌++◌, if◌then◌else◌}
 use Rattle.std.specs.List.{list_any}
 use Rattle.std.specs.Cmp.Lexicographic.{pointwise}

@@ -1,4 +1,4 @@
--- What words, types, sets and kinds of items mean behind the words that the items above declare.
+-- What words, types, sets and kinds of items mean after the words that the items above declare.
 --     Entry                       a word that an item declares, and what it stands for
 --     sense_of words w            what a word stands for
 --     type_of words t             the type that a type expression means, or what is wrong with it
@@ -38,7 +38,7 @@ pub record Entry : Type 0 where
   pub place : ℕ
   pub sense : Sense
 
--- the first entry of a word, of which there is one at most where nothing is wrong with the items
+-- the first entry of a word, of which there is at most one if nothing is wrong with the items
 abbrev pub entry_of : List Entry → List ℕ → Option Entry
 entry_of entries w = find (λ e. same_word w e.word) entries
 
@@ -81,7 +81,7 @@ type_in (Some (KindSense k)) = Err NoType
 unfoldable pub type_named : List Entry → List ℕ → Result MeantType Reason
 type_named entries w = type_in (sense_of entries w)
 
--- how many functions a type may have behind its root, those of the word that it begins with included
+-- the most functions that a type can have after its root, including those of the word that it begins with
 abbrev pub most_functions : ℕ
 most_functions = 64
 
@@ -131,7 +131,7 @@ set_of entries (sets.Like w) = set_like entries w
 
 -- ---- kinds
 
--- the values of an enum behind others, the first of which stands at a place: each name once
+-- the values of an enum after others, the first of which stands at a place: each name once
 abbrev pub values_from : EnumEntries → ℕ → List EnumValue → Result EnumEntries Reason
 values_from es place [] = Ok es
 values_from es place (v ∷ vs) =

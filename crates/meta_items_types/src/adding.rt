@@ -27,7 +27,7 @@ use meta_typevar::{TypeSet, TypeVar, TypeVars};
 use std::alloc::{AllocError, Global};
 
 impl Types {
-    /// The set of the type that a word stands for, which isn't derived.
+    /// The type set of the type that a word stands for, which must not be derived.
     #[tactic(auto, using(crate::proofs::Deriving::like_root, crate::proofs::Deriving::like_derived, crate::proofs::Deriving::like_fails))]
     fn set_like(&mut self, alloc: Global, word: &[u8]) -> Result<TypeSet, TypeError>
         ghost said: { Said }
@@ -44,7 +44,7 @@ impl Types {
         Ok(variable.get_typeset(alloc, &self.vars)?)
     }
 
-    /// The set of a type variable.
+    /// The type set of a type variable, as the item gives it.
     #[tactic(auto, using(crate::proofs::Steps::set_wrong, crate::proofs::Steps::like_means, crate::proofs::Steps::like_holds, crate::proofs::Steps::like_extends, crate::proofs::Staying::extends_same))]
     fn set_of(&mut self, alloc: Global, set: &SetExpr) -> Result<TypeSet, TypeError>
         ghost said: { Said }
@@ -74,7 +74,7 @@ impl Types {
         Some(Reason::Declared(kept.place))
     }
 
-    /// Whether an item can declare the word.
+    /// Tests whether an item can declare the word.
     fn check_word(&self, word: &Bytes) -> Result<(), TypeError>
         ensures { (said : Said) → Holds self.now said → Refuses result (wrong_word said.words word.now) }
     {
@@ -109,7 +109,6 @@ impl Types {
         Ok(())
     }
 
-    /// Adds a type variable.
     #[tactic(auto, using(crate::proofs::Steps::root_no_text, crate::proofs::Steps::root_fails))]
     fn add_type(&mut self, alloc: Global, place: usize, item: &TypeItem) -> Result<(), TypeError>
         ghost said: { Said }
@@ -154,7 +153,6 @@ impl Types {
         Ok(())
     }
 
-    /// Adds a kind.
     #[tactic(auto, using(crate::proofs::Steps::kind_no_text, crate::proofs::Steps::kind_fails))]
     fn add_kind(&mut self, alloc: Global, place: usize, item: &KindItem) -> Result<(), TypeError>
         ghost said: { Said }
@@ -176,8 +174,9 @@ impl Types {
         Ok(())
     }
 
-    /// Adds what an item, which stands at a place among all items, declares; a format, an instruction, a group or an entry declares nothing
-    /// of types and kinds. `Wrong` comes exactly where something is wrong with the item, and says what is first.
+    /// Adds what an item declares of types and kinds. `place` is the place of the item among all items. A format, an instruction, a group
+    /// or an entry declares nothing of these. The error is `Wrong` exactly if something is wrong with the item, and says what is wrong
+    /// first.
     #[tactic(auto, using(crate::proofs::Checked::refuses_right, crate::proofs::Checked::refuses_wrong, crate::proofs::Staying::extends_same))]
     pub fn add(&mut self, alloc: Global, place: usize, item: &Item) -> Result<(), TypeError>
         ghost said: { Said }
@@ -186,7 +185,7 @@ impl Types {
         ensures right { OnOk result (wrong_with said item.now ≡ None) }
         ensures added { OnOk result (Holds self.new (after said place item.now)) }
         ensures extends { OnOk result (Extends (registered self.old said) (registered self.new (after said place item.now))) }
-        // What is wrong with it.
+        // The error says what is wrong with the item.
         ensures wrong { (reason : spec_Reason) → result ≡ Err (Wrong reason) → wrong_with said item.now ≡ Some reason }
     {
         match item {
@@ -204,14 +203,13 @@ impl Types {
     }
 }
 
-/// Whether there is a line of documentation.
 fn has_docs(docs: &Docs) -> bool
     ensures { result ≡ not (length docs.now == 0) }
 {
     !docs.as_slice().is_empty()
 }
 
-/// The variable of the type variable that an item declares, with this set.
+/// Adds the root variable that an item declares, with this type set.
 fn new_root(
     alloc: Global,
     vars: &mut TypeVars,
@@ -228,7 +226,7 @@ fn new_root(
     TypeVar::new(vars, name, doc, set)
 }
 
-/// The kind that an item declares, of which operands are this.
+/// The kind that an item declares, with these fields.
 fn kind_with(
     alloc: Global,
     item: &KindItem,

@@ -4,13 +4,13 @@ ghost use Rattle.meta_items_types.specs.Depth.{depth_at, IsBehind, root_name_at}
 
 use meta_typevar::{TypeVar, TypeVars};
 
-/// How many functions a type may have behind its root.
+/// The most functions that a type can have after its root.
 const MOST_FUNCTIONS: usize = 64;
 
-/// How many bytes the name of a root may have from which a type is derived.
+/// The most bytes that the name of a root can have if a type is derived from it.
 const LONGEST_NAME: usize = 4_096;
 
-/// The variable from which one of this registry is derived, if it is derived.
+/// The variable from which this one is derived, if it is derived. It must be of the registry.
 #[tactic(auto, using(crate::proofs::Behind::at_root))]
 fn parent(vars: &TypeVars, variable: TypeVar) -> Option<TypeVar>
     requires { variable < length vars.now }
@@ -23,7 +23,7 @@ fn parent(vars: &TypeVars, variable: TypeVar) -> Option<TypeVar>
     }
 }
 
-/// Whether a type with this variable may have one function more.
+/// Whether one more function can be applied to a type with this variable.
 pub(crate) fn may_be_derived_from(vars: &TypeVars, variable: TypeVar) -> bool
     requires { variable < length vars.now }
     ensures { result ≡ nat_lt (depth_at vars.now variable) most_functions }
@@ -38,8 +38,8 @@ pub(crate) fn may_be_derived_from(vars: &TypeVars, variable: TypeVar) -> bool
     false
 }
 
-/// Whether the root of a variable has a name that is too long for a type to be derived. Each variable keeps its whole name: with 64
-/// functions, a name of half a megabyte would take 32 megabytes.
+/// Whether the name of the variable's root is too long to derive a type from it. Each variable keeps its whole name: with 64 functions, a
+/// name of half a megabyte would take 32 megabytes.
 pub(crate) fn has_long_name(vars: &TypeVars, variable: TypeVar) -> bool
     requires { variable < length vars.now }
     ensures { result ≡ nat_lt longest_name (length (root_name_at vars.now variable)) }

@@ -8,10 +8,10 @@ use meta_operands::{OperandKind, OperandKindFields};
 use meta_types::Text;
 use std::alloc::{AllocError, Global};
 
-/// A kind that is there before any item.
+/// A kind that exists before any item.
 #[derive(Clone, Copy)]
 pub(crate) enum GivenKind {
-    /// `block`: a block with arguments.
+    /// `block`: a block that takes arguments.
     Block,
     /// `raw_block`: a block without arguments.
     RawBlock,
@@ -20,7 +20,7 @@ pub(crate) enum GivenKind {
 }
 
 impl GivenKind {
-    /// The kind that a word stands for, if it stands for one of these.
+    /// The kind with this word, if there is one.
     #[tactic(auto, unfolding(crate::specs::Plain::given_kind))]
     pub(crate) fn of(word: &[u8]) -> Option<GivenKind>
         ensures { result ≡ given_kind word.now }
@@ -70,7 +70,7 @@ impl GivenKind {
     }
 }
 
-/// Whether the word is one, beside the names of plain types, that a place of a file gives a meaning of its own.
+/// Whether the word has a meaning in some place of a file. Names of plain types aren't looked at.
 #[tactic(auto, unfolding(crate::specs::Plain::is_own_word))]
 fn is_own_word(word: &[u8]) -> bool
     ensures { result ≡ is_own_word word.now }
@@ -83,7 +83,7 @@ fn is_own_word(word: &[u8]) -> bool
         || word == b"none".as_slice()
 }
 
-/// Whether no item can declare the word: it names a plain type, or a place of a file gives it a meaning.
+/// Whether no item can declare the word: it names a plain type, or has a meaning in some place of a file.
 pub fn has_own_meaning(word: &[u8]) -> bool
     ensures { result ≡ has_own_meaning word.now }
 {

@@ -18,7 +18,7 @@ use meta_items::{EnumValue, Function, Sort, TypeExpr};
 use meta_operands::{EnumValues, OperandKind, OperandKindFields};
 use std::alloc::{AllocError, Global};
 
-/// The values of an enum, each name once.
+/// The values of an enum. Each name must stand once.
 fn enum_values(alloc: Global, values: &[EnumValue]) -> Result<EnumValues, TypeError>
     ensures { Tells (λ es v. v ≡ es) result (values_from [] 0 values.now) }
 {
@@ -34,7 +34,7 @@ fn enum_values(alloc: Global, values: &[EnumValue]) -> Result<EnumValues, TypeEr
 }
 
 impl Types {
-    /// What operands of a kind are.
+    /// What the operands of a kind are, by its sort.
     #[tactic(auto, using(crate::proofs::Kinding::sort_entity, crate::proofs::Kinding::sort_imm, crate::proofs::Kinding::sort_varargs, crate::proofs::Kinding::sort_enum, crate::proofs::Kinding::sort_enum_fails, crate::proofs::Kinding::sort_value, crate::proofs::Kinding::sort_value_fails, crate::proofs::Kinding::sort_holds, crate::proofs::Kinding::sort_extends, crate::proofs::Staying::extends_same))]
     pub(crate) fn sort_of(
         &mut self,
@@ -59,7 +59,7 @@ impl Types {
         }
     }
 
-    /// The kind that a word stands for, if it stands for one.
+    /// The kind that a word stands for, if it stands for a kind.
     #[tactic(auto, using(crate::proofs::Kinding::plain_no_kind, crate::proofs::Kinding::given_is_kind, crate::proofs::Kinding::kept_is_kind, crate::proofs::Kinding::none_is_kind))]
     fn kind(&self, alloc: Global, word: &[u8]) -> Result<Option<OperandKind>, AllocError>
         ghost said: { Said }
@@ -89,7 +89,8 @@ impl Types {
             || self.words.get(word).is_some()
     }
 
-    /// The kind of operands that a word stands for. `Wrong` comes exactly where it stands for a type or for nothing above, and says which.
+    /// The kind of operands that a word stands for. The error is `Wrong` exactly if the word stands for a type or isn't declared above, and
+    /// says which.
     #[tactic(auto, using(crate::proofs::Kinding::kind_found, crate::proofs::Kinding::kind_is_type, crate::proofs::Kinding::kind_unknown))]
     pub fn kind_named(&self, alloc: Global, word: &[u8]) -> Result<OperandKind, TypeError>
         ghost said: { Said }
@@ -105,7 +106,7 @@ impl Types {
         Err(TypeError::Wrong(Reason::Unknown))
     }
 
-    /// The kind that the word of an operand without functions stands for, if it stands for one.
+    /// The kind that an operand names by its word, if it has no functions and the word stands for a kind.
     #[tactic(auto, using(crate::proofs::OperandKinds::no_functions, crate::proofs::OperandKinds::some_functions))]
     fn kind_by_word(
         &self,
@@ -136,8 +137,8 @@ impl Types {
         Ok(kind)
     }
 
-    /// The kind of an operand: one of these kinds, by its word, or that of the values of a type. `Wrong` comes exactly where something is
-    /// wrong with the type, as `type_var` says it.
+    /// The kind of an operand: one of the kinds, by its word, or the kind of values of a type. The error is `Wrong` exactly if something is
+    /// wrong with the type, and says what, as `type_var` does.
     pub fn operand_kind(
         &mut self,
         alloc: Global,
@@ -157,7 +158,6 @@ impl Types {
     }
 }
 
-/// Whether there are no functions.
 fn has_none(functions: &[Function]) -> bool
     ensures { result ≡ (length functions.now == 0) }
 {

@@ -4,7 +4,7 @@ ghost use Rattle.meta_items_types.specs.Meant.{MeantType, MeantKind, Sense};
 ghost use Rattle.meta_items_types.specs.Registered.{Registered, IsTypeIn, IsKindIn, Extends};
 ghost use Rattle.meta_items_types.specs.Operands.{IsOperandKindIn};
 
-/// What is meant stays where a registry grows.
+/// What words mean doesn't change as a registry grows.
 #[tactic(auto, using(crate::proofs::Staying::type_stays, crate::proofs::Staying::kind_stays, crate::proofs::Staying::operand_stays))]
 pub fn what_is_meant_stays()
     ensures type_of { (old new : Registered) (m : MeantType) (n : ℕ) → Extends old new → IsTypeIn old m n → IsTypeIn new m n }

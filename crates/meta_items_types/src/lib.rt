@@ -1,6 +1,6 @@
 //! What the items of a file declare of types and kinds: words, type variables, and kinds of operands.
 //!
-//! `Types` keeps what the items so far declare, in a registry of type variables. `add` adds an item, or says what is wrong with it;
+//! `Types` keeps what the items so far declare, in a registry of type variables. `add` adds an item, or says what is wrong with it.
 //! `type_var` and `operand_kind` say what a type or an operand of an instruction means.
 #![tactic(auto)]
 

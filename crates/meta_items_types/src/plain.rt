@@ -9,14 +9,14 @@ use meta_types::{
 };
 use meta_typevar::TypeVar;
 
-/// A plain type that is in use, and the variable that stands for it.
+/// A plain type that is in use, such as `i32`, and the variable that stands for it.
 #[derive(Clone, Copy)]
 pub struct PlainRoot {
     pub value_type: ValueType,
     pub variable: TypeVar,
 }
 
-/// The plain type that has this name, if there is one.
+/// The plain type with this name, if there is one.
 #[tactic(auto, using(crate::proofs::Naming::plain_found, crate::proofs::Naming::plain_none))]
 pub(crate) fn plain_type(word: &[u8]) -> Option<ValueType>
     ensures found { IfSome result (λ t. plain_type word.now ≡ Some (type_parts_of t)) }
@@ -28,14 +28,14 @@ pub(crate) fn plain_type(word: &[u8]) -> Option<ValueType>
     ValueType::parse(word)
 }
 
-/// Whether the variable is that of this type.
+/// Whether the variable stands for this type.
 fn is_of(root: &PlainRoot, value_type: ValueType) -> bool
     ensures { result ≡ (number_of (type_parts_of root.now.value_type) == number_of (type_parts_of value_type)) }
 {
     root.value_type.number() == value_type.number()
 }
 
-/// The variable that stands for a type, if one does.
+/// The variable that stands for a type, if there is one.
 pub(crate) fn variable_for(plain: &[PlainRoot], value_type: ValueType) -> Option<TypeVar>
     ensures found { IfSome result (StandsFor plain.now (type_parts_of value_type)) }
     ensures none { IfNone result ((n : ℕ) → StandsFor plain.now (type_parts_of value_type) n → ⊥) }

@@ -3,45 +3,45 @@ ghost use Rattle.meta_items_types.specs.declared.refused.TypeError.TheVariants.{
 
 use std::alloc::{AllocError, AllocFailed};
 
-/// What is wrong with a type, a kind, or an item that declares one. Places count from 0.
+/// What is wrong with a type, a kind, or an item that declares one. All places are from 0.
 #[derive(Clone, Copy, Debug, PartialEq, Eq)]
 pub enum Reason {
     /// A text of the item isn't UTF-8.
     NotText,
     /// Another word for a type has documentation.
     DocumentedAlias,
-    /// The part at this place is of a dimension that an earlier part of the set has.
+    /// The part at this place has the dimension of an earlier part of the set.
     PartTwice(usize),
-    /// In the part at the first place, the number of the span at the second one, or the low end of its range, is none that the part may
-    /// have.
+    /// A number of a span isn't one that its part can have: a single number, or the low end of a range. The places are those of the part
+    /// and of the span in it.
     BadLow(usize, usize),
-    /// The same of the high end.
+    /// The high end of a range isn't a number that its part can have. The places are those of the part and of the span in it.
     BadHigh(usize, usize),
-    /// In the part at the first place, the low end of the range at the second one is above the high end.
+    /// The low end of a range is above the high end. The places are those of the part and of the range in it.
     EmptyRange(usize, usize),
-    /// The type whose set is to be taken is derived.
+    /// The word after `like` stands for a derived type.
     LikeDerived,
-    /// Nothing above has the word of a type.
+    /// The word of a type isn't declared above.
     Unknown,
-    /// The word of a type is that of a kind.
+    /// The word of a type stands for a kind.
     NoType,
-    /// The word of a kind is that of a type.
+    /// The word of a kind stands for a type.
     NoKind,
-    /// The function at this place can't be applied to what stands behind it.
+    /// The function at this place can't be applied to what follows it.
     CannotDerive(usize),
-    /// The function at this place would be the 65th behind the root of a type.
+    /// The function at this place would be the 65th after the root of a type.
     TooDeep(usize),
-    /// A type is to be derived whose root has a name of more than 4,096 bytes.
+    /// A function is applied to a type whose root has a name of more than 4,096 bytes.
     LongName,
     /// The name of the enum's value at this place is that of an earlier value.
     ValueTwice(usize),
     /// The word that the item declares has a meaning of its own.
     OwnMeaning,
-    /// The item at this place declares the word.
+    /// The word that the item declares is declared by the item at this place.
     Declared(usize),
 }
 
-/// Why there is no answer.
+/// Why a type or kind can't be given.
 #[derive(Clone, Copy, Debug)]
 pub enum TypeError {
     /// Memory ran out.

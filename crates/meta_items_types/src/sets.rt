@@ -18,7 +18,7 @@ const INT_WIDTHS: [u16; 5] = [8, 16, 32, 64, 128];
 
 const FLOAT_WIDTHS: [u16; 4] = [16, 32, 64, 128];
 
-/// The numbers that a part of the dimension may have.
+/// The numbers that a part of this dimension can have.
 fn numbers_of(dimension: Dimension) -> &'static [u16]
     ensures numbers { result.now ≡ numbers_of dimension }
     ensures few { sum result.now < 2 ^ 16 }
@@ -31,7 +31,7 @@ fn numbers_of(dimension: Dimension) -> &'static [u16]
     }
 }
 
-/// The mask of what a set has of a dimension that no part gives: one lane, and nothing else.
+/// The mask of a dimension of which the set has no part: one lane, and nothing else.
 fn left_out(dimension: Dimension) -> u16
     ensures { result ≡ sum (left_out dimension) }
 {
@@ -41,14 +41,13 @@ fn left_out(dimension: Dimension) -> u16
     }
 }
 
-/// Whether a part is of the dimension.
 fn is_of(dimension: Dimension, part: &Part) -> bool
     ensures { result ≡ is_of dimension part.now }
 {
     part.dimension == dimension
 }
 
-/// The high end of a range; a number is a range by itself.
+/// The high end of a range. A single number is its own high end.
 fn high_end(span: &Span) -> u16
     ensures { result ≡ high_end span.now }
 {
@@ -72,7 +71,7 @@ fn in_spans(spans: &[Span], n: u16) -> bool
     spans.iter().any(|span| in_span(n, span))
 }
 
-/// Whether a number that the part may have is one of its members.
+/// Whether a number, which the part can have, is one of its members.
 fn is_member(members: &Members, n: u16) -> bool
     ensures { result ≡ is_member members.now n }
 {
@@ -83,7 +82,7 @@ fn is_member(members: &Members, n: u16) -> bool
     }
 }
 
-/// The sum of those of the numbers that are members.
+/// The sum of those of these numbers that are members.
 fn members_mask(members: &Members, numbers: &[u16]) -> u16
     requires { sum numbers.now < 2 ^ 16 }
     ensures { result ≡ sum (filter (is_member members.now) numbers.now) }
@@ -91,7 +90,7 @@ fn members_mask(members: &Members, numbers: &[u16]) -> u16
     numbers.iter().filter(|n| is_member(members, **n)).sum()
 }
 
-/// The mask of what the parts have of a dimension.
+/// The mask of the numbers of a dimension in the parts.
 fn mask_of(parts: &[Part], dimension: Dimension) -> u16
     ensures { result ≡ sum (numbers_by parts.now dimension) }
 {
@@ -103,7 +102,7 @@ fn mask_of(parts: &[Part], dimension: Dimension) -> u16
     left_out(dimension)
 }
 
-/// The mask of what the parts have of a dimension of which each mask is below 256.
+/// The mask of the numbers of a dimension whose masks are all below 256.
 fn byte_mask(parts: &[Part], dimension: Dimension) -> Result<u8, AllocError>
     ensures { IfOk result (λ n. n ≡ sum (numbers_by parts.now dimension)) }
 {
@@ -113,7 +112,7 @@ fn byte_mask(parts: &[Part], dimension: Dimension) -> Result<u8, AllocError>
     }
 }
 
-/// The set that parts give. There is always one: the masks are those of widths and lane counts.
+/// The type set of these parts. There always is one, since the masks are those of widths and lane counts.
 pub(crate) fn set_of_parts(parts: &[Part]) -> Result<TypeSet, AllocError>
     ensures { IfOk result (λ s. s ≡ set_of_parts parts.now) }
 {
@@ -133,14 +132,14 @@ pub(crate) fn set_of_parts(parts: &[Part]) -> Result<TypeSet, AllocError>
     }
 }
 
-/// Whether the number is among these.
 fn is_among(numbers: &[u16], n: u16) -> bool
     ensures { result ≡ list_any (λ m. m == n) numbers.now }
 {
     numbers.iter().any(|m| *m == n)
 }
 
-/// What is wrong with the `k`-th span of the part at the place, which may have these numbers.
+/// What is wrong with the span at the place `k` of a part, if anything is. `place` is that of the part, and `numbers` has what the part can
+/// have.
 fn wrong_span(place: usize, numbers: &[u16], k: usize, span: &Span) -> Option<Reason>
     ensures { result ≡ wrong_span place numbers.now k span.now }
 {
@@ -157,7 +156,7 @@ fn wrong_span(place: usize, numbers: &[u16], k: usize, span: &Span) -> Option<Re
     None
 }
 
-/// What is wrong with the first wrong one of the spans of the part at the place.
+/// What is wrong with the first wrong span of a part, if one is. `place` is that of the part, and `numbers` has what the part can have.
 fn wrong_spans(place: usize, numbers: &[u16], spans: &[Span]) -> Option<Reason>
     ensures { result ≡ wrong_spans place numbers.now 0 spans.now }
 {
@@ -169,7 +168,7 @@ fn wrong_spans(place: usize, numbers: &[u16], spans: &[Span]) -> Option<Reason>
     None
 }
 
-/// What is wrong with the members of the part at the place.
+/// What is wrong with the members of a part, if anything is. `place` is that of the part, and `numbers` has what the part can have.
 fn wrong_members(place: usize, numbers: &[u16], members: &Members) -> Option<Reason>
     ensures { result ≡ wrong_members place numbers.now members.now }
 {
@@ -179,14 +178,14 @@ fn wrong_members(place: usize, numbers: &[u16], members: &Members) -> Option<Rea
     }
 }
 
-/// Whether one of the parts is of the dimension.
+/// Whether one of the parts has this dimension.
 fn is_above(parts: &[Part], dimension: Dimension) -> bool
     ensures { result ≡ list_any (is_of dimension) parts.now }
 {
     parts.iter().any(|part| is_of(dimension, part))
 }
 
-/// What is wrong with a part behind others.
+/// What is wrong with a part after those above it, if anything is.
 #[tactic(auto, using(crate::proofs::Parts::part_twice, crate::proofs::Parts::part_once))]
 fn wrong_part(above: &[Part], part: &Part) -> Option<Reason>
     ensures { result ≡ wrong_part above.now part.now }
@@ -198,7 +197,7 @@ fn wrong_part(above: &[Part], part: &Part) -> Option<Reason>
     wrong_members(place, numbers_of(part.dimension), &part.members)
 }
 
-/// What is wrong with the first wrong one of the parts of a set.
+/// What is wrong with the first wrong part of a set, if one is.
 pub(crate) fn wrong_parts(parts: &[Part]) -> Option<Reason>
     ensures { result ≡ wrong_parts [] parts.now }
 {

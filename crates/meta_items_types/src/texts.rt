@@ -20,7 +20,6 @@ pub fn is_text(bytes: &[u8]) -> bool
     }
 }
 
-/// Whether each of the lines is UTF-8.
 pub fn are_lines(lines: &[Bytes]) -> bool
     ensures { result ≡ are_texts lines.now }
 {
@@ -54,7 +53,7 @@ fn is_text_sort(sort: &Sort) -> bool
     }
 }
 
-/// What is shown for a word: a text, or the word where that is left out.
+/// The text that is shown for a word: the given one, or the word if it is left out.
 pub fn shown_or<'a>(word: &'a Bytes, shown: &'a Option<Bytes>) -> &'a [u8]
     ensures { result.now ≡ shown_or word.now shown.now }
 {
@@ -64,7 +63,7 @@ pub fn shown_or<'a>(word: &'a Bytes, shown: &'a Option<Bytes>) -> &'a [u8]
     }
 }
 
-/// The name of a field: a name, or the word where that is left out.
+/// The name of a field: the given one, or the word if it is left out.
 pub(crate) fn field_or<'a>(word: &'a Bytes, field: &'a Option<Name>) -> &'a [u8]
     ensures { result.now ≡ field_or word.now field.now }
 {
@@ -83,7 +82,7 @@ pub(crate) fn is_text_type(item: &TypeItem) -> bool
         && are_lines(item.docs.as_slice())
 }
 
-/// Whether the texts of another word for a type are UTF-8.
+/// Whether the texts of an alias are UTF-8.
 pub(crate) fn is_text_alias(item: &AliasItem) -> bool
     ensures { result ≡ are_texts (alias_texts item.now) }
 {
@@ -101,7 +100,8 @@ pub(crate) fn is_text_kind(item: &KindItem) -> bool
         && is_text_sort(&item.sort)
 }
 
-/// The text that these bytes are. Bytes that are no UTF-8 are handled as want of memory: the texts of an item are tested before.
+/// The text with these bytes, which must be UTF-8: the texts of an item are tested before. For other bytes the error is the same as if
+/// memory ran out.
 pub fn text_in(alloc: Global, bytes: &[u8]) -> Result<Text, AllocError>
     ensures { IfOk result (λ t. t ≡ bytes.now) }
 {

@@ -19,7 +19,7 @@ use meta_types::{DerivedFunc, ValueType};
 use meta_typevar::{TypeVar, TypeVars};
 use std::alloc::{AllocError, Global};
 
-/// What the items so far declare: the registry of their types, and what their words stand for.
+/// The declarations of the items so far: the registry of their type variables, and what their words stand for.
 #[derive(Drop)]
 pub struct Types {
     pub(crate) vars: TypeVars,
@@ -28,7 +28,6 @@ pub struct Types {
     pub(crate) words: Words,
 }
 
-/// The derived function that is meant.
 fn derived_func(function: Function) -> DerivedFunc
     ensures { function_of result ≡ function_meant function }
 {
@@ -46,7 +45,7 @@ fn derived_func(function: Function) -> DerivedFunc
 }
 
 impl Types {
-    /// What no items declare.
+    /// Makes the declarations of no items.
     pub fn new(alloc: Global) -> Types
         ensures { Holds result nothing_said }
     {
@@ -57,21 +56,21 @@ impl Types {
         }
     }
 
-    /// The registry of the types.
+    /// The registry of the type variables.
     pub fn vars(&self) -> &TypeVars
         ensures { result.now ≡ vars_in self.now }
     {
         &self.vars
     }
 
-    /// The registry of the types, where no word is looked up any more.
+    /// Takes out the registry of the type variables. No word can be looked up any more.
     pub fn into_vars(self) -> TypeVars
         ensures { result ≡ vars_in self }
     {
         self.vars
     }
 
-    /// The variable that is made for a plain type that has none.
+    /// Adds a variable for a plain type that doesn't have one.
     fn new_plain(&mut self, value_type: ValueType) -> Result<TypeVar, AllocError>
         ghost said: { Said }
         requires held { Holds self.old said }
@@ -93,7 +92,7 @@ impl Types {
         Ok(variable)
     }
 
-    /// The variable that stands for a plain type, which is made where it is first used.
+    /// The variable that stands for a plain type. It is added where the type is first used.
     #[tactic(auto, using(crate::proofs::Fresh::known_held, crate::proofs::Fresh::known_extends, crate::proofs::Fresh::known_is))]
     fn plain_type(&mut self, value_type: ValueType) -> Result<TypeVar, AllocError>
         ghost said: { Said }
@@ -110,7 +109,7 @@ impl Types {
         }
     }
 
-    /// The variable of the type that a word, which isn't given already, stands for.
+    /// The variable of the type that a word stands for. The word must not be that of a plain type.
     #[tactic(auto, using(crate::proofs::Naming::named_kept, crate::proofs::Naming::named_none))]
     fn kept_type(&self, word: &[u8]) -> Result<TypeVar, TypeError>
         ghost said: { Said }
@@ -145,7 +144,7 @@ impl Types {
         self.kept_type(word)
     }
 
-    /// What the function, which stands at a place, derives from a type whose variable this is.
+    /// Applies the function at this place to a type with this variable.
     #[tactic(auto, using(crate::proofs::Deriving::derive_refused, crate::proofs::Deriving::derive_deep, crate::proofs::Deriving::derive_long))]
     fn derive(
         &mut self,
@@ -178,7 +177,7 @@ impl Types {
         Ok(variable.derived(&mut self.vars, function)?)
     }
 
-    /// What the functions derive from a type whose variable this is, the last one first.
+    /// Applies the functions to a type with this variable, the last one first.
     #[tactic(auto, using(crate::proofs::Deriving::along_start, crate::proofs::Deriving::along_next, crate::proofs::Deriving::along_means, crate::proofs::Deriving::along_extends))]
     fn derive_all(
         &mut self,
@@ -205,9 +204,9 @@ impl Types {
         Ok(derived)
     }
 
-    /// The variable of a type. It is made, and those from which it is derived, where it isn't there. `Wrong` comes exactly where something
-    /// is wrong with the type, and says what is first: its word stands for nothing above, or for a kind, or a function, from the last one
-    /// on, can't be applied, is one too many, or is applied where the name of the root is too long.
+    /// The variable of a type. If it isn't in the registry, it is added, with those from which it is derived. The error is `Wrong` exactly
+    /// if something is wrong with the type, and says what is wrong first. First its word isn't declared above or stands for a kind. Then,
+    /// from the last function on, a function can't be applied, is one too many, or is applied although the name of the root is too long.
     #[tactic(auto, using(crate::proofs::Deriving::type_fails))]
     pub fn type_var(&mut self, alloc: Global, means: &TypeExpr) -> Result<TypeVar, TypeError>
         ghost said: { Said }

@@ -27,7 +27,7 @@ pub(crate) struct Word {
 }
 
 impl Word {
-    /// The variable of the type that it stands for.
+    /// The variable of the type that the word stands for.
     pub(crate) fn variable(&self) -> Result<TypeVar, TypeError>
         ensures { result ≡ type_kept self.now.meaning }
     {
@@ -37,7 +37,7 @@ impl Word {
         }
     }
 
-    /// The kind that it stands for, if it stands for one.
+    /// The kind that the word stands for, if it stands for a kind.
     pub(crate) fn kind(&self, alloc: Global) -> Result<Option<OperandKind>, AllocError>
         ensures { IfOk result (λ o. o ≡ kind_kept self.now.meaning) }
     {
@@ -48,14 +48,13 @@ impl Word {
     }
 }
 
-/// The words that items declare.
+/// The words that items declare, with what they stand for.
 #[derive(Drop)]
 pub(crate) struct Words {
     map: BTreeMap<Vec<u8>, Word>,
 }
 
 impl Words {
-    /// No words.
     pub(crate) fn new(alloc: Global) -> Words
         ensures { (w : List ℕ) → word_at result w ≡ None }
     {
@@ -64,14 +63,13 @@ impl Words {
         }
     }
 
-    /// What is kept of a word.
+    /// What is kept of a word, if an item declares it.
     pub(crate) fn get(&self, word: &[u8]) -> Option<&Word>
         ensures { option_copied result ≡ word_at self.now word.now }
     {
         self.map.get(word)
     }
 
-    /// Adds a word.
     pub(crate) fn insert(
         &mut self,
         alloc: Global,

@@ -6,7 +6,7 @@ use Rattle.meta_typevar.specs.Chain.{Agrees}
 use Rattle.meta_typevar.specs.Variable.{Variable, Sets}
 use Rattle.meta_inst.specs.Instruction.{Instruction, IsOperand}
 
--- the controlling type is none where there is no control, and else what was chosen for the control's root
+-- there is no controlling type if there is no control; else it is what was chosen for the control's root
 abbrev pub IsChosenControl : (ℕ → TypeParts) → Option Variable → Option TypeParts → Type 0
 IsChosenControl choice None c = c ≡ None
 IsChosenControl choice (Some v) c = c ≡ Some (choice v.root)

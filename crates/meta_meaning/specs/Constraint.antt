@@ -49,7 +49,7 @@ Passes c (FreeType s) t = IsMember s t
 Passes c (SameType a) t = c a ≡ Some t
 Passes c (ByType a f) t = (u : TypeParts) × (c a ≡ Some u) × StepsTypes f u t
 
--- The type of a control is none where that control isn't there, and else a member of the control's set.
+-- There is no type for a control that doesn't exist; else the type is in the control's type set.
 abbrev pub ControlFits : Sets → Option Variable → Option TypeParts → Type 0
 ControlFits sets None c = c ≡ None
 ControlFits sets (Some v) c = (t : TypeParts) × (c ≡ Some t) × IsMember (sets v.root) t

@@ -26,7 +26,8 @@ pub record EndsInRelation (w : Variable) : Type 0 where
 abbrev pub IsRootOf : (Which → Option Variable) → Which → Variable → Type 0
 IsRootOf controls a w = controls a ≡ Some (underived w.root)
 
--- by the controlling types c, the root of w has the type r: it is a control, of the type r; or it is none, and r is the one type of its set
+-- by the controlling types c, the root of w has the type r: it is a control, of the type r; or it isn't a control, and r is the one type of
+-- its set
 abbrev pub RootHas : Sets → (Which → Option Variable) → (Which → Option TypeParts) → Variable → TypeParts → Type 0
 RootHas sets controls c w r = ((a : Which) × IsRootOf controls a w × (c a ≡ Some r))
     ⊎ (((a : Which) → IsRootOf controls a w → ⊥) × (one : HasOne (sets w.root)) × (r ≡ one.one))

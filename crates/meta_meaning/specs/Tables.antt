@@ -67,7 +67,7 @@ pub record SetContains (tables : TableContents) (j n : ℕ) : Type 0 where
   pub is_set : slice_get tables.type_sets j ≡ Some masks
   pub contains : ContainsNumber masks n
 
--- the number of a control is none where the opcode hasn't that control, and else the type set at the offset contains it
+-- there is no number for a control that the opcode doesn't have; else the type set at the offset contains the number
 abbrev pub ControlNumberFits : TableContents → ℕ → Option ℕ → Type 0
 ControlNumberFits tables offset c = MatchBool (offset == no_type_set) (c ≡ None) ((n : ℕ) × (c ≡ Some n) × SetContains tables offset n)
 
@@ -118,7 +118,7 @@ pub record HoldsSet (tables : TableContents) (j : ℕ) (s : TypeSetParts) : Type
   pub is_set : slice_get tables.type_sets j ≡ Some masks
   pub are_masks : AreMasksOf s masks
 
--- the offset of a control is 65535 exactly where that control isn't there, and else that of its set
+-- the offset is 65535 exactly if there is no such control; else it is the place of the control's type set
 abbrev pub IsTypeSetOffset : Sets → Option Variable → TableContents → ℕ → Type 0
 IsTypeSetOffset sets None tables offset = offset ≡ no_type_set
 IsTypeSetOffset sets (Some v) tables offset = (offset < no_type_set) × HoldsSet tables offset (sets v.root)

@@ -1,8 +1,8 @@
 //! The meaning of one instruction, of its tables, and the laws between them.
 //!
-//! `Accepts` says what an instruction accepts by its declaration: one choice of a type for every root at once. `Admits`
-//! is one test an operand, and `Allows` is the decoding of tables. The functions below have no code. Each carries a law
-//! as its contract, for the crates that write tables, check declarations and read tables.
+//! `Accepts` says what an instruction accepts by its declaration: one choice of a type for every root at once. `Admits` says the same by
+//! one test for each operand, and `Allows` is the decoding of tables. The functions below have no code: the contract of each is a law, for
+//! the crates that write tables, check declarations and read tables.
 #![tactic(auto)]
 
 ghost use Rattle.std.specs.Prelude.{◌≡◌, ◌≢◌, ℕ, ◌↔◌, List, [], ◌∷◌, ◌++◌, slice_get, Option, None, Some};
@@ -22,16 +22,16 @@ ghost use Rattle.meta_meaning.specs.Inference.{EndsInRelation, IsInferred, Infer
 ghost use Rattle.meta_meaning.specs.OneControl.{IsControlAlone, AcceptsAlone};
 ghost use Rattle.meta_meaning.specs.Tables.{TableContents, OpcodeNumbers, at_opcode, Allows, DesignatedControls, AreOpcodeNumbersOf};
 
-/// One test an operand is one joint choice. Under the control of an instruction of which no operand is badly derived, the
-/// tests of the operands, each alone, pass exactly the types for which there is one choice of a type for every root.
+/// One test for each operand is the same as one joint choice. If an instruction has this control and no operand with a bad derivation, the
+/// tests of its operands, each by itself, pass exactly the types for which there is one choice of a type for every root.
 pub fn one_test_an_operand()
     ensures { (sets : Sets) (i : Instruction) (control : Option Variable) (c d : Option TypeParts)
         (rs vs : List TypeParts) → IsControl sets i control → (HasBadSecond sets i → ⊥)
         → ((k : ℕ) → HasBadDerivation sets i control k → ⊥) → (Admits sets i control c d rs vs ↔ Accepts sets i control c d rs vs) }
 {}
 
-/// The tables mean the instruction: where they hold it as the entry of an opcode, the decoding allows exactly those
-/// numbers, of all numbers, that are the numbers of types which the instruction accepts.
+/// Tables mean what their instruction means. If they hold it as the entry of an opcode, the decoding allows exactly the numbers of the
+/// types that the instruction accepts, and no other numbers.
 pub fn tables_mean_the_instruction()
     ensures { (sets : Sets) (i : Instruction) (control : Option Variable) (tables : TableContents) (op : ℕ)
         (entry : OpcodeNumbers) (c d : Option ℕ) (rs vs : List ℕ)
@@ -40,13 +40,13 @@ pub fn tables_mean_the_instruction()
         → at_opcode tables.entries op ≡ Some entry → (Allows tables op c d rs vs ↔ AcceptsNumbers sets i control c d rs vs) }
 {}
 
-/// An instruction has at most one control, and none where the want of a control is a fault.
+/// An instruction has at most one control. It has none if the fault `NoControl` applies to it.
 pub fn one_control()
     ensures same { (sets : Sets) (i : Instruction) (a b : Option Variable) → IsControl sets i a → IsControl sets i b → a ≡ b }
     ensures no_fault { (sets : Sets) (i : Instruction) (a : Option Variable) → IsControl sets i a → HasNoControl sets i → ⊥ }
 {}
 
-/// An operand has at most one constraint. It has one exactly where it isn't badly derived.
+/// An operand has at most one constraint. It has one exactly if it has no bad derivation.
 pub fn one_constraint()
     ensures same { (sets : Sets) (i : Instruction) (control : Option Variable) → IsControl sets i control
         → (HasBadSecond sets i → ⊥) → (w : Variable) (x y : TypeConstraint)
@@ -59,8 +59,8 @@ pub fn one_constraint()
         → IsOperand i k w → (x : TypeConstraint) × IsConstraint sets (controls_of i control) w x }
 {}
 
-/// In an accepted combination the controlling types determine each result whose chain doesn't end in a relation: its type is
-/// the one that is inferred. Each operand whose variable is a control has the type of that control, and the controlling types fit.
+/// The controlling types determine the results. In types that are accepted, each result whose chain doesn't end in a relation has the type
+/// that is inferred. Each operand whose variable is a control has the type of that control, and the controlling types fit.
 pub fn results_are_inferred()
     ensures inferred { (sets : Sets) (i : Instruction) (control : Option Variable) (c d : Option TypeParts)
         (rs vs : List TypeParts) → IsControl sets i control → (HasBadSecond sets i → ⊥)
@@ -79,7 +79,7 @@ pub fn results_are_inferred()
         → Accepts sets i control c d rs vs → (a : Which) → ControlFits sets (controls_of i control a) (both c d a) }
 {}
 
-/// Where the designated operand's variable controls, the designated value of each accepted combination has the controlling type.
+/// If the designated value's variable is the control, the designated value has the controlling type in all types that are accepted.
 pub fn designated_value_has_the_controlling_type()
     ensures { (sets : Sets) (i : Instruction) (control : Option Variable) (c d : Option TypeParts)
         (rs vs : List TypeParts) → IsControl sets i control → (HasBadSecond sets i → ⊥)
@@ -87,9 +87,9 @@ pub fn designated_value_has_the_controlling_type()
         → (t : TypeParts) × (slice_get vs place ≡ Some t) × (c ≡ Some t) }
 {}
 
-/// What tables give for the results under controlling numbers. For the entry of an instruction that is what the instruction infers
-/// of the controlling types with these numbers. In any tables, where something is allowed under these numbers there is what is
-/// given, and each number of it but 0 is that result's.
+/// Tables infer what their instruction infers. For the entry of an instruction, the numbers that tables give for the results under
+/// controlling numbers are those that the instruction infers from the controlling types. In any tables, if something is allowed under these
+/// numbers, the tables give numbers, and each that isn't 0 is the number of that result.
 pub fn tables_infer_the_results()
     ensures meaning { (sets : Sets) (i : Instruction) (control : Option Variable) (tables : TableContents) (op : ℕ)
         (entry : OpcodeNumbers) (c d : Option ℕ) (numbers : List ℕ)
@@ -103,8 +103,8 @@ pub fn tables_infer_the_results()
         → n ≢ 0 → slice_get rs k ≡ Some m → m ≡ n }
 {}
 
-/// Without a second control all is as it is said of one control: which variable controls, what is accepted, and that there is no
-/// second controlling type.
+/// Without a second control, all is as for one control: which variable is the control, and what is accepted. There is then no second
+/// controlling type.
 pub fn without_a_second_control()
     ensures control { (sets : Sets) (i : Instruction) (control : Option Variable) → i.second ≡ None
         → (IsControl sets i control ↔ IsControlAlone sets i control) }
@@ -115,7 +115,7 @@ pub fn without_a_second_control()
     ensures needs_control { (sets : Sets) (i : Instruction) → IsControl sets i None → (HasBadSecond sets i → ⊥) → i.second ≡ None }
 {}
 
-/// The masks of a set contain exactly the numbers of its members. Two types have two numbers and two names.
+/// The masks of a type set contain exactly the numbers of its types. Different types have different numbers and different names.
 pub fn masks_contain_the_members()
     ensures members { (s : TypeSetParts) (m : Masks) (n : ℕ) → IsTypeSet s → AreMasksOf s m
         → (ContainsNumber m n ↔ ((t : TypeParts) × IsMember s t × (number_of t ≡ n))) }
@@ -123,7 +123,8 @@ pub fn masks_contain_the_members()
     ensures names { (a b : TypeParts) → IsType a → IsType b → name_of a ≡ name_of b → a ≡ b }
 {}
 
-/// A chain leads to a type exactly where all of it but its last function leads to a type from which that one does.
+/// A chain leads to a type exactly if all of it but its last function leads to some type, and the last function leads from there to the
+/// type.
 pub fn chain_end()
     ensures { (fs : List Function) (f : Function) (r t : TypeParts)
         → (Agrees (fs ++ f ∷ []) r t ↔ ((u : TypeParts) × Agrees fs r u × StepsTypes f u t)) }

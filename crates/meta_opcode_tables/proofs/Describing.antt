@@ -45,7 +45,7 @@ module _ (vars : List TypeVarContent) (controls : Which → Option ℕ) (type_se
     stands = λ tables has. told;
   }
 
-  -- what is said of a variable that is none of the controls
+  -- what is said of a variable that isn't a control
   module _ (registry : IsRegistry vars) (of : AreControlsOf vars controls) (below : n < length vars)
       (not_fixed : IsOpen (sets_of vars) (variable_at vars n)) (other : IsOneOf controls n → ⊥) where
     -- nor is it as a variable

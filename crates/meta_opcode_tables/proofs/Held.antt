@@ -1,4 +1,4 @@
--- Entries that hold instructions, and the lists that grow behind them.
+-- Entries that hold instructions, and the lists that grow after them.
 use Rattle.std.proofs.Common.{◌≡◌, ◌<◌, ◌≤◌, ◌+◌, ℕ, List, [], ◌∷◌, ◌++◌, length, map, take, drop, ◌-◌, length-drop, slice_get, Option}
 use Rattle.std.proofs.Common.{Some, inl, inr, ⊎_elim, arith, refl, sym, ap, ◌∙◌, subst, below_more, length-append}
 use Rattle.std.specs.Prelude.{option_map}

@@ -20,7 +20,7 @@ offset_of vars controls type_sets a v place is below set tables has =
     subst (λ (o : Option Variable). IsTypeSetOffset (sets_of vars) o tables place)
     (sym (control_is vars controls a v is)) (below, record { masks = m; is_set = there; are_masks = are })
 
--- and says so where the control isn't there
+-- and says so if there is no such control
 none_at : (vars : List TypeVarContent) (controls : Which → Option ℕ) (a : Which) → controls a ≡ None → controls_at vars controls a ≡ None
 none_at vars controls First e = ap (option_map (variable_at vars)) e
 none_at vars controls Second e = ap (option_map (variable_at vars)) e

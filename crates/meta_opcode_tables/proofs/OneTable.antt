@@ -1,4 +1,4 @@
--- Parts have one well-formed table at most.
+-- Parts have at most one well-formed table.
 use Rattle.std.proofs.Common.{◌≡◌, ℕ, List, sym, ◌∙◌, subst}
 use Rattle.meta_typevar.specs.declared.masks.Masks.{Masks}
 use Rattle.meta_meaning.specs.Tables.{TableContents}

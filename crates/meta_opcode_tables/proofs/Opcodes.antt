@@ -9,7 +9,7 @@ use Rattle.meta_opcode_tables.specs.Constraint.{entry_of}
 use Rattle.meta_opcode_tables.specs.declared.constraint.OpcodeConstraints.{OpcodeConstraints}
 use Rattle.meta_meaning.specs.Tables.{at_opcode}
 
--- behind 0 an opcode stands one place before its number
+-- an opcode other than 0 stands one place before its number
 pub at_opcode_before : {X : Type 0} (xs : List X) (op : ℕ) → 0 < op → at_opcode xs op ≡ slice_get xs (op - 1)
 at_opcode_before xs zero h = absurd (omega arith)
 at_opcode_before xs (suc k) h = let e : suc k - 1 ≡ k = omega arith in rw e refl
@@ -40,7 +40,7 @@ text_is xs all op None pos same h = tt
 text_is xs all op (Some x) pos same h = ap (λ ys. at_opcode ys op) (sym same) ∙ at_opcode_before xs op pos
     ∙ slice_get_read xs (length xs) (op - 1) x.now refl h.0 (h.1 x.now)
 
--- or there is none
+-- or no text stands there
 pub no_text : (xs all : List (List ℕ)) (op : ℕ) (o : Option (Bor (List ℕ))) → 0 < op → xs ≡ all
     → MatchOption o (length xs ≤ op - 1) (λ x. (op - 1 < length xs) × HoldsAt (λ y. x.now ≡ y) xs (op - 1))
     → IfNone o (at_opcode all op ≡ None)

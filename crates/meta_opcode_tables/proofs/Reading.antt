@@ -45,7 +45,7 @@ module _ (tables : TableContents) (op : ℕ) (c d : Option ℕ) (rs vs : List �
   refused_results unfit a = unfit (λ k n e. subst (λ x. PassesAt tables (both c d) (x.constraint_offset + k) n) (same_entry a)
       (a.passes k n (get_stays rs vs k n e)))
 
-  -- the values that are allowed pass behind the results
+  -- the values that are allowed pass after the results
   values_pass : Allows tables op c d rs vs → AllPass tables (both c d) (entry.constraint_offset + length rs) vs
   values_pass a k n e =
       let there : entry.constraint_offset + (length rs + k) ≡ entry.constraint_offset + length rs + k = omega arith in
@@ -63,7 +63,7 @@ module _ (tables : TableContents) (op : ℕ) (c d : Option ℕ) (rs vs : List �
             subst (λ m. PassesAt tables (both c d) m n) (placed h.0 h.1) (second h.0 n h.2)
       ]
     where
-      -- the place behind the results
+      -- the place after the results
       placed : (j : ℕ) → k ≡ length rs + j → entry.constraint_offset + length rs + j ≡ entry.constraint_offset + k
       placed j h = omega arith
 
@@ -116,7 +116,7 @@ pub one_refused : (tables : TableContents) (c : Which → Option ℕ) (offset : 
     → (PassesAt tables c (offset + k) n → ⊥) → AllPass tables c offset numbers → ⊥
 one_refused tables c offset numbers k n at fails all = fails (all k n at)
 
--- behind its end a list of constraints has none
+-- after its end a list of constraints has no constraint
 pub none_mapped : (xs : List Constraint) (place : ℕ) → length xs ≤ place → slice_get (map number_constraint_of xs) place ≡ None
 none_mapped xs place past =
     slice_get_past (map number_constraint_of xs) place (subst (λ n. n ≤ place) (sym (length-map xs number_constraint_of)) past)

@@ -17,7 +17,7 @@ use Rattle.meta_opcode_tables.specs.WellFormed.{IsSetOffset, IsWellFormedEntry}
 use Rattle.meta_opcode_tables.specs.declared.constraint.Constraint.{Constraint}
 use Rattle.meta_opcode_tables.proofs.Made.{HoldDeclared}
 
--- the offset of a control is in range, or says that there is none
+-- the offset of a control is in range, or says that there is no control
 in_range : (sets : Sets) (control : Option Variable) (tables : TableContents) (offset : ℕ) → IsTypeSetOffset sets control tables offset
     → IsSetOffset (length tables.type_sets) offset
 in_range sets None tables offset is = inr is
@@ -41,7 +41,7 @@ controlled : (sets : Sets) (i : Instruction) (tables : TableContents) (control :
 controlled sets i tables None offset set (v, is, designated) none = absurd (cc)
 controlled sets i tables (Some w) offset (below, held) (v, is, designated) none = omega (arith, below, none)
 
--- the constraints of so many operands stand inside, where that of the last does
+-- the constraints of all operands stand inside if that of the last does
 last_inside : (place count most : ℕ) → (count ≡ 0 → place ≤ most) → ((k : ℕ) → k < count → place + k < most) → place + count ≤ most
 last_inside place zero most none some = let l = none refl in omega arith
 last_inside place (suc n) most none some = let l = some n (omega arith) in omega arith

@@ -100,7 +100,7 @@ stands_well sets controls w tables (ByType a f) x is stands = subst (IsWellForme
 
 -- ---- the lists of the instructions
 
--- well-formed, in tables with so many type sets
+-- well-formed, in tables with this count of type sets
 abbrev pub IsWell : TableContents → Constraint → Type 0
 IsWell tables x = IsWellFormedConstraint (length tables.type_sets) (number_constraint_of x)
 

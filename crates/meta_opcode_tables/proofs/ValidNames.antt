@@ -37,7 +37,7 @@ module _ (d : InstructionSet) (valid : IsValid d) where
   distinct_names k j shared =
       valid (OfInstruction k DuplicateRule) _ (inr (record { second = refl; earlier = j; duplicate = shared; tells = refl }))
 
-  -- the format is used first at some place, or nowhere among so many
+  -- the format is used first at some place among the first n, or at none of them
   first_use : (f n : ℕ) → n ≤ length d.instructions → ((j : ℕ) × IsFirstUse d f j)
       ⊎ ((i : ℕ) (b : Builder) → i < n → IsAt d i b → b.format ≢ f)
   first_use f zero l = inr (λ i b below at. absurd (omega (arith, below)))

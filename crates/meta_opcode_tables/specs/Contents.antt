@@ -41,6 +41,6 @@ IsOpcode tables op = (0 < op) × (op ≤ length tables.entries)
 abbrev pub IsOpcodeNamed : List (List ℕ) → List ℕ → ℕ → Type 0
 IsOpcodeNamed names name op = at_opcode names op ≡ Some name
 
--- under the controlling numbers c each number passes the constraint that stands at its place behind the offset
+-- under the controlling numbers c each number passes the constraint that stands at its place after the offset
 abbrev pub AllPass : TableContents → (Which → Option ℕ) → ℕ → List ℕ → Type 0
 AllPass tables c offset numbers = (k n : ℕ) → slice_get numbers k ≡ Some n → PassesAt tables c (offset + k) n

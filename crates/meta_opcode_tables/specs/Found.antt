@@ -1,6 +1,6 @@
 -- What answers about tables say of the declarations that the tables are of.
 --     IsDeclaredAs d tables op entry     the entry is that of the instruction with the number op
---     FindsName d name answer            the answer is the number of the first instruction with the name, or none has it
+--     FindsName d name answer            the answer is the number of the first instruction with the name, or no instruction has it
 use Rattle.std.specs.Prelude.{◌≡◌, ◌≢◌, ◌+◌, ℕ, List, Option, None, Some}
 use Rattle.meta_lists.specs.First.{IsFirst}
 use Rattle.meta_typevar.specs.Variable.{Variable}
@@ -33,7 +33,7 @@ pub record IsDeclaredNamed (d : InstructionSet) (name : List ℕ) (op : ℕ) : T
 abbrev pub IsUndeclared : InstructionSet → List ℕ → Type 0
 IsUndeclared d name = (k : ℕ) (b : Builder) → IsAt d k b → b.name ≢ name
 
--- the answer is the number of the first declared instruction that has the name, and none exactly where none has it
+-- the answer is the number of the first declared instruction that has the name, or there is no answer and no instruction has it
 abbrev pub FindsName : InstructionSet → List ℕ → Option ℕ → Type 0
 FindsName d name None = IsUndeclared d name
 FindsName d name (Some op) = IsFirst (IsDeclaredNamed d name) op

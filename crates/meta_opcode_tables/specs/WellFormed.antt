@@ -15,19 +15,18 @@ use Rattle.meta_opcode_tables.specs.Constraint.{number_constraint_of, entry_of}
 use Rattle.meta_opcode_tables.specs.declared.constraint.Constraint.{Constraint}
 use Rattle.meta_opcode_tables.specs.declared.constraint.OpcodeConstraints.{OpcodeConstraints}
 
--- where there are so many type sets, an operand constraint that names a type by its number or a type set by its place names one
--- that there is
+-- an operand constraint that names a type or a type set names one that exists, if there are `sets` type sets
 abbrev pub IsWellFormedConstraint : ℕ → NumberConstraint → Type 0
 IsWellFormedConstraint sets (ConcreteNumber n) = IsTypeNumber n
 IsWellFormedConstraint sets (FreeOf j) = j < sets
 IsWellFormedConstraint sets (SameNumber a) = Unit {0}
 IsWellFormedConstraint sets (ByNumber a f) = Unit {0}
 
--- where there are so many type sets, the offset of a control is the place of one, or says that there is no such control
+-- the offset of a control is the place of one of `sets` type sets, or says that there is no such control
 abbrev pub IsSetOffset : ℕ → ℕ → Type 0
 IsSetOffset sets offset = (offset < sets) ⊎ (offset ≡ no_type_set)
 
--- what an opcode's four numbers have to meet, where there are so many type sets and so many operand constraints
+-- the conditions on an opcode's four numbers, under these counts of type sets and of operand constraints
 pub record IsWellFormedEntry (sets constraints : ℕ) (e : OpcodeNumbers) : Type 0 where
   -- the flags are eight bits
   pub eight_bits : e.flags < 256

@@ -10,10 +10,10 @@ ghost use Rattle.meta_opcode_tables.specs.Demand.{number_constraint_demanded};
 use meta_inst::Which;
 use meta_types::DerivedFunc;
 
-/// The type set offset of an opcode without a control, and of one without a second control.
+/// The type set offset that says that an opcode has no control, or no second control.
 pub const NO_TYPE_SET: u16 = 65535;
 
-/// So many of the constraints, or those that there are, from this place on (this project's own).
+/// The constraints from `place` on, `count` of them, or all that are left if there are fewer.
 pub fn constraints_from(constraints: &[Constraint], place: usize, count: usize) -> &[Constraint]
     ensures { result.now ≡ take count (drop place constraints.now) }
 {
@@ -21,12 +21,12 @@ pub fn constraints_from(constraints: &[Constraint], place: usize, count: usize) 
     &behind[..behind.len().min(count)]
 }
 
-/// What an operand's type has to be, by its number (in the crate `OperandConstraint` of the code that it writes).
+/// What the type of an operand has to be, by the number of the type (in the crate `OperandConstraint` of the code that it writes).
 #[derive(Clone, Copy, Debug, PartialEq, Eq)]
 pub enum Constraint {
     /// The type with this number.
     Concrete(u16),
-    /// Any type of the type set at this place of the tables.
+    /// Any type of the type set at this place.
     Free(u16),
     /// The controlling type.
     Same,
@@ -44,9 +44,9 @@ pub enum Constraint {
     MergeLanes,
     /// The fixed vector of the controlling type.
     DynamicToVector,
-    /// A scalar of the controlling type's kind with fewer bits.
+    /// A scalar of the controlling type's kind, with fewer bits.
     Narrower,
-    /// A scalar of the controlling type's kind with more bits.
+    /// A scalar of the controlling type's kind, with more bits.
     Wider,
     /// The second controlling type.
     Same2,
@@ -64,13 +64,13 @@ pub enum Constraint {
     MergeLanes2,
     /// The fixed vector of the second controlling type.
     DynamicToVector2,
-    /// A scalar of the second controlling type's kind with fewer bits.
+    /// A scalar of the second controlling type's kind, with fewer bits.
     Narrower2,
-    /// A scalar of the second controlling type's kind with more bits.
+    /// A scalar of the second controlling type's kind, with more bits.
     Wider2,
 }
 
-/// The constraints that ask for what the function gives: of the controlling type, and of the second one.
+/// The two constraints that ask for what the function gives: of the controlling type, and of the second one.
 fn by_function(derived_func: DerivedFunc) -> (Constraint, Constraint)
     ensures first { number_constraint_of result.0 ≡ ByNumber First (function_of derived_func) }
     ensures second { number_constraint_of result.1 ≡ ByNumber Second (function_of derived_func) }
@@ -95,7 +95,7 @@ impl From<Demand> for Constraint {
 
     ghost from_gives = { λ demand result. number_constraint_of result ≡ number_constraint_demanded demand };
 
-    /// The one constraint that demands this: `demanded` gives the demand again.
+    /// The constraint that makes this demand. There is one for each demand, and `demanded` leads back.
     fn from(demand: Demand) -> Constraint {
         match demand {
             Demand::Number(number) => Constraint::Concrete(number),
@@ -109,8 +109,7 @@ impl From<Demand> for Constraint {
 }
 
 impl Constraint {
-    /// What it demands of the number of a type, by cases: what the variant's name says of the controlling types is told in the
-    /// values of `Demand`.
+    /// What the constraint demands of the number of a type.
     pub fn demanded(self) -> Demand
         ensures { number_constraint_demanded result ≡ number_constraint_of self }
     {
@@ -141,8 +140,8 @@ impl Constraint {
     }
 }
 
-/// The number that the function gives of the number of a control, where there is that control and the function leads to a type:
-/// 0 for a relation.
+/// The number that the function gives of the number of a control: 0 for a relation. `None` if there is no such control, or the function
+/// doesn't lead to a type.
 fn given_by(from: Option<u16>, derived_func: DerivedFunc) -> Option<u16>
     ensures some { IfSome result (λ n. GivesBy from (function_of derived_func) n) }
     ensures none { IfNone result ((n : ℕ) → ¬ GivesBy from (function_of derived_func) n) }
@@ -153,8 +152,8 @@ fn given_by(from: Option<u16>, derived_func: DerivedFunc) -> Option<u16>
     derived_func.apply_number(from?)
 }
 
-/// The number that a constraint gives for a result under these controlling numbers: 0 where it leaves several, and `None` where
-/// there isn't what it asks for.
+/// The number that a constraint gives for a result under these controlling numbers: 0 if several types are left, and `None` if no type
+/// meets it.
 pub(crate) fn given(controls: ControlNumbers, constraint: Constraint) -> Option<u16>
     ensures some { IfSome result (λ n. GivesNumber (both controls.ctrl controls.second) (number_constraint_of constraint) n) }
     ensures none { IfNone result ((n : ℕ) → ¬ GivesNumber (both controls.ctrl controls.second) (number_constraint_of constraint) n) }
@@ -170,27 +169,26 @@ pub(crate) fn given(controls: ControlNumbers, constraint: Constraint) -> Option<
 /// What a constraint demands of the number of a type.
 #[derive(Clone, Copy, Debug, PartialEq, Eq)]
 pub enum Demand {
-    /// That it is this number.
+    /// The type has this number.
     Number(u16),
-    /// That the type set at this place contains it.
+    /// The type set at this place contains the type.
     OfSet(u16),
-    /// That it is the number of this controlling type.
+    /// The type is this controlling type.
     Controlling(Which),
-    /// That the function leads to it from this controlling type.
+    /// The function leads to the type from this controlling type.
     By(Which, DerivedFunc),
 }
 
-/// The numbers of the controlling types, where they are given.
+/// The numbers of the controlling types, if there are any.
 #[derive(Clone, Copy)]
 pub(crate) struct ControlNumbers {
-    /// That of the controlling type.
+    /// The number of the controlling type.
     pub(crate) ctrl: Option<u16>,
-    /// That of the second controlling type.
+    /// The number of the second controlling type.
     pub(crate) second: Option<u16>,
 }
 
 impl ControlNumbers {
-    /// The number of one of them.
     pub(crate) fn of(self, which: Which) -> Option<u16>
         ensures { result ≡ both self.ctrl self.second (which_of which) }
     {
@@ -201,17 +199,17 @@ impl ControlNumbers {
     }
 }
 
-/// What tables hold of one opcode (in the crate `OpcodeConstraints` of the code that it writes).
+/// The four numbers that tables hold for an opcode (in the crate `OpcodeConstraints` of the code that it writes).
 #[derive(Clone, Copy, Debug, PartialEq, Eq)]
 pub struct OpcodeConstraints {
-    /// Bits 0 to 2: how many value results there are. Bit 3: the designated operand's variable controls. Bit 4: it does,
-    /// and the control doesn't stand at the first result too. Bits 5 to 7: how many value inputs there are.
+    /// Bits 0 to 2: the count of value results. Bit 3: the designated value's variable is the control. Bit 4: it is, and the first result
+    /// doesn't have the same variable. Bits 5 to 7: the count of value inputs.
     pub flags: u8,
-    /// The place of the control's type set, and 65,535 where there is no control.
+    /// The place of the control's type set, or 65,535 if there is no control.
     pub typeset_offset: u16,
-    /// The place of the second control's type set, and 65,535 where there is no second control.
+    /// The place of the second control's type set, or 65,535 if there is no second control.
     pub second_offset: u16,
-    /// The place of the first of the constraints, those of the results and then those of the inputs.
+    /// The place of the opcode's first operand constraint in the one list. Those of the results stand before those of the inputs.
     pub constraint_offset: u16,
 }
 
@@ -224,14 +222,14 @@ impl OpcodeConstraints {
         (self.flags % 8) as usize
     }
 
-    /// Whether the designated operand's variable controls.
+    /// Whether the designated value's variable is the control.
     pub fn designated_controls(self) -> bool
         ensures { IsTrue result ↔ SaysDesignated self.flags }
     {
         self.flags / 8 % 2 == 1
     }
 
-    /// Whether the designated operand's variable controls, and the control doesn't stand at the first result too.
+    /// Whether the designated value's variable is the control, and the first result doesn't have that variable.
     pub fn first_result_differs(self) -> bool
         ensures { IsTrue result ↔ SaysDiffers self.flags }
     {

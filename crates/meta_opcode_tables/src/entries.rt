@@ -22,7 +22,6 @@ use meta_typevar::{TypeSet, TypeVars};
 use meta_unique::{UniqueSeqTable, UniqueTable};
 use std::alloc::{AllocError, Global};
 
-/// Whether the designated operand's variable controls.
 fn designated_controls(operands: &Operands, controls: &Controls) -> bool
     ensures { IsTrue result ↔ ((v : ℕ) × (controls.now First ≡ Some v) × (designated_number operands.now ≡ Some v)) }
 {
@@ -32,7 +31,6 @@ fn designated_controls(operands: &Operands, controls: &Controls) -> bool
     }
 }
 
-/// Whether there is a first result and its variable controls.
 fn first_result_controls(operands: &Operands, controls: &Controls) -> bool
     ensures { IsTrue result ↔ ((v : ℕ) × (controls.now First ≡ Some v)
         × (slice_get (take operands.now.result_count operands.now.variables) 0 ≡ Some v)) }
@@ -43,8 +41,8 @@ fn first_result_controls(operands: &Operands, controls: &Controls) -> bool
     }
 }
 
-/// The flags: the two counts, whether the designated operand's variable controls, and whether it does and the first
-/// result's doesn't.
+/// The flags byte: the counts of results and of values, whether the designated value's variable is the control, and whether the first
+/// result's is another.
 fn packed(results: u8, values: u8, designated: bool, first_result: bool) -> u8
     requires results { results ≤ 7 }
     requires values { values ≤ 7 }
@@ -58,7 +56,6 @@ fn packed(results: u8, values: u8, designated: bool, first_result: bool) -> u8
     results + 8 * designated as u8 + 16 * differs as u8 + 32 * values
 }
 
-/// The flags of an instruction with these operands and these controls.
 fn flags_of(operands: &Operands, controls: &Controls) -> u8
     requires results { operands.now.result_count ≤ 7 }
     requires values { length operands.now.variables ≤ operands.now.result_count + 7 }
@@ -77,7 +74,7 @@ fn flags_of(operands: &Operands, controls: &Controls) -> u8
     )
 }
 
-/// The place of this control's type set, and 65,535 where there isn't this control.
+/// The place of this control's type set, or 65,535 if there is no such control.
 fn type_set_offset(
     vars: &TypeVars,
     controls: &Controls,
@@ -97,7 +94,7 @@ fn type_set_offset(
     }
 }
 
-/// Where the list stands in the one list, to which it is added.
+/// Adds the list to the one list, and answers where it then stands.
 fn add_list(
     constraints: &mut UniqueSeqTable<Constraint>,
     list: &[Constraint],
@@ -114,7 +111,7 @@ fn add_list(
     Ok(place as u16)
 }
 
-/// The entry of a built instruction, whose constraints are added to the one list.
+/// The entry of a built instruction. Its constraints are added to the one list.
 fn entry_of(
     alloc: Global,
     vars: &TypeVars,
@@ -151,14 +148,14 @@ fn entry_of(
 /// The operand constraints of instructions, in one list, and the four numbers of each instruction.
 #[derive(Drop)]
 pub(crate) struct EntryLists {
-    /// The operand constraints: first `Same` three times, to which the lists of the instructions were added in order, each
-    /// one's results before its inputs.
+    /// The operand constraints: first `Same` three times, then the lists of the instructions, added in order. Each list has the constraints
+    /// of the results before those of the inputs.
     pub(crate) constraints: Vec<Constraint>,
     /// The four numbers of each instruction.
     pub(crate) entries: Vec<OpcodeConstraints>,
 }
 
-/// The one list with `Same` three times alone.
+/// The one list before anything is added: `Same` three times.
 fn three_same(alloc: Global) -> Result<UniqueSeqTable<Constraint>, AllocError>
     ensures { IfOk result (λ table. table ≡ three_same) }
 {
@@ -167,7 +164,6 @@ fn three_same(alloc: Global) -> Result<UniqueSeqTable<Constraint>, AllocError>
     Ok(constraints)
 }
 
-/// The one list.
 fn copied(
     alloc: Global,
     constraints: &UniqueSeqTable<Constraint>,
@@ -177,7 +173,7 @@ fn copied(
     constraints.iter().copied().collect(alloc)
 }
 
-/// The operand constraints and the entries of what is built of declared instructions, whose variables are at hand.
+/// The operand constraints and the entries of what is built of declared instructions. The variables of these must be in the registry.
 pub(crate) fn entries(
     alloc: Global,
     vars: &TypeVars,

@@ -11,25 +11,25 @@ ghost use Rattle.meta_opcode_tables.specs.WellFormed.{IsWellFormedOpcodes, HaveP
 ghost use Rattle.meta_opcode_tables.specs.declared.constraint.Constraint.{Constraint};
 ghost use Rattle.meta_opcode_tables.specs.declared.constraint.OpcodeConstraints.{OpcodeConstraints};
 
-/// The tables mean the declarations: where they are those of declarations whose variables have sets of types, the decoding
-/// allows exactly those numbers, of all numbers, that the declarations accept.
+/// Tables mean what the declarations mean. Of declarations whose type variables have type sets, the decoding allows exactly the numbers
+/// that the declarations accept.
 pub fn tables_mean_the_declarations()
     ensures { (d : InstructionSet) (tables : TableContents) (op : ℕ) (c e : Option ℕ) (rs vs : List ℕ)
         → HoldTypeSets d.vars → AreTablesOf d tables → (Allows tables op c e rs vs ↔ AcceptsOpcode d op c e rs vs) }
 {}
 
-/// Two operand constraints compare equal exactly where they are the same.
+/// Two operand constraints compare as equal exactly if they are the same.
 pub fn equal_constraints()
     ensures { (x y : Constraint) → (IsTrue (same_constraint x y) ↔ x ≡ y) }
 {}
 
-/// Tables of valid declarations, whose variables have sets of types, are well-formed.
+/// Tables of valid declarations are well-formed, if the type variables have type sets.
 pub fn tables_of_valid_declarations_are_well_formed()
     ensures { (d : InstructionSet) (tables : TableContents) → IsValid d → HoldTypeSets d.vars → AreTablesOf d tables
         → IsWellFormedOpcodes tables }
 {}
 
-/// The slots follow from the names, so that parts have one well-formed table at most.
+/// Parts determine well-formed tables: at most one has these parts, since slots follow from names.
 pub fn one_table_has_the_parts()
     ensures { (names formats : List (List ℕ)) (type_sets : List Masks) (operand_constraints : List Constraint)
         (constraints : List OpcodeConstraints) (one other : TableContents) → IsWellFormedOpcodes one
@@ -37,15 +37,15 @@ pub fn one_table_has_the_parts()
         → HaveParts other names formats type_sets operand_constraints constraints → one ≡ other }
 {}
 
-/// Declarations whose variables have sets of types have one value of tables: each part of tables follows from them. Without that
-/// premise two sets could have the same masks, and then a place of a type set would have two values.
+/// Declarations determine their tables, if the type variables have type sets: each part of the tables follows. Without this premise two
+/// type sets could have the same masks, and the place of a type set could be either of two.
 pub fn one_table_of_an_instruction_set()
     ensures { (d : InstructionSet) (one other : TableContents) → HoldTypeSets d.vars → AreTablesOf d one
         → AreTablesOf d other → one ≡ other }
 {}
 
-/// Where the designated operand's variable controls, which bit 3 of the flags says, the designated value has the controlling type: in
-/// each combination that tables of declarations allow, and in each that valid declarations accept.
+/// If the designated value's variable is the control, which bit 3 of the flags says, the designated value has the controlling type. This
+/// holds of all types that tables of declarations allow, and of all that valid declarations accept.
 pub fn designated_values_have_the_controlling_type()
     ensures tables { (d : InstructionSet) (tables : TableContents) (op : ℕ) (entry : OpcodeNumbers) (c e : Option ℕ)
         (rs vs : List ℕ) → HoldTypeSets d.vars → AreTablesOf d tables → at_opcode tables.entries op ≡ Some entry

@@ -1,8 +1,7 @@
 //! The tables of an instruction set, and how they are read.
 //!
-//! `OpcodeTables::of` makes the tables of what is built of declarations, and `opcodes_from_parts` tables of parts that are
-//! well-formed. `OpcodeTables::accepts2` is the decoding, and `OpcodeTables::infer_results2` gives the types that it leaves no
-//! choice for.
+//! `OpcodeTables::of` makes the tables of what is built of declarations, and `opcodes_from_parts` those of well-formed parts.
+//! `OpcodeTables::accepts2` is the decoding, and `OpcodeTables::infer_results2` infers the types of results.
 #![tactic(auto)]
 
 mod constraint;

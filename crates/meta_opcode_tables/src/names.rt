@@ -7,7 +7,6 @@ use meta_operands::FormatTable;
 use meta_types::Text;
 use std::alloc::{AllocError, Global};
 
-/// The names of the instructions, in order.
 pub(crate) fn copied_names(
     alloc: Global,
     instructions: &AllInstructions,
@@ -21,7 +20,6 @@ pub(crate) fn copied_names(
     Ok(names)
 }
 
-/// The names of the formats of the instructions, in order.
 pub(crate) fn copied_formats(
     alloc: Global,
     formats: &FormatTable,

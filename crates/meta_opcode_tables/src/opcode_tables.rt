@@ -31,9 +31,9 @@ use std::alloc::{AllocError, Global};
 use std::marker::Model;
 use std::sync::ledger::Ledger;
 
-/// The tables of an instruction set: by opcode its name, the name of its format and its constraints, the type sets and the
-/// one list of operand constraints that these refer to, and the slots by which a name is looked up (this project's own).
-/// Opcodes are numbered from 1. They are well-formed: what they refer to is there.
+/// The tables of an instruction set. For each opcode, from 1, they have its name, the name of its format and its constraints. Beside these
+/// they have the type sets and the one list of operand constraints, which the constraints refer to, and the slots by which a name is looked
+/// up. They are well-formed: no reference points to something that is missing.
 #[derive(Debug, Drop)]
 pub struct OpcodeTables {
     names: Vec<Text>,
@@ -63,10 +63,8 @@ impl Model for OpcodeTables {
     }) t.type_sets.items t.operand_constraints.items t.constraints.items) };
 }
 
-/// The number of the first opcode.
 const FIRST_OPCODE: u16 = 1;
 
-/// The slots of the names of opcodes.
 fn opcode_slots(alloc: Global, names: &[Text]) -> Result<Vec<Option<u16>>, AllocError>
     requires { length names.now ≤ 4095 }
     ensures slots { IfOk result (λ v. AreNameSlots 1 names.now v.items) }
@@ -79,7 +77,7 @@ fn opcode_slots(alloc: Global, names: &[Text]) -> Result<Vec<Option<u16>>, Alloc
     name_slots(alloc, &borrowed, FIRST_OPCODE)
 }
 
-/// Whether there is a controlling number, and the function leads from it to the number.
+/// Whether there is a controlling number, and the function leads from it to `number`.
 fn is_related(ctrl: Option<u16>, derived_func: DerivedFunc, number: u16) -> bool
     ensures { IsTrue result ↔ ((u : ℕ) × (ctrl ≡ Some u) × StepsNumbers (function_of derived_func) u number) }
 {
@@ -90,9 +88,8 @@ fn is_related(ctrl: Option<u16>, derived_func: DerivedFunc, number: u16) -> bool
 }
 
 impl OpcodeTables {
-    /// The tables of what is built of declarations: they hold each instruction, in order, under its name, and opcode 1 is the
-    /// first. Read by the decoding, they allow exactly what the declarations accept, and they give exactly the results that the
-    /// declarations infer. The only error is want of memory.
+    /// Makes the tables of what is built of declarations. They hold each instruction under its name, in order: opcode 1 is the first. Read
+    /// by the decoding, they allow exactly what the declarations accept, and give exactly the results that the declarations infer.
     pub fn of(alloc: Global, built: &Built<'_>) -> Result<OpcodeTables, AllocError>
         ensures tables { IfOk result (λ t. AreTablesOf built.now.declared.set t) }
         ensures well_formed { IfOk result IsWellFormedOpcodes }
@@ -117,7 +114,7 @@ impl OpcodeTables {
         )
     }
 
-    /// The tables with these parts, the names, the names of the formats and the constraints by opcode.
+    /// The tables with these parts. Names, names of formats and constraints stand in the order of opcodes.
     pub(crate) fn new(
         alloc: Global,
         names: Vec<Text>,
@@ -145,7 +142,7 @@ impl OpcodeTables {
         })
     }
 
-    /// How many opcodes there are, at most 4,095: they are 1 to this number.
+    /// How many opcodes there are, at most 4,095. They are the numbers from 1 to this count.
     pub fn opcode_count(&self) -> u16
         ensures count { result ≡ length self.now.entries }
         ensures named { length self.now.names ≡ length self.now.entries }
@@ -155,7 +152,7 @@ impl OpcodeTables {
         self.constraints.len() as u16
     }
 
-    /// Whether these tables and the others are the same: all their parts are equal.
+    /// Whether these tables and the others are equal in all parts.
     pub fn same(&self, other: &OpcodeTables) -> bool
         ensures { IsTrue result ↔ (self.now ≡ other.now) }
     {
@@ -177,21 +174,21 @@ impl OpcodeTables {
         same_entries(&self.constraints, &other.constraints)
     }
 
-    /// The type sets, by the places that the constraints name.
+    /// The type sets. Constraints name them by their places here.
     pub fn type_sets(&self) -> &[Masks]
         ensures { result.now ≡ self.now.type_sets }
     {
         &self.type_sets
     }
 
-    /// The one list of operand constraints, which the offsets of opcodes point into.
+    /// The one list of operand constraints. The constraints of an opcode say where its own begin.
     pub fn operand_constraints(&self) -> &[Constraint]
         ensures { map number_constraint_of result.now ≡ self.now.operand_constraints }
     {
         &self.operand_constraints
     }
 
-    /// The constraints of an opcode, and `None` exactly where it isn't 1 to `opcode_count`.
+    /// The constraints of an opcode. `None` exactly if `opcode` isn't 1 to `opcode_count`.
     pub fn constraints(&self, opcode: u16) -> Option<OpcodeConstraints>
         ensures opcode { IsSome result ↔ IsOpcode self.now opcode }
         ensures entry { IfSome result (λ e. at_opcode self.now.entries opcode ≡ Some (entry_of e)) }
@@ -203,7 +200,7 @@ impl OpcodeTables {
         self.constraints.get(opcode as usize - 1).copied()
     }
 
-    /// The name of an opcode, and `None` exactly where it isn't 1 to `opcode_count`.
+    /// The name of an opcode. `None` exactly if `opcode` isn't 1 to `opcode_count`.
     pub fn opcode_name(&self, opcode: u16) -> Option<&Text>
         ensures opcode { IsSome result ↔ IsOpcode self.now opcode }
         ensures name { IfSome result (λ name. at_opcode self.now.names opcode ≡ Some name.now) }
@@ -215,7 +212,7 @@ impl OpcodeTables {
         self.names.get(opcode as usize - 1)
     }
 
-    /// The name of the format of an opcode, and `None` exactly where it isn't 1 to `opcode_count`.
+    /// The name of the format of an opcode. `None` exactly if `opcode` isn't 1 to `opcode_count`.
     pub fn opcode_format(&self, opcode: u16) -> Option<&Text>
         ensures opcode { IsSome result ↔ IsOpcode self.now opcode }
         ensures format { IfSome result (λ name. at_opcode self.now.formats opcode ≡ Some name.now) }
@@ -227,8 +224,8 @@ impl OpcodeTables {
         self.formats.get(opcode as usize - 1)
     }
 
-    /// The slots that a look-up of a name probes: each opcode stands where the hash of its name and the opcodes before it
-    /// put it.
+    /// The slots that a look-up of a name probes. The place of each opcode follows from the hash of its name and from the opcodes before
+    /// it.
     pub fn opcode_slots(&self) -> &[Option<u16>]
         ensures slots { result.now ≡ self.now.opcode_slots }
         ensures names { AreNameSlots 1 self.now.names self.now.opcode_slots }
@@ -246,8 +243,8 @@ impl OpcodeTables {
         }
     }
 
-    /// The opcode that has the name, of which there is one at most, and `None` exactly where none has it. It costs the length
-    /// of the name, and that of the look-up in the slots.
+    /// The opcode that has the name, of which there is at most one. `None` exactly if no opcode has it. The cost is the length of the name,
+    /// and that of the look-up in the slots.
     pub fn find_opcode(&self, name: &[u8]) -> Option<u16>
         ensures found { IfSome result (IsFirst (IsOpcodeNamed self.now.names name.now)) }
         ensures finds { (op : ℕ) → at_opcode self.now.names op ≡ Some name.now → result ≡ Some op }
@@ -261,7 +258,7 @@ impl OpcodeTables {
         )
     }
 
-    /// As `find_opcode`, and `steps` rises by the length of the look-up, the number of slots that were looked at.
+    /// Finds an opcode as `find_opcode` does. `steps` rises by the number of slots that were looked at.
     pub fn find_opcode_counted<L: Ledger>(&self, name: &[u8], steps: &mut Steps<L>) -> Option<u16>
         ensures found { IfSome result (IsFirst (IsOpcodeNamed self.now.names name.now)) }
         ensures finds { (op : ℕ) → at_opcode self.now.names op ≡ Some name.now → result ≡ Some op }
@@ -279,9 +276,9 @@ impl OpcodeTables {
         )
     }
 
-    /// Whether the opcode accepts these types, by their numbers: the controlling type, the types of the value results and
-    /// those of the value inputs, without a second controlling type. It is false for a number that no type has, and for an
-    /// opcode that there isn't.
+    /// Whether the opcode accepts these types, given by their numbers: `ctrl` is the controlling type, `results` and `values` the types of
+    /// the value results and value inputs. There is no second controlling type. The answer is false if a number isn't that of a type, or
+    /// `opcode` isn't an opcode.
     pub fn accepts(&self, opcode: u16, ctrl: Option<u16>, results: &[u16], values: &[u16]) -> bool
         ensures decoding { IsTrue result ↔ Allows self.now opcode ctrl None results.now values.now }
         ensures meaning { (d : InstructionSet) → HoldTypeSets d.vars → AreTablesOf d self.now
@@ -290,7 +287,8 @@ impl OpcodeTables {
         self.accepts2(opcode, ctrl, None, results, values)
     }
 
-    /// As `accepts`, with the number of the second controlling type, which an opcode that names a second control has.
+    /// Whether the opcode accepts these types, as `accepts`, with `second` as the number of the second controlling type. An opcode with a
+    /// second control needs one, and any other has none.
     pub fn accepts2(
         &self,
         opcode: u16,
@@ -326,8 +324,8 @@ impl OpcodeTables {
         self.all_pass(controls, offset + results.len(), values)
     }
 
-    /// The number itself, exactly where the designated operand's variable controls the opcode and its type set contains the
-    /// number: then a designated value of this type has the controlling type.
+    /// The controlling type, if it can be read off the designated value: `value` itself, the number of that value's type. It is `None`
+    /// unless the designated value's variable is the control of the opcode and its type set contains the type.
     pub fn infer_control(&self, opcode: u16, value: u16) -> Option<u16>
         ensures value { IfSome result (λ n. n ≡ value) }
         ensures some { IsSome result ↔ InfersControl self.now opcode value }
@@ -342,7 +340,7 @@ impl OpcodeTables {
         }
     }
 
-    /// As `infer_results2`, without a second controlling type.
+    /// Infers the types of the results, as `infer_results2`, without a second controlling type.
     pub fn infer_results(&self, opcode: u16, ctrl: Option<u16>, out: &mut [u16; 7]) -> Option<usize>
         ensures given { IfSome result (λ count. GivesResults self.now opcode ctrl None (take count out.new)) }
         ensures few { IfSome result (λ count. count ≤ 7) }
@@ -360,9 +358,9 @@ impl OpcodeTables {
         self.infer_results2(opcode, ctrl, None, out)
     }
 
-    /// The numbers of the results' types, as far as the controlling types determine them: how many results there are, with one
-    /// number each at the front of `out`, 0 for a result of several possible types. `None` where the controlling types aren't
-    /// those that the opcode has, or a result can have no type under them; then no combination with them is accepted.
+    /// Infers the types of an opcode's results from the numbers of its controlling types. It answers how many results there are, and writes
+    /// the number of each one's type to the front of `out`: 0 if a result can have several types. `None` if the opcode can't have these
+    /// controlling types, or some result can have no type under them. Then no types are accepted with them.
     pub fn infer_results2(
         &self,
         opcode: u16,
@@ -386,8 +384,8 @@ impl OpcodeTables {
         self.infer_into(ControlNumbers { ctrl, second }, opcode, out)
     }
 
-    /// Writes what the constraints of the results give, one number each, to the front of `out`, and tells how many there are. `None`,
-    /// with nothing written, where the controlling numbers don't fit or a constraint gives nothing.
+    /// Writes the numbers that the constraints of the results give to the front of `out`, and answers how many there are. `None`, with
+    /// nothing written, if the controlling numbers don't fit or a constraint gives nothing.
     fn infer_into(&self, controls: ControlNumbers, opcode: u16, out: &mut [u16; 7]) -> Option<usize>
         ensures given { IfSome result (λ count. GivesResults self.now opcode controls.ctrl controls.second (take count out.new)) }
         ensures few { IfSome result (λ count. count ≤ 7) }
@@ -412,7 +410,7 @@ impl OpcodeTables {
         Some(count)
     }
 
-    /// The number that the constraint at this place gives, and `None` where there is none or it gives none.
+    /// The number that the constraint at this place gives. `None` if there is no such constraint, or it gives no number.
     fn given_at(&self, controls: ControlNumbers, place: usize) -> Option<u16>
         ensures some { IfSome result (λ n. GivesAt self.now (both controls.ctrl controls.second) place n) }
         ensures none { IfNone result ((n : ℕ) → ¬ GivesAt self.now (both controls.ctrl controls.second) place n) }
@@ -423,7 +421,7 @@ impl OpcodeTables {
         }
     }
 
-    /// Whether the type set at this place is there and contains the number: that of a type in the set.
+    /// Whether there is a type set at the place `set`, and it contains the type with this number.
     pub fn set_contains(&self, set: u16, number: u16) -> bool
         ensures { IsTrue result ↔ SetContains self.now set number }
     {
@@ -433,8 +431,8 @@ impl OpcodeTables {
         }
     }
 
-    /// Whether the number of a control fits an opcode whose offset for that control this is: where the offset is `NO_TYPE_SET`, there
-    /// is no number, and else there is one, and the type set at the offset contains it.
+    /// Whether a controlling number fits an opcode with this type set offset. If the offset is `NO_TYPE_SET`, there must be no number; else
+    /// there must be one, and the type set at the offset must contain it.
     pub fn control_fits(&self, offset: u16, ctrl: Option<u16>) -> bool
         ensures { IsTrue result ↔ ControlNumberFits self.now offset ctrl }
     {
@@ -469,7 +467,7 @@ impl OpcodeTables {
         }
     }
 
-    /// Whether the number passes the constraint under the numbers of the controlling types.
+    /// Whether the number of a type passes the constraint under the numbers of the controlling types.
     pub fn constraint_passes(
         &self,
         ctrl: Option<u16>,
@@ -482,7 +480,7 @@ impl OpcodeTables {
         self.passes(ControlNumbers { ctrl, second }, constraint, number)
     }
 
-    /// Whether there is an operand constraint at this place of the one list and the number passes it under the numbers of the
+    /// Whether there is an operand constraint at `place` of the one list, and the number of a type passes it under the numbers of the
     /// controlling types.
     pub fn operand_passes(
         &self,
@@ -496,7 +494,7 @@ impl OpcodeTables {
         self.passes_at(ControlNumbers { ctrl, second }, place, number)
     }
 
-    /// Whether each number passes the constraint at its place behind the offset.
+    /// Whether each number passes its constraint. The first constraint stands at `offset`.
     fn all_pass(&self, controls: ControlNumbers, offset: usize, numbers: &[u16]) -> bool
         requires { offset < 2 ^ 32 }
         ensures { IsTrue result ↔ AllPass self.now (both controls.ctrl controls.second) offset numbers.now }

@@ -10,7 +10,7 @@ use meta_typevar::{TypeSet, TypeVar, TypeVars};
 use meta_unique::UniqueTable;
 use std::alloc::{AllocError, Global};
 
-/// The place of the set of the variable's root among the type sets, where it is.
+/// The place of the type set of the variable's root among the type sets, which have to hold it.
 pub(crate) fn set_place(vars: &TypeVars, tv: TypeVar, type_sets: &UniqueTable<'_, TypeSet>) -> u16
     requires of_registry { tv < length vars.now }
     requires few { length type_sets.now ≤ 4095 }
@@ -22,8 +22,8 @@ pub(crate) fn set_place(vars: &TypeVars, tv: TypeVar, type_sets: &UniqueTable<'_
     type_sets.index_of(root.get_raw_typeset(vars)) as u16
 }
 
-/// The constraint of an operand with this variable, under these controls: its fixed type, where it has one; else that it is
-/// a control; else the function that leads to it from a control; else its type set.
+/// The constraint of an operand with this variable, under these controls: its fixed type if it has one; else the control that it is; else
+/// the function that leads to it from a control; else its type set.
 fn constraint_of(
     vars: &TypeVars,
     controls: &Controls,
@@ -52,7 +52,7 @@ fn constraint_of(
     }
 }
 
-/// The constraint of the next operand, which is that of the one before where both have one variable.
+/// The constraint of the next operand. If it has the variable of the operand before, it has that one's constraint.
 fn next_constraint(
     vars: &TypeVars,
     controls: &Controls,

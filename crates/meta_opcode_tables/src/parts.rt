@@ -16,29 +16,27 @@ use meta_types::{Text, ValueType, are_distinct, are_names, each_type_is_one_valu
 use meta_typevar::Masks;
 use std::alloc::{AllocError, Global};
 
-/// The most operand constraints that tables may have.
+/// The most operand constraints that tables can have.
 pub const MAX_CONSTRAINTS: usize = 65_535;
 
-/// All lane counts of scalars and fixed vectors, and all of dynamic vectors.
+/// The lane counts of all types: those of scalars and fixed vectors, and those of dynamic vectors.
 const ALL_LANES: u16 = 511;
 
 const ALL_DYNAMIC_LANES: u16 = 510;
 
-/// Whether there is a name for each opcode.
 fn are_named(names: &[Text], opcodes: usize) -> bool
     ensures { IsTrue result ↔ ((length names.now ≡ opcodes) × All IsName names.now) }
 {
     names.len() == opcodes && are_names(names)
 }
 
-/// Whether a mask holds lane counts of scalars and fixed vectors alone.
 fn holds_lanes(mask: u16) -> bool
     ensures { IsTrue result ↔ IsMaskOf (lane_counts false) mask }
 {
     mask <= ALL_LANES
 }
 
-/// Whether a mask holds lane counts of dynamic vectors alone, which have two lanes at least.
+/// Whether a mask holds lane counts of dynamic vectors alone. They have at least two lanes.
 fn holds_dynamic_lanes(mask: u16) -> bool
     ensures { IsTrue result ↔ IsMaskOf (lane_counts true) mask }
 {
@@ -48,21 +46,21 @@ fn holds_dynamic_lanes(mask: u16) -> bool
     mask % 2 == 0
 }
 
-/// Whether a mask holds widths of ints alone, the least of which is 8.
+/// Whether a mask holds widths of integers alone, of which 8 is the least.
 fn holds_ints(mask: u8) -> bool
     ensures { IsTrue result ↔ IsMaskOf (widths IntKind) mask }
 {
     mask % 8 == 0
 }
 
-/// Whether a mask holds widths of floats alone, the least of which is 16.
+/// Whether a mask holds widths of floats alone, of which 16 is the least.
 fn holds_floats(mask: u8) -> bool
     ensures { IsTrue result ↔ IsMaskOf (widths FloatKind) mask }
 {
     mask % 16 == 0
 }
 
-/// Whether masks hold widths and lane counts of types alone.
+/// Whether masks hold only widths and lane counts that types have.
 fn hold_types_alone(masks: Masks) -> bool
     ensures { IsTrue result ↔ AreMasks masks }
 {
@@ -72,14 +70,12 @@ fn hold_types_alone(masks: Masks) -> bool
         && holds_floats(masks.floats)
 }
 
-/// Whether all masks do.
 fn are_masks(type_sets: &[Masks]) -> bool
     ensures { IsTrue result ↔ All AreMasks type_sets.now }
 {
     type_sets.iter().all(|masks| hold_types_alone(*masks))
 }
 
-/// Whether a type has the number.
 fn is_type_number(number: u16) -> bool
     ensures { IsTrue result ↔ IsTypeNumber number }
 {
@@ -87,7 +83,7 @@ fn is_type_number(number: u16) -> bool
     ValueType::from_number(number).is_some()
 }
 
-/// Whether an operand constraint names a type or a type set that there is, where it names one.
+/// Whether the type or type set that an operand constraint names, if any, exists.
 fn is_constraint(sets: usize, constraint: Constraint) -> bool
     ensures { IsTrue result ↔ IsWellFormedConstraint sets (number_constraint_of constraint) }
 {
@@ -99,7 +95,6 @@ fn is_constraint(sets: usize, constraint: Constraint) -> bool
     }
 }
 
-/// Whether all operand constraints do.
 fn are_constraints(sets: usize, constraints: &[Constraint]) -> bool
     ensures { IsTrue result ↔ All (λ x. IsWellFormedConstraint sets (number_constraint_of x)) constraints.now }
 {
@@ -108,35 +103,35 @@ fn are_constraints(sets: usize, constraints: &[Constraint]) -> bool
         .all(|constraint| is_constraint(sets, *constraint))
 }
 
-/// Whether the offset of a control is the place of one of so many type sets, or says that there is no such control.
+/// Whether the offset of a control is the place of one of `sets` type sets, or says that there is no such control.
 fn is_set_offset(sets: usize, offset: u16) -> bool
     ensures { IsTrue result ↔ IsSetOffset sets offset }
 {
     (offset as usize) < sets || offset == NO_TYPE_SET
 }
 
-/// Whether a second control is there only beside a control.
+/// Whether there is a second control only beside a control.
 fn is_second_beside(entry: OpcodeConstraints) -> bool
     ensures { IsTrue result ↔ (entry.typeset_offset ≡ no_type_set → entry.second_offset ≡ no_type_set) }
 {
     entry.typeset_offset != NO_TYPE_SET || entry.second_offset == NO_TYPE_SET
 }
 
-/// Whether the flags say only where there is a control that the designated operand's variable controls.
+/// Whether the flags say that the designated value's variable is the control only if there is a control.
 fn is_designated_rightly(entry: OpcodeConstraints) -> bool
     ensures { IsTrue result ↔ (SaysDesignated entry.flags → entry.typeset_offset ≢ no_type_set) }
 {
     !entry.designated_controls() || entry.typeset_offset != NO_TYPE_SET
 }
 
-/// Whether they say of the first result that it differs only where they say that.
+/// Whether the flags say that the first result differs only if they say that the designated value's variable is the control.
 fn differs_rightly(entry: OpcodeConstraints) -> bool
     ensures { IsTrue result ↔ (SaysDiffers entry.flags → SaysDesignated entry.flags) }
 {
     !entry.first_result_differs() || entry.designated_controls()
 }
 
-/// Whether the entry of an opcode names type sets and operand constraints that there are, and its flags fit that.
+/// Whether the type sets and operand constraints that an entry names exist, and its flags fit them.
 fn is_entry(sets: usize, constraints: usize, entry: OpcodeConstraints) -> bool
     ensures { IsTrue result ↔ IsWellFormedEntry sets constraints (entry_of entry) }
 {
@@ -149,7 +144,6 @@ fn is_entry(sets: usize, constraints: usize, entry: OpcodeConstraints) -> bool
         && behind <= constraints
 }
 
-/// Whether all entries do.
 fn are_entries(sets: usize, constraints: usize, entries: &[OpcodeConstraints]) -> bool
     ensures { IsTrue result ↔ All (λ e. IsWellFormedEntry sets constraints (entry_of e)) entries.now }
 {
@@ -158,14 +152,13 @@ fn are_entries(sets: usize, constraints: usize, entries: &[OpcodeConstraints]) -
         .all(|entry| is_entry(sets, constraints, *entry))
 }
 
-/// Whether there are few enough opcodes, type sets and operand constraints.
+/// Whether there aren't too many opcodes, type sets or operand constraints.
 fn are_few(opcodes: usize, type_sets: usize, operand_constraints: usize) -> bool
     ensures { IsTrue result ↔ ((opcodes ≤ 4095) × (type_sets ≤ 4095) × (operand_constraints ≤ 65535)) }
 {
     opcodes <= MAX_OPCODES && type_sets <= MAX_TYPE_SETS && operand_constraints <= MAX_CONSTRAINTS
 }
 
-/// Whether these parts are well-formed. The only error is want of memory.
 fn are_well_formed(
     alloc: Global,
     names: &[Text],
@@ -202,9 +195,9 @@ fn are_well_formed(
     are_distinct(alloc, names)
 }
 
-/// The tables with these parts, the names, the names of the formats and the constraints by opcode, and with the slots of the
-/// names; `None` exactly where no well-formed tables have these parts (this project's own). It costs the length of the parts, and
-/// for each name the logarithm of their count. The only error is want of memory.
+/// Makes the tables that have these parts, and the slots of the names. Names, names of formats and constraints stand in the order of
+/// opcodes. It answers `None` exactly if no well-formed tables have these parts. The cost is the length of the parts, and for each name the
+/// logarithm of their count.
 pub fn opcodes_from_parts(
     alloc: Global,
     names: Vec<Text>,

@@ -4,21 +4,18 @@ ghost use Rattle.meta_opcode_tables.specs.Constraint.{number_constraint_of, entr
 use super::constraint::{Constraint, OpcodeConstraints};
 use meta_typevar::Masks;
 
-/// Whether the masks are the same, in the same order.
 pub(crate) fn same_masks(one: &[Masks], other: &[Masks]) -> bool
     ensures { IsTrue result ↔ (one.now ≡ other.now) }
 {
     one == other
 }
 
-/// Whether the constraints are the same, in the same order.
 pub(crate) fn same_constraints(one: &[Constraint], other: &[Constraint]) -> bool
     ensures { IsTrue result ↔ (map number_constraint_of one.now ≡ map number_constraint_of other.now) }
 {
     one == other
 }
 
-/// Whether the entries are the same, in the same order.
 pub(crate) fn same_entries(one: &[OpcodeConstraints], other: &[OpcodeConstraints]) -> bool
     ensures { IsTrue result ↔ (map entry_of one.now ≡ map entry_of other.now) }
 {

@@ -39,6 +39,6 @@ abbrev pub variable_doc_or : List TypeVarContent → Option ℕ → List ℕ →
 variable_doc_or vars None other = other
 variable_doc_or vars (Some tv) other = doc_at (slice_get vars tv)
 
--- the documentation of an operand: its own, else its variable's, else its kind's, which is empty where there is none
+-- the documentation of an operand: its own, else its variable's, else its kind's, which may be empty
 abbrev pub doc_of : List TypeVarContent → Operand → List ℕ
 doc_of vars o = unwrap_or (own_doc o) (variable_doc_or vars (variable_of o) (unwrap_or (doc_of_kind o.kind) []))

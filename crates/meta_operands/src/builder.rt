@@ -9,7 +9,7 @@ use meta_types::Text;
 use std::alloc::{AllocError, Global};
 use std::marker::Model;
 
-/// A format while it is declared (`cdsl/formats.rs`).
+/// A format that is being declared, as in the crate's `cdsl/formats.rs`.
 #[derive(Drop)]
 pub struct InstructionFormatBuilder {
     format: InstructionFormat,
@@ -24,7 +24,7 @@ impl Model for InstructionFormatBuilder {
 }
 
 impl InstructionFormatBuilder {
-    /// A format of this name without operands.
+    /// Makes a format with this name and without operands.
     pub fn new(alloc: Global, name: Text) -> Self
         ensures { result ≡ empty_format name }
     {
@@ -41,7 +41,7 @@ impl InstructionFormatBuilder {
         }
     }
 
-    /// Whether an operand can be counted: each of the three counts is below 2^32 - 1 (this project's own).
+    /// Whether another operand can be counted: each of the three counts is below 2^32 - 1.
     pub fn has_room(&self) -> bool
         ensures { IsTrue result ↔ HasRoom self.now }
     {
@@ -50,7 +50,7 @@ impl InstructionFormatBuilder {
             && self.format.num_raw_block_operands < 0xffff_ffff
     }
 
-    /// One more value input.
+    /// Adds a value input.
     pub fn value(mut self) -> Self
         requires { self.num_value_operands + 1 < 2 ^ 32 }
         ensures { result ≡ record self { num_value_operands = self.num_value_operands + 1 } }
@@ -59,7 +59,7 @@ impl InstructionFormatBuilder {
         self
     }
 
-    /// One more block.
+    /// Adds a block that takes arguments.
     pub fn block(mut self) -> Self
         requires { self.num_block_operands + 1 < 2 ^ 32 }
         ensures { result ≡ record self { num_block_operands = self.num_block_operands + 1 } }
@@ -68,7 +68,7 @@ impl InstructionFormatBuilder {
         self
     }
 
-    /// One more block without arguments.
+    /// Adds a block without arguments.
     pub fn raw_block(mut self) -> Self
         requires { self.num_raw_block_operands + 1 < 2 ^ 32 }
         ensures { result ≡ record self { num_raw_block_operands = self.num_raw_block_operands + 1 } }
@@ -77,7 +77,7 @@ impl InstructionFormatBuilder {
         self
     }
 
-    /// A variable number of values may follow.
+    /// Lets any number of values follow (varargs).
     pub fn varargs(mut self) -> Self
         ensures { result ≡ record self { has_value_list = true } }
     {
@@ -85,7 +85,7 @@ impl InstructionFormatBuilder {
         self
     }
 
-    /// One more field, which holds an operand of this kind: its member has the kind's field name.
+    /// Adds a field, which holds an operand of this kind. The name of the field in `InstructionData` is the kind's field name.
     pub fn imm(mut self, operand_kind: &OperandKind) -> Result<Self, AllocError>
         ensures { IfOk result (λ b. b ≡ with_field self operand_kind.now) }
     {
@@ -93,8 +93,8 @@ impl InstructionFormatBuilder {
         Ok(self)
     }
 
-    /// Whether the value input at this place, counted among the value inputs, can be designated: none is yet, and there is
-    /// one at the place (this project's own).
+    /// Whether the value input at this place among the value inputs, from 0, can be made the designated value: there is such an input, and
+    /// no value is designated yet.
     pub fn can_designate(&self, operand_index: usize) -> bool
         ensures { IsTrue result ↔ CanDesignate self.now operand_index }
     {
@@ -102,7 +102,8 @@ impl InstructionFormatBuilder {
             && operand_index < self.format.num_value_operands as usize
     }
 
-    /// Designates the value input at this place, counted from 0 among the value inputs: its type may control.
+    /// Makes the value input at this place among the value inputs, from 0, the designated value. Its type is tried first as the controlling
+    /// type.
     pub fn typevar_operand(mut self, operand_index: usize) -> Self
         requires { CanDesignate self operand_index }
         ensures { result ≡ record self { typevar_operand = Some operand_index } }
@@ -111,8 +112,8 @@ impl InstructionFormatBuilder {
         self
     }
 
-    /// Adds the format to the table and answers its number; the formats that are there stay with their numbers. A format
-    /// with value inputs of which none was designated designates the first. After an error the table is as it was.
+    /// Adds the format to the table, and answers its number. Other formats keep their numbers. If the format has value inputs and no
+    /// designated value, the first one is designated. After an error the table is as it was.
     pub fn build(mut self, table: &mut FormatTable) -> Result<FormatId, AllocError>
         requires { length table.old + 1 < 2 ^ 32 }
         ensures number { IfOk result (λ id. id ≡ length table.old) }

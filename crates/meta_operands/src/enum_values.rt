@@ -9,8 +9,8 @@ use std::collections::BTreeMap;
 use std::collections::btree_map::Iter;
 use std::marker::Model;
 
-/// The values of an enum immediate: each name with the variant of the Rust type that it stands for, in the order of the
-/// names by their bytes (in the crate they have no order).
+/// The values of an enum immediate. Each is a name with the variant of the Rust type that it stands for. They are in the order of the
+/// names' bytes; in the crate they have no order.
 #[derive(Drop)]
 pub struct EnumValues {
     variants: BTreeMap<Text, Text>,
@@ -25,7 +25,7 @@ impl Model for EnumValues {
 }
 
 impl EnumValues {
-    /// No values.
+    /// Makes an empty list of values.
     pub fn new(alloc: Global) -> EnumValues
         ensures { result ≡ [] }
     {
@@ -42,8 +42,8 @@ impl EnumValues {
         self.variants.len()
     }
 
-    /// Lets the name stand for the variant, and answers what it stood for before. After an error the values are as they
-    /// were.
+    /// Adds a value: the name stands for the variant. It answers the variant that the name stood for before, if there was one. After an
+    /// error the values are as they were.
     pub fn insert(&mut self, name: Text, variant: Text) -> Result<Option<Text>, AllocError>
         ensures added { OnOk result (self.new ≡ with_value self.old name variant) }
         ensures before { IfOk result (λ old. old ≡ value_of self.old name) }
@@ -52,14 +52,14 @@ impl EnumValues {
         Ok(self.variants.insert(name, variant)?)
     }
 
-    /// What the name stands for.
+    /// The variant that the name stands for, if there is such a value.
     pub fn get(&self, name: &Text) -> Option<&Text>
         ensures { option_copied result ≡ value_of self.now name.now }
     {
         self.variants.get(name)
     }
 
-    /// The names and what they stand for, in order.
+    /// The names and their variants, in order.
     pub fn iter(&self) -> Iter<'_, Text, Text>
         ensures rest { result ≡ self.now }
         ensures runs { ShowsInOrder (deref_pair {K = List ℕ} {X = List ℕ}) }
@@ -67,7 +67,7 @@ impl EnumValues {
         self.variants.iter()
     }
 
-    /// Equal values of its own.
+    /// Makes a copy of the values.
     pub(crate) fn copy(&self, alloc: Global) -> Result<EnumValues, AllocError>
         ensures { IfOk result (λ v. v ≡ self.now) }
     {

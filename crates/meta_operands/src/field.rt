@@ -9,12 +9,12 @@ use std::alloc::{AllocError, Global};
 use std::fmt;
 use std::marker::Model;
 
-/// A field of a format, which holds an immediate or an entity reference (`cdsl/formats.rs`).
+/// A field of a format, which holds an immediate or an entity reference, as in the crate's `cdsl/formats.rs`.
 #[derive(Drop)]
 pub struct FormatField {
-    /// The kind of what it holds.
+    /// The kind of the operand that the field holds.
     pub kind: OperandKind,
-    /// The name of the member of `InstructionData`.
+    /// The name of the field in `InstructionData`.
     pub member: Text,
 }
 
@@ -47,7 +47,6 @@ impl Model for FormatFields {
 }
 
 impl FormatFields {
-    /// No fields.
     pub(crate) fn new(alloc: Global) -> FormatFields
         ensures { result ≡ [] }
     {
@@ -70,7 +69,7 @@ impl FormatFields {
         self.fields.len()
     }
 
-    /// The field at a place below `len`.
+    /// The field at a place, which must be below `len`.
     pub fn get(&self, index: usize) -> &FormatField
         requires { index < length self.now }
         ensures { slice_get self.now index ≡ Some result.now }
@@ -78,7 +77,7 @@ impl FormatFields {
         &self.fields[index]
     }
 
-    /// One more field, which holds an operand of this kind.
+    /// Adds a field, which holds an operand of this kind.
     pub(crate) fn push(&mut self, kind: &OperandKind) -> Result<(), AllocError>
         ensures added { OnOk result (self.new ≡ self.old ++ field_for kind.now ∷ []) }
         ensures unchanged { OnErr result (self.new ≡ self.old) }
@@ -91,7 +90,7 @@ impl FormatFields {
     }
 }
 
-/// The fields, parted by `, `.
+/// Writes the fields, separated by `, `.
 impl fmt::Display for FormatFields {
     ghost use Rattle.std.specs.Prelude.{Some};
     ghost use Rattle.meta_operands.specs.FormatText.{fields_text};
@@ -107,7 +106,7 @@ impl fmt::Display for FormatFields {
     }
 }
 
-/// Fields after another one.
+/// Writes the fields after the first.
 fn write_more<W: fmt::Write>(f: &mut fmt::Formatter<W>, fields: &[FormatField]) -> fmt::Result
     ensures { DisplaysOnOk W.write_str_gives f.old result (Some (more_fields_text fields.now)) f.new }
 {

@@ -7,27 +7,28 @@ use meta_types::Text;
 use std::alloc::{AllocError, Global};
 use std::fmt;
 
-/// The operands that instructions of one format have (`cdsl/formats.rs`).
+/// A format: the operands that its instructions store, as in the crate's `cdsl/formats.rs`.
 #[derive(Drop)]
 pub struct InstructionFormat {
     /// The name of the format.
     pub name: Text,
-    /// How many value inputs there are, below 2^32.
+    /// The count of value inputs, below 2^32.
     pub num_value_operands: u32,
-    /// Whether a variable number of values may follow.
+    /// Whether any number of values may follow (varargs).
     pub has_value_list: bool,
     /// The fields for immediates and for entity references other than blocks, in order.
     pub imm_fields: FormatFields,
-    /// How many blocks there are, below 2^32.
+    /// The count of blocks that take arguments, below 2^32.
     pub num_block_operands: u32,
-    /// How many blocks without arguments there are, below 2^32.
+    /// The count of blocks without arguments, below 2^32.
     pub num_raw_block_operands: u32,
-    /// The place among the value inputs of the operand whose type may control.
+    /// The place of the designated value among the value inputs, from 0, if there is one.
     pub typevar_operand: Option<usize>,
 }
 
 impl InstructionFormat {
-    /// What is stored of an instruction: two formats of one structure differ by name or designated operand alone.
+    /// The structure of the format: what its instructions store. Two formats with the same structure can differ only by their names and
+    /// designated values.
     pub fn structure(&self, alloc: Global) -> Result<FormatStructure, AllocError>
         ensures { IfOk result (λ s. s ≡ structure_of self.now) }
     {

@@ -7,18 +7,18 @@ use meta_types::Text;
 use meta_typevar::TypeVar;
 use std::alloc::{AllocError, Global};
 
-/// What operands of a kind are.
+/// What the operands of a kind are.
 #[derive(Drop)]
 pub enum OperandKindFields {
-    /// References to entities of the function, as blocks and stack slots.
+    /// References to entities of the function, such as blocks and stack slots.
     EntityRef,
-    /// A variable number of values.
+    /// Any number of values (varargs).
     VariableArgs,
-    /// Immediates: numbers that the instruction itself holds.
+    /// Immediates: numbers that the instruction itself stores.
     ImmValue,
-    /// Immediates of an enum, with its values.
+    /// Immediates of an enum, with the values of that enum.
     ImmEnum(EnumValues),
-    /// Values, whose type is that of the variable.
+    /// Values, whose type is that of this type variable.
     TypeVar(TypeVar),
 }
 
@@ -33,7 +33,7 @@ impl OperandKindFields {
         }
     }
 
-    /// Equal fields of its own.
+    /// Makes a copy.
     fn copy(&self, alloc: Global) -> Result<OperandKindFields, AllocError>
         ensures { IfOk result (λ f. f ≡ self.now) }
     {
@@ -49,7 +49,7 @@ impl OperandKindFields {
     }
 }
 
-/// A copy of a documentation, where there is one.
+/// A copy of the documentation, if there is one.
 pub(crate) fn copy_doc(alloc: Global, doc: &Option<Text>) -> Result<Option<Text>, AllocError>
     ensures { IfOk result (λ d. d ≡ doc.now) }
 {
@@ -59,10 +59,10 @@ pub(crate) fn copy_doc(alloc: Global, doc: &Option<Text>) -> Result<Option<Text>
     }
 }
 
-/// A kind of operands (`cdsl/operands.rs`).
+/// A kind of operands, as in the crate's `cdsl/operands.rs`.
 #[derive(Drop)]
 pub struct OperandKind {
-    /// The name of the field that holds such an operand in a format.
+    /// The name of the field in which a format holds such an operand.
     pub rust_field_name: Text,
     /// The Rust type of that field.
     pub rust_type: Text,
@@ -72,7 +72,7 @@ pub struct OperandKind {
 }
 
 impl OperandKind {
-    /// A kind with this field name, Rust type and documentation.
+    /// Makes a kind with this field name, Rust type, meaning and documentation.
     pub fn new(
         rust_field_name: Text,
         rust_type: Text,
@@ -92,8 +92,8 @@ impl OperandKind {
         }
     }
 
-    /// The kind of values whose type is that of the variable: the field `value` of the type `ir::Value`, without a
-    /// documentation (in the crate `From<&TypeVar>`).
+    /// Makes the kind of values whose type is that of the type variable. The field is `value`, its Rust type `ir::Value`, and there is no
+    /// documentation. In the crate this is `From<&TypeVar>`.
     pub fn of(alloc: Global, tv: TypeVar) -> Result<OperandKind, AllocError>
         ensures field_name { IfOk result (λ k. k.rust_field_name ≡ codes "value") }
         ensures field_type { IfOk result (λ k. k.rust_type ≡ codes "ir::Value") }
@@ -108,7 +108,7 @@ impl OperandKind {
         })
     }
 
-    /// An equal kind of its own (in the crate `Clone` and `From<&OperandKind>`).
+    /// Makes a copy of the kind. In the crate this is `Clone` and `From<&OperandKind>`.
     pub fn copy(&self, alloc: Global) -> Result<OperandKind, AllocError>
         ensures { IfOk result (λ k. k ≡ self.now) }
     {
@@ -120,7 +120,7 @@ impl OperandKind {
         })
     }
 
-    /// Whether the operands are blocks that are branched to with arguments: the Rust type is `ir::BlockCall`.
+    /// Whether the operands are blocks that take arguments: the Rust type is `ir::BlockCall`.
     pub fn is_block(&self) -> bool
         ensures test { result ≡ is_block_kind self.now }
         ensures meaning { IsTrue result ↔ (self.now.rust_type ≡ codes "ir::BlockCall") }
@@ -136,7 +136,7 @@ impl OperandKind {
         self.rust_type.as_str() == "ir::Block"
     }
 
-    /// The documentation, empty where there is none.
+    /// The documentation, which is empty if the kind has no documentation.
     pub(crate) fn doc(&self) -> &str
         ensures { result.now ≡ unwrap_or (doc_of_kind self.now) [] }
     {

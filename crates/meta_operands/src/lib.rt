@@ -1,4 +1,4 @@
-//! Operands and instruction formats (`cdsl/operands.rs`, `cdsl/formats.rs`).
+//! Operands and instruction formats, as in the crate's `cdsl/operands.rs` and `cdsl/formats.rs`.
 #![tactic(auto)]
 
 mod builder;

@@ -7,18 +7,18 @@ use meta_types::Text;
 use meta_typevar::{TypeVar, TypeVars};
 use std::alloc::{AllocError, Global};
 
-/// An operand of an instruction: its name and its kind (`cdsl/operands.rs`).
+/// An operand of an instruction: its name and its kind, as in the crate's `cdsl/operands.rs`.
 #[derive(Drop)]
 pub struct Operand {
-    /// The name by which the instruction's text shows it.
+    /// The name of the operand in the instruction's text.
     pub name: Text,
-    /// What it is.
+    /// The kind of the operand.
     pub kind: OperandKind,
     doc: Option<Text>,
 }
 
 impl Operand {
-    /// The operand of this name and kind, without a documentation of its own.
+    /// Makes an operand with this name and kind, and without a documentation of its own.
     pub fn new(name: Text, kind: OperandKind) -> Operand
         ensures name { result.name ≡ name }
         ensures kind { result.kind ≡ kind }
@@ -41,7 +41,7 @@ impl Operand {
         self
     }
 
-    /// An equal operand of its own (in the crate `Clone`).
+    /// Makes a copy of the operand. In the crate this is `Clone`.
     pub fn copy(&self, alloc: Global) -> Result<Operand, AllocError>
         ensures { IfOk result (λ o. o ≡ self.now) }
     {
@@ -52,8 +52,8 @@ impl Operand {
         })
     }
 
-    /// The documentation: that which was given to the operand; else, of a value, that of its variable, which is of the
-    /// registry; else that of the kind, empty where the kind has none.
+    /// The documentation of the operand. It is the one that the operand was given; else, for a value, that of its type variable, which must
+    /// be of the registry; else that of its kind, which may be empty.
     pub fn doc<'a>(&'a self, vars: &'a TypeVars) -> &'a str
         requires { (tv : ℕ) → variable_of self.now ≡ Some tv → tv < length vars.now }
         ensures { result.now ≡ doc_of vars.now self.now }
@@ -74,7 +74,7 @@ impl Operand {
         self.type_var().is_some()
     }
 
-    /// The type variable of the operand; `None` exactly where it is no value.
+    /// The type variable of the operand. `None` exactly if the operand isn't a value.
     pub fn type_var(&self) -> Option<TypeVar>
         ensures { result ≡ variable_of self.now }
     {
@@ -84,14 +84,14 @@ impl Operand {
         }
     }
 
-    /// Whether the operand is a variable number of values.
+    /// Whether the operand is any number of values (varargs).
     pub fn is_varargs(&self) -> bool
         ensures { result ≡ is_varargs_operand self.now }
     {
         matches!(self.kind.fields, OperandKindFields::VariableArgs)
     }
 
-    /// Whether the operand is an immediate: an enum or a value that the instruction itself holds.
+    /// Whether the operand is an immediate: a number or a value of an enum that the instruction itself stores.
     pub fn is_immediate(&self) -> bool
         ensures { result ≡ is_immediate_operand self.now }
     {
@@ -101,7 +101,7 @@ impl Operand {
         )
     }
 
-    /// Whether the operand is an immediate or a reference to an entity, as a block.
+    /// Whether the operand is an immediate or a reference to an entity, such as a block.
     pub fn is_immediate_or_entityref(&self) -> bool
         ensures { result ≡ is_immediate_or_entityref_operand self.now }
     {

@@ -26,7 +26,6 @@ impl Model for FieldNames {
 }
 
 impl FieldNames {
-    /// Those of these fields.
     pub(crate) fn of(alloc: Global, fields: &[FormatField]) -> Result<FieldNames, AllocError>
         ensures { IfOk result (λ n. n ≡ map names_of_field fields.now) }
     {
@@ -70,17 +69,17 @@ impl Hash for FieldNames {
     }
 }
 
-/// What is stored of an instruction of a format, whatever the format is named: a key by which formats are told apart
-/// (`cdsl/formats.rs`).
+/// The structure of a format: what its instructions store, without the name of the format. Formats are told apart by it, as in the crate's
+/// `cdsl/formats.rs`.
 #[derive(Drop)]
 pub struct FormatStructure {
-    /// How many value inputs there are.
+    /// The count of value inputs.
     pub num_value_operands: u32,
-    /// Whether a variable number of values may follow.
+    /// Whether any number of values may follow (varargs).
     pub has_value_list: bool,
-    /// How many blocks there are.
+    /// The count of blocks that take arguments.
     pub num_block_operands: u32,
-    /// How many blocks without arguments there are.
+    /// The count of blocks without arguments.
     pub num_raw_block_operands: u32,
     /// The field name and the Rust type of each field, in order.
     pub imm_field_names: FieldNames,

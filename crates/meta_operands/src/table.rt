@@ -4,7 +4,7 @@ use super::format::InstructionFormat;
 use std::alloc::{AllocError, Global};
 use std::marker::Model;
 
-/// The number of a format in its table, from 0.
+/// A format, by its number in a table, from 0.
 #[derive(Clone, Copy, Debug, PartialEq, Eq, Hash, PartialOrd, Ord)]
 pub struct FormatId {
     number: u32,
@@ -29,7 +29,7 @@ impl FormatId {
     }
 }
 
-/// The formats that are declared, by their numbers (in the crate they are compared as pointers).
+/// The declared formats, by their numbers. In the crate they are compared as pointers.
 #[derive(Drop)]
 pub struct FormatTable {
     formats: Vec<InstructionFormat>,
@@ -47,7 +47,7 @@ impl Model for FormatTable {
 }
 
 impl FormatTable {
-    /// A table without formats.
+    /// Makes an empty table.
     pub fn new(alloc: Global) -> FormatTable
         ensures { result ≡ [] }
     {
@@ -63,7 +63,7 @@ impl FormatTable {
         self.formats.len()
     }
 
-    /// Whether a format can be added: there are fewer than 2^32 - 1.
+    /// Whether a format can be added: the table has fewer than 2^32 - 1.
     pub fn has_room(&self) -> bool
         ensures { IsTrue result ↔ (length self.now + 1 < 2 ^ 32) }
     {
@@ -77,7 +77,7 @@ impl FormatTable {
         (id.number as usize) < self.formats.len()
     }
 
-    /// The format of this number, which `is_of` tells to be one.
+    /// The format with this number, which must be of the table. `is_of` tests this.
     pub fn get(&self, id: FormatId) -> &InstructionFormat
         requires { id < length self.now }
         ensures { slice_get self.now id ≡ Some result.now }
@@ -85,7 +85,7 @@ impl FormatTable {
         &self.formats[id.number as usize]
     }
 
-    /// Adds the format and answers its number.
+    /// Adds the format, and answers its number.
     pub(crate) fn push(&mut self, format: InstructionFormat) -> Result<FormatId, AllocError>
         requires { length self.old + 1 < 2 ^ 32 }
         ensures number { IfOk result (λ id. id ≡ length self.old) }

@@ -62,12 +62,12 @@ declared_in lines w place = back_quoted w ++ (codes " is declared in line " ++ l
 abbrev pub no_derivation : Function → List Function → List ℕ → List ℕ
 no_derivation f fs w = function_text f ++ (codes " cannot be derived from " ++ written_type fs w)
 
--- the first of these functions can't be applied to what stands behind it
+-- the first of these functions can't be applied to what follows it
 abbrev pub not_derived : List Function → List ℕ → List ℕ
 not_derived [] w = []
 not_derived (f ∷ fs) w = no_derivation f fs w
 
--- a function is one too many behind the root of what the word stands for
+-- a function is one too many after the root of what the word stands for
 abbrev pub too_deep : List ℕ → Function → List ℕ
 too_deep w f = function_text f ++ (codes " is the 65th function behind the root of " ++ back_quoted w)
 

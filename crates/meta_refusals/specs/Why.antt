@@ -1,6 +1,6 @@
 -- What is said of a file that is refused.
---     declare_why lines item reason     of an item that declares nothing, where these are the lines of all items
---     fault_why fault                   of declarations that show a fault
+--     declare_why lines item reason     of an item that can't be declared, with the lines of all items
+--     fault_why fault                   of declarations that have a fault
 --     located path line why             the message
 use Rattle.std.specs.Prelude.{ℕ, List, [], ◌++◌, slice_get, codes}
 use Rattle.std.specs.Option.{option_map_or}

@@ -20,7 +20,6 @@ use meta_items_types::Reason;
 use meta_tokens::write_escaped;
 use std::alloc::AllocError;
 
-/// Adds a text between quotes.
 pub(crate) fn write_quoted(out: &mut Vec<u8>, text: &[u8]) -> Result<(), AllocError>
     ensures { OnOk result (out.new.items ≡ out.old.items ++ quoted_text text.now) }
 {
@@ -29,7 +28,6 @@ pub(crate) fn write_quoted(out: &mut Vec<u8>, text: &[u8]) -> Result<(), AllocEr
     out.extend_from_slice(b"\"")
 }
 
-/// Adds a name as it is written.
 #[tactic(auto, unfolding(crate::specs::ItemWhy::written_name))]
 fn write_name(out: &mut Vec<u8>, name: &Name) -> Result<(), AllocError>
     ensures { OnOk result (out.new.items ≡ out.old.items ++ written_name name.now) }
@@ -40,7 +38,6 @@ fn write_name(out: &mut Vec<u8>, name: &Name) -> Result<(), AllocError>
     }
 }
 
-/// Adds a number.
 fn write_number(out: &mut Vec<u8>, number: usize) -> Result<(), AllocError>
     ensures { OnOk result (out.new.items ≡ out.old.items ++ decimal number) }
 {
@@ -103,7 +100,7 @@ fn write_no_derivation(
     write_type(out, behind, word)
 }
 
-/// Adds that the first of the functions can't be applied to what stands behind it.
+/// Adds that the first of the functions can't be applied to what follows it.
 fn write_not_derived(
     out: &mut Vec<u8>,
     functions: &[Function],
@@ -164,7 +161,7 @@ fn numbers_text(dimension: Dimension) -> &'static [u8]
     }
 }
 
-/// Adds one text behind another.
+/// Adds one text after another.
 fn write_both(out: &mut Vec<u8>, first: &[u8], second: &[u8]) -> Result<(), AllocError>
     ensures { OnOk result (out.new.items ≡ out.old.items ++ (first.now ++ second.now)) }
 {
@@ -172,7 +169,7 @@ fn write_both(out: &mut Vec<u8>, first: &[u8], second: &[u8]) -> Result<(), Allo
     out.extend_from_slice(second)
 }
 
-/// Adds that a number is none of these.
+/// Adds that a number isn't one of these.
 fn write_none_of(out: &mut Vec<u8>, numbers: &[u8]) -> Result<(), AllocError>
     ensures { OnOk result (out.new.items ≡ out.old.items ++ none_of numbers.now) }
 {
@@ -187,7 +184,6 @@ fn write_no_number(out: &mut Vec<u8>, dimension: Dimension, number: u16) -> Resu
     write_none_of(out, numbers_text(dimension))
 }
 
-/// The high end of a range.
 fn high_end(span: &Span) -> u16
     ensures { result ≡ high_end span.now }
 {
@@ -285,7 +281,7 @@ fn write_value_twice(
     }
 }
 
-/// Adds a word between back quotes, and what stands before and behind it.
+/// Adds a word between back quotes, with a text before it and one after it.
 fn write_about(
     out: &mut Vec<u8>,
     before: &[u8],

@@ -1,7 +1,7 @@
-//! What is said of a file that is refused, beside what can't be read, which `meta_items_reader` says.
+//! The wording of refusals of a file, except for what can't be read, which `meta_items_reader` words.
 //!
-//! `declare_why` says what is wrong with an item, `fault_why` what a fault of declarations means, and `located` puts the path and the
-//! line before it.
+//! `declare_why` says what is wrong with an item, `fault_why` what a fault of declarations means, and `located` puts the path and the line
+//! before it.
 #![tactic(auto)]
 
 mod item_why;

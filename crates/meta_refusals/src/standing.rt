@@ -170,7 +170,7 @@ fn type_of_mark(marks: &[Mark], place: usize) -> Written<'_>
     }
 }
 
-/// The marks of an instruction; none where no brackets stand.
+/// The marks of an instruction. The list is empty if there are no brackets.
 fn marks_in(marks: &Option<Listed<Mark>>) -> &[Mark]
     ensures { result.now ≡ marks_in marks.now }
 {

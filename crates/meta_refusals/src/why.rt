@@ -11,7 +11,7 @@ use meta_tokens::Bytes;
 use meta_types::DefinitionError;
 use std::alloc::{AllocError, Global};
 
-/// Adds a name as it is told.
+/// Adds a name as messages show it.
 fn write_shown(out: &mut Vec<u8>, name: &Name) -> Result<(), AllocError>
     ensures { OnOk result (out.new.items ≡ out.old.items ++ shown_name name.now) }
 {
@@ -21,7 +21,7 @@ fn write_shown(out: &mut Vec<u8>, name: &Name) -> Result<(), AllocError>
     }
 }
 
-/// Adds the name at a place among these, if there is one, as it is told.
+/// Adds the name at a place among these, if there is one, as messages show it.
 fn write_shown_at(out: &mut Vec<u8>, names: &[Name], place: usize) -> Result<(), AllocError>
     ensures { OnOk result (out.new.items ≡ out.old.items ++ option_map_or shown_name (slice_get names.now place) []) }
 {
@@ -58,7 +58,7 @@ fn write_declare_why(
     }
 }
 
-/// What is said of an item that declares nothing, where these are the lines of all items.
+/// Why an item can't be declared, in words. `lines` has the lines of all items.
 pub fn declare_why(
     alloc: Global,
     lines: &[usize],
@@ -111,7 +111,7 @@ fn meaning_of(fault: &DefinitionError) -> &'static str
     }
 }
 
-/// A fault, and what it means.
+/// The name of a fault, and what it means, in words.
 pub fn fault_why(alloc: Global, fault: &DefinitionError) -> Result<Vec<u8>, AllocError>
     ensures { IfOk result (λ v. v.items ≡ fault_why fault.now) }
 {

@@ -106,7 +106,7 @@ input_refused vars c place why at =
     ++ (refused place (InputType at.0) (type_why at.1.kind.rust_type)
     ++ refused place (InputDoc at.0) (input_doc_why vars c at.1))
 
--- the same, behind the inputs before it
+-- the same, after the inputs before it
 abbrev pub input_at : List TypeVarContent → BuiltInstruction → InstructionFormat → Place → List Operand → ℕ × Operand → List RefusedName
 input_at vars c f place inputs at = input_refused vars c place (input_why c f (is_form (earlier_inputs inputs at.0)) at.1) at
 

@@ -72,7 +72,7 @@ control_refused vars c f place known (Some tv) =
 
 -- ---- all of an instruction
 
--- what is refused behind its own name, where it is of this format
+-- what is refused after its own name, if it is of this format
 unfoldable pub operands_refused : List TypeVarContent → BuiltInstruction → InstructionFormat → Place → List RefusedName
 operands_refused vars c f place =
     inputs_refused vars c f place c.operands_in

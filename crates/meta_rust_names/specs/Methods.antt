@@ -47,7 +47,7 @@ method_name c = snake_name_of c.name
 abbrev pub instruction_methods : List BuiltInstruction → List (List ℕ)
 instruction_methods cs = flat_map (λ c. method_name c ∷ []) cs
 
--- those that take an immediate for the last value have a word behind it
+-- those that take an immediate for the last value have a word after it
 abbrev pub three_names : List ℕ → List (List ℕ)
 three_names name = (name ++ codes "_imm_s") ∷ (name ++ codes "_imm_u") ∷ (name ++ codes "_imm") ∷ []
 

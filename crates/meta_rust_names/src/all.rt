@@ -72,14 +72,17 @@ fn push_all_formats(
     push_formats(alloc, out, &methods, imm, formats, built.formats())
 }
 
-/// All names of the declarations with which the texts of Rust aren't compiled, in order, each with its first reason: those of the
-/// instructions, of the formats in use, and of the groups of settings. Texts of declarations without such a name are compiled where the
-/// including crate has what they name, and has no variant, constant, static or tuple structure of the name of a parameter, a field or a
-/// variable in scope; but for what isn't a matter of names: no instruction at all; a Rust type that differs between an immediate and its
-/// field, or that a type parameter of a method hides; flags of a memory access beside methods that take an immediate; two groups of
-/// settings in one module; a format with both sorts of blocks; blocks and immediates in another order than the format's constructor has;
-/// and an operand whose one type is a vector of more than 512 bits (`docs/USING.md`). It costs the length of the names and their
-/// documentation, and the logarithm of their count. The only error is want of memory (this project's own).
+/// All names of the declarations with which the texts of Rust don't compile, in order, each with its first reason: names of instructions,
+/// of the formats in use, and of groups of settings.
+///
+/// Texts of declarations without such a name compile if the crate that includes them has what they name, and if no variant, constant,
+/// static or tuple structure in scope has the name of a parameter, a field or a variable. Some things aren't a matter of names
+/// (`docs/USING.md`): no instruction at all; a Rust type that differs between an immediate and its field, or that a type parameter of a
+/// method hides; flags of a memory access beside methods that take an immediate; two groups of settings in one module; a format with both
+/// sorts of blocks; blocks and immediates in another order than the format's constructor has; and an operand whose one type is a vector of
+/// more than 512 bits.
+///
+/// The cost is the length of the names and their documentation, and the logarithm of their count.
 #[tactic(auto, unfolding(crate::specs::AllRefused::refused_names))]
 pub fn refused_names(alloc: Global, built: &Built<'_>) -> Result<Vec<RefusedName>, AllocError>
     ensures { IfOk result (λ v. v.items ≡ refused_names built.now) }

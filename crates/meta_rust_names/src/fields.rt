@@ -57,7 +57,7 @@ fn is_mapped_field(field: &FormatField) -> bool
     }
 }
 
-/// Whether it asks the mapper of one of them.
+/// Whether the method that maps asks the mapper of one of the fields.
 fn has_mapped_field(fields: &[FormatField]) -> bool
     ensures { result ≡ list_any is_mapped_field fields.now }
 {
@@ -95,7 +95,7 @@ fn is_method_variable(format: &InstructionFormat, name: &[u8]) -> bool
         || (asks_mapper(format) && is_named(b"mapper", name))
 }
 
-/// Whether it is that of a member which holds values or blocks.
+/// Whether the name is that of a member which holds values or blocks.
 #[tactic(auto, unfolding(crate::specs::Fields::is_member_of))]
 fn is_member_of(format: &InstructionFormat, name: &[u8]) -> bool
     ensures { result ≡ is_member_of format.now name.now }
@@ -105,7 +105,7 @@ fn is_member_of(format: &InstructionFormat, name: &[u8]) -> bool
         || is_raw_block_member(format, name)
 }
 
-/// Whether it is that of the member which holds the values.
+/// Whether the name is that of the member which holds the values.
 fn is_values_member(format: &InstructionFormat, name: &[u8]) -> bool
     ensures { result ≡ is_member (values_member (values_of format.now)) name.now }
 {
@@ -121,7 +121,7 @@ fn is_values_member(format: &InstructionFormat, name: &[u8]) -> bool
     is_named(b"args", name)
 }
 
-/// Whether it is that of the member which holds the blocks.
+/// Whether the name is that of the member which holds the blocks.
 fn is_blocks_member(format: &InstructionFormat, name: &[u8]) -> bool
     ensures { result ≡ is_member (blocks_member (blocks_of format.now)) name.now }
 {
@@ -134,7 +134,7 @@ fn is_blocks_member(format: &InstructionFormat, name: &[u8]) -> bool
     is_named(b"blocks", name)
 }
 
-/// Whether it is that of the member which holds the block without arguments.
+/// Whether the name is that of the member which holds the block without arguments.
 fn is_raw_block_member(format: &InstructionFormat, name: &[u8]) -> bool
     ensures { result ≡ is_member (raw_block_member (has_raw_block format.now)) name.now }
 {
@@ -144,7 +144,7 @@ fn is_raw_block_member(format: &InstructionFormat, name: &[u8]) -> bool
     is_named(b"block", name)
 }
 
-/// Whether it is that of a parameter of the constructor, for a value or a block.
+/// Whether the name is that of a parameter of the constructor, for a value or a block.
 #[tactic(auto, unfolding(crate::specs::Fields::is_parameter_of))]
 fn is_parameter_of(
     alloc: Global,

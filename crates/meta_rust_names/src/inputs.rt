@@ -20,7 +20,7 @@ use meta_types::Place;
 use meta_typevar::TypeVars;
 use std::alloc::{AllocError, Global};
 
-/// The name with these letters behind it.
+/// The name and then these letters.
 fn behind(alloc: Global, name: &str, letters: &str) -> Result<String, AllocError>
     ensures { IfOk result (λ text. string_bytes text ≡ name.now ++ letters.now) }
 {
@@ -57,7 +57,7 @@ fn meets_input(alloc: Global, names: &Names, input: &Operand) -> Result<bool, Al
     names.meets(alloc, input.name.as_str())
 }
 
-/// Adds the name with these letters behind it, raw and not.
+/// Adds the name with these letters after it, as it is and after `r#`.
 fn add_forms_behind(
     alloc: Global,
     names: &mut Names,
@@ -171,7 +171,7 @@ fn local_why(
     None
 }
 
-/// Why a name of the input can't stand behind those of earlier inputs.
+/// Why a name of the input can't stand after those of earlier inputs.
 #[tactic(auto, unfolding(crate::specs::Inputs::earlier_why))]
 fn earlier_why(alloc: Global, names: &Names, input: &Operand) -> Result<Option<Why>, AllocError>
     ensures { IfOk result (λ why. why ≡ earlier_why (known names.now) input.now) }

@@ -106,7 +106,7 @@ fn asked_control(info: Option<PolymorphicInfo>) -> Option<TypeVar>
     Some(info.ctrl_typevar)
 }
 
-/// The name of the variable, and nothing where it isn't of the registry.
+/// The name of the variable. It is empty if the variable isn't of the registry.
 fn variable_name(vars: &TypeVars, tv: TypeVar) -> &str
     ensures { result.now ≡ variable_name vars.now tv }
 {
@@ -116,7 +116,7 @@ fn variable_name(vars: &TypeVars, tv: TypeVar) -> &str
     vars.content(tv).name.as_str()
 }
 
-/// Its documentation, and nothing where it isn't.
+/// The documentation of the variable. It is empty if the variable isn't of the registry.
 fn variable_doc(vars: &TypeVars, tv: TypeVar) -> &str
     ensures { result.now ≡ doc_at (slice_get vars.now tv) }
 {
@@ -190,7 +190,7 @@ fn push_control(
     )
 }
 
-/// Adds what is refused behind the instruction's own name. The variables of its operands are of the registry.
+/// Adds what is refused after the instruction's own name. The variables of its operands must be of the registry.
 #[tactic(auto, unfolding(crate::specs::Instructions::operands_refused))]
 fn push_operands(
     alloc: Global,

@@ -1,4 +1,4 @@
-//! The names of declarations with which the texts of Rust aren't compiled, though the declarations show no fault.
+//! The names of valid declarations with which the texts of Rust don't compile.
 #![tactic(auto)]
 
 mod all;

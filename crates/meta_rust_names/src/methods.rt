@@ -26,7 +26,6 @@ pub(crate) fn method_name(instruction: &InstructionContent) -> &str
     instruction.snake_name()
 }
 
-/// Adds a name.
 fn add_one(alloc: Global, names: &mut Names, name: &str) -> Result<(), AllocError>
     ensures { OnOk result ((text : List ℕ) → known names.new text ≡ (is_among (name.now ∷ []) text || known names.old text)) }
 {
@@ -90,7 +89,7 @@ pub(crate) fn instruction_methods(
     Ok(names)
 }
 
-/// Adds the name with these letters behind it.
+/// Adds the name with these letters after it.
 fn add_behind(alloc: Global, names: &mut Names, name: &str, letters: &str) -> Result<(), AllocError>
     ensures { OnOk result ((text : List ℕ) → known names.new text
         ≡ (is_among ((name.now ++ letters.now) ∷ []) text || known names.old text)) }

@@ -25,7 +25,7 @@ fn has_variant(values: &EnumValues, name: &[u8]) -> bool
     false
 }
 
-/// The same of the values of an immediate; nothing else has some.
+/// Whether one of the values of an immediate stands for the variant of the name. Other operands have no values.
 fn is_variant(fields: &OperandKindFields, name: &[u8]) -> bool
     ensures { result ≡ is_variant (enum_values_in fields.now) name.now }
 {

@@ -3,7 +3,7 @@ use Rattle.std.proofs.Common.{◌≡◌, ◌||◌, ℕ, ◌+◌, ◌<◌, false,
 use Rattle.std.proofs.lemmas.List.{drop_more}
 use Rattle.meta_rust_words.specs.Comments.{begins_break, breaks_comment}
 
--- at the place, or behind it
+-- at the place, or after it
 at_or_behind : (bytes : List ℕ) (k : ℕ) → k < length bytes
     → breaks_comment (drop k bytes) ≡ (begins_break (drop k bytes) || breaks_comment (drop (k + 1) bytes))
 at_or_behind bytes k within =

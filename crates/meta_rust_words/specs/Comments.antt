@@ -6,7 +6,7 @@ use Rattle.meta_builder_constructors_text.specs.Docs.{has_text, first_line}
 use Rattle.meta_rust_words.specs.declared.refused.Why.{Why}
 use Rattle.meta_rust_words.specs.declared.refused.Why.TheVariants.{BreaksComment, NoType}
 
--- the third byte of one of U+202A to U+202E behind the bytes e2 80, and of one of U+2066 to U+2069 behind e2 81
+-- the third byte of one of U+202A to U+202E after the bytes e2 80, and of one of U+2066 to U+2069 after e2 81
 abbrev pub turns : ℕ → ℕ → Bool
 turns second third =
     (second == 0x80 && (nat_lt 0xa9 third && nat_lt third 0xaf))

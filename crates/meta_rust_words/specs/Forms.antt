@@ -20,7 +20,7 @@ has_form name text = same_text name text || same_text (raw_form name) text
 abbrev pub is_named : List ℕ → List ℕ → Bool
 is_named word name = has_form word name
 
--- whether it is one of so many words that are the stem and a number from 0 on
+-- whether it is the stem and a number from 0 on, below the count
 abbrev pub is_numbered : List ℕ → ℕ → List ℕ → Bool
 is_numbered stem count name = list_any (λ number. is_named (stem ++ decimal number) name) (range_with_len 0 count)
 

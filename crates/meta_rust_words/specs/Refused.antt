@@ -11,7 +11,7 @@ abbrev pub or_why : Option Why → Option Why → Option Why
 or_why None other = other
 or_why (Some why) other = Some why
 
--- the name at the place, where there is a reason, and nothing where there is none
+-- the name at the place if there is a reason, and nothing if there is no reason
 abbrev pub refused : Place → Part → Option Why → List RefusedName
 refused place part None = []
 refused place part (Some why) = record { place = place; part = part; why = why } ∷ []

@@ -56,7 +56,7 @@ is_marking_word name =
     || (same_text name (codes "unsafe")
     || same_text name (codes "where")))))))))))
 
--- those that stand for a place of their own, and can't be written behind `r#` either
+-- those that stand for a place of their own, and can't be written after `r#` either
 unfoldable pub is_path_word : List ℕ → Bool
 is_path_word name =
     same_text name (codes "crate")
@@ -113,7 +113,7 @@ is_word (c ∷ cs) = begins_word c && not (list_any ends_word cs)
 unfoldable pub is_plain_word : List ℕ → Bool
 is_plain_word name = not (same_text name (codes "_")) && is_word name
 
--- what stands behind `r#` in a raw identifier
+-- what comes after `r#` in a raw identifier
 unfoldable pub is_raw_word : List ℕ → Bool
 is_raw_word name = not (is_path_word name) && is_plain_word name
 

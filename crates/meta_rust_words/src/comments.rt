@@ -5,7 +5,7 @@ ghost use Rattle.meta_rust_words.specs.Comments.{comment_why, doc_why, type_why}
 use super::refused::Why;
 use meta_builder_constructors_text::first_line;
 
-/// Whether these are the bytes behind e2 of a character that turns the direction of text.
+/// Whether these are the bytes after e2 of a character that turns the direction of text.
 fn turns(second: u8, third: u8) -> bool
     ensures { result ≡ turns second third }
 {
@@ -23,7 +23,7 @@ fn begins_turn(bytes: &[u8]) -> bool
     }
 }
 
-/// Whether they begin with a line feed or a carriage return.
+/// Whether the bytes begin with a line feed or a carriage return.
 fn begins_line(bytes: &[u8]) -> bool
     ensures { result ≡ begins_line bytes.now }
 {
@@ -33,7 +33,7 @@ fn begins_line(bytes: &[u8]) -> bool
     }
 }
 
-/// Whether they begin with one of both.
+/// Whether the bytes begin with a line break, or with a character that turns the direction of text.
 fn begins_break(bytes: &[u8]) -> bool
     ensures { result ≡ begins_break bytes.now }
 {
@@ -53,7 +53,7 @@ fn breaks_comment(bytes: &[u8]) -> bool
     false
 }
 
-/// Why what stands in a comment as it is can't.
+/// Why this text can't be put into a comment unchanged: a line break, or a character that turns the direction of text. `None` if it can.
 #[tactic(auto, unfolding(crate::specs::Comments::comment_why))]
 pub fn comment_why(text: &str) -> Option<Why>
     ensures { result ≡ comment_why text.now }
@@ -64,7 +64,7 @@ pub fn comment_why(text: &str) -> Option<Why>
     None
 }
 
-/// Why a documentation can't.
+/// Why the first line of a documentation, which is what is printed, can't be put into a comment unchanged. `None` if it can.
 #[tactic(auto, unfolding(crate::specs::Comments::doc_why))]
 pub fn doc_why(doc: &str) -> Option<Why>
     ensures { result ≡ doc_why doc.now }
@@ -72,7 +72,7 @@ pub fn doc_why(doc: &str) -> Option<Why>
     comment_why(first_line(doc))
 }
 
-/// Why a text can't be a type.
+/// Why a text can't be a type in Rust source. `None` if nothing is found.
 #[tactic(auto, unfolding(crate::specs::Comments::type_why))]
 pub fn type_why(rust_type: &str) -> Option<Why>
     ensures { result ≡ type_why rust_type.now }

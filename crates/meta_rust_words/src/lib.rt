@@ -1,4 +1,4 @@
-//! What words, comments and types of Rust are, sets of names, and why a name is refused.
+//! What the words, comments and types of Rust are, sets of names, and why a name is refused.
 #![tactic(auto)]
 
 mod comments;

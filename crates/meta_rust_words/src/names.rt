@@ -12,7 +12,7 @@ use std::alloc::{AllocError, Global};
 use std::collections::BTreeSet;
 use std::marker::Model;
 
-/// Names that are known: each is found in the logarithm of their count.
+/// A set of names. Each is found in the logarithm of their count.
 #[derive(Drop)]
 pub struct Names {
     texts: BTreeSet<String>,
@@ -24,7 +24,7 @@ impl Model for Names {
     ghost view = { λ names. names.texts };
 }
 
-/// A name behind `r#`.
+/// The name after `r#`.
 fn raw_form(alloc: Global, name: &str) -> Result<String, AllocError>
     ensures { IfOk result (λ text. string_bytes text ≡ raw_form name.now) }
 {
@@ -34,7 +34,7 @@ fn raw_form(alloc: Global, name: &str) -> Result<String, AllocError>
 }
 
 impl Names {
-    /// No names.
+    /// Makes an empty set.
     pub fn new(alloc: Global) -> Names
         ensures { (text : List ℕ) → known result text ≡ false }
     {
@@ -43,14 +43,14 @@ impl Names {
         }
     }
 
-    /// Whether the name is known.
+    /// Whether the set has the name.
     pub fn has(&self, name: &str) -> bool
         ensures { result ≡ known self.now name.now }
     {
         self.texts.contains(name)
     }
 
-    /// One more name. The only error is want of memory.
+    /// Adds a name.
     pub fn add(&mut self, name: String) -> Result<(), AllocError>
         ensures { OnOk result ((text : List ℕ) → known self.new text ≡ (same_text (string_bytes name) text || known self.old text)) }
     {
@@ -58,7 +58,7 @@ impl Names {
         Ok(())
     }
 
-    /// One more name, raw and not. The only error is want of memory.
+    /// Adds a name, as it is and after `r#`.
     pub fn add_forms(&mut self, alloc: Global, name: &str) -> Result<(), AllocError>
         ensures { OnOk result ((text : List ℕ) → known self.new text ≡ (has_form name.now text || known self.old text)) }
     {
@@ -66,7 +66,7 @@ impl Names {
         self.add(raw_form(alloc, name)?)
     }
 
-    /// Whether a form of the name is known. The only error is want of memory.
+    /// Whether the set has the name, as it is or after `r#`.
     pub fn meets(&self, alloc: Global, name: &str) -> Result<bool, AllocError>
         ensures { IfOk result (λ met. met ≡ meets (known self.now) name.now) }
     {
@@ -78,7 +78,7 @@ impl Names {
     }
 }
 
-/// Whether the name is the word, raw or not.
+/// Whether the name is the word, as it is or after `r#`.
 pub fn is_named(word: &[u8], name: &[u8]) -> bool
     ensures { result ≡ is_named word.now name.now }
 {
@@ -91,7 +91,7 @@ pub fn is_named(word: &[u8], name: &[u8]) -> bool
     }
 }
 
-/// Whether the name is the stem with this number behind it.
+/// Whether the name is the stem and then this number.
 fn is_stem_with(alloc: Global, stem: &str, number: u32, name: &str) -> Result<bool, AllocError>
     ensures { IfOk result (λ is. is ≡ is_named (stem.now ++ decimal number) name.now) }
 {
@@ -99,7 +99,7 @@ fn is_stem_with(alloc: Global, stem: &str, number: u32, name: &str) -> Result<bo
     Ok(is_named(numbered.as_bytes(), name.as_bytes()))
 }
 
-/// Whether it is the stem with a number below the count. The only error is want of memory.
+/// Whether the name is the stem and then a number below the count.
 pub fn is_numbered(alloc: Global, stem: &str, count: u32, name: &str) -> Result<bool, AllocError>
     ensures { IfOk result (λ is. is ≡ is_numbered stem.now count name.now) }
 {

@@ -4,8 +4,8 @@ ghost use Rattle.meta_rust_words.specs.Refused.{or_why, refused};
 use meta_types::Place;
 use std::alloc::AllocError;
 
-/// Which name it is, of those that stand at a place. Inputs, outputs, fields and values are counted from 0, and settings as the
-/// group is laid out: its enums and numbers, and then its booleans, each in order of declaration.
+/// Which name of an instruction, a format or a group is refused. Inputs, outputs, fields and values are counted from 0. Settings are
+/// counted from 0 as the group is laid out: enums and numbers, then booleans, each in order of declaration.
 #[derive(Clone, Copy, Debug, PartialEq, Eq)]
 pub enum Part {
     /// The name of the instruction, of the format or of the group.
@@ -14,7 +14,7 @@ pub enum Part {
     Input(u64),
     /// The Rust type of an input.
     InputType(u64),
-    /// The documentation of an input: its own, or that of its variable or its kind. That of a block stands only with the methods that
+    /// The documentation of an input: its own, or that of its variable or its kind. That of a block is printed only with the methods that
     /// take an immediate.
     InputDoc(u64),
     /// The name of an output.
@@ -23,9 +23,9 @@ pub enum Part {
     OutputDoc(u64),
     /// The documentation of the instruction.
     Doc,
-    /// The name of the variable that controls the instruction.
+    /// The name of the type variable that is the control.
     Control,
-    /// The documentation of that variable.
+    /// The documentation of the control.
     ControlDoc,
     /// The name of a field.
     Field(u64),
@@ -33,77 +33,77 @@ pub enum Part {
     FieldType(u64),
     /// The name of a setting.
     Setting(u64),
-    /// The name of a setting as that of its enum, in camel case.
+    /// The name of a setting in camel case, which is that of its enum.
     SettingType(u64),
-    /// The name of a value of an enum: the setting first.
+    /// The name of a value of an enum. The numbers are those of the setting and the value.
     Value(u64, u64),
 }
 
 /// Why Rust refuses a name.
 #[derive(Clone, Copy, Debug, PartialEq, Eq)]
 pub enum Why {
-    /// It is a keyword.
+    /// The name is a keyword.
     Keyword,
-    /// It is no identifier of ASCII, raw or not.
+    /// The name isn't an identifier of ASCII letters, digits and `_`, with or without `r#`.
     NoIdentifier,
-    /// It is that of a variant, a constant or a static which is in scope, and which a name here can't hide.
+    /// A variant, a constant or a static in scope has the name, and a name here can't hide it.
     InScope,
-    /// Its camel case is `Self`.
+    /// The camel case of the name is `Self`.
     SelfType,
-    /// Its camel case is `Err`, the name of the type of errors beside it.
+    /// The camel case of the name is `Err`, which is the name of the type of errors beside it.
     ErrType,
-    /// Its camel case is that of a type which is written or named beside it.
+    /// The camel case of the name is that of a type that is written or named beside it.
     TypeBeside,
-    /// It is that of a method or of a function which is always there.
+    /// A method or a function that always exists has the name.
     FixedMethod,
-    /// It is that of a format.
+    /// A format has the name.
     FormatName,
-    /// It is that of a method which builds an instruction.
+    /// A method that builds an instruction has the name.
     InstructionMethod,
-    /// It is that of a method which takes an immediate for the last value.
+    /// A method that takes an immediate for the last value has the name.
     ImmMethod,
-    /// A block without arguments has another name than `block`.
+    /// A block without arguments has a name other than `block`.
     NotBlock,
-    /// It is `ctrl_typevar`, and an operand controls.
+    /// The name is `ctrl_typevar`, and an operand controls.
     ControlLocal,
-    /// It is that of a variable by which the method makes the list of values.
+    /// A variable by which the method makes the list of values has the name.
     ListLocal,
-    /// It is `imm_ty`, and there are methods that take an immediate.
+    /// The name is `imm_ty`, and there are methods that take an immediate.
     ImmLocal,
-    /// It is a block, and there are methods that take an immediate: they hand it on as one argument, where there are two for it.
+    /// The input is a block, and there are methods that take an immediate. They pass it on as one argument, but two are needed.
     ImmBlock,
-    /// It is an argument, and there are methods that take an immediate, which have none for it.
+    /// The control is an argument, and there are methods that take an immediate, which have no argument for it.
     ImmControl,
-    /// It is that of an argument for an earlier input.
+    /// An argument for an earlier input has the name.
     EarlierInput,
-    /// It is that of an argument for an input.
+    /// An argument for an input has the name.
     OfInput,
-    /// It is that of a member, a parameter or a variable which the format has itself.
+    /// The format itself has a member, a parameter or a variable with the name.
     OfFormat,
-    /// It is that of an earlier field.
+    /// An earlier field has the name.
     EarlierField,
-    /// It is that of a variant of its own type, an enum.
+    /// The name is that of a variant of its own type, an enum.
     OwnVariant,
-    /// It is `bvec`, a variable beside it.
+    /// The name is `bvec`, a variable beside it.
     FixedLocal,
-    /// It is no type: it has nothing but white space.
+    /// The text isn't a type: it has only white space.
     NoType,
-    /// It stands in a comment, and has a line end or a character that turns the direction of text.
+    /// The text is printed in a comment, and has a line break or a character that turns the direction of text.
     BreaksComment,
 }
 
-/// A name with which the texts of Rust aren't compiled.
+/// A name with which the texts of Rust don't compile.
 #[derive(Clone, Copy, Debug)]
 pub struct RefusedName {
-    /// The instruction, the format or the group.
+    /// The instruction, the format or the group that has the name.
     pub place: Place,
-    /// Which of its names.
+    /// Which of its names it is.
     pub part: Part,
-    /// Why.
+    /// Why the name is refused.
     pub why: Why,
 }
 
-/// The first reason of two.
+/// The first reason if there is one, and else the second.
 pub fn or_why(first: Option<Why>, second: Option<Why>) -> Option<Why>
     ensures { result ≡ or_why first second }
 {
@@ -113,7 +113,7 @@ pub fn or_why(first: Option<Why>, second: Option<Why>) -> Option<Why>
     }
 }
 
-/// Adds the name, where there is a reason. The only error is want of memory.
+/// Adds the name to the list if there is a reason.
 pub fn push_refused(
     out: &mut Vec<RefusedName>,
     place: Place,

@@ -5,7 +5,7 @@ ghost use Rattle.meta_rust_words.specs.Texts.{why_text};
 use super::refused::{Part, RefusedName, Why};
 use std::fmt;
 
-/// Writes the text, and the number behind it.
+/// Writes the text, then the number.
 fn write_numbered<W: fmt::Write>(f: &mut fmt::Formatter<W>, text: &str, n: u64) -> fmt::Result
     ensures { DisplaysOnOk W.write_str_gives f.old result (Some (text.now ++ decimal n)) f.new }
 {
@@ -13,7 +13,7 @@ fn write_numbered<W: fmt::Write>(f: &mut fmt::Formatter<W>, text: &str, n: u64) 
     write!(f, "{n}")
 }
 
-/// Which name it is, as `input 0`.
+/// Writes which name it is, such as `input 0`.
 impl fmt::Display for Part {
     ghost use Rattle.std.specs.Prelude.{Some};
     ghost use Rattle.meta_rust_words.specs.Texts.{part_text};
@@ -77,7 +77,7 @@ impl Why {
     }
 }
 
-/// Why, in words, as `is a keyword of Rust`.
+/// Writes why, in words, such as `is a keyword of Rust`.
 impl fmt::Display for Why {
     ghost use Rattle.std.specs.Prelude.{Some};
     ghost use Rattle.meta_rust_words.specs.Texts.{why_text};
@@ -89,7 +89,7 @@ impl fmt::Display for Why {
     }
 }
 
-/// Which name of its place is refused, and why: `input 0 is a keyword of Rust`.
+/// Writes which name of its place is refused, and why, such as `input 0 is a keyword of Rust`.
 impl fmt::Display for RefusedName {
     ghost use Rattle.std.specs.Prelude.{Some};
     ghost use Rattle.meta_rust_words.specs.Texts.{refused_text};

@@ -7,7 +7,7 @@ ghost use Rattle.meta_rust_words.specs.Words.{is_raw_word, is_raw_identifier, is
 use super::names::is_named;
 use super::refused::Why;
 
-/// Whether it is a keyword that begins an item or a part of one.
+/// Whether the name is a keyword that begins an item or a part of one.
 #[tactic(auto, unfolding(crate::specs::Words::is_item_word))]
 fn is_item_word(name: &[u8]) -> bool
     ensures { result ≡ is_item_word name.now }
@@ -25,7 +25,7 @@ fn is_item_word(name: &[u8]) -> bool
         || name == b"use".as_slice()
 }
 
-/// Whether it is a keyword of statements.
+/// Whether the name is a keyword of statements.
 #[tactic(auto, unfolding(crate::specs::Words::is_statement_word))]
 fn is_statement_word(name: &[u8]) -> bool
     ensures { result ≡ is_statement_word name.now }
@@ -43,7 +43,7 @@ fn is_statement_word(name: &[u8]) -> bool
         || name == b"while".as_slice()
 }
 
-/// Whether it is a keyword within expressions, types and patterns.
+/// Whether the name is a keyword within expressions, types and patterns.
 #[tactic(auto, unfolding(crate::specs::Words::is_marking_word))]
 fn is_marking_word(name: &[u8]) -> bool
     ensures { result ≡ is_marking_word name.now }
@@ -62,7 +62,7 @@ fn is_marking_word(name: &[u8]) -> bool
         || name == b"where".as_slice()
 }
 
-/// Whether it is a keyword that begins a path.
+/// Whether the name is a keyword that begins a path.
 #[tactic(auto, unfolding(crate::specs::Words::is_path_word))]
 fn is_path_word(name: &[u8]) -> bool
     ensures { result ≡ is_path_word name.now }
@@ -73,7 +73,7 @@ fn is_path_word(name: &[u8]) -> bool
         || name == b"super".as_slice()
 }
 
-/// Whether it is one of the first reserved keywords.
+/// Whether the name is one of the first reserved keywords.
 #[tactic(auto, unfolding(crate::specs::Words::is_reserved_word))]
 fn is_reserved_word(name: &[u8]) -> bool
     ensures { result ≡ is_reserved_word name.now }
@@ -88,7 +88,7 @@ fn is_reserved_word(name: &[u8]) -> bool
         || name == b"override".as_slice()
 }
 
-/// Whether it is one of the last.
+/// Whether the name is one of the other reserved keywords.
 #[tactic(auto, unfolding(crate::specs::Words::is_later_word))]
 fn is_later_word(name: &[u8]) -> bool
     ensures { result ≡ is_later_word name.now }
@@ -101,7 +101,7 @@ fn is_later_word(name: &[u8]) -> bool
         || name == b"yield".as_slice()
 }
 
-/// Whether it is a keyword.
+/// Whether the name is a keyword of Rust.
 #[tactic(auto, unfolding(crate::specs::Words::is_keyword))]
 pub fn is_keyword(name: &[u8]) -> bool
     ensures { result ≡ is_keyword name.now }
@@ -151,7 +151,7 @@ fn is_word(name: &[u8]) -> bool
     }
 }
 
-/// Whether they are a word other than `_`.
+/// Whether the bytes are a word other than `_`.
 #[tactic(auto, unfolding(crate::specs::Words::is_plain_word))]
 fn is_plain_word(name: &[u8]) -> bool
     ensures { result ≡ is_plain_word name.now }
@@ -159,7 +159,7 @@ fn is_plain_word(name: &[u8]) -> bool
     name != b"_".as_slice() && is_word(name)
 }
 
-/// Whether they may stand behind `r#`.
+/// Whether the name can stand after `r#`.
 #[tactic(auto, unfolding(crate::specs::Words::is_raw_word))]
 fn is_raw_word(name: &[u8]) -> bool
     ensures { result ≡ is_raw_word name.now }
@@ -167,7 +167,7 @@ fn is_raw_word(name: &[u8]) -> bool
     !is_path_word(name) && is_plain_word(name)
 }
 
-/// Whether they are a raw identifier.
+/// Whether the bytes are a raw identifier.
 #[tactic(auto, unfolding(crate::specs::Words::is_raw_identifier))]
 fn is_raw_identifier(name: &[u8]) -> bool
     ensures { result ≡ is_raw_identifier name.now }
@@ -178,7 +178,7 @@ fn is_raw_identifier(name: &[u8]) -> bool
     }
 }
 
-/// Whether they are an identifier of ASCII.
+/// Whether the bytes are an identifier of ASCII.
 #[tactic(auto, unfolding(crate::specs::Words::is_identifier))]
 fn is_identifier(name: &[u8]) -> bool
     ensures { result ≡ is_identifier name.now }
@@ -186,7 +186,7 @@ fn is_identifier(name: &[u8]) -> bool
     is_plain_word(name) || is_raw_identifier(name)
 }
 
-/// Whether they name a variant of the prelude, raw or not.
+/// Whether the name is that of a variant of the prelude, with or without `r#`.
 #[tactic(auto, unfolding(crate::specs::Words::is_prelude_variant))]
 pub fn is_prelude_variant(name: &[u8]) -> bool
     ensures { result ≡ is_prelude_variant name.now }
@@ -197,7 +197,7 @@ pub fn is_prelude_variant(name: &[u8]) -> bool
         || is_named(b"Err", name)
 }
 
-/// Why a parameter, a field or a variable can't have the name.
+/// Why a parameter, a field or a variable can't have the name. `None` if it can.
 #[tactic(auto, unfolding(crate::specs::Words::word_why))]
 pub fn word_why(name: &[u8]) -> Option<Why>
     ensures { result ≡ word_why name.now }

@@ -34,7 +34,7 @@ module _ (entries : List Descriptor) (shape : Shape) (is : IsShapeOf entries sha
       ↔ HoldsBooleansAlone (own_byte_count entries) (described_boolean_count entries) byte m
   alone_counted byte m = (alone_as is.own_bytes is.booleans byte m, alone_as (sym is.own_bytes) (sym is.booleans) byte m)
 
--- a bit behind the bytes of the enums and numbers is a boolean's where its number is below their count
+-- a bit after the bytes of the enums and numbers is a boolean's if its number is below their count
 pub boolean_bit : (own booleans byte bit behind : ℕ) → byte ≡ own + behind → bit < 8
     → (nat_lt (behind * 8 + bit) booleans ≡ true) ↔ IsBooleanBit own booleans byte bit
 boolean_bit own booleans byte bit behind e low = (

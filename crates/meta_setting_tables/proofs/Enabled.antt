@@ -68,7 +68,7 @@ contained n numbers e = let r = get_from_stands n numbers e
 
 -- ---- where booleans stand
 
--- the place that a boolean of this number has, behind this many bytes
+-- the place that a boolean of this number has, after this many bytes
 pub record HasItsPlace (start : ℕ) (s : PlacedSetting) (b : BoolSetting) : Type 0 where
   pub byte : s.byte_offset ≡ start + b.predicate_number / 8
   pub bit : b.bit_offset ≡ b.predicate_number % 8
@@ -133,7 +133,7 @@ pub record AreNamedAlike (looked_for : Descriptor → Bool)
   pub same : looked_for d ≡ is_named s
 
 module _ (looked_for : Descriptor → Bool) (is_named : PlacedSetting → Bool) where
-  -- the same names are found among settings and their descriptors, behind which none is looked for
+  -- the same names are found among settings and their descriptors, and later descriptors aren't looked at
   same_names : (ss : List PlacedSetting) (ds : List Descriptor) → ((k : ℕ) (s : PlacedSetting) (d : Descriptor) → slice_get ss k ≡ Some s
       → slice_get ds k ≡ Some d → AreNamedAlike looked_for is_named s d) → length ss ≤ length ds
       → ((k : ℕ) (d : Descriptor) → length ss ≤ k → slice_get ds k ≡ Some d → looked_for d ≡ false)
@@ -250,7 +250,7 @@ module _ (g : GroupDeclaration) (t : GroupContents) (made : AreTablesOfGroup (bu
               (omega (arith, byte, size));
         }
 
-    -- behind the settings stand presets, which are no booleans
+    -- after the settings come presets, which aren't booleans
     none_behind : (j : ℕ) (d : Descriptor) → length layout.settings ≤ j → slice_get t.descriptors j ≡ Some d → is_turned d ≡ false
     none_behind j d past d_at =
         let within = slice_get_within t.descriptors j d d_at in

@@ -8,7 +8,7 @@ use Rattle.meta_settings.specs.Layout.{PlacedSetting}
 use Rattle.meta_setting_tables.specs.EnumeratorList.{same_text, with_values, built_values_of}
 use Rattle.meta_setting_tables.proofs.Renaming.{added_most, added_all}
 
--- the enumerators of some settings, behind others
+-- the enumerators of some settings, after others
 abbrev enumerators_after : List (List ℕ) → List PlacedSetting → List (List ℕ)
 enumerators_after enumerators settings =
     fold (λ enumerators (s : PlacedSetting). with_values enumerators (built_values_of s.specific)) enumerators settings
@@ -28,7 +28,7 @@ all_after P (s ∷ settings) enumerators a each =
     of_one (AnEnum values) is = each 0 s values refl is
     of_one (ANum default) is = All-nil P
 
--- there are at most 256 for each enum, where enums are among the first so many settings
+-- there are at most 256 for each enum among the first settings
 pub most_after : (settings : List PlacedSetting) (enumerators : List (List ℕ)) (enums : ℕ)
     → ((k : ℕ) (s : PlacedSetting) (values : List (List ℕ)) → slice_get settings k ≡ Some s → s.specific ≡ AnEnum values
     → (k < enums) × (length values ≤ 256)) → length (enumerators_after enumerators settings) ≤ length enumerators + 256 * enums

@@ -282,7 +282,7 @@ on_from i z (x ∷ xs) on = go (on_from i (bit_or z (default_byte_of x)) xs on)
     go (inl e) = first (own (cases_eq (bit_at z i) 1) e)
     go (inr h) = inr (suc h.0, h.1)
 
--- only bits of booleans are on in a byte behind those of the enums and numbers
+-- only bits of booleans are on in a byte after those of the enums and numbers
 pub boolean_on : (g : Layout) → IsBuiltLayout g → IsSized g.settings g.bool_start_byte_offset g.settings_size → (byte bit : ℕ)
     → g.bool_start_byte_offset ≤ byte → bit_at (joined_at byte g.settings) bit ≡ 1
     → (j : ℕ) × (j < length (booleans_in g)) × (byte ≡ g.bool_start_byte_offset + j / 8) × (bit ≡ j % 8)

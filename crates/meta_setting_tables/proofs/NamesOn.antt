@@ -39,7 +39,7 @@ module _ (bytes : List ℕ) where
   none_on [] off = refl
   none_on (d ∷ ds) off = ap (map (λ (d : Descriptor). d.name)) (cond-false (on d) _ _ (off 0 d refl)) ∙ none_on ds (λ k d. off (suc k) d)
 
-  -- what stands behind a preset is off: booleans stand before the presets
+  -- the bits of what comes after a preset are off: booleans stand before presets
   off_behind : (ds : List Descriptor) (i j : ℕ) (c d : Descriptor) → ArePlaced ds → i ≤ j → slice_get ds i ≡ Some c
       → slice_get ds j ≡ Some d → c.detail ≡ Preset → on d ≡ false
   off_behind ds i j c d placed order c_at d_at is = of_detail d.detail refl

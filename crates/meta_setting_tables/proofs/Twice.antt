@@ -36,7 +36,7 @@ joined_again masks old once twice long p q = same_places twice once q.size each
         let first = p.each k o.0 m.0 o.1 m.1 in
         q.each k (bit_or o.0 m.0) m.0 first m.1 ∙ ap Some (or_again o.0 m.0) ∙ sym first
 
--- an entry is a preset of the group, or it is none
+-- an entry is a preset of the group, or it isn't
 preset_or_none : (g : Layout) (e : ℕ) → ((p : BuiltPreset) × IsPresetOf g e p) ⊎ ((p : BuiltPreset) → IsPresetOf g e p → ⊥)
 preset_or_none g e = ⊎_elim
     (λ setting. inr (λ p is. let behind = is.behind in absurd (omega (arith, setting, behind))))

@@ -21,7 +21,7 @@ pub record HasBit (s : PlacedSetting) (byte bit : ℕ) : Type 0 where
   pub byte_is : s.byte_offset ≡ byte
   pub bit_is : boolean.bit_offset ≡ bit
 
--- so many values can be numbered in 8 bits, and there is one
+-- at most 256 values, which 8 bits can number, and at least one
 pub record HaveNumbers (values : List (List ℕ)) : Type 0 where
   pub some : 0 < length values
   pub few : length values ≤ 256

@@ -11,8 +11,8 @@ use Rattle.meta_setting_tables.specs.declared.descriptor.Detail.TheVariants.{Boo
 use Rattle.meta_setting_tables.specs.declared.descriptor.Descriptor.{Descriptor}
 use Rattle.meta_setting_tables.specs.EnumeratorList.{enumerators_of, values_at, StandAt}
 
--- The detail is that of an enum with these values: its last value has the number `last`, and they stand in the enumerators from
--- the place on, which is where they were added behind those of the settings before it.
+-- The detail is that of an enum with these values: its last value has the number `last`, and the values stand in the enumerators, where
+-- they were added after those of the settings before it.
 pub record IsEnumDetail (enumerators : List (List ℕ)) (before : List PlacedSetting) (values : List (List ℕ))
     (detail : Detail) : Type 0 where
   pub last : ℕ
@@ -39,11 +39,11 @@ pub record DescribesSetting (enumerators : List (List ℕ)) (before : List Place
 abbrev pub setting_descriptor : PlacedSetting → Detail → Descriptor
 setting_descriptor s detail = record { name = s.name; description = s.description; offset = s.byte_offset; detail = detail }
 
--- the descriptor of preset k, whose masks begin behind those of the presets before it
+-- the descriptor of preset k, whose masks begin after those of the presets before it
 abbrev pub preset_descriptor : ℕ → ℕ → BuiltPreset → Descriptor
 preset_descriptor size k p = record { name = p.name; description = p.description; offset = k * size; detail = Preset }
 
--- entry e is a setting, or behind the settings a preset, and the descriptor is that of it
+-- entry e is a setting, or after the settings a preset, and this is its descriptor
 pub record DescribesEntry (g : Layout) (enumerators : List (List ℕ)) (e : ℕ) (d : Descriptor) : Type 0 where
   pub setting : (s : PlacedSetting) → slice_get g.settings e ≡ Some s → DescribesSetting enumerators (take e g.settings) s d
   pub preset : (k : ℕ) (p : BuiltPreset) → e ≡ length g.settings + k → slice_get g.presets k ≡ Some p

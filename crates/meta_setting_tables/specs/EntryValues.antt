@@ -32,7 +32,7 @@ is_on bytes byte (EnumDetail last place) = false
 is_on bytes byte NumDetail = false
 is_on bytes byte Preset = false
 
--- the masks of the preset with this offset, which are so many of all, from there on
+-- the masks of the preset with this offset: `size` of all masks, from there on
 abbrev pub masks_from : ℕ → List ℕ → ℕ → List ℕ
 masks_from size masks offset = take size (drop offset masks)
 

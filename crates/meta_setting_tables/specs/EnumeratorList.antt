@@ -31,7 +31,7 @@ built_values_of (ANum default) = []
 abbrev pub enumerators_of : List PlacedSetting → List (List ℕ)
 enumerators_of settings = fold (λ enumerators s. with_values enumerators (built_values_of s.specific)) [] settings
 
--- the values stand in the list, one behind the other, from the place on
+-- the values stand in the list one after another, from the place on
 pub record StandAt (enumerators values : List (List ℕ)) (place : ℕ) : Type 0 where
   pub values_are : take (length values) (drop place enumerators) ≡ values
 

@@ -33,7 +33,7 @@ pub record IsPresetIn (descriptors : List Descriptor) (e : ℕ) (d : Descriptor)
   pub there : slice_get descriptors e ≡ Some d
   pub is_preset : d.detail ≡ Preset
 
--- the descriptor points inside the default bytes, of which there are so many, and a preset's inside the masks
+-- the descriptor points inside the `size` default bytes, and a preset's inside the masks
 abbrev pub IsInside : ℕ → ℕ → ℕ → Detail → Type 0
 IsInside size masks offset (ABool bit) = (offset < size) × (bit < 8)
 IsInside size masks offset (AnEnum last enumerators) = offset < size

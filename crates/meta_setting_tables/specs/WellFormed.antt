@@ -76,28 +76,26 @@ pub record StandsInByte (own e offset : ℕ) : Type 0 where
   pub first : e < own
   pub byte_is : offset ≡ e
 
--- the boolean with this number, from 0, has this byte and this bit: eight to a byte from bit 0 on, behind the bytes of the enums and
--- numbers
+-- the boolean with this number, from 0, has this byte and this bit: eight to a byte from bit 0 on, after the bytes of the enums and numbers
 pub record HasPlace (own number byte bit : ℕ) : Type 0 where
   pub byte_is : byte ≡ own + number / 8
   pub bit_is : bit ≡ number % 8
 
--- entry e is a boolean, which stand behind the enums and numbers, and it has this byte and this bit
+-- entry e is a boolean, which come after the enums and numbers, and it has this byte and this bit
 pub record StandsAtBit (own booleans e offset bit : ℕ) : Type 0 where
   pub number : ℕ
   pub within : number < booleans
   pub behind : e ≡ own + number
   pub place : HasPlace own number offset bit
 
--- entry e is a preset, which stand behind the settings, and its masks begin behind those of the presets before it, one a setting
--- byte
+-- entry e is a preset, which come after the settings, and its masks begin after those of the presets before it, one for each setting byte
 pub record StandsAtMasks (settings size e offset : ℕ) : Type 0 where
   pub number : ℕ
   pub behind : e ≡ settings + number
   pub offset_is : offset ≡ number * size
 
--- Entry e stands where the layout rule puts it, where so many entries have a byte of their own, so many are booleans, and there
--- are so many setting bytes.
+-- Entry e stands where the layout rule puts it, if `own` entries have a byte of their own, `booleans` are booleans, and there are `size`
+-- setting bytes.
 abbrev pub IsPlaced : ℕ → ℕ → ℕ → ℕ → ℕ → Detail → Type 0
 IsPlaced own booleans size e offset (ABool bit) = StandsAtBit own booleans e offset bit
 IsPlaced own booleans size e offset (AnEnum last enumerators) = StandsInByte own e offset

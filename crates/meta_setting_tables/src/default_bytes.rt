@@ -6,7 +6,6 @@ ghost use Rattle.meta_setting_tables.specs.DefaultBytes.{joined_at, AreDefaultsO
 use meta_settings::{Setting, SettingGroup};
 use std::alloc::{AllocError, Global};
 
-/// So many zero bytes.
 fn zeros(alloc: Global, size: u8) -> Result<Vec<u8>, AllocError>
     ensures size { IfOk result (λ v. length v.items ≡ size) }
     ensures zero { IfOk result (λ v. (byte : ℕ) → byte < size → slice_get v.items byte ≡ Some 0) }
@@ -14,7 +13,7 @@ fn zeros(alloc: Global, size: u8) -> Result<Vec<u8>, AllocError>
     vec![in alloc; 0; size as usize]
 }
 
-/// Joins the defaults of the settings with the bytes, which are zero.
+/// Joins the defaults of the settings with the bytes, which are zero at first.
 fn join_defaults(bytes: &mut [u8], settings: &[Setting])
     requires zero { (byte : ℕ) → byte < length bytes.old → slice_get bytes.old byte ≡ Some 0 }
     requires within { (k : ℕ) (s : PlacedSetting) → slice_get settings.now k ≡ Some s → s.byte_offset < length bytes.old }
@@ -26,7 +25,6 @@ fn join_defaults(bytes: &mut [u8], settings: &[Setting])
     }
 }
 
-/// The default bytes of the group: one a setting byte, with the declared defaults joined.
 pub(crate) fn default_bytes(alloc: Global, group: &SettingGroup) -> Result<Vec<u8>, AllocError>
     requires { IsBuiltLayout group.now }
     ensures defaults { IfOk result (λ v. AreDefaultsOf group.now v.items) }

@@ -5,13 +5,13 @@ ghost use Rattle.meta_setting_tables.specs.EntryValues.{is_on};
 
 use meta_types::Text;
 
-/// What an entry of a group of settings is (`detail::Detail` in the text that `gen_settings.rs` writes).
+/// What kind of entry an entry of a group is (`detail::Detail` in the text that `gen_settings.rs` writes).
 #[derive(Clone, Copy, Debug, PartialEq, Eq)]
 pub enum Detail {
-    /// A boolean: its bit in its byte, below 8.
+    /// A boolean. `bit` is its bit in its byte, below 8.
     Bool { bit: u8 },
-    /// An enum: the number of its last value, which is one less than their count, and where in the enumerators of the group
-    /// its first value stands. The other values stand behind it, in order.
+    /// An enum. `last` is the number of its last value, one less than the count of its values. `enumerators` is the place of its first
+    /// value among the enumerators of the group; the other values follow, in order.
     Enum { last: u8, enumerators: u16 },
     /// A number.
     Num,
@@ -27,7 +27,7 @@ impl Detail {
         self == other
     }
 
-    /// Whether it is a preset.
+    /// Whether the entry is a preset.
     pub fn is_preset(self) -> bool
         ensures { IsTrue result ↔ (self ≡ Preset) }
     {
@@ -39,7 +39,7 @@ impl Detail {
         }
     }
 
-    /// Whether it is an enum or a number, which have a byte of their own.
+    /// Whether the entry is an enum or a number, which have a byte of their own.
     pub(crate) fn has_own_byte(self) -> bool
         ensures { result ≡ describes_own_byte self }
     {
@@ -49,7 +49,6 @@ impl Detail {
         }
     }
 
-    /// Whether it is a boolean.
     pub(crate) fn is_boolean(self) -> bool
         ensures { result ≡ is_boolean self }
     {
@@ -60,22 +59,23 @@ impl Detail {
     }
 }
 
-/// An entry of a group of settings (`detail::Descriptor` in the text that `gen_settings.rs` writes): its name and its
-/// description, and what it is.
+/// An entry of a group of settings: its name, its description and its kind (`detail::Descriptor` in the text that `gen_settings.rs`
+/// writes).
 #[derive(Debug, Drop)]
 pub struct Descriptor {
-    /// Its name.
+    /// The name of the entry.
     pub name: Text,
-    /// Its description, which needs no escape.
+    /// The description of the entry, which needs no escape.
     pub description: Text,
-    /// The byte of a setting, below 255; where the masks of a preset begin among those of the group, one mask a setting byte.
+    /// Of a setting, the place of its byte, below 255. Of a preset, the place of its first mask among the masks of the group: it has one
+    /// mask for each setting byte.
     pub offset: u32,
-    /// What it is.
+    /// The kind of entry.
     pub detail: Detail,
 }
 
 impl Descriptor {
-    /// Whether it is a boolean whose bit is on in its byte of these setting bytes, such as the masks of a preset.
+    /// Whether the entry is a boolean whose bit is on in these setting bytes, which may be the masks of a preset.
     pub fn is_on(&self, bytes: &[u8]) -> bool
         ensures { result ≡ is_on bytes.now self.now.offset self.now.detail }
     {
@@ -88,7 +88,7 @@ impl Descriptor {
         }
     }
 
-    /// Whether this descriptor and the other are the same: all their parts are equal.
+    /// Whether this descriptor and the other are equal in all parts.
     pub fn same(&self, other: &Descriptor) -> bool
         ensures { IsTrue result ↔ (self.now ≡ other.now) }
     {

@@ -9,14 +9,14 @@ use super::shape::Shape;
 use meta_types::{Text, are_distinct};
 use std::alloc::{AllocError, Global};
 
-/// Whether the entry at the place is one of so many with a byte of their own, and this is its byte.
+/// Whether the entry at the place is one of the first `own`, which have a byte of their own, and `offset` is its byte.
 fn stands_in_byte(own: usize, place: usize, offset: usize) -> bool
     ensures { IsTrue result ↔ StandsInByte own place offset }
 {
     place < own && offset == place
 }
 
-/// Whether the entry at the place is one of so many booleans, and this is its byte and its bit.
+/// Whether the entry at the place is one of the booleans, which come after the first `own` entries, and it has this byte and this bit.
 fn stands_at_bit(own: usize, booleans: usize, place: usize, offset: usize, bit: u8) -> bool
     ensures { IsTrue result ↔ StandsAtBit own booleans place offset bit }
 {
@@ -26,7 +26,8 @@ fn stands_at_bit(own: usize, booleans: usize, place: usize, offset: usize, bit: 
     number < booleans && offset == own + number / 8 && usize::from(bit) == number % 8
 }
 
-/// Whether the entry at the place is a preset behind so many settings, and its masks begin here, of which each preset has `size`.
+/// Whether the entry at the place is a preset, which come after the settings, and its masks begin at `offset`. Each preset has `size`
+/// masks.
 fn stands_at_masks(settings: usize, size: usize, place: usize, offset: usize) -> bool
     requires few { place ≤ 65535 }
     requires small { size ≤ 255 }
@@ -54,7 +55,7 @@ fn is_placed(shape: &Shape, place: usize, entry: &Descriptor) -> bool
     }
 }
 
-/// Whether each of the entries, of which these are the counts, stands where the layout rule puts it.
+/// Whether each of the entries stands where the layout rule puts it. `shape` has the counts of these entries.
 pub(crate) fn are_placed(shape: &Shape, entries: &[Descriptor]) -> bool
     requires few { length entries.now ≤ 65535 }
     requires small { HasSmallCounts shape.now }
@@ -69,7 +70,7 @@ pub(crate) fn are_placed(shape: &Shape, entries: &[Descriptor]) -> bool
     true
 }
 
-/// Whether the values of an enum stand among the enumerators from the place on, and no two of them share a name.
+/// Whether the values of an enum stand among the enumerators, from `place` on, and no two of them share a name.
 fn has_values(alloc: Global, enumerators: &[Text], last: u8, place: u16) -> Result<bool, AllocError>
     ensures { IfOk result (λ b. IsTrue b ↔ HasValues enumerators.now last place) }
 {
@@ -81,7 +82,7 @@ fn has_values(alloc: Global, enumerators: &[Text], last: u8, place: u16) -> Resu
     are_distinct(alloc, &enumerators[place..place + count])
 }
 
-/// Whether it has its values, if it is an enum.
+/// Whether the entry has its values if it is an enum.
 fn has_its_values(alloc: Global, enumerators: &[Text], detail: Detail) -> Result<bool, AllocError>
     ensures { IfOk result (λ b. IsTrue b ↔ HasItsValues enumerators.now detail) }
 {
@@ -96,7 +97,7 @@ fn has_its_values(alloc: Global, enumerators: &[Text], detail: Detail) -> Result
     }
 }
 
-/// Whether each entry that is an enum has its values.
+/// Whether each enum among the entries has its values.
 pub(crate) fn have_their_values(
     alloc: Global,
     entries: &[Descriptor],

@@ -15,8 +15,7 @@ use super::group_tables::GroupTables;
 use meta_types::Text;
 use std::alloc::{AllocError, Global};
 
-/// The names of those of the entries that are booleans whose bits are on in the setting bytes. The booleans stand before the
-/// presets.
+/// The names of the booleans among the entries whose bits are on in the setting bytes. Booleans stand before presets.
 fn names_on<'t>(
     alloc: Global,
     entries: &'t [Descriptor],
@@ -47,7 +46,7 @@ impl GroupTables {
         self.descriptors().len()
     }
 
-    /// The name of the entry with this number, from 0, and `None` exactly where there is no such entry.
+    /// The name of the entry with the number `index`, from 0. `None` exactly if there is no such entry.
     pub fn entry_name(&self, index: u16) -> Option<&Text>
         ensures name { option_map (λ name. name.now) result ≡ slice_get (names_in self.now.descriptors) index }
         ensures meaning { (g : Layout) → AreTablesOfGroup g self.now
@@ -56,8 +55,8 @@ impl GroupTables {
         Some(&self.descriptor(index)?.name)
     }
 
-    /// The names of the values of the entry with this number, in order, of which the first is the default. Only an enum has values:
-    /// there are none for another entry, nor where there is no such entry.
+    /// The names of the values of the entry with the number `index`, in order. The first is the default. The list is empty if the entry
+    /// isn't an enum or there is no such entry.
     pub fn values(&self, index: u16) -> &[Text]
         ensures entry { (d : Descriptor) → slice_get self.now.descriptors index ≡ Some d
             → result.now ≡ values_in self.now.enumerators d.detail }
@@ -79,8 +78,8 @@ impl GroupTables {
         }
     }
 
-    /// The names of the booleans that the preset with this number among the entries turns on, in order of their numbers. There are
-    /// none where that is no preset. It costs one pass over the settings, and the only error is want of memory.
+    /// The names of the booleans that a preset turns on, in order of their numbers. `preset` is the number of its entry. The list is empty
+    /// if that isn't a preset. The cost is one pass over the settings.
     pub fn names_on(&self, alloc: Global, preset: u16) -> Result<Vec<&str>, AllocError>
         ensures entry { (d : Descriptor) → IsPresetIn self.now.descriptors preset d
             → IfOk result (λ v. map (λ name. name.now) v.items ≡ names_on self.now.descriptors

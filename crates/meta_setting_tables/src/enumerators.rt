@@ -8,8 +8,7 @@ use meta_unique::{UniqueSeqTable, UniqueTable};
 use std::alloc::{AllocError, Global};
 use std::marker::Model;
 
-/// The one list that holds the values of enums. It keeps each text once, and lists of the texts' numbers, which are compared
-/// faster.
+/// The one list of the values of enums. It keeps each text once, and lists of the numbers of texts, which are compared faster.
 #[derive(Drop)]
 pub(crate) struct Enumerators<'g> {
     texts: UniqueTable<'g, Text>,
@@ -27,7 +26,7 @@ impl<'g> Model for Enumerators<'g> {
     ghost invariant = { λ e. AreNumbered e.texts e.numbers };
 }
 
-/// The numbers of the values, which are given to those that have none.
+/// The numbers of the values. A value without a number gets one.
 fn numbers_of<'g>(
     alloc: Global,
     texts: &mut UniqueTable<'g, Text>,
@@ -58,7 +57,6 @@ fn copied_texts(alloc: Global, texts: &[&Text], numbers: &[usize]) -> Result<Vec
 }
 
 impl<'g> Enumerators<'g> {
-    /// No enumerators.
     pub(crate) fn new(alloc: Global) -> Enumerators<'g>
         ensures { result ≡ [] }
     {
@@ -81,7 +79,7 @@ impl<'g> Enumerators<'g> {
         self.numbers.add(numbers.as_slice())
     }
 
-    /// The enumerators, as texts of their own.
+    /// A copy of the enumerators.
     pub(crate) fn copied(&self, alloc: Global) -> Result<Vec<Text>, AllocError>
         ensures { IfOk result (λ v. v.items ≡ self.now) }
     {

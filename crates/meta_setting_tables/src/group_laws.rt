@@ -14,8 +14,8 @@ ghost use Rattle.meta_setting_tables.specs.Parts.{HasGroupParts};
 
 use meta_settings::presets_turn_on_what_they_name;
 
-/// A group that is built of a valid declaration has tables: its layout is such as `GroupTables::of` asks for. No two of its
-/// entries have the same name, so that a name finds one entry at most.
+/// A group that is built of a valid declaration has tables: its layout meets what `GroupTables::of` requires. No two of its entries have
+/// the same name, so that a name finds at most one entry.
 pub fn built_groups_have_tables()
     ensures layout { (d : GroupDeclaration) → IsValidGroup d → IsBuiltLayout (built_of d) }
     ensures names { (d : GroupDeclaration) → IsValidGroup d → AreDifferentNames (entry_names (built_of d)) }
@@ -23,7 +23,7 @@ pub fn built_groups_have_tables()
     presets_turn_on_what_they_name();
 }
 
-/// The tables of a group that is built of a valid declaration are well-formed, where its default bytes are bytes.
+/// The tables of a group that is built of a valid declaration are well-formed, if its default bytes are below 256.
 pub fn built_groups_have_well_formed_tables()
     ensures { (d : GroupDeclaration) (t : GroupContents) → IsValidGroup d → AreTablesOfGroup (built_of d) t
         → All (λ b. b < 256) t.defaults → IsWellFormedGroup t }
@@ -31,19 +31,19 @@ pub fn built_groups_have_well_formed_tables()
     built_groups_have_tables();
 }
 
-/// Parts are those of one group at most that is well-formed: the slots follow from the names.
+/// Parts determine a well-formed group: at most one has these parts, since slots follow from names.
 pub fn one_group_has_the_parts()
     ensures { (parts : GroupParts) (s t : GroupContents) → IsWellFormedGroup s → IsWellFormedGroup t
         → HasGroupParts parts s → HasGroupParts parts t → s ≡ t }
 {}
 
-/// Tables of a group are one: a group has no others.
+/// A group determines its tables: two tables of the same group are equal.
 pub fn one_table_of_a_group()
     ensures { (g : Layout) (s t : GroupContents) → AreTablesOfGroup g s → AreTablesOfGroup g t → s ≡ t }
 {}
 
-/// A preset that is applied twice changes nothing the second time: neither by tables, where setting bytes are joined with its masks,
-/// nor in what the group means by it, where the setting bytes are bytes.
+/// A preset that is applied twice changes nothing the second time. This holds of tables, where its masks are joined with the setting bytes,
+/// and of what the group means, if the setting bytes are below 256.
 pub fn a_preset_applied_twice_is_applied_once()
     ensures joined { (masks old once twice : List ℕ) → length masks ≡ length old → AreJoined old masks once
         → AreJoined once masks twice → twice ≡ once }

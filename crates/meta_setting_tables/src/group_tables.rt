@@ -29,8 +29,8 @@ use std::alloc::{AllocError, Global};
 use std::marker::Model;
 use std::sync::ledger::Ledger;
 
-/// The tables of a group of settings (`gen_descriptors` and `gen_template` of `gen_settings.rs`, where they are written as
-/// text): its entries, which are its settings by byte and bit and then its presets, and what is found by an entry.
+/// The tables of a group of settings: its entries, which are its settings by byte and bit and then its presets, and what a look-up of an
+/// entry needs. In the crate `gen_descriptors` and `gen_template` of `gen_settings.rs` write them as text.
 #[derive(Debug, Drop)]
 pub struct GroupTables {
     name: Text,
@@ -66,7 +66,7 @@ impl Model for GroupTables {
     }) };
 }
 
-/// What an entry is by default whose descriptor points inside these default bytes.
+/// The default of an entry whose descriptor points inside these default bytes.
 fn default_of(defaults: &[u8], descriptor: &Descriptor) -> Option<u8>
     requires { (masks : ℕ) × IsInside (length defaults.now) masks descriptor.now.offset descriptor.now.detail }
     ensures { result ≡ default_in (slice_index_or defaults.now descriptor.now.offset 0) descriptor.now.detail }
@@ -80,7 +80,7 @@ fn default_of(defaults: &[u8], descriptor: &Descriptor) -> Option<u8>
     }
 }
 
-/// What a setting is, where the values of an enum are added to the enumerators.
+/// The kind of a setting. The values of an enum are added to the enumerators.
 fn detail_of<'g>(
     alloc: Global,
     specific: &'g SpecificSetting,
@@ -108,7 +108,6 @@ fn detail_of<'g>(
     }
 }
 
-/// The descriptor of a setting with this detail.
 fn describe_setting(
     alloc: Global,
     setting: &Setting,
@@ -124,7 +123,7 @@ fn describe_setting(
     })
 }
 
-/// The descriptor of preset `number`, where each preset has so many masks.
+/// The descriptor of the preset with this number, if each preset has `size` masks.
 fn describe_preset(
     alloc: Global,
     preset: &Preset,
@@ -141,7 +140,7 @@ fn describe_preset(
     })
 }
 
-/// The descriptors of the settings, in order, where the values of enums are added to the enumerators, which were empty.
+/// The descriptors of the settings, in order. The values of enums are added to the enumerators, which are empty at first.
 fn describe_settings<'g>(
     alloc: Global,
     settings: &'g [Setting],
@@ -163,7 +162,7 @@ fn describe_settings<'g>(
     Ok(descriptors)
 }
 
-/// The descriptors of the presets, in order, where each has so many masks.
+/// The descriptors of the presets, in order, if each has `size` masks.
 fn describe_presets(
     alloc: Global,
     presets: &[Preset],
@@ -181,7 +180,6 @@ fn describe_presets(
     Ok(descriptors)
 }
 
-/// Descriptors, and others behind them.
 fn joined(
     mut first: Vec<Descriptor>,
     mut second: Vec<Descriptor>,
@@ -192,7 +190,7 @@ fn joined(
     Ok(first)
 }
 
-/// The descriptors of the entries of a group, in order, where the values of enums are added to the enumerators, which were empty.
+/// The descriptors of the entries of a group, in order. The values of enums are added to the enumerators, which are empty at first.
 fn descriptors_of<'g>(
     alloc: Global,
     group: &'g SettingGroup,
@@ -220,7 +218,7 @@ struct DescribedEntries {
     enumerators: Vec<Text>,
 }
 
-/// The descriptors of the entries of a group, with the values of its enums, which are added to the enumerators, which were empty.
+/// The descriptors of the entries of a group, with the values of its enums. These are added to the enumerators, which are empty at first.
 fn described_by<'g>(
     alloc: Global,
     group: &'g SettingGroup,
@@ -242,7 +240,6 @@ fn described_by<'g>(
     })
 }
 
-/// The descriptors of the entries of a group, with the values of its enums.
 fn described(alloc: Global, group: &SettingGroup) -> Result<DescribedEntries, AllocError>
     requires { IsBuiltLayout group.now }
     ensures sized { IsSized group.now.settings group.now.bool_start_byte_offset group.now.settings_size }
@@ -263,7 +260,6 @@ struct SettingBytes {
     preset_masks: Vec<u8>,
 }
 
-/// The default bytes of a group, with the masks of its presets.
 fn bytes(alloc: Global, group: &SettingGroup) -> Result<SettingBytes, AllocError>
     requires { IsBuiltLayout group.now }
     ensures defaults { IfOk result (λ b. AreDefaultsOf group.now b.defaults.items) }
@@ -277,7 +273,6 @@ fn bytes(alloc: Global, group: &SettingGroup) -> Result<SettingBytes, AllocError
     })
 }
 
-/// The slots of the names of the entries.
 fn entry_slots(alloc: Global, descriptors: &[Descriptor]) -> Result<Vec<Option<u16>>, AllocError>
     requires { length descriptors.now ≤ 65535 }
     ensures slots { IfOk result (λ v. AreNameSlots 0 (names_in descriptors.now) v.items) }
@@ -291,7 +286,7 @@ fn entry_slots(alloc: Global, descriptors: &[Descriptor]) -> Result<Vec<Option<u
 }
 
 impl GroupTables {
-    /// The tables of a group. The only error is want of memory. Each group that `SettingGroupBuilder::build` answers has them.
+    /// Makes the tables of a group. `SettingGroupBuilder::build` answers only groups that have tables.
     pub fn of(alloc: Global, group: &SettingGroup) -> Result<GroupTables, AllocError>
         requires { IsBuiltLayout group.now }
         ensures tables { IfOk result (λ t. AreTablesOfGroup group.now t) }
@@ -310,7 +305,7 @@ impl GroupTables {
         })
     }
 
-    /// The tables with these parts, which well-formed tables can have.
+    /// The tables with these parts, which must be those of well-formed tables.
     pub(crate) fn with_parts(alloc: Global, parts: GroupParts) -> Result<GroupTables, AllocError>
         requires { AreGoodParts parts }
         ensures parts { IfOk result (HasGroupParts parts) }
@@ -327,7 +322,7 @@ impl GroupTables {
         })
     }
 
-    /// Whether these tables and the others are the same: all their parts are equal.
+    /// Whether these tables and the others are equal in all parts.
     pub fn same(&self, other: &GroupTables) -> bool
         ensures { IsTrue result ↔ (self.now ≡ other.now) }
     {
@@ -356,7 +351,7 @@ impl GroupTables {
         &self.name
     }
 
-    /// How many bytes the settings take, which is how many default bytes there are.
+    /// How many bytes the settings take, which is the count of default bytes.
     pub fn settings_size(&self) -> u8
         ensures size { result ≡ length self.now.defaults }
         ensures meaning { (g : Layout) → AreTablesOfGroup g self.now → result ≡ g.settings_size }
@@ -364,7 +359,7 @@ impl GroupTables {
         self.defaults.len() as u8
     }
 
-    /// The entries, at most 65,535: the settings by byte and bit, and then the presets.
+    /// The entries, at most 65,535: the settings by byte and bit, then the presets.
     pub fn descriptors(&self) -> &[Descriptor]
         ensures entries { result.now ≡ self.now.descriptors }
         ensures few { length result.now ≤ 65535 }
@@ -373,21 +368,21 @@ impl GroupTables {
         self.descriptors.as_slice()
     }
 
-    /// The one list of the values of all enums, in which the descriptor of an enum says where its own stand.
+    /// The names of the values of all enums, in one list. The descriptor of an enum says where its own begin.
     pub fn enumerators(&self) -> &[Text]
         ensures { result.now ≡ self.now.enumerators }
     {
         self.enumerators.as_slice()
     }
 
-    /// The default bytes: one a setting byte, with the declared defaults joined.
+    /// The default bytes, one for each setting byte. Declared defaults of booleans are joined in a byte.
     pub fn defaults(&self) -> &[u8]
         ensures { result.now ≡ self.now.defaults }
     {
         self.defaults.as_slice()
     }
 
-    /// The masks of the presets: one a preset and setting byte, preset after preset.
+    /// The masks of the presets, preset after preset, each with one mask for each setting byte.
     pub fn preset_masks(&self) -> &[u8]
         ensures masks { result.now ≡ self.now.preset_masks }
         ensures count { length result.now ≡ preset_count self.now.descriptors * length self.now.defaults }
@@ -395,7 +390,7 @@ impl GroupTables {
         self.preset_masks.as_slice()
     }
 
-    /// The slots of the names of the entries, which hold the numbers of the entries.
+    /// The slots of the names of the entries. They hold the numbers of entries.
     pub fn setting_slots(&self) -> &[Option<u16>]
         ensures slots { result.now ≡ self.now.slots }
         ensures names { AreNameSlots 0 (names_in self.now.descriptors) self.now.slots }
@@ -403,7 +398,7 @@ impl GroupTables {
         self.slots.as_slice()
     }
 
-    /// The entry with this number, from 0, and `None` exactly where there is no such entry.
+    /// The entry with the number `index`, from 0. `None` exactly if there is no such entry.
     pub fn descriptor(&self, index: u16) -> Option<&Descriptor>
         ensures entry { option_map (λ d. d.now) result ≡ slice_get self.now.descriptors index }
         ensures none { (g : Layout) → AreTablesOfGroup g self.now → (IsSome result ↔ (index < laid_entry_count g)) }
@@ -413,8 +408,8 @@ impl GroupTables {
         self.descriptors.get(index as usize)
     }
 
-    /// What the setting with this number is by default: 0 or 1 for a boolean, 0 for an enum, which is its first value, and the
-    /// number. It is `None` exactly for a preset and where there is no such entry.
+    /// The default of the setting with the number `index`: 0 or 1 for a boolean, 0 for an enum, which is its first value, and the declared
+    /// number. `None` exactly if the entry is a preset, or there is no such entry.
     pub fn default_value(&self, index: u16) -> Option<u8>
         ensures entry { (d : Descriptor) → slice_get self.now.descriptors index ≡ Some d
             → result ≡ default_in (slice_index_or self.now.defaults d.offset 0) d.detail }
@@ -424,7 +419,6 @@ impl GroupTables {
         default_of(&self.defaults, self.descriptors.get(index as usize)?)
     }
 
-    /// Whether the entry with this number has the name.
     fn is_named(&self, index: u16, name: &[u8]) -> bool
         ensures { NameAnswers 0 (names_in self.now.descriptors) name.now index result }
     {
@@ -434,8 +428,8 @@ impl GroupTables {
         }
     }
 
-    /// The number of the entry that has the name, of the first one if there are several, and `None` exactly where none has it.
-    /// `built_groups_have_tables` says that in a group that is built there is one at most.
+    /// The number of the entry that has the name, or of the first one if there are several. `None` exactly if no entry has it. In a group
+    /// that is built at most one has it, as `built_groups_have_tables` says.
     pub fn find_setting(&self, name: &[u8]) -> Option<u16>
         ensures found { FindsEntry (names_in self.now.descriptors) name.now result }
         ensures meaning { (g : Layout) → AreTablesOfGroup g self.now → FindsEntry (entry_names g) name.now result }
@@ -447,7 +441,7 @@ impl GroupTables {
         })
     }
 
-    /// As `find_setting`, and `steps` rises by the length of the lookup: the number of slots that were looked at.
+    /// Finds an entry as `find_setting` does. `steps` rises by the number of slots that were looked at.
     pub fn find_setting_counted<L: Ledger>(&self, name: &[u8], steps: &mut Steps<L>) -> Option<u16>
         ensures found { FindsEntry (names_in self.now.descriptors) name.now result }
         ensures meaning { (g : Layout) → AreTablesOfGroup g self.now → FindsEntry (entry_names g) name.now result }
@@ -465,8 +459,8 @@ impl GroupTables {
         )
     }
 
-    /// The masks of the preset with this number among the entries, one a setting byte, in which the bits of what it turns on are on, and
-    /// `None` exactly where it is no preset.
+    /// The masks of a preset, one for each setting byte: the bits of what it turns on are on. `preset` is the number of its entry. `None`
+    /// exactly if that isn't a preset.
     pub fn masks_of(&self, preset: u16) -> Option<&[u8]>
         ensures masks { IfSome result (λ masks. (d : Descriptor) × IsPresetIn self.now.descriptors preset d
             × (masks.now ≡ take (length self.now.defaults) (drop d.offset self.now.preset_masks))) }
@@ -481,8 +475,8 @@ impl GroupTables {
         Some(&self.preset_masks[start..start + self.defaults.len()])
     }
 
-    /// Turns on the bits of what a preset turns on, in setting bytes, where `preset` is the number of its entry. It answers
-    /// false and changes nothing exactly where that is no preset of the group or there aren't `settings_size` bytes.
+    /// Turns on the bits of a preset in the setting bytes. `preset` is the number of its entry. It answers false, and changes nothing,
+    /// exactly if that isn't a preset of the group, or the length of `bytes` isn't `settings_size`.
     pub fn apply_preset(&self, preset: u16, bytes: &mut [u8]) -> bool
         ensures answer { IsTrue result ↔ (((d : Descriptor) × IsPresetIn self.now.descriptors preset d)
             × (length bytes.old ≡ length self.now.defaults)) }

@@ -1,5 +1,5 @@
-//! The tables of a group of settings: descriptors of its entries, the values of its enums, default bytes, the masks of its
-//! presets, and the slots of its names.
+//! The tables of a group of settings: descriptors of its entries, the values of its enums, default bytes, masks of its presets, and the
+//! slots of its names.
 #![tactic(auto)]
 
 mod default_bytes;

@@ -11,7 +11,6 @@ use meta_settings::is_plain_description;
 use meta_types::{EarlierNames, Text, are_names, is_name};
 use std::alloc::{AllocError, Global};
 
-/// Whether the entries have names.
 fn have_names(entries: &[Descriptor]) -> bool
     ensures { IsTrue result ↔ All (λ (d : Descriptor). IsName d.name) entries.now }
 {
@@ -23,7 +22,6 @@ fn have_names(entries: &[Descriptor]) -> bool
     true
 }
 
-/// Whether the descriptions of the entries need no escape.
 fn have_plain_descriptions(entries: &[Descriptor]) -> bool
     ensures { IsTrue result ↔ All (λ (d : Descriptor). All IsPlainByte d.description) entries.now }
 {
@@ -48,8 +46,8 @@ fn have_distinct_names(alloc: Global, entries: &[Descriptor]) -> Result<bool, Al
     Ok(true)
 }
 
-/// Whether the group, the entries and the enumerators have names, no description needs an escape, and no two entries share a
-/// name.
+/// Whether the names of the group, the entries and the enumerators may be declared, no description needs an escape, and no two entries
+/// share a name.
 pub(crate) fn are_well_named(
     alloc: Global,
     name: &Text,

@@ -15,31 +15,29 @@ use std::alloc::{AllocError, Global};
 
 /// The most entries that a group may have.
 const MAX_ENTRIES: usize = 65_535;
-/// The most booleans that it may have.
+/// The most booleans that a group may have.
 const MAX_BOOLEANS: usize = 248;
-/// The most bytes that its settings may take.
+/// The most bytes that the settings of a group may take.
 const MAX_BYTES: usize = 255;
-/// The most enumerators that it may have.
+/// The most enumerators that a group may have.
 const MAX_ENUMERATORS: usize = 65_535;
 
-/// The parts of the tables of a group (this project's own): all but the slots of the names of its entries, which follow from the
-/// names.
+/// The parts of the tables of a group: all but the slots of the names of its entries, which follow from the names.
 #[derive(Debug, Drop)]
 pub struct GroupParts {
     /// The name of the group.
     pub name: Text,
-    /// Its entries: the settings by byte and bit, and then the presets.
+    /// The entries: the settings by byte and bit, then the presets.
     pub descriptors: Vec<Descriptor>,
-    /// The one list of the values of all enums.
+    /// The names of the values of all enums, in one list.
     pub enumerators: Vec<Text>,
-    /// The default bytes, one a setting byte.
+    /// The default bytes, one for each setting byte.
     pub defaults: Vec<u8>,
-    /// The masks of the presets, one a preset and setting byte, preset after preset.
+    /// The masks of the presets, preset after preset, each with one mask for each setting byte.
     pub preset_masks: Vec<u8>,
 }
 
-/// Whether a group may have as many entries of each kind as these counts say, which are those of the entries, and so many
-/// enumerators.
+/// Whether the counts of entries of each kind, which `shape` has, and the count of enumerators are within the limits.
 fn keep_limits(shape: &Shape, entries: &[Descriptor], enumerators: &[Text]) -> bool
     requires few { length entries.now ≤ 65535 }
     requires shape { IsShapeOf entries.now shape.now }
@@ -78,10 +76,10 @@ fn are_good(alloc: Global, parts: &GroupParts) -> Result<bool, AllocError>
     have_their_values(alloc, entries, enumerators)
 }
 
-/// The tables of a group with these parts, and `None` exactly where no well-formed tables have them: then a limit is passed, a
-/// name or a description is none, two names are shared, an entry doesn't stand where the layout rule puts it, an enum hasn't its
-/// values, or the default bytes or the masks aren't those of such entries (this project's own). It costs the length of the parts,
-/// and the logarithm of the counts of names. The only error is want of memory.
+/// Makes the tables of a group that has these parts. It answers `None` exactly if some part breaks a rule: a limit is passed, a name can't
+/// be declared, a description needs an escape, two entries share a name, an entry doesn't stand where the layout rule puts it, an enum's
+/// values are missing, or the default bytes or masks aren't those of such entries. The cost is the length of the parts, and for each name
+/// the logarithm of their count.
 pub fn group_from_parts(alloc: Global, parts: GroupParts) -> Result<Option<GroupTables>, AllocError>
     ensures some { IfOk result (λ o. IfSome o (HasGroupParts parts)) }
     ensures well_formed { IfOk result (λ o. IfSome o IsWellFormedGroup) }

@@ -16,7 +16,8 @@ fn add_masks(masks: &mut Vec<u8>, layout: &[(u8, u8)]) -> Result<(), AllocError>
     Ok(())
 }
 
-/// The masks of the presets, which turn on booleans of the group alone: one a preset and setting byte, preset after preset.
+/// The masks of the presets, preset after preset, each with one mask for each setting byte. A preset must turn on booleans of the group
+/// alone.
 pub(crate) fn preset_masks(alloc: Global, group: &SettingGroup) -> Result<Vec<u8>, AllocError>
     requires { (k : ℕ) (p : BuiltPreset) → slice_get group.now.presets k ≡ Some p → HasAll group.now p }
     ensures { IfOk result (λ v. ArePresetMasks group.now v.items) }

@@ -2,7 +2,6 @@ ghost use Rattle.std.specs.Prelude.{◌≡◌, ◌↔◌, IsTrue};
 
 use super::descriptor::Descriptor;
 
-/// Whether the descriptors are the same, in the same order.
 pub(crate) fn same_descriptors(one: &[Descriptor], other: &[Descriptor]) -> bool
     ensures { IsTrue result ↔ (one.now ≡ other.now) }
 {
@@ -17,7 +16,6 @@ pub(crate) fn same_descriptors(one: &[Descriptor], other: &[Descriptor]) -> bool
     true
 }
 
-/// Whether the bytes are the same.
 pub(crate) fn same_bytes(one: &[u8], other: &[u8]) -> bool
     ensures { IsTrue result ↔ (one.now ≡ other.now) }
 {

@@ -31,7 +31,7 @@ fn is_off_or_boolean(shape: &Shape, byte: usize, value: u8, bit: u8) -> bool
     is_boolean_bit(shape, byte, bit)
 }
 
-/// Whether only bits of booleans are on in this value of a byte.
+/// Whether a value of a byte has only bits of booleans on.
 fn holds_booleans_alone(shape: &Shape, byte: usize, value: u8) -> bool
     requires { byte ≤ 255 }
     ensures { IsTrue result ↔ HoldsBooleansAlone shape.now.own_bytes shape.now.booleans byte value }
@@ -44,7 +44,7 @@ fn holds_booleans_alone(shape: &Shape, byte: usize, value: u8) -> bool
     true
 }
 
-/// Whether the default is the first value, if the entry is an enum.
+/// Whether the default is the first value if the entry is an enum.
 fn has_first_value(defaults: &[u8], entry: &Descriptor) -> bool
     ensures { IsTrue result ↔ HasFirstValue defaults.now entry.now.offset entry.now.detail }
 {
@@ -68,7 +68,7 @@ fn have_first_values(defaults: &[u8], entries: &[Descriptor]) -> bool
     true
 }
 
-/// Whether in the default bytes behind those of the enums and numbers only bits of booleans are on.
+/// Whether only bits of booleans are on in the default bytes that come after those of the enums and numbers.
 fn are_boolean_bytes(shape: &Shape, defaults: &[u8]) -> bool
     requires { length defaults.now ≤ 255 }
     ensures { IsTrue result ↔ ((byte b : ℕ) → shape.now.own_bytes ≤ byte → slice_get defaults.now byte ≡ Some b
@@ -82,7 +82,7 @@ fn are_boolean_bytes(shape: &Shape, defaults: &[u8]) -> bool
     true
 }
 
-/// Whether these can be the default bytes of the entries, of which these are the counts.
+/// Whether these can be the default bytes of the entries. `shape` has the counts of these entries.
 pub(crate) fn are_good_defaults(shape: &Shape, entries: &[Descriptor], defaults: &[u8]) -> bool
     requires small { HasSmallCounts shape.now }
     requires shape { IsShapeOf entries.now shape.now }
@@ -97,7 +97,7 @@ pub(crate) fn are_good_defaults(shape: &Shape, entries: &[Descriptor], defaults:
     are_boolean_bytes(shape, defaults)
 }
 
-/// Whether only bits of booleans are on in the masks, one a setting byte for each preset in turn.
+/// Whether only bits of booleans are on in the masks. Each preset in turn has one mask for each setting byte.
 fn are_boolean_masks(shape: &Shape, masks: &[u8]) -> bool
     requires { shape.now.bytes ≤ 255 }
     ensures { IsTrue result ↔ ((k byte m : ℕ) → byte < shape.now.bytes
@@ -114,7 +114,7 @@ fn are_boolean_masks(shape: &Shape, masks: &[u8]) -> bool
     true
 }
 
-/// Whether these can be the masks of the presets among the entries, of which these are the counts.
+/// Whether these can be the masks of the presets among the entries. `shape` has the counts of these entries.
 pub(crate) fn are_good_masks(shape: &Shape, entries: &[Descriptor], masks: &[u8]) -> bool
     requires small { HasSmallCounts shape.now }
     requires shape { IsShapeOf entries.now shape.now }

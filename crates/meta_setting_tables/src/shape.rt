@@ -7,17 +7,16 @@ use super::descriptor::Descriptor;
 /// How many entries of each kind a group has.
 #[derive(Drop)]
 pub(crate) struct Shape {
-    /// Its enums and numbers, which have a byte each.
+    /// The count of enums and numbers, which have a byte each.
     pub own_bytes: usize,
-    /// Its booleans.
+    /// The count of booleans.
     pub booleans: usize,
-    /// Its presets.
+    /// The count of presets.
     pub presets: usize,
-    /// The bytes that its settings take: eight booleans share one.
+    /// The count of bytes that the settings take. Eight booleans share a byte.
     pub bytes: usize,
 }
 
-/// How many of the entries are enums and numbers.
 fn own_bytes_in(entries: &[Descriptor]) -> usize
     ensures { result ≡ own_byte_count entries.now }
 {
@@ -30,7 +29,6 @@ fn own_bytes_in(entries: &[Descriptor]) -> usize
     count
 }
 
-/// How many of the entries are booleans.
 fn booleans_in(entries: &[Descriptor]) -> usize
     ensures { result ≡ described_boolean_count entries.now }
 {
@@ -44,7 +42,7 @@ fn booleans_in(entries: &[Descriptor]) -> usize
 }
 
 impl Shape {
-    /// The counts of these entries, of which each that is no setting is a preset.
+    /// The counts of these entries. An entry that isn't a setting is a preset.
     #[tactic(auto, using(crate::proofs::Inside::all_kinds))]
     pub(crate) fn of(entries: &[Descriptor]) -> Shape
         requires { length entries.now ≤ 65535 }

@@ -39,7 +39,7 @@ module _ (d : GroupDeclaration) (valid : IsValidGroup d) where
   pub few_bytes : byte_count d ≤ 255
   few_bytes = ⊎_elim (λ l. absurd (valid 0 OfCounts _ (refl, inr (inl l)))) (λ l. l) (cases_lt 255 (byte_count d))
 
-  -- the entry of a preset stands behind those of the settings
+  -- the entry of a preset stands after those of the settings
   pub preset_at : (k : ℕ) (p : PresetDeclaration) → slice_get d.presets k ≡ Some p
       → slice_get (entries_of d) (length d.settings + k) ≡ Some (preset_entry p)
   preset_at k p at =

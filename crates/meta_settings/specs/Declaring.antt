@@ -9,7 +9,7 @@ with_setting d s = record d { settings = d.settings ++ s ∷ [] }
 abbrev pub with_preset : GroupDeclaration → PresetDeclaration → GroupDeclaration
 with_preset d p = record d { presets = d.presets ++ p ∷ [] }
 
--- fewer than 2^32 settings and presets together, of which so many are booleans
+-- fewer than 2^32 settings and presets together, of which `booleans` are booleans
 pub record IsCounted (settings : List SettingDeclaration) (presets : List PresetDeclaration) (booleans : ℕ) : Type 0 where
   pub few : length settings + length presets < 2 ^ 32
   pub are_booleans : booleans ≡ length (booleans_among settings)

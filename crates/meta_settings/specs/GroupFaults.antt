@@ -1,7 +1,7 @@
 -- The faults of a declared group, and the order in which they are looked for.
---     GroupShowsAt d g p e       the group with the number g shows the fault e at the position p
+--     GroupShowsAt d g p e       the group with the number g has the fault e at the position p
 --     IsFirstGroupFault d g e    e is the first fault of the group
---     IsValidGroup d             it has none
+--     IsValidGroup d             it has no fault
 use Rattle.std.specs.Prelude.{◌≡◌, ◌≢◌, ◌<◌, ◌≤◌, ◌-◌, ◌⊎◌, ℕ, List, [], length, slice_get, Some, IfSome, All, unwrap_or}
 use Rattle.meta_types.specs.Name.{IsName}
 use Rattle.meta_types.specs.declared.fault.Place.TheVariants.{Group as AtGroup, Entry as AtEntry}
@@ -27,13 +27,13 @@ pub record IsWellNamed (e : Entry) : Type 0 where
   pub description : All IsPlainByte e.description
   pub enumerators : All IsName (unwrap_or e.values [])
 
--- the values of an enum: one at least, 256 at most, and no two with the same name or camel case
+-- the values of an enum: at least one, at most 256, and no two with the same name or camel case
 pub record IsGoodEnum (values : List (List ℕ)) : Type 0 where
   pub some : 0 < length values
   pub few : length values ≤ 256
   pub distinct : AreDistinct values
 
--- a name in a preset means something, where there are so many booleans and so many earlier presets
+-- what a preset names exists, if there are `booleans` booleans and `earlier` presets before it
 abbrev pub IsMet : ℕ → ℕ → PresetType → Type 0
 IsMet booleans earlier (BoolSetting b) = b < booleans
 IsMet booleans earlier (OtherPreset q) = q < earlier

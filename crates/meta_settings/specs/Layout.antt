@@ -18,7 +18,7 @@ pub record BuiltPreset : Type 0 where
   pub description : List ℕ
   pub booleans : List ℕ
 
--- A group with its layout. The enums and numbers stand first among its settings, and the booleans, from that byte on, behind.
+-- A group with its layout. The enums and numbers stand first among its settings, and the booleans after them, from that byte on.
 pub record Layout : Type 0 where
   pub name : List ℕ
   pub settings : List PlacedSetting
@@ -26,7 +26,7 @@ pub record Layout : Type 0 where
   pub settings_size : ℕ
   pub presets : List BuiltPreset
 
--- its booleans, in order of their numbers: each enum and number has one byte, and the booleans stand behind these
+-- its booleans, in order of their numbers: each enum and number has one byte, and the booleans come after these
 abbrev pub booleans_in : Layout → List PlacedSetting
 booleans_in g = drop g.bool_start_byte_offset g.settings
 

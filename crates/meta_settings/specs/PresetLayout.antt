@@ -21,7 +21,7 @@ pub record HasBitsOf (start : ℕ) (booleans : List ℕ) (byte m : ℕ) : Type 0
   pub fits : m < 256
   pub bits : (bit : ℕ) → bit < 8 → ((bit_at m bit ≡ 1) ↔ IsOnAt start booleans byte bit)
 
--- for each of so many setting bytes the mask and the value of the booleans
+-- for each of `size` setting bytes the mask and the value of the booleans
 pub record IsLayoutOn (start size : ℕ) (booleans : List ℕ) (layout : List (ℕ × ℕ)) : Type 0 where
   pub size_is : length layout ≡ size
   pub masks : (byte : ℕ) (pair : ℕ × ℕ) → slice_get layout byte ≡ Some pair → HasBitsOf start booleans byte pair.0

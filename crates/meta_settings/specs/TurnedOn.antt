@@ -24,11 +24,11 @@ meant_by earlier (OtherPreset q) = booleans_at earlier q
 abbrev pub turned_on : List BuiltPreset → List PresetType → List ℕ
 turned_on earlier args = firsts (flat_map (meant_by earlier) args)
 
--- a preset that is declared behind these, with what it turns on
+-- a preset that is declared after these, with what it turns on
 abbrev pub built_preset : List BuiltPreset → PresetDeclaration → BuiltPreset
 built_preset earlier p = record { name = p.name; description = p.description; booleans = turned_on earlier p.args }
 
--- some declared presets with what they turn on, behind those that are declared before them
+-- the earlier presets, and after them some declared presets with what they turn on
 abbrev pub presets_after : List BuiltPreset → List PresetDeclaration → List BuiltPreset
 presets_after earlier [] = earlier
 presets_after earlier (p ∷ ps) = presets_after (earlier ++ built_preset earlier p ∷ []) ps

@@ -17,7 +17,7 @@ use meta_types::{DefinitionError, Text};
 use std::alloc::{AllocError, Global};
 use std::marker::Model;
 
-/// A group of settings while it is declared: it keeps what it was given, in order.
+/// A group of settings that is being declared. It keeps what it was given, in order.
 #[derive(Debug, Drop)]
 pub struct SettingGroupBuilder {
     name: Text,
@@ -38,7 +38,7 @@ impl Model for SettingGroupBuilder {
 }
 
 impl SettingGroupBuilder {
-    /// A group of this name without settings and presets.
+    /// Makes a group with this name, without settings or presets.
     pub fn new(alloc: Global, name: Text) -> Self
         ensures { result ≡ record { name = name; settings = []; presets = [] } }
     {
@@ -50,15 +50,15 @@ impl SettingGroupBuilder {
         }
     }
 
-    /// Whether a setting or a preset can be added: there are fewer than 2^32 - 1 of them together (this project's own).
+    /// Whether a setting or a preset can be added: the group has fewer than 2^32 - 1 of them together.
     pub fn has_room(&self) -> bool
         ensures { IsTrue result ↔ (entry_count self.now + 1 < 2 ^ 32) }
     {
         self.entry_count() < 0xffff_ffff
     }
 
-    /// Adds a boolean with its default, and answers its number among the booleans, from 0. Where memory runs out the group
-    /// stays as it was.
+    /// Adds a boolean with its default. It answers the boolean's number among the booleans of the group, from 0. If memory runs out, the
+    /// group stays as it was.
     pub fn add_bool(
         &mut self,
         name: Text,
@@ -80,8 +80,7 @@ impl SettingGroupBuilder {
         Ok(BoolSettingIndex::new(number))
     }
 
-    /// Adds an enum with the names of its values, the first of which is its default. Where memory runs out the group stays
-    /// as it was.
+    /// Adds an enum with the names of its values. The first of these is the default. If memory runs out, the group stays as it was.
     pub fn add_enum(
         &mut self,
         name: Text,
@@ -100,7 +99,7 @@ impl SettingGroupBuilder {
         Ok(())
     }
 
-    /// Adds a number with its default. Where memory runs out the group stays as it was.
+    /// Adds a number with its default. If memory runs out, the group stays as it was.
     pub fn add_num(
         &mut self,
         name: Text,
@@ -119,8 +118,8 @@ impl SettingGroupBuilder {
         Ok(())
     }
 
-    /// Adds a preset of what it names, and answers its number among the presets, from 0. Where memory runs out the group
-    /// stays as it was.
+    /// Adds a preset. `args` are the booleans and presets that it names. It answers the preset's number among the presets of the group,
+    /// from 0. If memory runs out, the group stays as it was.
     pub fn add_preset(
         &mut self,
         name: Text,
@@ -139,9 +138,9 @@ impl SettingGroupBuilder {
         Ok(PresetIndex::new(number))
     }
 
-    /// The group with its layout. It is refused exactly where it shows a fault, by the first one that it shows, with `group`
-    /// as its number: a bad name of the group; then entry by entry a bad name, a duplicate, a bad enum, a bad preset; then
-    /// too many settings. `OutOfMemory` may come in any case.
+    /// Lays out the group. A group with a fault is refused, and no other: the error is its first fault, with `group` as the number of the
+    /// group. First comes a bad name of the group; then, entry by entry, a bad name, a duplicate name, a bad enum, a bad preset; then too
+    /// many settings. `OutOfMemory` may come in any case.
     pub fn build(&self, alloc: Global, group: u64) -> Result<SettingGroup, DefinitionError>
         ensures refused { IfErr result (λ e. e ≢ OutOfMemory → IsFirstGroupFault self.now group e) }
         ensures valid { OnOk result (IsValidGroup self.now) }
@@ -171,14 +170,13 @@ impl SettingGroupBuilder {
         self.presets.as_slice()
     }
 
-    /// How many of its settings are booleans.
     pub(crate) fn boolean_count(&self) -> u32
         ensures { result ≡ boolean_count self.now }
     {
         self.booleans
     }
 
-    /// How many bytes its settings take.
+    /// How many bytes the settings take.
     pub(crate) fn byte_count(&self) -> u64
         ensures { result ≡ byte_count self.now }
     {
@@ -186,14 +184,13 @@ impl SettingGroupBuilder {
         self.settings.len() as u64 - booleans + (booleans + 7) / 8
     }
 
-    /// How many settings and presets it has.
     pub(crate) fn entry_count(&self) -> usize
         ensures { result ≡ entry_count self.now }
     {
         self.settings.len() + self.presets.len()
     }
 
-    /// The setting, or behind the settings the preset, at a place.
+    /// The setting at this place, or the preset, whose places come after those of the settings.
     pub(crate) fn entry(&self, place: usize) -> Entry<'_>
         requires { place < entry_count self.now }
         ensures { slice_get (entries_of self.now) place ≡ Some result }

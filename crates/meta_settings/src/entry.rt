@@ -5,8 +5,7 @@ use super::value_names::ValueNames;
 use meta_types::Text;
 use std::marker::Model;
 
-/// What the rules look at in an entry of a group: its name and description, its values if it is an enum, and what it names if
-/// it is a preset.
+/// What the rules look at in an entry of a group: its name and description, the values of an enum, and what a preset names.
 #[derive(Drop)]
 pub(crate) struct Entry<'a> {
     name: &'a Text,
@@ -63,14 +62,13 @@ impl<'a> Entry<'a> {
         self.description
     }
 
-    /// The values of an enum.
     pub(crate) fn values(&self) -> Option<&'a ValueNames>
         ensures { option_map (λ v. v.now) result ≡ self.now.values }
     {
         self.values
     }
 
-    /// What a preset names, and nothing for a setting.
+    /// What a preset names. A setting names nothing.
     pub(crate) fn args(&self) -> &'a [PresetType]
         ensures { result.now ≡ self.now.args }
     {

@@ -13,9 +13,9 @@ use std::alloc::{AllocError, Global};
 
 /// The most booleans that a group may have.
 const MAX_BOOLEANS: u64 = 248;
-/// The most bytes that its settings may take.
+/// The most bytes that the settings of a group may take.
 const MAX_BYTES: u64 = 255;
-/// The most settings and presets that it may have together.
+/// The most settings and presets together that a group may have.
 const MAX_ENTRIES: u64 = 65_535;
 /// The most values that an enum may have.
 const MAX_VALUES: usize = 256;
@@ -27,7 +27,8 @@ fn is_plain_byte(c: u8) -> bool
     (0x20..=0x7e).contains(&c) && c != b'"' && c != b'\\'
 }
 
-/// Whether a description needs no escape: each byte is one of 0x20 to 0x7e, but no double quote and no backslash.
+/// Whether a setting may have this description, which then needs no escape: each byte is one of 0x20 to 0x7e, and none is a double quote or
+/// a backslash.
 pub fn is_plain_description(text: &Text) -> bool
     ensures { IsTrue result ↔ All IsPlainByte text.now }
 {
@@ -40,7 +41,7 @@ pub fn is_plain_description(text: &Text) -> bool
     true
 }
 
-/// Whether an entry and its enumerators have names, and its description needs no escape.
+/// Whether the names of an entry and of its values may be declared, and its description needs no escape.
 fn is_well_named(entry: &Entry<'_>) -> bool
     ensures { IsTrue result ↔ IsWellNamed entry.now }
 {
@@ -69,7 +70,7 @@ fn is_good_enum(alloc: Global, values: &[Text]) -> Result<bool, AllocError>
     are_distinct(alloc, values)
 }
 
-/// Whether an entry is no enum, or one that may have its values.
+/// Whether the entry isn't an enum, or is one that may have its values.
 fn has_good_values(alloc: Global, entry: &Entry<'_>) -> Result<bool, AllocError>
     ensures { IfOk result (λ b. IsTrue b ↔ IfSome entry.now.values IsGoodEnum) }
 {
@@ -79,7 +80,7 @@ fn has_good_values(alloc: Global, entry: &Entry<'_>) -> Result<bool, AllocError>
     }
 }
 
-/// Whether a name in a preset means something, where there are so many booleans and so many earlier presets.
+/// Whether what a preset names exists, if there are `booleans` booleans and `earlier` presets before it.
 fn is_met(booleans: u32, earlier: usize, arg: &PresetType) -> bool
     ensures { IsTrue result ↔ IsMet booleans earlier arg.now }
 {
@@ -89,7 +90,6 @@ fn is_met(booleans: u32, earlier: usize, arg: &PresetType) -> bool
     }
 }
 
-/// Whether all names in a preset mean something.
 fn are_met(booleans: u32, earlier: usize, args: &[PresetType]) -> bool
     ensures { IsTrue result ↔ AreMet booleans earlier args.now }
 {
@@ -101,8 +101,8 @@ fn are_met(booleans: u32, earlier: usize, args: &[PresetType]) -> bool
     true
 }
 
-/// The first fault of the group, if the entry at this place shows it, where none is shown before and `names` are those of the
-/// earlier entries. Where there is none the entry's name is added.
+/// The first fault of the group if it is in the entry at this place, and no fault comes before. `names` has the names of the earlier
+/// entries. If the entry has no fault, its name is added.
 fn entry_fault<'b>(
     alloc: Global,
     builder: &'b SettingGroupBuilder,
@@ -136,7 +136,7 @@ fn entry_fault<'b>(
     Ok(None)
 }
 
-/// The first fault of the group, if the entries show it, where none is shown before.
+/// The first fault of the group if it is in the entries, and no fault comes before.
 fn entries_fault(
     alloc: Global,
     builder: &SettingGroupBuilder,
@@ -154,7 +154,6 @@ fn entries_fault(
     Ok(None)
 }
 
-/// The first fault of the group.
 pub(crate) fn group_fault(
     alloc: Global,
     builder: &SettingGroupBuilder,

@@ -83,7 +83,7 @@ impl FirstNamed {
         }
     }
 
-    /// Names a boolean, which changes nothing where it was named before.
+    /// Adds the number of a boolean, unless it was added before.
     pub(crate) fn add(&mut self, number: u8) -> Result<(), AllocError>
         ensures { (named : List ℕ) → self.old ≡ firsts named → OnOk result (self.new ≡ firsts (named ++ number ∷ [])) }
     {
@@ -95,7 +95,6 @@ impl FirstNamed {
         Ok(())
     }
 
-    /// Names these booleans in turn.
     pub(crate) fn add_all(&mut self, numbers: &[u8]) -> Result<(), AllocError>
         ensures { (named : List ℕ) → self.old ≡ firsts named → OnOk result (self.new ≡ firsts (named ++ numbers.now)) }
     {
@@ -105,7 +104,6 @@ impl FirstNamed {
         Ok(())
     }
 
-    /// The numbers that were named.
     pub(crate) fn numbers(self) -> BooleanNumbers
         ensures { result ≡ self }
     {

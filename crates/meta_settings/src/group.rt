@@ -7,7 +7,7 @@ use super::setting::Setting;
 use meta_types::Text;
 use std::marker::Model;
 
-/// A group of settings with its layout. `SettingGroupBuilder::build` alone makes it.
+/// A group of settings with its layout. Only `SettingGroupBuilder::build` makes one.
 #[derive(Debug, Drop)]
 pub struct SettingGroup {
     name: Text,
@@ -33,7 +33,6 @@ impl Model for SettingGroup {
     ghost invariant = { λ g. IsSized g.settings.items g.bool_start_byte_offset g.settings_size };
 }
 
-/// Whether all of these numbers are below the bound.
 fn are_below(numbers: &[u8], bound: usize) -> bool
     ensures { IsTrue result ↔ All (λ number. number < bound) numbers.now }
 {
@@ -71,28 +70,28 @@ impl SettingGroup {
         }
     }
 
-    /// Its name.
+    /// The name of the group.
     pub fn name(&self) -> &Text
         ensures { result.now ≡ self.now.name }
     {
         &self.name
     }
 
-    /// Its settings: the enums and numbers, then the booleans, each in order of declaration.
+    /// The settings: first the enums and numbers, then the booleans, each in order of declaration.
     pub fn settings(&self) -> &[Setting]
         ensures { result.now ≡ self.now.settings }
     {
         self.settings.as_slice()
     }
 
-    /// The byte of its first booleans, which is the count of its enums and numbers.
+    /// The place of the first byte that has booleans, which is the count of enums and numbers.
     pub fn bool_start_byte_offset(&self) -> u8
         ensures { result ≡ self.now.bool_start_byte_offset }
     {
         self.bool_start_byte_offset
     }
 
-    /// How many bytes its settings take.
+    /// How many bytes the settings take.
     pub fn settings_size(&self) -> u8
         ensures size { result ≡ self.now.settings_size }
         ensures sized { IsSized self.now.settings self.now.bool_start_byte_offset self.now.settings_size }
@@ -100,22 +99,21 @@ impl SettingGroup {
         self.settings_size
     }
 
-    /// How many bytes its settings take: `settings_size`.
+    /// How many bytes the settings take, as `settings_size`.
     pub fn byte_size(&self) -> u8
         ensures { result ≡ self.now.settings_size }
     {
         self.settings_size
     }
 
-    /// Its presets, in order of declaration.
+    /// The presets, in order of declaration.
     pub fn presets(&self) -> &[Preset]
         ensures { result.now ≡ self.now.presets }
     {
         self.presets.as_slice()
     }
 
-    /// Whether the number of each boolean that the preset turns on is below the group's count of booleans (this project's
-    /// own).
+    /// Whether the numbers of all booleans that the preset turns on are below the group's count of booleans.
     pub fn has(&self, preset: &Preset) -> bool
         ensures { IsTrue result ↔ HasAll self.now preset.now }
     {
@@ -123,7 +121,7 @@ impl SettingGroup {
         are_below(preset.booleans(), count)
     }
 
-    /// Its booleans, in order of their numbers.
+    /// The booleans, in order of their numbers.
     pub(crate) fn booleans(&self) -> &[Setting]
         ensures booleans { result.now ≡ booleans_in self.now }
         ensures sized { IsSized self.now.settings self.now.bool_start_byte_offset self.now.settings_size }

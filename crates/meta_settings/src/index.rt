@@ -3,7 +3,7 @@ ghost use Rattle.meta_settings.specs.declared.index.PresetType.TheVariants.{Bool
 
 use std::marker::Model;
 
-/// The number of a boolean among the booleans of its group, from 0 and below 2^32.
+/// The number of a boolean among the booleans of its group, from 0, below 2^32.
 #[derive(Clone, Copy, Debug, PartialEq, Eq, Hash)]
 pub struct BoolSettingIndex {
     number: u32,
@@ -34,7 +34,7 @@ impl BoolSettingIndex {
     }
 }
 
-/// The number of a preset among the presets of its group, from 0 and below 2^32.
+/// The number of a preset among the presets of its group, from 0, below 2^32.
 #[derive(Clone, Copy, Debug, PartialEq, Eq, Hash)]
 pub struct PresetIndex {
     number: u32,
@@ -88,8 +88,8 @@ impl From<PresetIndex> for PresetType {
     }
 }
 
-/// What a preset names, as `preset!(alloc; a && b)`: a `Vec<PresetType>` of the names, each by `PresetType::from`. It is used
-/// in a body that answers a `Result`, since the list may find no memory. `preset!(alloc;)` names nothing.
+/// A list of what a preset names, as in `preset!(alloc; a && b)`: a `Vec<PresetType>` that has each name as `PresetType::from` gives it.
+/// `preset!(alloc;)` names nothing. The macro stands in a function that answers a `Result`, which memory that runs out ends with the error.
 #[macro_export]
 macro_rules! preset {
     ($alloc:expr;) => {

@@ -3,7 +3,7 @@ ghost use Rattle.std.specs.Prelude.{◌≡◌};
 use super::group::SettingGroup;
 use meta_types::Text;
 
-/// A target with its own group of settings (`cdsl/isa.rs`).
+/// A target with its own group of settings, as in the crate's `cdsl/isa.rs`.
 #[derive(Drop)]
 pub struct TargetIsa {
     pub name: Text,
@@ -11,7 +11,7 @@ pub struct TargetIsa {
 }
 
 impl TargetIsa {
-    /// The target of this name with these settings.
+    /// Makes the target with this name and these settings.
     pub fn new(name: Text, settings: SettingGroup) -> TargetIsa
         ensures { result ≡ record { name = name; settings = settings } }
     {

@@ -12,7 +12,7 @@ use super::proto::{ProtoPreset, ProtoSetting};
 use super::setting::Setting;
 use std::alloc::{AllocError, Global};
 
-/// The enums and numbers among these settings, each in a byte of its own.
+/// The enums and numbers of these settings, each with a byte of its own.
 fn in_bytes(alloc: Global, settings: &[ProtoSetting]) -> Result<Vec<Setting>, AllocError>
     requires { length (others_among settings.now) ≤ 255 }
     ensures { IfOk result (λ v. v.items ≡ in_bytes 0 (others_among settings.now)) }
@@ -27,7 +27,7 @@ fn in_bytes(alloc: Global, settings: &[ProtoSetting]) -> Result<Vec<Setting>, Al
     Ok(placed)
 }
 
-/// The booleans among these settings, eight to a byte from this byte on.
+/// The booleans of these settings, eight to a byte, from the byte `start` on.
 fn in_bits(alloc: Global, settings: &[ProtoSetting], start: u8) -> Result<Vec<Setting>, AllocError>
     requires few { length (booleans_among settings.now) ≤ 248 }
     requires bytes { start + (length (booleans_among settings.now) + 7) / 8 ≤ 255 }
@@ -44,7 +44,7 @@ fn in_bits(alloc: Global, settings: &[ProtoSetting], start: u8) -> Result<Vec<Se
     Ok(placed)
 }
 
-/// Settings, and others behind them.
+/// The first settings, then the second.
 fn joined(mut first: Vec<Setting>, mut second: Vec<Setting>) -> Result<Vec<Setting>, AllocError>
     ensures { IfOk result (λ v. v.items ≡ first.items ++ second.items) }
 {
@@ -52,7 +52,7 @@ fn joined(mut first: Vec<Setting>, mut second: Vec<Setting>) -> Result<Vec<Setti
     Ok(first)
 }
 
-/// The presets with what they turn on, in order.
+/// The presets with the booleans that they turn on, in order.
 fn with_booleans(alloc: Global, declared: &[ProtoPreset]) -> Result<Vec<Preset>, AllocError>
     requires { AreAllMet 256 declared.now }
     ensures { IfOk result (λ v. v.items ≡ built_presets declared.now) }
@@ -65,7 +65,7 @@ fn with_booleans(alloc: Global, declared: &[ProtoPreset]) -> Result<Vec<Preset>,
     Ok(presets)
 }
 
-/// The group with its layout, where it has no fault.
+/// The group with its layout, if it has no fault.
 pub(crate) fn laid_out_group(
     alloc: Global,
     builder: &SettingGroupBuilder,

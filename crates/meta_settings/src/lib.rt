@@ -1,6 +1,6 @@
-//! Groups of settings: their declarations, their layout in bytes and bits, and presets (`cdsl/settings.rs`).
+//! Groups of settings: their declarations, their layout in bytes and bits, and presets, as in the crate's `cdsl/settings.rs`.
 //!
-//! A contract sees a builder as the `GroupDeclaration` of what it was given, and a built group as a `Layout`.
+//! A contract sees a builder as a `GroupDeclaration`, which has what the builder was given, and a built group as a `Layout`.
 #![tactic(auto)]
 
 mod builder;

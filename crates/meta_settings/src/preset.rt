@@ -12,7 +12,7 @@ use meta_types::Text;
 use std::alloc::{AllocError, Global};
 use std::marker::Model;
 
-/// A preset: a name for booleans that are turned on together. `SettingGroupBuilder::build` alone makes it.
+/// A preset: a name for booleans that are turned on together. Only `SettingGroupBuilder::build` makes one.
 #[derive(Debug, Drop, PartialEq, Eq, Hash)]
 pub struct Preset {
     name: Text,
@@ -30,7 +30,7 @@ impl Model for Preset {
     ghost inverse = { λ v. record { name = v.name; description = v.description; booleans = v.booleans } };
 }
 
-/// Names what a name in a preset stands for, where these presets are earlier.
+/// Adds the booleans that `arg` stands for: a boolean, or those that an earlier preset turns on.
 fn add_meant(named: &mut FirstNamed, arg: &PresetType, earlier: &[Preset]) -> Result<(), AllocError>
     requires { IsMet 256 (length earlier.now) arg.now }
     ensures { (numbers : List ℕ) → named.old ≡ firsts numbers → OnOk result (named.new ≡ firsts (numbers ++ meant_by earlier.now arg.now)) }
@@ -43,7 +43,7 @@ fn add_meant(named: &mut FirstNamed, arg: &PresetType, earlier: &[Preset]) -> Re
     }
 }
 
-/// The numbers of the booleans that are turned on by these names, where these presets are earlier.
+/// The numbers of the booleans that these names turn on. `earlier` has the presets that are declared before.
 fn turned_on(
     alloc: Global,
     args: &[PresetType],
@@ -60,7 +60,7 @@ fn turned_on(
 }
 
 impl Preset {
-    /// The preset as it is declared behind these.
+    /// Makes the preset of its declaration and of the presets before it.
     pub(crate) fn of(
         alloc: Global,
         declared: &ProtoPreset,
@@ -76,14 +76,14 @@ impl Preset {
         })
     }
 
-    /// Its name.
+    /// The name of the preset.
     pub fn name(&self) -> &Text
         ensures { result.now ≡ self.now.name }
     {
         &self.name
     }
 
-    /// Its description.
+    /// The description of the preset.
     pub fn description(&self) -> &Text
         ensures { result.now ≡ self.now.description }
     {
@@ -97,7 +97,7 @@ impl Preset {
     }
 }
 
-/// Turns on this bit, below 8, of the byte at this place.
+/// Turns on the bit `bit`, below 8, of the byte at the place `at`.
 fn turn_on(layout: &mut [(u8, u8)], at: usize, bit: u8)
     requires at { at < length layout.old }
     requires bit { bit < 8 }
@@ -107,7 +107,7 @@ fn turn_on(layout: &mut [(u8, u8)], at: usize, bit: u8)
     layout[at] = (mask | 1 << bit, value | 1 << bit);
 }
 
-/// Turns on these booleans, of which boolean 0 is bit 0 of the byte `start`.
+/// Turns on the bits of these booleans. Boolean 0 has bit 0 of the byte `start`.
 fn turn_on_all(layout: &mut [(u8, u8)], start: u8, numbers: &[u8])
     requires { All (λ b. start + b / 8 < length layout.old) numbers.now }
     ensures { (size : ℕ) → IsLayoutOn start size [] layout.old → IsLayoutOn start size numbers.now layout.new }
@@ -117,7 +117,7 @@ fn turn_on_all(layout: &mut [(u8, u8)], start: u8, numbers: &[u8])
     }
 }
 
-/// A layout of this many bytes that turns on nothing.
+/// A layout of `size` bytes in which no bit is turned on.
 fn empty_layout(alloc: Global, size: u8) -> Result<Vec<(u8, u8)>, AllocError>
     ensures { (start : ℕ) → IfOk result (λ v. IsLayoutOn start size [] v.items) }
 {
@@ -129,8 +129,8 @@ fn empty_layout(alloc: Global, size: u8) -> Result<Vec<(u8, u8)>, AllocError>
 }
 
 impl Preset {
-    /// For each setting byte of the group a mask of the bits that the preset turns on, and their value, which is the same.
-    /// `SettingGroup::has` tells whether the preset's booleans are of the group.
+    /// For each setting byte of the group, a mask of the bits that the preset turns on, and their value, which is the same as the mask. The
+    /// preset must be of the group, which `SettingGroup::has` tests.
     pub fn layout(&self, alloc: Global, group: &SettingGroup) -> Result<Vec<(u8, u8)>, AllocError>
         requires { HasAll group.now self.now }
         ensures { IfOk result (λ v. IsLayoutOf group.now self.now v.items) }
@@ -140,8 +140,8 @@ impl Preset {
         Ok(layout)
     }
 
-    /// The names of the booleans that the preset turns on, each once, in the order in which they are first named, where a
-    /// preset that is named stands for its own names in their order. `SettingGroup::has` tells whether they are of the group.
+    /// The names of the booleans that the preset turns on, each once, in the order in which they are first named. A named preset stands for
+    /// its own names, in their order. The preset must be of the group, which `SettingGroup::has` tests.
     pub fn setting_names<'a>(&'a self, group: &'a SettingGroup) -> SettingNames<'a>
         requires { HasAll group.now self.now }
         ensures { result ≡ names_turned_on group.now self.now }
@@ -153,7 +153,7 @@ impl Preset {
     }
 }
 
-/// The names of booleans, in turn. A contract sees the names that are left.
+/// An iterator over names of booleans. A contract sees the names that are left.
 #[derive(Drop)]
 pub struct SettingNames<'a> {
     numbers: &'a [u8],

@@ -74,7 +74,6 @@ impl ProtoSetting {
         &self.specific
     }
 
-    /// Whether it is a boolean.
     pub(crate) fn is_bool(&self) -> bool
         ensures { result ≡ is_bool self.now }
     {
@@ -85,7 +84,7 @@ impl ProtoSetting {
         }
     }
 
-    /// The entry of its group that it is.
+    /// The setting as an entry of its group.
     pub(crate) fn entry(&self) -> Entry<'_>
         ensures { result ≡ setting_entry self.now }
     {
@@ -143,7 +142,7 @@ impl ProtoPreset {
         self.args.as_slice()
     }
 
-    /// The entry of its group that it is.
+    /// The preset as an entry of its group.
     pub(crate) fn entry(&self) -> Entry<'_>
         ensures { result ≡ preset_entry self.now }
     {

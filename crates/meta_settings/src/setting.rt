@@ -8,7 +8,7 @@ use meta_types::Text;
 use std::alloc::{AllocError, Global};
 use std::marker::Model;
 
-/// A boolean: its default, its bit in its byte, from 0, and its number among the booleans of its group, below 248.
+/// A boolean: its default, its bit in its byte, from 0, and its number among the booleans of its group, from 0 to 247.
 #[derive(Clone, Copy, Debug, PartialEq, Eq, Hash)]
 pub struct BoolSetting {
     pub default: bool,
@@ -24,7 +24,7 @@ pub enum SpecificSetting {
     Num(u8),
 }
 
-/// A setting with its place. `SettingGroupBuilder::build` alone makes it.
+/// A setting with its place. Only `SettingGroupBuilder::build` makes one.
 #[derive(Debug, Drop, PartialEq, Eq, Hash)]
 pub struct Setting {
     name: Text,
@@ -61,7 +61,7 @@ impl Model for Setting {
     } };
 }
 
-/// What the setting is, where it is the boolean of this number if it is a boolean.
+/// A setting without its place. A boolean gets this number.
 fn placed(
     alloc: Global,
     specific: &ProtoSpecificSetting,
@@ -81,7 +81,7 @@ fn placed(
 }
 
 impl Setting {
-    /// The setting in this byte, and as the boolean of this number if it is a boolean.
+    /// The setting at this byte. A boolean gets this number.
     pub(crate) fn at(
         alloc: Global,
         declared: &ProtoSetting,
@@ -99,42 +99,43 @@ impl Setting {
         })
     }
 
-    /// Its name.
+    /// The name of the setting.
     pub fn name(&self) -> &Text
         ensures { result.now ≡ self.now.name }
     {
         &self.name
     }
 
-    /// Its description.
+    /// The description of the setting.
     pub fn description(&self) -> &Text
         ensures { result.now ≡ self.now.description }
     {
         &self.description
     }
 
-    /// Its comment.
+    /// The comment of the setting.
     pub fn comment(&self) -> &Text
         ensures { result.now ≡ self.now.comment }
     {
         &self.comment
     }
 
-    /// What it is.
+    /// Whether the setting is a boolean, an enum or a number, with what belongs to it.
     pub fn specific(&self) -> &SpecificSetting
         ensures { result.now ≡ self.now.specific }
     {
         &self.specific
     }
 
-    /// Its byte, from 0.
+    /// The place of the setting's byte, from 0.
     pub fn byte_offset(&self) -> u8
         ensures { result ≡ self.now.byte_offset }
     {
         self.byte_offset
     }
 
-    /// What it gives to the default bytes: a true boolean its bit, a false one 0, an enum 0, a number its default.
+    /// What the setting gives to its default byte: its bit if it is a boolean that is true, 0 if it is false; 0 for an enum; the default of
+    /// a number.
     pub fn default_byte(&self) -> u8
         ensures { result ≡ default_byte_of self.now }
     {

@@ -24,7 +24,6 @@ impl Model for ValueNames {
     ghost view = { λ v. v.names.items };
 }
 
-/// Equal texts, in order.
 fn copied(alloc: Global, texts: &[Text]) -> Result<Vec<Text>, AllocError>
     ensures { IfOk result (λ v. v.items ≡ texts.now) }
 {
@@ -43,7 +42,7 @@ impl ValueNames {
         self.names.as_slice()
     }
 
-    /// Equal names of its own.
+    /// Makes a copy of the names.
     pub fn copy(&self, alloc: Global) -> Result<ValueNames, AllocError>
         ensures { IfOk result (λ v. v ≡ self.now) }
     {

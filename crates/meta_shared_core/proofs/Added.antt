@@ -36,7 +36,7 @@ front imm entities rows k old new are is = record {
 pub row_count : (rows : List FormatRow) → AreFormatRows rows → length rows ≡ 36
 row_count rows are = sym (length-map rows row_name) ∙ ap length are.names
 
--- so many formats are added
+-- the formats of all rows are added
 pub all_counted : (imm : Immediates) (entities : EntityRefs) (old new : List InstructionFormat) → AddsAll imm entities old new
     → length new ≡ length old + 36
 all_counted imm entities old new adds =

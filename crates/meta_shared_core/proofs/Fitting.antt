@@ -78,7 +78,7 @@ kind_below vars m (ARoot root) kind n meant h at =
 kind_below vars m (ADerived function root) kind n meant h at =
     subst (λ j. j < length vars) (same_Some _ _ (sym (ap variable_in h.fields_are) ∙ at)) h.of
 
--- the variables of an operand and of those behind it
+-- the variables of an operand and of those after it
 are_of_cons : (vars : List TypeVarContent) (o : Operand) (operands : List Operand) (v : Option ℕ) → variable_of o ≡ v
     → ((n : ℕ) → v ≡ Some n → n < length vars) → AreOf vars (variables_of operands) → AreOf vars (variables_of (o ∷ operands))
 are_of_cons vars o operands None e below held =

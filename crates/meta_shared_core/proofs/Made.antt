@@ -51,7 +51,7 @@ pub rows_derive_more : (rows : List Row) (k : ℕ) (d : Row) → k < length rows
 rows_derive_more rows k d within = sym (ap derived_in (take_more rows k d within)
     ∙ sum_by_push derived_in_row (take k rows) (get_or rows k d))
 
--- the instructions of rows behind those of others
+-- the instructions of some rows, and after them those of others
 pub adds_joined : (old new : List TypeVarContent) (n : ℕ) (m : Meanings) (rows more : List Row)
     (start now all : List Builder) → Grows n old new → AddsRows old m rows start now → AddsRows new m more now all
     → AddsRows new m (rows ++ more) start all

@@ -8,7 +8,7 @@ use Rattle.meta_shared_core.specs.Formats.{AreNumbered, AreNumberedFrom, AreForm
 use Rattle.meta_shared_core.specs.declared.format.Format.{Format}
 use Rattle.meta_shared_core.specs.declared.formats.Formats.{Formats}
 
--- the last of so many numbers, and those before it
+-- the last of these numbers, and those before it
 last_number : (first count : ℕ) (ids : List ℕ) (id k : ℕ) → AreNumbered first count ids → id ≡ first + count
     → k ≡ count → slice_get (ids ++ id ∷ []) k ≡ Some (first + k)
 last_number first count ids id k held is same =

@@ -17,7 +17,7 @@ settings_more rows k d old now new within held added =
     (append_assoc old.settings (map setting_of (take k rows)) (setting_of (get_or rows k d) ∷ [])
     ∙ ap (λ xs. old.settings ++ xs) (sym (map_more setting_of rows k d within)))
 
--- the settings of the first rows, and of those behind them
+-- the settings of the first rows, and of those after them
 pub has_all : (none some all : GroupDeclaration) (first last : List SettingRow)
     → some ≡ with_settings none (map setting_of first) → all ≡ with_settings some (map setting_of last)
     → map setting_name first ≡ take 13 setting_names → map setting_name last ≡ drop 13 setting_names → HasSharedSettings none all

@@ -176,7 +176,7 @@ is_value Block = false
 is_value RawBlock = false
 is_value (Immediate kind) = false
 
--- whether the designated value, if it is told, is one of so many
+-- whether the designated value, if one is given, is one of the first `count` values
 abbrev pub is_place_within : ℕ → Option ℕ → Bool
 is_place_within count None = true
 is_place_within count (Some place) = nat_lt place count
@@ -203,7 +203,7 @@ pub record AreFormatRows (rows : List FormatRow) : Type 0 where
   pub names : map row_name rows ≡ format_names
   pub sound : list_all is_format_row rows ≡ true
 
--- so many parts can be added
+-- `parts` more parts can be added
 pub record CanAdd (f : InstructionFormat) (parts : ℕ) : Type 0 where
   pub values : f.num_value_operands + parts < 2 ^ 32
   pub blocks : f.num_block_operands + parts < 2 ^ 32
@@ -228,7 +228,7 @@ pub record AddsFront (imm : Immediates) (entities : EntityRefs) (old new : List 
   pub count : ℕ
   pub adds : AddsNamed (take count format_names) imm entities old new
 
--- so many numbers, which count on from the first
+-- `count` numbers, which count on from the first
 pub record AreNumbered (first count : ℕ) (ids : List ℕ) : Type 0 where
   pub count_is : length ids ≡ count
   pub at : (k : ℕ) → k < count → slice_get ids k ≡ Some (first + k)

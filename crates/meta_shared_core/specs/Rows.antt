@@ -104,7 +104,7 @@ row_name row = row.name.now
 abbrev pub row_format : Row → Format
 row_format row = row.format
 
--- the rows have these names and these formats, so many operands of derived variables, and each of these can be derived
+-- the rows have these names and these formats, this count of operands with derived variables, and each of these can be derived
 pub record IsTable (names : List (List ℕ)) (formats : List Format) (derived : ℕ) (rows : List Row) : Type 0 where
   pub are_named : map row_name rows ≡ names
   pub are_of : map row_format rows ≡ formats

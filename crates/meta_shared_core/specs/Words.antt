@@ -33,7 +33,7 @@ pub record AreMeant (vars : List TypeVarContent) (m : Meanings) : Type 0 where
   pub entities : EntitiesHoldNoVariable m.entities
   pub roots : AreRoots vars m.roots
 
--- the variables old, and at most n more behind them
+-- the variables old, and after them at most n more
 pub record Grows (n : ℕ) (old new : List TypeVarContent) : Type 0 where
   pub more : List TypeVarContent
   pub is : new ≡ old ++ more

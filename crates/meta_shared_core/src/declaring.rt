@@ -15,7 +15,7 @@ use meta_types::Text;
 use meta_typevar::TypeVars;
 use std::alloc::{AllocError, Global};
 
-/// A documentation of its own, where there is one.
+/// A copy of the documentation, if there is one.
 fn own_doc(alloc: Global, doc: Option<&str>) -> Result<Option<Text>, AllocError>
     ensures { IfOk result (λ d. d ≡ option_map (λ text. text.now) doc.entry) }
 {
@@ -25,7 +25,7 @@ fn own_doc(alloc: Global, doc: Option<&str>) -> Result<Option<Text>, AllocError>
     }
 }
 
-/// The operand with its documentation, where it has one of its own.
+/// The operand with its documentation, if it has one of its own.
 fn documented(operand: Operand, doc: Option<Text>) -> Operand
     requires { own_doc operand ≡ None }
     ensures name { result.name ≡ operand.name }
@@ -38,7 +38,6 @@ fn documented(operand: Operand, doc: Option<Text>) -> Operand
     }
 }
 
-/// The operand of a row.
 fn operand(
     alloc: Global,
     names: &Names<'_>,
@@ -57,7 +56,6 @@ fn operand(
     Ok(documented(Operand::new(name, kind), doc))
 }
 
-/// The operands of rows, in order.
 fn operands(
     alloc: Global,
     names: &Names<'_>,
@@ -77,7 +75,6 @@ fn operands(
     Ok(operands)
 }
 
-/// The builder with one more mark.
 fn with_mark(builder: InstructionBuilder, mark: Mark) -> InstructionBuilder
     ensures { result ≡ record builder { marks = with_mark builder.marks mark } }
 {
@@ -95,7 +92,6 @@ fn with_mark(builder: InstructionBuilder, mark: Mark) -> InstructionBuilder
     }
 }
 
-/// The builder with these marks.
 fn with_marks(mut builder: InstructionBuilder, marks: &[Mark]) -> InstructionBuilder
     ensures { result ≡ record builder { marks = marks_added builder.marks marks.now } }
 {
@@ -105,7 +101,7 @@ fn with_marks(mut builder: InstructionBuilder, marks: &[Mark]) -> InstructionBui
     builder
 }
 
-/// The instruction of a row, yet without operands and marks. It names no second control.
+/// The instruction of a row, without its operands and marks. It has no second control.
 fn without_operands(
     alloc: Global,
     names: &Names<'_>,
@@ -126,7 +122,6 @@ fn without_operands(
     Ok(InstructionBuilder::new(alloc, name, doc, names.format(row.format)))
 }
 
-/// The instruction of a row.
 fn instruction(
     alloc: Global,
     names: &Names<'_>,
@@ -146,7 +141,6 @@ fn instruction(
     Ok(with_marks(builder, row.marks))
 }
 
-/// Adds an instruction at the end.
 fn push(all: &mut AllInstructions, builder: InstructionBuilder) -> Result<(), AllocError>
     ensures { OnOk result (all.new ≡ all.old ++ builder ∷ []) }
 {
@@ -154,7 +148,7 @@ fn push(all: &mut AllInstructions, builder: InstructionBuilder) -> Result<(), Al
     group.push(builder)
 }
 
-/// Adds the instructions of rows at the end, in order, and to the variables what they derive from the roots.
+/// Adds the instructions of the rows, in order. The variables that they derive from the roots are added too.
 fn push_rows(
     alloc: Global,
     names: &Names<'_>,
@@ -174,8 +168,8 @@ fn push_rows(
     Ok(())
 }
 
-/// Adds the instructions of tables at the end, in order, and to the variables what they derive from the roots. After an error a part of
-/// both may have been added.
+/// Adds the instructions of the tables, in order. The type variables that they derive from the roots are added too. After an error a part
+/// of both may have been added.
 pub fn push_tables(
     alloc: Global,
     names: &Names<'_>,

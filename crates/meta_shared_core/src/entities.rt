@@ -6,14 +6,14 @@ use super::kind_rows::{Class, KindRow, kind_rows, make_kinds, next};
 use meta_operands::OperandKind;
 use std::alloc::{AllocError, Global};
 
-/// The kinds of references to entities of the function, and of a variable number of values (`shared/entities.rs`).
+/// The kinds of references to entities of the function, and the kind of varargs, as in the crate's `shared/entities.rs`.
 #[derive(Drop)]
 pub struct EntityRefs {
     /// A block with its arguments.
     pub block_call: OperandKind,
-    /// The same, where the condition holds.
+    /// A block with its arguments, which is taken if the condition holds.
     pub block_then: OperandKind,
-    /// The same, where it doesn't hold.
+    /// A block with its arguments, which is taken if the condition doesn't hold.
     pub block_else: OperandKind,
     /// A block without arguments.
     pub raw_block: OperandKind,
@@ -31,7 +31,7 @@ pub struct EntityRefs {
     pub jump_table: OperandKind,
     /// An exception table.
     pub exception_table: OperandKind,
-    /// A variable number of values.
+    /// Any number of values (varargs).
     pub varargs: OperandKind,
     /// A constant of the pool.
     pub pool_constant: OperandKind,
@@ -57,14 +57,13 @@ static ENTITIES: [KindRow; 14] = kind_rows! {
     uimm128: Entity("imm", "ir::Immediate", "A 128-bit immediate unsigned integer.");
 };
 
-/// The rows of the table.
 fn rows() -> &'static [KindRow]
     ensures { AreEntityRows result.now }
 {
     &ENTITIES
 }
 
-/// The kinds by their names.
+/// The kinds as fields. They are in the order of the fields.
 fn named(kinds: Vec<OperandKind>) -> EntityRefs
     requires { length kinds.items ≡ 14 }
     ensures { BeginWith (kinds_of_entities result) kinds.items }
@@ -89,7 +88,7 @@ fn named(kinds: Vec<OperandKind>) -> EntityRefs
 }
 
 impl EntityRefs {
-    /// The kinds of the shared instruction set, of which none is of values.
+    /// Makes the kinds of the shared instruction set. None of them is a kind of values.
     pub fn new(alloc: Global) -> Result<EntityRefs, AllocError>
         ensures kinds { IfOk result AreEntities }
         ensures no_variable { IfOk result EntitiesHoldNoVariable }

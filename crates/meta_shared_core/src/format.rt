@@ -1,4 +1,4 @@
-/// The formats of the shared instruction set, as the tables name them, in the order of their numbers.
+/// A format of the shared instruction set, as the tables name it. They are in the order of their numbers.
 #[derive(Clone, Copy)]
 pub enum Format {
     Unary,

@@ -17,7 +17,7 @@ use std::alloc::{AllocError, Global};
 pub(crate) enum FormatPart {
     /// A value.
     Value,
-    /// A variable number of values.
+    /// Any number of values (varargs).
     Varargs,
     /// A block with its arguments.
     Block,
@@ -27,7 +27,7 @@ pub(crate) enum FormatPart {
     Immediate(Kind),
 }
 
-/// A row of the table of formats: the name, the parts, and which value is designated, where it isn't the first.
+/// A row of the table of formats: the name, the parts, and the place of the designated value if that isn't the first.
 #[derive(Clone, Copy)]
 pub(crate) struct FormatRow {
     name: &'static str,
@@ -35,7 +35,7 @@ pub(crate) struct FormatRow {
     designated: Option<usize>,
 }
 
-/// What a word of the table means: any other word is an immediate of that kind.
+/// The meaning of a word of the table. A word without a meaning of its own is an immediate of that kind.
 macro_rules! part {
     (value) => { FormatPart::Value };
     (varargs) => { FormatPart::Varargs };
@@ -50,7 +50,7 @@ macro_rules! place {
     ($place:literal) => { Some($place) };
 }
 
-/// A table of formats: the name, the parts, and `@` with the place of the designated value.
+/// A table of formats. Each row has the name, the parts, and after `@` the place of the designated value.
 macro_rules! formats {
     ($($name:ident($($part:ident)*) $(@ $place:literal)?;)*) => {
         [$(FormatRow { name: stringify!($name), parts: &[$(part!($part)),*], designated: place!($($place)?) }),*]
@@ -97,14 +97,13 @@ static FORMATS: [FormatRow; 36] = formats! {
     ExceptionHandlerAddress(raw_block Imm64);
 };
 
-/// The rows of the table.
 fn rows() -> &'static [FormatRow]
     ensures { AreFormatRows result.now }
 {
     &FORMATS
 }
 
-/// The numbers of the formats of the shared instruction set (`shared/formats.rs`).
+/// The numbers of the formats of the shared instruction set, as in the crate's `shared/formats.rs`.
 #[derive(Drop)]
 pub struct Formats {
     /// `Unary`.
@@ -181,7 +180,6 @@ pub struct Formats {
     pub exception_handler_address: FormatId,
 }
 
-/// The format with one more part.
 fn with_part(
     builder: InstructionFormatBuilder,
     part: FormatPart,
@@ -200,7 +198,6 @@ fn with_part(
     }
 }
 
-/// The format with all these parts.
 fn with_parts(
     mut builder: InstructionFormatBuilder,
     parts: &[FormatPart],
@@ -216,7 +213,7 @@ fn with_parts(
     Ok(builder)
 }
 
-/// The format that designates this value, if it is told.
+/// The format with this designated value, if one is given.
 fn designating(
     builder: InstructionFormatBuilder,
     designated: Option<usize>,
@@ -230,7 +227,6 @@ fn designating(
     }
 }
 
-/// Adds the format of a row to the table.
 fn add_format(
     alloc: Global,
     table: &mut FormatTable,
@@ -249,7 +245,7 @@ fn add_format(
     designating(builder, row.designated).build(table)
 }
 
-/// Adds the formats of the rows in order, and answers their numbers. After an error a front of them may have been added.
+/// Adds the formats of the rows in order, and answers their numbers. After an error the first of them may have been added.
 fn add_formats(
     alloc: Global,
     table: &mut FormatTable,
@@ -269,7 +265,6 @@ fn add_formats(
     Ok(ids)
 }
 
-/// The number of a format.
 fn id_at(ids: &[FormatId], format: Format) -> FormatId
     requires { length ids.now ≡ 36 }
     ensures { slice_get ids.now (format_place format) ≡ Some result }
@@ -277,7 +272,7 @@ fn id_at(ids: &[FormatId], format: Format) -> FormatId
     ids[format as usize]
 }
 
-/// The numbers by their names.
+/// The numbers as fields. They are in the order of the fields.
 fn named(ids: &[FormatId]) -> Formats
     requires { length ids.now ≡ 36 }
     ensures { (format : Format) → slice_get ids.now (format_place format) ≡ Some (id_of result format) }
@@ -323,7 +318,7 @@ fn named(ids: &[FormatId]) -> Formats
 }
 
 impl Formats {
-    /// Adds the 36 formats to a table that has room for them. After an error a front of them may have been added.
+    /// Adds the 36 formats to the table, which must have room for them. After an error the first of them may have been added.
     pub fn new(
         alloc: Global,
         table: &mut FormatTable,
@@ -341,7 +336,7 @@ impl Formats {
         Ok(named(&ids))
     }
 
-    /// The number of the format of this name.
+    /// The number of the format with this name.
     pub fn id(&self, format: Format) -> FormatId
         ensures { result ≡ id_of self.now format }
     {

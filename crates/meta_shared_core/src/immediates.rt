@@ -6,7 +6,7 @@ use super::kind_rows::{Class, KindRow, kind_rows, make_kinds, next};
 use meta_operands::OperandKind;
 use std::alloc::{AllocError, Global};
 
-/// The kinds of immediates (`shared/immediates.rs`).
+/// The kinds of immediates, as in the crate's `shared/immediates.rs`.
 #[derive(Drop)]
 pub struct Immediates {
     /// An integer of 64 bits.
@@ -25,7 +25,7 @@ pub struct Immediates {
     pub intcc: OperandKind,
     /// A condition that compares floating-point numbers.
     pub floatcc: OperandKind,
-    /// Flags of a memory operation.
+    /// The flags of a memory operation.
     pub memflags: OperandKind,
     /// A reason to trap.
     pub trapcode: OperandKind,
@@ -104,14 +104,13 @@ static IMMEDIATES: [KindRow; 11] = kind_rows! {
     atomic_rmw_op: Choice("op", "ir::AtomicRmwOp", "Atomic Read-Modify-Write Ops", &ATOMIC_RMW_OP);
 };
 
-/// The rows of the table.
 fn rows() -> &'static [KindRow]
     ensures { AreImmediateRows result.now }
 {
     &IMMEDIATES
 }
 
-/// The kinds by their names.
+/// The kinds as fields. They are in the order of the fields.
 fn named(kinds: Vec<OperandKind>) -> Immediates
     requires { length kinds.items ≡ 11 }
     ensures { BeginWith (kinds_of_immediates result) kinds.items }
@@ -133,7 +132,7 @@ fn named(kinds: Vec<OperandKind>) -> Immediates
 }
 
 impl Immediates {
-    /// The kinds of the shared instruction set, of which none is of values.
+    /// Makes the kinds of the shared instruction set. None of them is a kind of values.
     pub fn new(alloc: Global) -> Result<Immediates, AllocError>
         ensures kinds { IfOk result AreImmediates }
         ensures no_variable { IfOk result ImmediatesHoldNoVariable }

@@ -17,9 +17,8 @@ use meta_inst::AllInstructions;
 use meta_typevar::TypeVars;
 use std::alloc::{AllocError, Global};
 
-/// Adds the root variables to a registry without a variable, with those that the instructions derive from them, and the instructions 1
-/// to 72 to a list without an instruction. No kind may be of values. After an error a part of the variables and of the instructions
-/// may have been added (this project's own).
+/// Adds the root variables, those that the instructions derive from them, and the instructions 1 to 72. The registry and the list must be
+/// empty, and no kind may be one of values. After an error a part of the variables and of the instructions may have been added.
 pub fn core_instructions(
     alloc: Global,
     vars: &mut TypeVars,
@@ -33,12 +32,12 @@ pub fn core_instructions(
     requires immediates { ImmediatesHoldNoVariable imm.now }
     requires entities { EntitiesHoldNoVariable entities.now }
 
-    // Each root is of the variables, is underived, has its set, and is a variable of its own.
+    // Each root is of the variables, is underived and has its set. No two roots are the same variable.
     ensures roots { IfOk result (AreRoots vars.new) }
     ensures numbers { IfOk result AreNumberedRoots }
     ensures few { OnOk result (length vars.new ≤ 100) }
 
-    // The instructions have their names in order, and each is of its format and names these variables alone.
+    // The instructions have their names in order. Each is of its format, and names only these variables.
     ensures names { OnOk result (map builder_name all.new ≡ core_names) }
     ensures count { OnOk result (length all.new ≡ 72) }
     ensures fit { OnOk result (AllZip (FitsNames vars.new formats.now) core_formats all.new) }

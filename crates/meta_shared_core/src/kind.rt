@@ -7,7 +7,7 @@ use meta_operands::{OperandKind, OperandKindFields};
 use meta_types::Text;
 use std::alloc::{AllocError, Global};
 
-/// The kinds of operands that are no values, as the tables name them.
+/// A kind of operands that aren't values, as the tables name it.
 #[derive(Clone, Copy)]
 pub enum Kind {
     BlockCall,
@@ -38,7 +38,7 @@ pub enum Kind {
 }
 
 impl Kind {
-    /// The kind of this name.
+    /// The kind with this name.
     pub fn of<'k>(self, imm: &'k Immediates, entities: &'k EntityRefs) -> &'k OperandKind
         ensures { result.now ≡ kind_of imm.now entities.now self }
     {

@@ -16,11 +16,11 @@ use std::vec::IntoIter;
 pub(crate) enum Class {
     /// References to entities of the function.
     Entity,
-    /// A variable number of values.
+    /// Any number of values (varargs).
     Varargs,
     /// Immediates that are numbers.
     Number,
-    /// Immediates of an enum, with its values and the variants that they stand for.
+    /// Immediates of an enum. Each value has the variant that it stands for.
     Choice(&'static [(&'static str, &'static str)]),
 }
 
@@ -33,7 +33,8 @@ pub(crate) struct KindRow {
     pub(crate) doc: &'static str,
 }
 
-/// A table of kinds: per field what the operands are, the field name, the Rust type, the documentation, and for an enum its values.
+/// A table of kinds. For each field it has what the operands are, the field name, the Rust type, the documentation, and the values of an
+/// enum.
 macro_rules! kind_rows {
     ($($field:ident: $class:ident($field_name:literal, $rust_type:literal, $doc:literal $(, $values:expr)?);)+) => {
         [$(KindRow { class: Class::$class $(($values))?, field_name: $field_name, rust_type: $rust_type, doc: $doc }),+]
@@ -42,7 +43,7 @@ macro_rules! kind_rows {
 
 pub(crate) use kind_rows;
 
-/// Puts a value in, with the variant that it stands for.
+/// Adds a value with the variant that it stands for.
 fn insert(
     alloc: Global,
     values: &mut EnumValues,
@@ -80,7 +81,6 @@ fn fields(alloc: Global, class: Class) -> Result<OperandKindFields, AllocError>
     }
 }
 
-/// The kind of a row.
 fn make(alloc: Global, row: &KindRow) -> Result<OperandKind, AllocError>
     ensures { IfOk result (IsKindOfRow row.now) }
 {
@@ -88,7 +88,6 @@ fn make(alloc: Global, row: &KindRow) -> Result<OperandKind, AllocError>
     make_kind(alloc, row.field_name, row.rust_type, fields, row.doc)
 }
 
-/// The kinds of rows, in order.
 pub(crate) fn make_kinds(alloc: Global, rows: &[KindRow]) -> Result<Vec<OperandKind>, AllocError>
     ensures { IfOk result (λ kinds. map key_of_kind kinds.items ≡ map key_of_row rows.now) }
 {

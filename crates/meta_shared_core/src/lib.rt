@@ -1,7 +1,7 @@
 //! The shared instruction set: kinds of operands, formats, settings, root variables, and the first 72 instructions.
 //!
-//! What is declared stands in tables, which a small interpreter reads: a row says what an instruction is in words, and the words are
-//! looked up in `Names`.
+//! The declarations stand in tables, which a small interpreter reads. A row says in words what an instruction is, and the words are looked
+//! up in `Names`.
 #![tactic(auto)]
 
 mod declaring;

@@ -13,7 +13,7 @@ use meta_typevar::TypeVars;
 use std::alloc::{AllocError, Global};
 use std::marker::Model;
 
-/// What the words of the tables are looked up in.
+/// The meanings of the words of the tables.
 #[derive(Drop)]
 pub struct Names<'n> {
     formats: &'n Formats,
@@ -31,7 +31,7 @@ impl<'n> Model for Names<'n> {
 }
 
 impl<'n> Names<'n> {
-    /// The words that mean these.
+    /// Makes the meanings of words from these formats, kinds and roots.
     pub fn new(
         formats: &'n Formats,
         imm: &'n Immediates,
@@ -48,14 +48,13 @@ impl<'n> Names<'n> {
         }
     }
 
-    /// The number of a format.
     pub(crate) fn format(&self, format: Format) -> FormatId
         ensures { result ≡ id_of self.now.formats format }
     {
         self.formats.id(format)
     }
 
-    /// The kind that a word means. What is derived is added to the variables, where it isn't there.
+    /// The kind that a word stands for. A derived variable is added if the registry doesn't have it.
     pub(crate) fn kind(
         &self,
         alloc: Global,

@@ -1,5 +1,5 @@
-/// The root variables, as the tables name them, in the order of their numbers. Each is a variable of its own, also where two have the
-/// same name.
+/// A root variable, as the tables name it. They are in the order of their numbers. Each is a variable of its own, even if two have the same
+/// name.
 #[derive(Clone, Copy)]
 pub enum Root {
     ST1,
@@ -54,7 +54,7 @@ pub enum Root {
     MemTo,
 }
 
-/// The root variable that a word of the tables means.
+/// The root variable that a word of the tables stands for.
 #[macro_export]
 macro_rules! root {
     (i8) => { $crate::Root::I8 };

@@ -5,18 +5,18 @@ use meta_types::{Float, Int, LaneType, Text, ValueType};
 use meta_typevar::{Interval, TypeSetBuilder, TypeVar, TypeVars};
 use std::alloc::{AllocError, Global};
 
-/// Which numbers of a part of a set a row means: none, all, or the powers of two from one to another.
+/// Which numbers of a part of a type set a row gives: none, all, or the powers of two from one to another.
 #[derive(Clone, Copy)]
 pub(crate) enum Span {
-    /// None.
+    /// No number.
     Nothing,
-    /// Each that the part may have.
+    /// Each number that the part can have.
     Everything,
-    /// The powers of two from the one to the other.
+    /// The powers of two from the first to the second.
     Between(u16, u16),
 }
 
-/// A root variable with a set of its own: its name, its documentation, and the parts of its set.
+/// A root variable with a type set of its own: its name, its documentation, and the parts of its set.
 #[derive(Clone, Copy)]
 pub(crate) struct SetRow {
     name: &'static str,
@@ -30,13 +30,13 @@ pub(crate) struct SetRow {
 /// A row of the table of root variables.
 #[derive(Clone, Copy)]
 pub(crate) enum RootRow {
-    /// A variable with a set of its own.
+    /// A variable with a type set of its own.
     Set(SetRow),
-    /// A type, whose name, documentation and set the variable has.
+    /// A type. The variable has its name, its documentation and its set.
     Single(LaneType),
 }
 
-/// What a word of the table means for a part of a set.
+/// What a word of the table stands for in a part of a type set.
 macro_rules! span {
     (none) => { Span::Nothing };
     (all) => { Span::Everything };
@@ -44,7 +44,7 @@ macro_rules! span {
     ([$low:literal..$high:literal]) => { Span::Between($low, $high) };
 }
 
-/// A row: a name with its four parts and a documentation, or a type.
+/// A row: a name with the four parts and a documentation, or a type.
 macro_rules! root_row {
     ($name:ident ($lanes:tt, $dynamic_lanes:tt, $ints:tt, $floats:tt) $doc:literal) => {
         RootRow::Set(SetRow {
@@ -59,12 +59,12 @@ macro_rules! root_row {
     ($kind:ident $width:ident) => { RootRow::Single(LaneType::$kind($kind::$width)) };
 }
 
-/// A table of root variables. The word before a colon is the variable's name in the other tables.
+/// A table of root variables. The word before a colon is the name of the variable in the other tables.
 macro_rules! root_rows {
     ($($token:ident: $name:ident $set:tt $($doc:literal)?;)*) => { [$(root_row!($name $set $($doc)?)),*] };
 }
 
-/// The root variables: lanes, dynamic lanes, int widths, float widths.
+/// The root variables, with lane counts, dynamic lane counts, integer widths and float widths.
 static ROOTS: [RootRow; 49] = root_rows! {
     ST1: ScalarTruthy(1, none, all, none) "A scalar truthy type";
     ST2: ScalarTruthy(1, none, all, none) "A scalar truthy type";
@@ -118,7 +118,6 @@ static ROOTS: [RootRow; 49] = root_rows! {
     V3: TxN(1, [2..256], all, all) "A dynamic vector type";
 };
 
-/// The rows of the table.
 fn rows() -> &'static [RootRow]
     ensures { AreRootRows result.now }
 {
@@ -126,7 +125,7 @@ fn rows() -> &'static [RootRow]
 }
 
 impl Span {
-    /// The interval that is meant.
+    /// The interval that the span stands for.
     fn interval(self) -> Interval
         ensures { result ≡ interval_meant self }
     {
@@ -139,7 +138,6 @@ impl Span {
 }
 
 impl SetRow {
-    /// The builder of the set.
     fn builder(self) -> TypeSetBuilder
         ensures { result ≡ parts_of self }
     {
@@ -151,7 +149,6 @@ impl SetRow {
     }
 }
 
-/// Adds the root of a row.
 fn add_root(alloc: Global, vars: &mut TypeVars, row: RootRow) -> Result<TypeVar, AllocError>
     requires room { length vars.old < 2 ^ 32 - 1 }
     requires buildable { CanBuildRow row }
@@ -168,7 +165,7 @@ fn add_root(alloc: Global, vars: &mut TypeVars, row: RootRow) -> Result<TypeVar,
     }
 }
 
-/// Adds the roots of the table, and answers them.
+/// Adds the root variables of the table, and answers them.
 pub(crate) fn add_roots(alloc: Global, vars: &mut TypeVars) -> Result<Vec<TypeVar>, AllocError>
     requires { vars.old ≡ [] }
     ensures { IfOk result (λ found. AreFirstRoots vars.new found.items) }

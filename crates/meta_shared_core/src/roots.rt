@@ -7,7 +7,7 @@ use meta_types::Text;
 use meta_typevar::{TypeVar, TypeVars};
 use std::alloc::{AllocError, Global};
 
-/// The root variables of the shared instruction set (in the crate they are local to the functions that use them).
+/// The root variables of the shared instruction set. In the crate they are local to the functions that use them.
 #[derive(Drop)]
 pub struct Roots {
     /// `ST1`.
@@ -112,7 +112,6 @@ pub struct Roots {
     pub tv_memto: TypeVar,
 }
 
-/// The variable of this name.
 fn root_at(found: &[TypeVar], root: Root) -> TypeVar
     requires { length found.now ≡ 50 }
     ensures { slice_get found.now (root_place root) ≡ Some result }
@@ -120,7 +119,7 @@ fn root_at(found: &[TypeVar], root: Root) -> TypeVar
     found[root as usize]
 }
 
-/// The variables by their names.
+/// The variables as fields. They are in the order of the fields.
 fn named(found: &[TypeVar]) -> Roots
     requires { length found.now ≡ 50 }
     ensures { (root : Root) → slice_get found.now (root_place root) ≡ Some (root_of result root) }
@@ -180,7 +179,7 @@ fn named(found: &[TypeVar]) -> Roots
 }
 
 impl Roots {
-    /// Adds the root variables to a registry without a variable. They are numbered in the order of their names.
+    /// Adds the root variables to a registry, which must be empty. They are numbered in the order of `Root`.
     pub(crate) fn new(alloc: Global, vars: &mut TypeVars) -> Result<Roots, AllocError>
         requires { vars.old ≡ [] }
         ensures numbers { IfOk result AreNumberedRoots }
@@ -193,7 +192,7 @@ impl Roots {
         Ok(named(&found))
     }
 
-    /// The variable of this name.
+    /// The variable with this name.
     pub fn variable(&self, root: Root) -> TypeVar
         ensures { result ≡ root_of self.now root }
     {

@@ -1,68 +1,68 @@
 use super::format::Format;
 use super::word::Word;
 
-/// An operand of a row.
+/// An operand in a row.
 #[derive(Clone, Copy)]
 pub struct OperandRow {
-    /// Its name.
+    /// The name of the operand.
     pub name: &'static str,
-    /// What it is.
+    /// What the operand is.
     pub word: Word,
-    /// Its documentation, where it has one of its own.
+    /// The documentation of the operand, if it has one of its own.
     pub doc: Option<&'static str>,
 }
 
-/// What an instruction may do beside giving its results, or that it has a method of its own.
+/// A mark of an instruction: what it may do beside giving its results, or that it gets a second builder method.
 #[derive(Clone, Copy)]
 pub enum Mark {
-    /// Branches to a block, and so ends its own.
+    /// The instruction branches to a block, and so ends its own block.
     Branch,
-    /// Ends its block.
+    /// The instruction ends its block.
     Terminator,
-    /// Calls a function.
+    /// The instruction calls a function.
     Call,
-    /// Returns from the function, and so ends its block.
+    /// The instruction returns from the function, and so ends its block.
     Return,
-    /// May read memory.
+    /// The instruction may read memory.
     Load,
-    /// May write memory.
+    /// The instruction may write memory.
     Store,
-    /// May trap.
+    /// The instruction may trap.
     Trap,
-    /// Has other effects.
+    /// The instruction has effects beside those of the other marks.
     OtherEffect,
-    /// Done twice, its effects are those of once.
+    /// The effects of the instruction are idempotent: done twice they are the same as once.
     Idempotent,
-    /// Has a method that takes an immediate.
+    /// The written instruction builder has a method that takes an immediate for the last value input.
     ImmMethod,
 }
 
 /// A row of the tables of instructions.
 #[derive(Clone, Copy)]
 pub struct Row {
-    /// The name.
+    /// The name of the instruction.
     pub name: &'static str,
-    /// The documentation.
+    /// The documentation of the instruction.
     pub doc: &'static str,
-    /// The format.
+    /// The format of the instruction.
     pub format: Format,
-    /// The inputs.
+    /// The inputs of the instruction.
     pub inputs: &'static [OperandRow],
-    /// The outputs.
+    /// The outputs of the instruction.
     pub outputs: &'static [OperandRow],
-    /// The marks.
+    /// The marks of the instruction.
     pub marks: &'static [Mark],
 }
 
-/// The documentation of an operand, or none.
+/// The documentation of an operand, if it has one of its own.
 #[macro_export]
 macro_rules! own_doc {
     () => { None };
     ($doc:literal) => { Some($doc) };
 }
 
-/// A table of instructions. Per row: the name, the format, the inputs and, behind an arrow, the outputs, the marks, and the
-/// documentation. An operand is its name, what it is, and its own documentation, where it has one.
+/// A table of instructions. Each row has the name, the format, the inputs, after an arrow the outputs, then the marks, and the
+/// documentation. An operand is its name, what it is, and its own documentation if it has one.
 #[macro_export]
 macro_rules! rows {
     ($($name:ident: $format:ident(

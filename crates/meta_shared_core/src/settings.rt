@@ -9,7 +9,7 @@ use meta_settings::SettingGroupBuilder;
 use meta_types::Text;
 use std::alloc::{AllocError, Global};
 
-/// What a setting is: a boolean with its default, an enum with its values, the first of which is the default, or a number with its
+/// The kind of a setting: a boolean with its default, an enum with its values, the first of which is the default, or a number with its
 /// default.
 #[derive(Clone, Copy)]
 enum Choice {
@@ -26,21 +26,21 @@ struct SettingRow {
     description: &'static str,
 }
 
-/// What a setting is.
+/// The kind of a setting, from the words of the table.
 macro_rules! choice {
     (bool $default:literal) => { Choice::Bool($default) };
     (enum $($value:ident)+) => { Choice::Enum(&[$(stringify!($value)),+]) };
     (num $default:literal) => { Choice::Num($default) };
 }
 
-/// A table of settings: the name, what it is, and the description.
+/// A table of settings. Each row has the name, the kind with its default or values, and the description.
 macro_rules! settings {
     ($($name:ident: $kind:ident($($value:tt)+) $description:literal;)*) => {
         [$(SettingRow { name: stringify!($name), choice: choice!($kind $($value)+), description: $description }),*]
     };
 }
 
-/// The first 13 settings, in the order of their declaration.
+/// The first 13 settings, in order of declaration.
 static FIRST_SETTINGS: [SettingRow; 13] = settings! {
     regalloc_checker: bool(false) "Enable the symbolic checker for register allocation.";
     regalloc_verbose_logs: bool(false) "Enable verbose debug logs for regalloc2.";
@@ -58,14 +58,13 @@ static FIRST_SETTINGS: [SettingRow; 13] = settings! {
         "Defines the calling convention to use for LibCalls call expansion.";
 };
 
-/// Their rows.
 fn first_rows() -> &'static [SettingRow]
     ensures { map setting_name result.now ≡ take 13 setting_names }
 {
     &FIRST_SETTINGS
 }
 
-/// The 14 settings behind them.
+/// The other 14 settings.
 static LAST_SETTINGS: [SettingRow; 14] = settings! {
     enable_llvm_abi_extensions: bool(false) "Enable various ABI extensions defined by LLVM's behavior.";
     enable_multi_ret_implicit_sret: bool(false) "Enable support for sret arg introduction when there are too many ret vals.";
@@ -83,14 +82,13 @@ static LAST_SETTINGS: [SettingRow; 14] = settings! {
     enable_compact_unwind_abi: bool(false) "Enable Mach-O compact unwind compatible code emission.";
 };
 
-/// Their rows.
 fn last_rows() -> &'static [SettingRow]
     ensures { map setting_name result.now ≡ drop 13 setting_names }
 {
     &LAST_SETTINGS
 }
 
-/// Texts of their own.
+/// Copies of the texts.
 fn texts(alloc: Global, values: &[&str]) -> Result<Vec<Text>, AllocError>
     ensures { IfOk result (λ v. v.items ≡ texts_of values.now) }
 {
@@ -101,7 +99,7 @@ fn texts(alloc: Global, values: &[&str]) -> Result<Vec<Text>, AllocError>
     Ok(texts)
 }
 
-/// The texts of the values, where the setting is an enum, and none else.
+/// The texts of an enum's values. A setting of another kind has none.
 fn values_of(alloc: Global, choice: Choice) -> Result<Vec<Text>, AllocError>
     ensures { IfOk result (λ v. v.items ≡ choice_values choice) }
 {
@@ -111,7 +109,7 @@ fn values_of(alloc: Global, choice: Choice) -> Result<Vec<Text>, AllocError>
     }
 }
 
-/// The name, the description and the comment of a row, of which the last is empty.
+/// The name, the description and the comment of a row. The comment is empty.
 fn labels(alloc: Global, row: &SettingRow) -> Result<(Text, Text, Text), AllocError>
     ensures name { IfOk result (λ t. t.0 ≡ row.now.name.now) }
     ensures description { IfOk result (λ t. t.1 ≡ row.now.description.now) }
@@ -122,7 +120,6 @@ fn labels(alloc: Global, row: &SettingRow) -> Result<(Text, Text, Text), AllocEr
     Ok((name, description, Text::new(alloc, "")?))
 }
 
-/// Adds the setting of a row.
 fn add_setting(
     alloc: Global,
     group: &mut SettingGroupBuilder,
@@ -143,7 +140,6 @@ fn add_setting(
     }
 }
 
-/// Adds the settings of rows, in order.
 fn add_settings(
     alloc: Global,
     group: &mut SettingGroupBuilder,
@@ -167,7 +163,7 @@ fn add_all(alloc: Global, group: &mut SettingGroupBuilder) -> Result<(), AllocEr
     add_settings(alloc, group, last_rows())
 }
 
-/// The group `shared`, with its 27 settings.
+/// Declares the group `shared` with its 27 settings.
 pub fn define(alloc: Global) -> Result<SettingGroupBuilder, AllocError>
     ensures { IfOk result IsSharedGroup }
 {

@@ -5,16 +5,16 @@ use meta_types::DerivedFunc;
 /// What an operand is, in the words of the tables.
 #[derive(Clone, Copy)]
 pub enum Word {
-    /// No value, but of this kind.
+    /// An operand of this kind, which isn't a value.
     Kind(Kind),
     /// A value of a root variable.
     Root(Root),
-    /// A value of what a function derives from a root variable.
+    /// A value of a variable that the function derives from a root variable.
     Derived(DerivedFunc, Root),
 }
 
-/// What a word of the tables means for an operand: the name of a kind, the name of a root, or a derived function with the name of a
-/// root.
+/// What a word of the tables stands for: the name of a kind, the name of a root variable, or a derived function with the name of a root
+/// variable.
 #[macro_export]
 macro_rules! word {
     (block_call) => { $crate::Word::Kind($crate::Kind::BlockCall) };

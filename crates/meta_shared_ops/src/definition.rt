@@ -20,7 +20,7 @@ use meta_shared_core::{
 use meta_typevar::TypeVars;
 use std::alloc::{AllocError, Global};
 
-/// Adds the 163 instructions, and the variables that they name, where there is none of either yet.
+/// Adds the 163 instructions, and the variables that they name. The list and the registry must be empty.
 fn add_instructions(
     alloc: Global,
     vars: &mut TypeVars,
@@ -42,7 +42,7 @@ fn add_instructions(
     Ok(())
 }
 
-/// The shared declarations: 36 formats, 163 instructions, and the group of settings `shared`.
+/// Declares the shared instruction set: 36 formats, 163 instructions, and the group of settings `shared`.
 pub fn define(alloc: Global) -> Result<Declarations, AllocError>
     ensures formats { IfOk result (λ d. length d.set.formats ≡ 36) }
     ensures instructions { IfOk result (λ d. length d.set.instructions ≡ 163) }

@@ -1,4 +1,4 @@
-//! The shared instruction set: the instructions 73 to 163, and the whole.
+//! The shared instruction set: the instructions 73 to 163, and the whole set.
 #![tactic(auto)]
 
 mod definition;

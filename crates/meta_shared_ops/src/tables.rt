@@ -59,7 +59,7 @@ fn division() -> &'static [Row]
     &DIVISION
 }
 
-/// Arithmetic that tells of an overflow.
+/// Arithmetic that reports an overflow.
 static OVERFLOW: [Row; 11] = rows! {
     sadd_overflow_cin: Ternary(x: iB, y: iB, c_in: i8 "Input carry flag" -> a: iB, c_out: i8 "Output carry flag")
         "Add signed integers with carry in and overflow out.";
@@ -198,7 +198,7 @@ fn rounding() -> &'static [Row]
     &ROUNDING
 }
 
-/// Values that are taken as those of another type.
+/// Values that are read as those of another type.
 static CASTS: [Row; 4] = rows! {
     bitcast: LoadNoOffset(MemFlags: memflags, x: Mem -> a: MemTo "Bits of `x` reinterpreted")
         "Reinterpret the bits in `x` as a different type.";
@@ -269,7 +269,7 @@ fn extension() -> &'static [Row]
     &EXTENSION
 }
 
-/// Floating-point numbers made of integers, and the other way round.
+/// Conversions between integers and floating-point numbers.
 static NUMBER_CASTS: [Row; 7] = rows! {
     fcvt_to_uint: Unary(x: FloatScalar -> a: IntTo2) Trap Idempotent
         "Converts floating point scalars to unsigned integer.";
@@ -332,7 +332,7 @@ fn atomics() -> &'static [Row]
     &ATOMICS
 }
 
-/// What stands alone.
+/// Other instructions.
 static LAST_ROWS: [Row; 2] = rows! {
     extract_vector: BinaryImm8(x: V3 "The dynamic vector to extract from",
         y: uimm8 "128-bit vector index" -> a: dynamic_to_vector(V3) "New fixed vector")

@@ -175,7 +175,7 @@ word_lacks =
     (All-cons (λ b. b ≢ 32) 114 (97 ∷ 109 ∷ []) (omega arith)
     (All-cons (λ b. b ≢ 32) 97 (109 ∷ []) (omega arith) (All-cons (λ b. b ≢ 32) 109 [] (omega arith) (All-nil (λ b. b ≢ 32))))))
 
--- what stands behind `param` is no list of values
+-- what comes after `param` isn't a list of values
 no_values : (r : TypedValue) (vs : List ℕ) → IsTyped r → All IsValue vs
     → Some (value_text r.value ++ 32 ∷ name_of r.type) ≡ values_written (map value_text vs) → ⊥
 no_values r [] h k e = absurd (cc)

@@ -14,13 +14,13 @@ use Rattle.meta_short.specs.Short.{control_written, values_written, results_part
 use Rattle.meta_short.specs.Parts.{IsPlain}
 use Rattle.meta_short.proofs.SplitLemmas.{Lacks, one_split, lacks_joined, one_joined}
 
--- ---- the same texts, each place where one may go on behind a byte
+-- ---- the same texts, each place where one may go on after a byte
 
--- the name and what stands behind it: `.i32` or nothing, and ` v0, v1` or nothing
+-- the name and what comes after it: `.i32` or nothing, and ` v0, v1` or nothing
 abbrev pub applied_text : List ℕ → Option (List ℕ) → Option (List ℕ) → List ℕ
 applied_text name control values = (name ++ behind 46 control) ++ behind 32 values
 
--- the same behind the results: `v1, v2 = `, or nothing
+-- the same after the results: `v1, v2 = `, or nothing
 abbrev pub behind_results : List (List ℕ) → List ℕ → List ℕ
 behind_results [] rest = rest
 behind_results (t ∷ ts) rest = joined (t ∷ ts) ++ 32 ∷ [] ++ behind 61 (Some (32 ∷ rest))

@@ -17,7 +17,7 @@ abbrev pub part_pieces : ℕ → Option (List ℕ) → List (List ℕ)
 part_pieces byte None = []
 part_pieces byte (Some part) = pieces_of byte part
 
--- the pieces of a text without the byte, and a part behind the byte
+-- the pieces of a text without the byte, and a part after the byte
 pub split_pieces : (byte : ℕ) (text : List ℕ) (part : Option (List ℕ)) → Lacks byte text
     → pieces_of byte (text ++ behind byte part) ≡ text ∷ part_pieces byte part
 split_pieces byte text None h = ap (pieces_of byte) (append-nil text) ∙ whole_piece byte text h
@@ -61,7 +61,7 @@ lacks_joined byte (t ∷ ts) comma space h = go t ts (All-head (Lacks byte) t ts
         (All-cons (λ b. b ≢ byte) 44 (join_with_byte 44 (map (λ (v : List ℕ). 32 ∷ v) (u ∷ us))) comma
         (go (32 ∷ u) us (All-cons (λ b. b ≢ byte) 32 u space (All-head (Lacks byte) u us others)) (All-tail (Lacks byte) u us others)))
 
--- the pieces between commas are the texts, each but the first behind a space
+-- the pieces between commas are the texts, each but the first after a space
 pub joined_pieces : (t : List ℕ) (ts : List (List ℕ)) → All (Lacks 44) (t ∷ ts)
     → pieces_of 44 (joined (t ∷ ts)) ≡ t ∷ map (λ (u : List ℕ). 32 ∷ u) ts
 joined_pieces t ts h =

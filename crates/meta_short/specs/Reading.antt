@@ -1,7 +1,7 @@
--- The short form of a line, and which line a text reads as. R says what is replied to questions, and M in which manner the lines of
--- the instruction of a name are written: the tables, or the declarations.
---     IsShort R M env line text       behind lines that define env the line is right, and the text is its short form
---     ReadsAs R M env text line       behind them the text reads as the line
+-- The short form of a line, and which line a text reads as. R says what is replied to questions, and M in which manner the lines of the
+-- instruction of a name are written: the tables, or the declarations.
+--     IsShort R M env line text       after lines that define env the line is right, and the text is its short form
+--     ReadsAs R M env text line       after them the text reads as the line
 --     IsShortIn tables, IsShortDeclared d       the same by tables, and as declarations mean
 use Rattle.std.specs.Prelude.{◌≡◌, ⊤, ℕ, List}
 use Rattle.meta_inst.specs.InstructionSet.{InstructionSet}
@@ -22,7 +22,7 @@ abbrev pub HasManner : Manners → Statement → Manner → Type 0
 HasManner M (OfParameter r) m = ⊤
 HasManner M (OfApplication a) m = M a.name m
 
--- behind lines that define env the line is right, and the text is what it states, with the types left out that its manner leaves out
+-- after lines that define env the line is right, and the text is what it states, with the types left out that its manner leaves out
 pub record IsShort (R : Replies) (M : Manners) (env : Environment) (line text : List ℕ) : Type 0 where
   pub statement : Statement
   pub right : IsRight R env line statement

@@ -27,7 +27,7 @@ short_results opened [] = []
 short_results [] (r ∷ rs) = shortened false r ∷ short_results [] rs
 short_results (o ∷ opened) (r ∷ rs) = shortened o r ∷ short_results opened rs
 
--- what is behind the value: `:i32`, or nothing
+-- what comes after the value: `:i32`, or nothing
 abbrev pub type_part : Option TypeParts → List ℕ
 type_part None = []
 type_part (Some t) = 58 ∷ name_of t
@@ -41,12 +41,12 @@ abbrev pub joined : List (List ℕ) → List ℕ
 joined [] = []
 joined (t ∷ ts) = join_with_byte 44 (t ∷ map (λ (u : List ℕ). 32 ∷ u) ts)
 
--- a part behind a byte, or nothing
+-- a part after a byte, or nothing
 abbrev pub behind : ℕ → Option (List ℕ) → List ℕ
 behind byte None = []
 behind byte (Some part) = byte ∷ part
 
--- what stands behind the point: the controlling types, where there are some and they aren't left out
+-- what comes after the point: the controlling types, if there are some and they aren't left out
 abbrev pub control_written : Bool → Option TypeParts → Option TypeParts → Option (List ℕ)
 control_written leaves_out None d = None
 control_written leaves_out (Some c) None = if leaves_out then None else Some (control_text (Some c) None)

@@ -14,7 +14,7 @@ use Rattle.meta_short.specs.declared.manner.Manner.{Manner as HeldManner}
 abbrev pub manner_in : HeldManner → Manner
 manner_in m = record { leaves_out = m.leaves_out; opened = map is_open (map number_constraint_of m.results.now) }
 
--- the text was what it is before, and what is stated stands behind it, with the types left out that its manner by the tables leaves out
+-- the text is the old text, and after it what is stated, with the types left out that its manner by the tables leaves out
 pub record AddsShort (tables : TableContents) (s : Statement) (before after : List ℕ) : Type 0 where
   pub manner : Manner
   pub has_manner : HasManner (IsMannerIn tables) s manner

@@ -11,7 +11,7 @@ ghost use Rattle.meta_short.specs.Reading.{IsShortIn, ReadsIn, IsShortDeclared, 
 
 use meta_verify::mistakes_mean;
 
-/// For one environment a text reads as one line at most: by well-formed tables, and as valid declarations mean.
+/// In one environment a text reads as at most one line. This holds by well-formed tables, and as valid declarations mean.
 pub fn one_line_reads()
     ensures tables { (tables : TableContents) → IsWellFormedOpcodes tables → (env : Environment) (text a b : List ℕ)
         → ReadsIn tables env text a → ReadsIn tables env text b → a ≡ b }
@@ -19,7 +19,8 @@ pub fn one_line_reads()
         → ReadsDeclared d env text a → ReadsDeclared d env text b → a ≡ b }
 {}
 
-/// What `print_line` wrote of a line reads as that line, and as no other: by well-formed tables, and as valid declarations mean.
+/// A text that `print_line` writes for a line reads as that line, and as no other. This holds by well-formed tables, and as valid
+/// declarations mean.
 pub fn printed_lines_read()
     ensures tables { (tables : TableContents) → IsWellFormedOpcodes tables → (env : Environment) (line text : List ℕ)
         → IsShortIn tables env line text
@@ -29,7 +30,8 @@ pub fn printed_lines_read()
         → ReadsDeclared d env text line × ((other : List ℕ) → ReadsDeclared d env text other → other ≡ line) }
 {}
 
-/// For one environment a line has one short form at most, and an instruction one manner: by tables, and as valid declarations mean.
+/// In one environment a line has at most one short form, and an instruction leaves out types in one way. This holds by tables, and as valid
+/// declarations mean.
 pub fn one_short_form()
     ensures tables { (tables : TableContents) (env : Environment) (line a b : List ℕ)
         → IsShortIn tables env line a → IsShortIn tables env line b → a ≡ b }
@@ -41,8 +43,8 @@ pub fn one_short_form()
         → IsMannerDeclared d name m → IsMannerDeclared d name n → m ≡ n }
 {}
 
-/// What tables leave out of the lines of an opcode is what its declaration leaves out, and the short form of a line by tables is the
-/// one that the declarations mean, where the tables are made of the declarations.
+/// Tables of declarations mean what the declarations mean. They leave out the same types in the lines of an opcode, and give the same short
+/// form of a line.
 pub fn short_forms_mean()
     ensures manner { (d : InstructionSet) (tables : TableContents) → AreMade d tables → (name : List ℕ) (m : Manner)
         → (IsMannerIn tables name m ↔ IsMannerDeclared d name m) }

@@ -1,7 +1,7 @@
-//! Typed lines with types left out that follow, as `v1 = iadd v0, v0`.
+//! Typed lines without the types that can be inferred, such as `v1 = iadd v0, v0`.
 //!
-//! `print_line` writes the short form of a line. For one environment a text reads as one line at most, by the tables and as the
-//! declarations mean (`one_line_reads`).
+//! `print_line` writes the short form of a line. In one environment a text reads as at most one line, by the tables and as the declarations
+//! mean (`one_line_reads`).
 #![tactic(auto)]
 
 mod laws;

@@ -10,7 +10,7 @@ ghost use Rattle.meta_short.specs.Written.{manner_in};
 use meta_gen::{Constraint, Demand, NO_TYPE_SET, OpcodeConstraints, Tables, constraints_from};
 use meta_types::Text;
 
-/// Whether a result under this constraint is written with its type: the constraint leaves several.
+/// Whether a result under this constraint is written with its type, since the constraint allows several.
 fn is_open(constraint: Constraint) -> bool
     ensures { result ≡ is_open (number_constraint_of constraint) }
 {
@@ -22,14 +22,13 @@ fn is_open(constraint: Constraint) -> bool
     }
 }
 
-/// Whether a value under this constraint has the controlling type (this project's own).
+/// Whether a value under this constraint always has the controlling type.
 pub fn is_control(constraint: Constraint) -> bool
     ensures { result ≡ is_control (number_constraint_of constraint) }
 {
     matches!(constraint, Constraint::Same)
 }
 
-/// The constraints of the results of an entry.
 fn result_constraints(tables: &Tables, entry: OpcodeConstraints) -> &[Constraint]
     ensures { map number_constraint_of result.now ≡ result_constraints tables.now.opcodes (entry_of entry) }
 {
@@ -37,7 +36,7 @@ fn result_constraints(tables: &Tables, entry: OpcodeConstraints) -> &[Constraint
     constraints_from(tables.operand_constraints(), place, entry.result_count())
 }
 
-/// The constraints of the values of an entry (this project's own).
+/// The constraints of the value inputs of an opcode with this entry.
 pub fn value_constraints(tables: &Tables, entry: OpcodeConstraints) -> &[Constraint]
     ensures { map number_constraint_of result.now ≡ value_constraints tables.now.opcodes (entry_of entry) }
 {
@@ -52,7 +51,7 @@ fn has_control(constraints: &[Constraint]) -> bool
     constraints.iter().any(|c| is_control(*c))
 }
 
-/// Whether the control of an entry is left out where it stands alone.
+/// Whether the control of an opcode with this entry is left out, if there is no second control.
 fn leaves_out(tables: &Tables, entry: OpcodeConstraints) -> bool
     ensures { result ≡ (manner_of tables.now.opcodes (entry_of entry)).leaves_out }
 {
@@ -65,19 +64,19 @@ fn leaves_out(tables: &Tables, entry: OpcodeConstraints) -> bool
     has_control(value_constraints(tables, entry))
 }
 
-/// How the lines of an opcode are written: its name, and which types are left out (this project's own).
+/// How the lines of an opcode are written: its name, and which types are left out.
 #[derive(Clone, Copy)]
 pub struct Manner<'t> {
     /// The name of the opcode.
     pub name: &'t Text,
-    /// Whether the controlling type is left out where it stands alone: it is the type of a value.
+    /// Whether the controlling type is left out if there is no second one. It is if some value has that type.
     pub leaves_out: bool,
-    /// The constraints of the results, which say whether a result is written with its type.
+    /// The constraints of the results. They say whether a result is written with its type.
     pub results: &'t [Constraint],
 }
 
 impl<'t> Manner<'t> {
-    /// How the lines of an opcode are written, and `None` exactly where it isn't 1 to `opcode_count`.
+    /// How the lines of an opcode are written. `None` exactly if `opcode` isn't 1 to `opcode_count`.
     pub fn of(tables: &'t Tables, opcode: u16) -> Option<Manner<'t>>
         ensures opcode { IsSome result ↔ IsOpcode tables.now.opcodes opcode }
         ensures name { IfSome result (λ m. at_opcode tables.now.opcodes.names opcode ≡ Some m.name.now) }

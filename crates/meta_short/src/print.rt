@@ -16,7 +16,7 @@ use meta_types::Text;
 use meta_verify::{Application, Checker, Statement};
 use std::alloc::{AllocError, Global};
 
-/// As `push_short`, of an application.
+/// Adds the short form of an application, as `push_short` does.
 fn push_applied(
     tables: &Tables,
     application: &Application<'_>,
@@ -39,9 +39,8 @@ fn push_applied(
     Ok(true)
 }
 
-/// Adds the short form of what is stated, by the tables. It is false, and nothing is added, exactly where no opcode has the name. Of
-/// what stands in the text after an error nothing is said, as `write!` says nothing of it. It costs the length of the text and of a
-/// look-up (this project's own).
+/// Adds the short form of a statement, by the tables. It answers false, and adds nothing, exactly if no opcode has the name. If memory runs
+/// out, nothing is said of what the text then has. The cost is the length of the text and of a look-up.
 pub fn push_short(
     tables: &Tables,
     statement: &Statement<'_>,
@@ -62,8 +61,8 @@ pub fn push_short(
     }
 }
 
-/// As `print_line`, onto a text: it is false, and nothing is added, exactly where `print_line` answers `None`. Of what stands in the
-/// text after an error nothing is said, as of `push_short` (this project's own).
+/// Adds the short form of a line to a text, as `print_line` makes it. It answers false, and adds nothing, exactly if `print_line` answers
+/// `None`. If memory runs out, nothing is said of what the text then has.
 pub fn push_line(
     alloc: Global,
     tables: &Tables,
@@ -86,8 +85,8 @@ pub fn push_line(
     push_short(tables, &statement, out)
 }
 
-/// The short form of a line behind those that the checker was fed, by the tables, and `None` exactly where the line is empty or
-/// `feed` would answer a reason. The only error is want of memory (this project's own).
+/// The short form of a line, by the tables, after the lines that were fed to the checker. `None` exactly if the line is empty or `feed`
+/// would answer a reason.
 pub fn print_line(
     alloc: Global,
     tables: &Tables,

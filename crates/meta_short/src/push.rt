@@ -13,7 +13,7 @@ use meta_types::ValueType;
 use meta_verify::{Application, TypedNumber};
 use std::alloc::AllocError;
 
-/// Adds the name of the type that has the number.
+/// Adds the name of the type with this number.
 fn push_type(number: u16, out: &mut String) -> Result<(), AllocError>
     requires { IsTypeNumber number }
     ensures { OnOk result (string_bytes out.new ≡ string_bytes out.old ++ name_of (type_with number)) }
@@ -24,14 +24,14 @@ fn push_type(number: u16, out: &mut String) -> Result<(), AllocError>
     }
 }
 
-/// Adds a value: `v1`.
+/// Adds a value, such as `v1`.
 fn push_value(value: u32, out: &mut String) -> Result<(), AllocError>
     ensures { OnOk result (string_bytes out.new ≡ string_bytes out.old ++ value_text value) }
 {
     write!(out, "v{value}")
 }
 
-/// Adds a result, with its type where that is written: `v1`, or `v1:i32`.
+/// Adds a result: `v1`, or with its type `v1:i32`.
 fn push_result(r: TypedNumber, is_opened: bool, out: &mut String) -> Result<(), AllocError>
     requires { IsTypedNumber r }
     ensures { OnOk result (string_bytes out.new ≡ string_bytes out.old ++ short_result_text (shortened is_opened (typed_value_of r))) }
@@ -44,7 +44,7 @@ fn push_result(r: TypedNumber, is_opened: bool, out: &mut String) -> Result<(), 
     Ok(())
 }
 
-/// Adds what stands before the text at this place of a list: `, `, and nothing before the first.
+/// Adds what stands before an element of a list: `, `, or nothing before the first.
 fn push_comma(place: usize, out: &mut String) -> Result<(), AllocError>
     ensures { OnOk result (string_bytes out.new ≡ string_bytes out.old ++ before_place place) }
 {
@@ -54,7 +54,7 @@ fn push_comma(place: usize, out: &mut String) -> Result<(), AllocError>
     out.push_str(", ")
 }
 
-/// Adds the results, parted by a comma and a space.
+/// Adds the results, separated by a comma and a space.
 fn push_joined_results(
     manner: &Manner<'_>,
     results: &[TypedNumber],
@@ -71,7 +71,7 @@ fn push_joined_results(
     Ok(())
 }
 
-/// Adds what stands before the name: the results and ` = `, or nothing.
+/// Adds what stands before the name: the results and ` = `, or nothing if there are no results.
 fn push_results(
     manner: &Manner<'_>,
     results: &[TypedNumber],
@@ -88,7 +88,7 @@ fn push_results(
     out.push_str(" = ")
 }
 
-/// Adds what stands behind the name for one controlling type: `.i32`, or nothing where it is left out.
+/// Adds what stands after the name if there is one controlling type: `.i32`, or nothing if it is left out.
 fn push_alone(leaves_out: bool, number: u16, out: &mut String) -> Result<(), AllocError>
     requires { IsTypeNumber number }
     ensures { OnOk result (string_bytes out.new
@@ -101,7 +101,7 @@ fn push_alone(leaves_out: bool, number: u16, out: &mut String) -> Result<(), All
     push_type(number, out)
 }
 
-/// Adds what stands behind the name for the controlling types: `.i32`, `.i32/i64`, or nothing.
+/// Adds what stands after the name for the controlling types: `.i32`, `.i32/i64`, or nothing.
 fn push_control(
     leaves_out: bool,
     control: Option<u16>,
@@ -125,7 +125,7 @@ fn push_control(
     push_type(other, out)
 }
 
-/// Adds the values, parted by a comma and a space.
+/// Adds the values, separated by a comma and a space.
 fn push_joined_values(values: &[u32], out: &mut String) -> Result<(), AllocError>
     ensures { OnOk result (string_bytes out.new ≡ string_bytes out.old ++ joined (map value_text values.now)) }
 {
@@ -136,7 +136,7 @@ fn push_joined_values(values: &[u32], out: &mut String) -> Result<(), AllocError
     Ok(())
 }
 
-/// Adds what stands behind that for the values: ` v0, v1`, or nothing.
+/// Adds what comes next, for the values: ` v0, v1`, or nothing.
 fn push_values(values: &[u32], out: &mut String) -> Result<(), AllocError>
     ensures { OnOk result (string_bytes out.new ≡ string_bytes out.old ++ behind 32 (values_written (map value_text values.now))) }
 {
@@ -147,7 +147,7 @@ fn push_values(values: &[u32], out: &mut String) -> Result<(), AllocError>
     push_joined_values(values, out)
 }
 
-/// Adds the line of an application in this manner.
+/// Adds the line of an application, with the types left out that its manner leaves out.
 pub(crate) fn push_application(
     manner: &Manner<'_>,
     application: &Application<'_>,
@@ -169,7 +169,6 @@ pub(crate) fn push_application(
     push_values(&application.values, out)
 }
 
-/// Adds the line of a parameter.
 pub(crate) fn push_parameter(parameter: TypedNumber, out: &mut String) -> Result<(), AllocError>
     requires { IsTypedNumber parameter }
     ensures { OnOk result (string_bytes out.new ≡ string_bytes out.old ++ parameter_text (typed_value_of parameter)) }

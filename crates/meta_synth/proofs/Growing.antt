@@ -128,7 +128,7 @@ next_variables : (n k : ℕ) → variables_to n (suc k) ≡ variables_to n k ++ 
 unfolding variables_to
 next_variables n k = refl
 
--- and behind those of the first come those of the next
+-- and after those of the first come those of the next
 more_variables : (n k : ℕ) → variables_to n (k + 1) ≡ variables_to n k ++ variables_of_number n (k + 1) (length (variables_to n k))
 more_variables n k = subst (λ m. variables_to n m ≡ variables_to n k ++ variables_of_number n m (length (variables_to n k)))
     (sym (add-one k)) (next_variables n k)

@@ -95,7 +95,7 @@ one_declared n d e h g =
 
 -- ---- the line
 
--- so many have a property, and no other number
+-- only one number is the count of those that have a property
 one_count : (P : ℕ → Type 0) (n a b : ℕ) → CountsTo P n a → CountsTo P n b → a ≡ b
 one_count P zero a b h g = h ∙ sym g
 one_count P (suc n) a b (inl y) (inl z) = y.1.1 ∙ ap (λ k. k + 1) (one_count P n y.1.0 z.1.0 y.1.2 z.1.2) ∙ sym z.1.1

@@ -1,4 +1,4 @@
--- The declarations of a number show no fault.
+-- The declarations of every number are valid.
 use Rattle.std.proofs.Common.{◌≡◌, ◌⊎◌, inl, inr, ⊎_elim, ◌+◌, ◌<◌, ◌≤◌, ◌^◌, ℕ, zero, suc, ◌==◌, cond, List, [], ◌∷◌, length, map}
 use Rattle.std.proofs.Common.{slice_get, Option, Some, codes, refl, sym, ap, subst, ◌∙◌, arith}
 use Rattle.std.specs.List.{All, AllZip}

@@ -32,7 +32,7 @@ format_of Copying = 1
 format_of Comparing = 2
 format_of Widening = 1
 
--- the format of this name and so many value inputs, of which the first is designated
+-- the format with this name and this count of value inputs, of which the first is designated
 abbrev pub value_format : List ℕ → ℕ → InstructionFormat
 value_format name count = built_format (record (empty_format name) { num_value_operands = count })
 

@@ -1,5 +1,5 @@
 -- What the summary of tables says.
---     CountsTo P n count              so many of the numbers 1 to n have the property P
+--     CountsTo P n count              this many of the numbers 1 to n have the property P
 --     IsFoundByName t op              the opcode is found by its name
 --     AcceptsEverywhere n allows      n is accepted as control, if there is one, and as every result and value
 --     IsSummary n t line              the line says what the tables hold
@@ -13,7 +13,7 @@ use Rattle.meta_meaning.specs.Tables.{TableContents, at_opcode, Allows}
 use Rattle.meta_opcode_tables.specs.Contents.{IsOpcodeNamed}
 use Rattle.meta_opcode_tables.specs.TablesOf.{AcceptsOpcode}
 
--- so many of the numbers 1 to n have the property
+-- this many of the numbers 1 to n have the property
 abbrev pub CountsTo : (ℕ → Type 0) → ℕ → ℕ → Type 0
 CountsTo P zero count = count ≡ 0
 CountsTo P (suc n) count = (P (suc n) × ((before : ℕ) × (count ≡ before + 1) × CountsTo P n before))

@@ -36,7 +36,7 @@ pub record IsValueOf (vars : List TypeVarContent) (expected : List ℕ × Variab
   pub rust_type : o.kind.rust_type ≡ codes "ir::Value"
   pub kind_doc : doc_of_kind o.kind ≡ None
 
--- the variables old, and at most n more behind them
+-- the variables old, and after them at most n more
 pub record Extends (n : ℕ) (old new : List TypeVarContent) : Type 0 where
   pub more : List TypeVarContent
   pub is : new ≡ old ++ more
@@ -70,7 +70,7 @@ abbrev pub variables_of_number : ℕ → ℕ → ℕ → List TypeVarContent
 variables_of_number n number x = root_with (set_of_seed (seed_of n number)) x ∷ derived_for
     (shape_of (seed_of n number)) (set_of_seed (seed_of n number)) x
 
--- the variables of the first k instructions, those of one behind those of the one before
+-- the variables of the first k instructions, in the order of the instructions
 unfoldable pub variables_to : ℕ → ℕ → List TypeVarContent
 variables_to n zero = []
 variables_to n (suc k) = variables_to n k ++ variables_of_number n (suc k) (length (variables_to n k))

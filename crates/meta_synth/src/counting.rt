@@ -14,7 +14,7 @@ fn is_found(tables: &Tables, opcode: u16) -> bool
     }
 }
 
-/// The controlling type of an opcode with this type set offset, where it is that with this number: none where it has no control.
+/// The controlling type of an opcode with this type set offset, if it is that with this number. There is none if the opcode has no control.
 fn control_of(typeset_offset: u16, number: u16) -> Option<u16>
     ensures { result ≡ (if typeset_offset == no_type_set then None else Some number) }
 {
@@ -25,7 +25,7 @@ fn control_of(typeset_offset: u16, number: u16) -> Option<u16>
     }
 }
 
-/// Whether the opcode accepts the type with this number as so many results and values.
+/// Whether the opcode accepts the type with this number as all of its results and values, of which these are the counts.
 fn accepts_all(
     tables: &Tables,
     opcode: u16,
@@ -43,7 +43,7 @@ fn accepts_all(
     tables.accepts(opcode, control, results, values)
 }
 
-/// Whether the opcode accepts the type with this number as its control, where it has one, and as every result and value.
+/// Whether the opcode accepts the type with this number as its control, if it has one, and as every result and value.
 fn takes_everywhere(tables: &Tables, opcode: u16, number: u16) -> bool
     ensures { IsTrue result ↔ TakesEverywhere tables.now.opcodes number opcode }
 {
@@ -70,7 +70,7 @@ pub(crate) fn found_count(tables: &Tables) -> u16
     count
 }
 
-/// How many opcodes accept the type with this number everywhere.
+/// How many opcodes accept the type with this number as their control, if they have one, and as every result and value.
 pub(crate) fn taking_count(tables: &Tables, number: u16) -> u16
     ensures { CountsTo (TakesEverywhere tables.now.opcodes number) (length tables.now.opcodes.entries) result }
 {

@@ -34,7 +34,7 @@ impl Formats {
         })
     }
 
-    /// The format of instructions of this shape.
+    /// The format of instructions with this shape.
     pub(crate) fn of(&self, shape: Shape) -> FormatId
         requires { AreNumbered self.now }
         ensures { result ≡ format_of shape }

@@ -11,10 +11,9 @@ use meta_operands::FormatTable;
 use meta_typevar::TypeVars;
 use std::alloc::{AllocError, Global};
 
-/// How many instructions there are.
+/// How many instructions the declarations of a number have.
 const INSTRUCTIONS: u16 = 255;
 
-/// Adds an instruction at the end.
 fn push(instructions: &mut AllInstructions, builder: InstructionBuilder) -> Result<(), AllocError>
     ensures { OnOk result (instructions.new ≡ instructions.old ++ builder ∷ []) }
 {
@@ -22,9 +21,8 @@ fn push(instructions: &mut AllInstructions, builder: InstructionBuilder) -> Resu
     group.push(builder)
 }
 
-/// Declarations that are made from a number: 255 instructions `op_1` to `op_255` of the formats `NullAry`, `Unary` and `Binary`,
-/// and no groups of settings. They show no fault, whatever the number is. Numbers that differ by a multiple of 24 give the same
-/// (this project's own).
+/// Makes declarations from a number: 255 instructions `op_1` to `op_255` of the formats `NullAry`, `Unary` and `Binary`, and no groups of
+/// settings. The declarations are valid for every number. Numbers that differ by a multiple of 24 give the same declarations.
 pub fn synth(alloc: Global, n: u32) -> Result<Declarations, AllocError>
     ensures declarations { IfOk result (λ d. IsSynth n d) }
     ensures valid { IfOk result (λ d. AreValid d) }
@@ -38,7 +36,7 @@ pub fn synth(alloc: Global, n: u32) -> Result<Declarations, AllocError>
         let builder = instruction(alloc, &mut vars, &formats, n, place + 1)?;
         push(&mut instructions, builder)?;
     }
-    // Its clause says that they are a registry.
+    // The clause of this call says that they are a registry.
     let _count = vars.len();
     Ok(Declarations::new(vars, table, instructions, Vec::new(alloc)))
 }

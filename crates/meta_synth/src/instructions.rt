@@ -13,7 +13,6 @@ use meta_types::Text;
 use meta_typevar::TypeVars;
 use std::alloc::{AllocError, Global};
 
-/// The name of the instruction with this number: `op_1`, `op_2` and so on.
 fn name_of(alloc: Global, number: u16) -> Result<Text, AllocError>
     ensures { IfOk result (λ name. name ≡ name_of_number number) }
 {
@@ -21,7 +20,7 @@ fn name_of(alloc: Global, number: u16) -> Result<Text, AllocError>
     Text::new(alloc, name.as_str())
 }
 
-/// The instruction with this number and shape, yet without values.
+/// The instruction with this number and shape, without its values.
 fn without_values(
     alloc: Global,
     formats: &Formats,
@@ -44,8 +43,8 @@ fn without_values(
     Ok(InstructionBuilder::new(alloc, name, doc, formats.of(shape)))
 }
 
-/// The instruction with this number in the declarations of `n`. Its root variable is added, which is the next one, and with it at
-/// most one that is derived from it.
+/// The instruction with this number in the declarations of `n`. Its root variable is added, and at most one variable that is derived from
+/// it.
 pub(crate) fn instruction(
     alloc: Global,
     vars: &mut TypeVars,
@@ -62,7 +61,7 @@ pub(crate) fn instruction(
     let seed = seed_of(n, number);
     let shape = shape_of(seed);
     let x = add_root(alloc, vars, seed)?;
-    // Its clause says that they are a registry.
+    // The clause of this call says that they are a registry.
     let _count = vars.len();
     let values = values_of(alloc, vars, shape, x)?;
     let builder = without_values(alloc, formats, shape, number)?;

@@ -1,4 +1,4 @@
-//! Valid declarations that are made from a number, for tries of what is generated.
+//! Valid declarations that are made from a number, to try the making of tables.
 //!
 //! `synth` makes the declarations of a number, and `summary` says in one line what their tables hold.
 #![tactic(auto)]

@@ -11,7 +11,7 @@ use meta_gen::Tables;
 use meta_types::{Int, LaneType};
 use std::alloc::{AllocError, Global};
 
-/// What stands in the summary of tables.
+/// What the summary of tables counts.
 #[derive(Clone, Copy)]
 struct Counts {
     opcodes: u16,
@@ -23,7 +23,6 @@ struct Counts {
 }
 
 impl Counts {
-    /// What the tables hold.
     fn of(tables: &Tables) -> Counts
         ensures opcodes { result.opcodes ≡ length tables.now.opcodes.entries }
         ensures type_sets { result.type_sets ≡ length tables.now.opcodes.type_sets }
@@ -59,7 +58,7 @@ impl Counts {
     }
 }
 
-/// The line, without its end, in which the lengths stand as they are written.
+/// The summary line, without its end, with these lengths.
 #[tactic(auto, unfolding(crate::specs::Summary::summary_line))]
 fn line(
     alloc: Global,
@@ -73,10 +72,9 @@ fn line(
     format!(in alloc; "synth {n}: {lengths}, {found} found, {accepted} accepted")
 }
 
-/// What the tables hold that are made of the declarations of `n`, in one line without its end: how many opcodes, type sets,
-/// operand constraints and slots there are, how many opcodes are found by their names, and how many accept `i64` as their control,
-/// where they have one, and as every result and value. An opcode with a second control isn't counted among those that accept it (this
-/// project's own).
+/// One line, without its end, on the tables of the declarations of `n`: how many opcodes, type sets, operand constraints and slots there
+/// are; how many opcodes are found by their names; and how many accept `i64` as their control, if they have one, and as every result and
+/// value. An opcode with a second control isn't counted among the last.
 pub fn summary(alloc: Global, n: u32, tables: &Tables) -> Result<String, AllocError>
     ensures line { IfOk result (λ line. IsSummary n tables.now.opcodes (string_bytes line)) }
     ensures of_synth { IfOk result (λ line. (d : Declared) → HoldTypeSets d.set.vars → IsSynth n d

@@ -7,17 +7,16 @@ use meta_types::Text;
 use meta_typevar::{Interval, TypeSet, TypeSetBuilder, TypeVar, TypeVars};
 use std::alloc::{AllocError, Global};
 
-/// After how many numbers the declarations repeat.
+/// The count of numbers after which the declarations repeat.
 const PERIOD: u32 = 24;
 
-/// What the choices for an instruction go by, where `n` is the number of the declarations and `number` that of the instruction.
+/// The number that the choices for an instruction go by. `n` is the number of the declarations, and `number` that of the instruction.
 pub(crate) fn seed_of(n: u32, number: u16) -> u32
     ensures { result ≡ seed_of n number }
 {
     u32::from(number) + n % PERIOD
 }
 
-/// The shape of the instruction.
 pub(crate) fn shape_of(seed: u32) -> Shape
     ensures { result ≡ shape_of seed }
 {
@@ -29,7 +28,7 @@ pub(crate) fn shape_of(seed: u32) -> Shape
     }
 }
 
-/// The least width of the integers of its root variable: 8, 16 or 32.
+/// The least width of the integers of the root variable: 8, 16 or 32.
 fn least_width(seed: u32) -> u16
     ensures { result ≡ least_width_of seed }
 {
@@ -40,14 +39,14 @@ fn least_width(seed: u32) -> u16
     }
 }
 
-/// Whether its root variable has vectors too. What is wider than another value has none.
+/// Whether the root variable can also be a vector. A variable that is wider than another value can't.
 fn has_vectors(seed: u32) -> bool
     ensures { result ≡ has_vectors seed }
 {
     seed / 12 % 2 == 1 && shape_of(seed) != Shape::Widening
 }
 
-/// The lanes of its root variable: 1 to 256, or one.
+/// The lane counts of the root variable: 1 to 256, or 1 alone.
 fn lanes(seed: u32) -> Interval
     ensures { result ≡ (if has_vectors seed then Interval.All else Interval.None) }
 {
@@ -58,7 +57,7 @@ fn lanes(seed: u32) -> Interval
     }
 }
 
-/// The type set of its root variable.
+/// The type set of the root variable.
 fn type_set(alloc: Global, seed: u32) -> Result<TypeSet, AllocError>
     ensures { IfOk result (λ s. s ≡ set_of_seed seed) }
 {
@@ -68,7 +67,7 @@ fn type_set(alloc: Global, seed: u32) -> Result<TypeSet, AllocError>
         .build(alloc)
 }
 
-/// Adds its root variable `X`.
+/// Adds the root variable `X`.
 pub(crate) fn add_root(alloc: Global, vars: &mut TypeVars, seed: u32) -> Result<TypeVar, AllocError>
     requires { length vars.old < 2 ^ 32 - 1 }
     ensures number { IfOk result (λ x. x ≡ length vars.old) }

@@ -24,7 +24,7 @@ pub(crate) struct Values {
     pub(crate) outputs: Vec<Operand>,
 }
 
-/// The value of this name, whose type is that of the variable.
+/// The value with this name, whose type is that of the variable.
 fn value(alloc: Global, name: &str, tv: TypeVar) -> Result<Operand, AllocError>
     ensures { IfOk result (λ o. (vars : List TypeVarContent) → tv < length vars → IsValueOf vars (name.now, variable_at vars tv) o) }
 {
@@ -32,7 +32,7 @@ fn value(alloc: Global, name: &str, tv: TypeVar) -> Result<Operand, AllocError>
     Ok(Operand::new(Text::new(alloc, name)?, kind))
 }
 
-/// The value of this name alone.
+/// A list of one value, which has this name.
 fn one_value(alloc: Global, name: &str, tv: TypeVar) -> Result<Vec<Operand>, AllocError>
     ensures { IfOk result (λ v. (vars : List TypeVarContent) → tv < length vars
         → AllZip (IsValueOf vars) ((name.now, variable_at vars tv) ∷ []) v.items) }
@@ -52,7 +52,7 @@ fn two_values(alloc: Global, tv: TypeVar) -> Result<Vec<Operand>, AllocError>
     Ok(values)
 }
 
-/// The values of an instruction that gives what a comparison of two values of `x` gives.
+/// The values of an instruction that compares two values of `x`.
 fn comparing(alloc: Global, vars: &mut TypeVars, x: TypeVar) -> Result<Values, AllocError>
     requires room { length vars.old < 2 ^ 32 - 1 }
     requires of { x < length vars.old }
@@ -71,7 +71,7 @@ fn comparing(alloc: Global, vars: &mut TypeVars, x: TypeVar) -> Result<Values, A
     Ok(Values { inputs, outputs })
 }
 
-/// The values of an instruction that takes one with fewer bits than `x`.
+/// The values of an instruction that takes a value with fewer bits than `x`.
 fn widening(alloc: Global, vars: &mut TypeVars, x: TypeVar) -> Result<Values, AllocError>
     requires room { length vars.old < 2 ^ 32 - 1 }
     requires of { x < length vars.old }
@@ -91,7 +91,7 @@ fn widening(alloc: Global, vars: &mut TypeVars, x: TypeVar) -> Result<Values, Al
     Ok(Values { inputs, outputs })
 }
 
-/// The values of an instruction that gives one of `x` for one of `x`.
+/// The values of an instruction that takes a value of `x` and gives one.
 fn copying(alloc: Global, x: TypeVar) -> Result<Values, AllocError>
     ensures inputs { IfOk result (λ v. (vars : List TypeVarContent) → x < length vars
         → variable_at vars x ≡ underived x → AllZip (IsValueOf vars) (inputs_for Shape.Copying x) v.inputs.items) }
@@ -103,7 +103,7 @@ fn copying(alloc: Global, x: TypeVar) -> Result<Values, AllocError>
     Ok(Values { inputs, outputs })
 }
 
-/// The values of an instruction of this shape with the root variable `x`. At most one variable is added.
+/// The values of an instruction with this shape and the root variable `x`. At most one variable is added.
 pub(crate) fn values_of(
     alloc: Global,
     vars: &mut TypeVars,

@@ -5,19 +5,19 @@ use Rattle.std.proofs.lemmas.Bool.{cases_lt}
 use Rattle.std.proofs.lemmas.List.{length-append}
 use Rattle.meta_table_text.specs.OpcodeText.{each_opcode}
 
--- what f gives of the next n opcodes behind opcode k
+-- what f gives of the next n opcodes after opcode k
 abbrev pub behind : (ℕ → List ℕ) → ℕ → ℕ → List ℕ
 behind f k zero = []
 behind f k (suc n) = f (suc k) ++ behind f (suc k) n
 
--- first come those up to opcode k, and then those behind it
+-- first come those up to opcode k, and then those after it
 pub parted_at : (f : ℕ → List ℕ) (k n : ℕ) → each_opcode f (k + n) ≡ each_opcode f k ++ behind f k n
 parted_at f k zero = let same : k + 0 ≡ k = omega arith in ap (each_opcode f) same ∙ sym (append-nil (each_opcode f k))
 parted_at f k (suc n) =
     let next : k + suc n ≡ suc k + n = omega arith in
     ap (each_opcode f) next ∙ parted_at f (suc k) n ∙ append_assoc (each_opcode f k) (f (suc k)) (behind f (suc k) n)
 
--- all are those behind no opcode
+-- all are those after opcode 0
 pub from_first : (f : ℕ → List ℕ) (n : ℕ) → each_opcode f n ≡ behind f 0 n
 from_first f n = let same : 0 + n ≡ n = omega arith in sym (ap (each_opcode f) same) ∙ parted_at f 0 n
 
@@ -30,7 +30,7 @@ module _ (f : ℕ → List ℕ) (rest : List ℕ) where
       e ∙ ap (λ k. behind f i k ++ rest) step ∙ append_assoc (f (suc i)) (behind f (suc i) (n - (i + 1))) rest
       ∙ ap (λ k. f (suc i) ++ (behind f k (n - (i + 1)) ++ rest)) (sym (add-one i))
 
-  -- nothing is left behind the last
+  -- nothing is left after the last
   pub no_more : (i n : ℕ) (left : List ℕ) → n ≤ i → left ≡ behind f i (n - i) ++ rest → left ≡ rest
   no_more i n left past e = let none : n - i ≡ 0 = omega (arith, past) in e ∙ ap (λ k. behind f i k ++ rest) none
 

@@ -14,7 +14,7 @@ use Rattle.meta_table_reader.specs.Words.{IsOfControl, ends_marked}
 
 -- ---- the two parts of a word
 
--- what the mark stands behind ends in it
+-- a word that ends in the mark is told by it
 ends_at : (xs : List ℕ) → ends_marked (xs ++ 50 ∷ []) ≡ true
 ends_at [] = refl
 ends_at (c ∷ []) = refl

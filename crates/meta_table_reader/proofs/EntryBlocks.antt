@@ -31,7 +31,7 @@ before_second = codes "        second_offset: "
 abbrev pub before_place : List ℕ
 before_place = codes "        constraint_offset: "
 
--- what stands behind each field, and then the rest
+-- what comes after each field, and then the rest
 module _ (v : Version) (t : TableContents) (op : ℕ) (e : OpcodeNumbers) (rest : List ℕ) where
   abbrev pub at_lines : List ℕ
   at_lines = flat_map (λ line. line) (block_lines v t op e) ++ rest

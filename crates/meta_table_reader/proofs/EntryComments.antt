@@ -89,7 +89,7 @@ constraints_line : (cs : List NumberConstraint) → All IsShownConstraint cs →
 unfolding constraints_comment
 constraints_line cs shown = line_behind (quoted_all cs) (codes "]" ++ 10 ∷ []) (quoted_all_lack cs shown) refl
 
--- ---- the lines of a block behind its fields
+-- ---- the lines of a block after its fields
 
 -- the line on a control, if it has a type set
 abbrev on_control : TableContents → List ℕ → ℕ → List (List ℕ)
@@ -143,7 +143,7 @@ lines_joined v t op e =
     grouped : (a b c d f : List ℕ) → (a ++ (b ++ (c ++ d))) ++ f ≡ a ++ (b ++ (c ++ (d ++ f)))
     grouped a b c d f = simp append_assoc
 
--- so many are there
+-- the count of these lines
 on_control_count : (t : TableContents) (about : List ℕ) (offset : ℕ) → length (on_control t about offset) ≡ control_lines offset
 on_control_count t about offset = by_test (offset == no_type_set)
   where

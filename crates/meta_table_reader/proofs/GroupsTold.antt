@@ -88,7 +88,7 @@ pair_told : (m n : ℕ) (r s : List ℕ) → IsByte m → IsByte n → pair_text
 pair_told m n r s small_m small_n e = let same = pairs_same m n r s small_m small_n e
     in (same, cancel_front (pair_text n) r s (ap (λ k. pair_text k ++ r) (sym same) ∙ e))
 
--- so many presets, with equally many masks each
+-- all presets, with the same count of masks each
 masks_told : (booleans ds : List Descriptor) (size : ℕ) (ms ns r s : List ℕ) → All IsShownDescriptor booleans → All IsShownDescriptor ds
     → All (AreShownMasksOf size ms) ds → All (AreShownMasksOf size ns) ds
     → flat_map (preset_text booleans size ms) ds ++ r ≡ flat_map (preset_text booleans size ns) ds ++ s

@@ -13,7 +13,7 @@ list_grouped list n lines rest = grouped (list_head list n) lines list_end rest
     grouped : (a b c d : List ℕ) → (a ++ (b ++ c)) ++ d ≡ a ++ (b ++ (c ++ d))
     grouped a b c d = simp append_assoc
 
--- the title of a list, its name, the count, and what stands behind it, and then the rest
+-- the title of a list, its name, the count, and what comes after it, and then the rest
 pub head_grouped : (list : TableList) (n : ℕ) (rest : List ℕ)
     → list_head list n ++ rest ≡ title_of list ++ (head_of list ++ (decimal n ++ (codes "] = [\n" ++ rest)))
 unfolding list_head

@@ -29,7 +29,7 @@ pub shown_small : (v : Version) (offset : ℕ) → IsShownOffset v offset → of
 shown_small v offset (inl below) = let most = most_shown v in let same = shown_other v offset below in omega arith
 shown_small v offset (inr none) = let most = most_shown v in let same = ap (offset_shown v) none ∙ shown_none v in omega (arith, most, same)
 
--- where what is shown is what stands for none, there is none, and else it is the place
+-- if the number in the text is the one for no type set, there is no type set, and else it is the place
 pub none_back : (v : Version) (offset shown : ℕ) → IsShownOffset v offset → shown ≡ offset_shown v offset
     → shown ≡ none_of v → 65535 ≡ offset
 none_back v offset shown (inl below) is none = let same = shown_other v offset below in absurd (omega (arith, same, below, is, none))

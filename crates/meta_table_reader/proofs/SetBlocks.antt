@@ -8,7 +8,7 @@ use Rattle.meta_cursor.proofs.Cancel.{cancel_front, cancel_number, cancel_lines}
 use Rattle.meta_table_reader.specs.Shown.{AreShownMasks}
 use Rattle.meta_table_reader.proofs.SetLines.{set_lines}
 
--- the lines behind the fields
+-- the lines after the fields
 abbrev pub last_lines : Masks → List (List ℕ)
 last_lines m = set_comment [] (masks_text m) ∷ codes "    }\n" ∷ codes "    ,\n" ∷ []
 
@@ -25,7 +25,7 @@ before_ints = codes "),\n        ints: ScalarBitSet::<u8>("
 abbrev pub before_floats : List ℕ
 before_floats = codes "),\n        floats: ScalarBitSet::<u8>("
 
--- what stands behind each field, and then the rest
+-- what comes after each field, and then the rest
 abbrev pub at_lines : Masks → List ℕ → List ℕ
 at_lines m rest = flat_map (λ line. line) (last_lines m) ++ rest
 

@@ -10,7 +10,7 @@ use Rattle.meta_cursor.proofs.Lacking.{both_lack}
 use Rattle.meta_cursor.proofs.Reading.{all_first, all_behind}
 use Rattle.meta_table_reader.specs.ShownGroup.{IsByte}
 
--- the bytes behind the first, each behind a comma
+-- the bytes after the first, each after a comma
 abbrev pub comma_behind : List ℕ → List ℕ
 comma_behind bytes = flat_map (λ byte. codes ", " ++ hex_text byte) bytes
 

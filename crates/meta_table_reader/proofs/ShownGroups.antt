@@ -30,7 +30,7 @@ few_slots first names slots are few =
     let most = are.size.least (2 ^ 17) (17, refl) (omega (arith, count, few)) in
     omega (arith, most)
 
--- ---- presets, where so many settings stand before them
+-- ---- presets, with the settings before them
 
 -- the entry at this place is a setting or has the masks of its number
 abbrev StandsAt : ℕ → ℕ → ℕ → Descriptor → Type 0

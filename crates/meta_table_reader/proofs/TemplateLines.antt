@@ -29,7 +29,7 @@ template_lines_are name is =
     are_lines (template_lines name)
     (and_from (is_line (name_line name)) true (line_behind name (codes "\",\n") (name_lacks_end name is) refl) refl)
 
--- what stands before the default bytes, and behind them
+-- what stands before the default bytes, and after them
 abbrev pub before_defaults : List ℕ
 before_defaults = codes "    defaults: &["
 

@@ -27,11 +27,11 @@ IsShownConstraint (FreeOf j) = j < 2 ^ 16
 IsShownConstraint (SameNumber which) = ⊤
 IsShownConstraint (ByNumber which f) = ⊤
 
--- the place of a type set is below what the version shows for none, or there is none
+-- the place of a type set is below what the version has for no type set, or there is no type set
 abbrev pub IsShownOffset : Version → ℕ → Type 0
 IsShownOffset v offset = (offset < none_of v) ⊎ (offset ≡ no_type_set)
 
--- version 1 shows no second control, and so there is none
+-- version 1 can't say that there is a second control, and there is no second control
 abbrev pub IsShownSecond : Version → ℕ → Type 0
 IsShownSecond One offset = offset ≡ no_type_set
 IsShownSecond Two offset = IsShownOffset Two offset

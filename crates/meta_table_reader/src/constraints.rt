@@ -16,25 +16,24 @@ use meta_gen::{Constraint, Demand, Which};
 use meta_types::{DerivedFunc, ValueType, names_differ};
 use std::alloc::{AllocError, Global};
 
-/// Where on the line of a constraint its form begins.
+/// Where the form of a constraint begins on its line.
 const FORM_AT: usize = 23;
 
-/// The byte in the name of a type, by that in its name in Rust source: a capital becomes small, but for the `N` of a dynamic
-/// vector.
+/// A byte in the name of a type, from the byte in its name in Rust source: a capital becomes small, except the `N` of a dynamic vector.
 fn small_letter(c: u8) -> u8
     ensures { result ≡ small_letter c }
 {
     if c == b'N' { c } else { c.to_ascii_lowercase() }
 }
 
-/// The name of a type, by that in Rust source.
+/// The name of a type, from its name in Rust source.
 fn small_name(alloc: Global, name: &[u8]) -> Result<Vec<u8>, AllocError>
     ensures { IfOk result (λ v. v.items ≡ map small_letter name.now) }
 {
     name.iter().map(|c| small_letter(*c)).collect(alloc)
 }
 
-/// The number of the type that has this name in Rust source, behind `ir::types::`, and 0 where none has it.
+/// The number of the type whose name in Rust source is this after `ir::types::`. It is 0 if there is no such type.
 fn type_number(alloc: Global, name: &[u8]) -> Result<u16, AllocError>
     ensures { IfOk result (λ n. (t : TypeParts) → IsType t → name.now ≡ map to_ascii_uppercase (name_of t) → n ≡ number_of t) }
 {
@@ -46,7 +45,7 @@ fn type_number(alloc: Global, name: &[u8]) -> Result<u16, AllocError>
     }
 }
 
-/// Reads the line of the constraint of a type.
+/// Reads the line of a constraint that names a type.
 fn concrete(alloc: Global, cursor: &mut Cursor) -> Result<Constraint, AllocError>
     ensures { IfOk result (λ c. (n : ℕ) (rest : List ℕ) → IsTypeNumber n
         → cursor.old ≡ constraint_line (ConcreteNumber n) ++ rest → (number_constraint_of c ≡ ConcreteNumber n) × (cursor.new ≡ rest)) }
@@ -57,7 +56,7 @@ fn concrete(alloc: Global, cursor: &mut Cursor) -> Result<Constraint, AllocError
     Ok(Constraint::Concrete(number))
 }
 
-/// Reads the line of the constraint of a type set.
+/// Reads the line of a constraint that names a type set.
 fn free(cursor: &mut Cursor) -> Constraint
     ensures { (j : ℕ) (rest : List ℕ) → j < 2 ^ 16 → cursor.old ≡ constraint_line (FreeOf j) ++ rest
         → (number_constraint_of result ≡ FreeOf j) × (cursor.new ≡ rest) }
@@ -67,7 +66,7 @@ fn free(cursor: &mut Cursor) -> Constraint
     Constraint::Free(set)
 }
 
-/// The word of a constraint of a control: what stands before the mark, and the control that the mark means.
+/// The two parts of a word that names a constraint of a control: what stands before the mark, and the control that the mark stands for.
 #[derive(Clone, Copy)]
 struct Word<'t> {
     name: &'t [u8],
@@ -81,7 +80,6 @@ fn is_mark(byte: u8) -> bool
     byte == b'2'
 }
 
-/// The two parts of a word.
 fn split_mark(word: &[u8]) -> Word<'_>
     ensures { (a : Control) (name : List ℕ) → ends_marked name ≡ false → word.now ≡ name ++ control_mark a
         → (result.name.now ≡ name) × (which_of result.which ≡ a) }
@@ -104,7 +102,8 @@ fn split_mark(word: &[u8]) -> Word<'_>
     }
 }
 
-/// The constraint of a control that has the word, and one that doesn't demand a function where none has it.
+/// The constraint of a control that this word names. A word that doesn't name a function gives the constraint that asks for the control
+/// itself.
 fn constraint_named(word: &[u8]) -> Constraint
     ensures { (n : NumberConstraint) → IsOfControl n → word.now ≡ constraint_text n → number_constraint_of result ≡ n }
 {
@@ -115,7 +114,7 @@ fn constraint_named(word: &[u8]) -> Constraint
     }
 }
 
-/// Reads the line of the constraint of a control.
+/// Reads the line of a constraint of a control.
 fn of_control(cursor: &mut Cursor) -> Constraint
     ensures { (n : NumberConstraint) (rest : List ℕ) → IsOfControl n → cursor.old ≡ constraint_line n ++ rest
         → (number_constraint_of result ≡ n) × (cursor.new ≡ rest) }

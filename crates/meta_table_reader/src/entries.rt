@@ -15,7 +15,7 @@ use meta_gen::{NO_TYPE_SET, OpcodeConstraints};
 use meta_table_text::{TableList, Version};
 use std::alloc::{AllocError, Global};
 
-/// The place of a type set, or that there is none, by what the version shows for it.
+/// The place of a type set, or no type set, from the number that the version has for it.
 fn offset_of(version: Version, shown: u16) -> u16
     ensures { (offset : ℕ) → IsShownOffset version offset → shown ≡ offset_shown version offset → result ≡ offset }
 {
@@ -25,7 +25,7 @@ fn offset_of(version: Version, shown: u16) -> u16
     shown
 }
 
-/// Reads the number of a line up to its end, behind as many bytes as the text has.
+/// Skips as many bytes as `before` has, and reads a number and the end of the line.
 fn place(cursor: &mut Cursor, before: &str) -> u16
     ensures { (n : ℕ) (rest : List ℕ) → n < 2 ^ 16 → cursor.old ≡ before.now ++ (decimal n ++ (codes ",\n" ++ rest))
         → (result ≡ n) × (cursor.new ≡ rest) }
@@ -35,7 +35,7 @@ fn place(cursor: &mut Cursor, before: &str) -> u16
     place
 }
 
-/// As `place`, where the line shows the place of a type set, or none.
+/// Reads a line as `place` does, with the place of a type set or what stands for no type set.
 fn type_set_place(cursor: &mut Cursor, version: Version, before: &str) -> u16
     ensures { (offset : ℕ) (rest : List ℕ) → IsShownOffset version offset
         → cursor.old ≡ before.now ++ (decimal (offset_shown version offset) ++ (codes ",\n" ++ rest))
@@ -45,7 +45,7 @@ fn type_set_place(cursor: &mut Cursor, version: Version, before: &str) -> u16
     offset_of(version, shown)
 }
 
-/// Reads the line of the place of the second control's type set, which version 1 doesn't have.
+/// Reads the line with the place of the second control's type set. Version 1 doesn't have this line.
 fn second_place(cursor: &mut Cursor, version: Version) -> u16
     ensures { (e : OpcodeNumbers) (rest : List ℕ) → IsShownSecond version e.second_offset
         → cursor.old ≡ second_line version e ++ rest → (result ≡ e.second_offset) × (cursor.new ≡ rest) }
@@ -57,7 +57,7 @@ fn second_place(cursor: &mut Cursor, version: Version) -> u16
     }
 }
 
-/// How many lines comment on a control whose type set has this place.
+/// How many lines of comment there are on a control whose type set has this place.
 fn control_lines(offset: u16) -> usize
     ensures value { result ≡ control_lines offset }
     ensures few { result ≤ 1 }
@@ -65,7 +65,7 @@ fn control_lines(offset: u16) -> usize
     if offset == NO_TYPE_SET { 0 } else { 1 }
 }
 
-/// How many lines comment on a second control.
+/// How many lines of comment there are on a second control.
 fn second_lines(version: Version, offset: u16) -> usize
     ensures value { result ≡ second_lines version offset }
     ensures few { result ≤ 1 }
@@ -76,7 +76,7 @@ fn second_lines(version: Version, offset: u16) -> usize
     }
 }
 
-/// Reads the block of an opcode: its fields, and then it skips the comments, which repeat them, and the two last lines.
+/// Reads the fields of an opcode's block. It skips the comments, which repeat them, and the last two lines.
 fn entry(cursor: &mut Cursor, version: Version) -> OpcodeConstraints
     ensures { (t : TableContents) (op : ℕ) (e : OpcodeNumbers) (rest : List ℕ) → All IsName t.names
         → All IsShownConstraint t.operand_constraints → IsShownEntry version e
@@ -97,7 +97,7 @@ fn entry(cursor: &mut Cursor, version: Version) -> OpcodeConstraints
     }
 }
 
-/// Reads the blocks of so many opcodes.
+/// Reads the blocks of `count` opcodes.
 fn blocks(
     alloc: Global,
     cursor: &mut Cursor,
@@ -115,7 +115,7 @@ fn blocks(
     Ok(entries)
 }
 
-/// Reads the list of the opcodes' numbers.
+/// Reads the list of the four numbers of each opcode.
 pub(crate) fn entries(
     alloc: Global,
     cursor: &mut Cursor,

@@ -12,10 +12,9 @@ use meta_gen::{Descriptor, Detail};
 use meta_types::Text;
 use std::alloc::{AllocError, Global};
 
-/// Where, from the end of the offset on, the name of what an entry is begins.
+/// Where the kind of an entry begins, counted from the end of the offset.
 const DETAIL_AT: usize = 34;
 
-/// Reads the line of an enumerator.
 fn enumerator(alloc: Global, cursor: &mut Cursor) -> Result<Text, AllocError>
     ensures { IfOk result (λ t. (name rest : List ℕ) → IsName name → cursor.old ≡ enumerator_text name ++ rest
         → (t ≡ name) × (cursor.new ≡ rest)) }
@@ -63,7 +62,7 @@ fn enumeration(cursor: &mut Cursor) -> Detail
     Detail::Enum { last, enumerators }
 }
 
-/// Reads what an entry is.
+/// Reads the kind of an entry, with its numbers.
 fn detail(cursor: &mut Cursor) -> Detail
     ensures { (d : Detail) (rest : List ℕ) → IsShownDetail d
         → cursor.old ≡ codes ",\n        detail: " ++ (detail_text d ++ rest) → (result ≡ d) × (cursor.new ≡ rest) }
@@ -83,7 +82,6 @@ fn detail(cursor: &mut Cursor) -> Detail
     Detail::Preset
 }
 
-/// Reads the block of an entry.
 fn descriptor(alloc: Global, cursor: &mut Cursor) -> Result<Descriptor, AllocError>
     ensures { IfOk result (λ x. (d : Descriptor) (rest : List ℕ) → IsShownDescriptor d
         → cursor.old ≡ descriptor_text d ++ rest → (x ≡ d) × (cursor.new ≡ rest)) }

@@ -16,7 +16,6 @@ use meta_table_text::TableList;
 use meta_types::Text;
 use std::alloc::{AllocError, Global};
 
-/// Reads the list of the enumerators.
 pub(crate) fn enumerators(alloc: Global, cursor: &mut Cursor) -> Result<Vec<Text>, AllocError>
     ensures { IfOk result (λ v. (names : List (List ℕ)) (rest : List ℕ) → length names < 2 ^ 16 → All IsName names
         → cursor.old ≡ enumerators_text names ++ rest → (v.items ≡ names) × (cursor.new ≡ rest)) }
@@ -27,7 +26,7 @@ pub(crate) fn enumerators(alloc: Global, cursor: &mut Cursor) -> Result<Vec<Text
     Ok(names)
 }
 
-/// Reads the list of the entries.
+/// Reads the list of the descriptors.
 pub(crate) fn descriptors(alloc: Global, cursor: &mut Cursor) -> Result<Vec<Descriptor>, AllocError>
     ensures { IfOk result (λ v. (ds : List Descriptor) (rest : List ℕ) → length ds < 2 ^ 16 → All IsShownDescriptor ds
         → cursor.old ≡ descriptors_text ds ++ rest → (v.items ≡ ds) × (cursor.new ≡ rest)) }
@@ -48,7 +47,7 @@ pub(crate) fn skip_slots(cursor: &mut Cursor)
     skip_list_end(cursor);
 }
 
-/// Reads the line of a pair, of which the value is the mask.
+/// Reads the line of a pair. The answer is its mask.
 fn pair(cursor: &mut Cursor) -> u8
     ensures { (mask : ℕ) (rest : List ℕ) → IsByte mask → cursor.old ≡ pair_text mask ++ rest → (result ≡ mask) × (cursor.new ≡ rest) }
 {
@@ -58,7 +57,7 @@ fn pair(cursor: &mut Cursor) -> u8
     mask
 }
 
-/// Adds the masks of so many pairs.
+/// Reads `count` pairs, and adds their masks.
 fn push_masks(masks: &mut Vec<u8>, cursor: &mut Cursor, count: usize) -> Result<(), AllocError>
     ensures { OnOk result ((ms : List ℕ) (rest : List ℕ) → All IsByte ms → count ≡ length ms
         → cursor.old ≡ flat_map pair_text ms ++ rest → (masks.new.items ≡ masks.old.items ++ ms) × (cursor.new ≡ rest)) }
@@ -69,7 +68,7 @@ fn push_masks(masks: &mut Vec<u8>, cursor: &mut Cursor, count: usize) -> Result<
     Ok(())
 }
 
-/// Reads the lines of so many presets, each with so many masks.
+/// Reads the lines of `count` presets, each with `size` masks.
 fn preset_lines(
     alloc: Global,
     cursor: &mut Cursor,
@@ -89,7 +88,6 @@ fn preset_lines(
     Ok(masks)
 }
 
-/// Whether the entry is a preset.
 fn is_preset(entry: &Descriptor) -> bool
     ensures { result ≡ is_preset entry.now.detail }
 {
@@ -99,14 +97,13 @@ fn is_preset(entry: &Descriptor) -> bool
     }
 }
 
-/// How many of the entries are presets.
 fn preset_count(entries: &[Descriptor]) -> usize
     ensures { result ≡ count_by (λ (d : Descriptor). is_preset d.detail) entries.now }
 {
     entries.iter().filter(|d| is_preset(d)).count()
 }
 
-/// Of so many pairs, how many each of so many presets has.
+/// How many of the pairs each preset has.
 fn size_of(pairs: usize, presets: usize) -> usize
     ensures { (size : ℕ) → 0 < presets → pairs ≡ presets * size → result ≡ size }
 {
@@ -116,7 +113,7 @@ fn size_of(pairs: usize, presets: usize) -> usize
     pairs / presets
 }
 
-/// Reads the masks of the presets among the entries.
+/// Reads the masks of the presets. The entries say how many presets there are.
 pub(crate) fn preset_masks(
     alloc: Global,
     cursor: &mut Cursor,

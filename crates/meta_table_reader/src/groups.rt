@@ -11,7 +11,6 @@ use meta_cursor::Cursor;
 use meta_setting_tables::GroupParts;
 use std::alloc::{AllocError, Global};
 
-/// Reads the text of a group.
 fn group(alloc: Global, cursor: &mut Cursor) -> Result<GroupParts, AllocError>
     ensures { IfOk result (λ parts. (g : GroupContents) (rest : List ℕ) → AreShownGroup g
         → cursor.old ≡ group_text g ++ rest → HasGroupParts parts g × (cursor.new ≡ rest)) }

@@ -4,15 +4,15 @@ ghost use Rattle.std.specs.List.{flat_map};
 use meta_cursor::Cursor;
 use std::alloc::{AllocError, Global};
 
-/// What a text has lists of.
+/// An item of a list in the text of tables.
 pub(crate) trait Item: Drop {
     // The text of the item.
     ghost text: { Self → List ℕ };
 
-    // It can be told from its text.
+    // The item can be told from its text.
     ghost IsShown: { Self → Type 0 };
 
-    /// Reads the item off the front of what is left.
+    /// Reads the item from the front of what is left.
     fn read(alloc: Global, cursor: &mut Cursor) -> Result<Self, AllocError>
         ensures { IfOk result (λ x. (item : Self) (rest : List ℕ) → IsShown item → cursor.old ≡ text item ++ rest
             → (x ≡ item) × (cursor.new ≡ rest)) };
@@ -20,7 +20,7 @@ pub(crate) trait Item: Drop {
     ghost some: { (item : Self) → 1 ≤ length (text item) };
 }
 
-/// Reads so many items off the front of what is left, or as many as there are bytes.
+/// Reads `count` items from the front of what is left. It reads at most as many as there are bytes left.
 pub(crate) fn items<T: Item>(
     alloc: Global,
     cursor: &mut Cursor,

@@ -1,9 +1,9 @@
 //! The reader of the text of tables.
 //!
-//! `read_tables` answers the tables whose text a text is, in any of the versions of `meta_table_text` that they fit, and refuses
-//! every other text. It reads leniently: counts, numbers and names are taken where they stand in the text of tables, all else is
-//! skipped by its length or by its lines, and slots and comments aren't looked at. Then the tables are made of what was read, which
-//! tests that they are well-formed, and their text is made again and compared.
+//! `read_tables` answers the tables that have this text in a version that they fit, and refuses every other text. First it reads without
+//! checking: it takes counts, numbers and names where they stand in the text of tables, skips all else by its length or by its lines, and
+//! doesn't look at slots and comments. Then it makes tables of what was read, which tests that they are well-formed, makes their text
+//! again, and compares.
 #![tactic(auto)]
 
 mod constraints;

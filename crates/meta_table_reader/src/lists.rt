@@ -4,7 +4,7 @@ ghost use Rattle.meta_table_text.specs.Lists.{list_head, list_end};
 use meta_cursor::Cursor;
 use meta_table_text::{BEHIND_COUNT, LIST_END, TableList};
 
-/// Reads what stands before the first element of a list, which tells how many there are.
+/// Reads what stands before the first element of a list, with the count of elements, which is the answer.
 pub(crate) fn list_count(cursor: &mut Cursor, list: TableList) -> usize
     ensures { (n : ℕ) (rest : List ℕ) → n < 2 ^ 64 → cursor.old ≡ list_head list n ++ rest → (result ≡ n) × (cursor.new ≡ rest) }
 {
@@ -14,7 +14,7 @@ pub(crate) fn list_count(cursor: &mut Cursor, list: TableList) -> usize
     count
 }
 
-/// Skips what stands behind the last element of a list.
+/// Skips what comes after the last element of a list.
 pub(crate) fn skip_list_end(cursor: &mut Cursor)
     ensures { (rest : List ℕ) → cursor.old ≡ list_end ++ rest → cursor.new ≡ rest }
 {

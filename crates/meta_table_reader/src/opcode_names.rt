@@ -11,14 +11,14 @@ use meta_table_text::TableList;
 use meta_types::Text;
 use std::alloc::{AllocError, Global};
 
-/// By opcode, the name and the name of the format.
+/// The names of opcodes and of their formats.
 #[derive(Drop)]
 pub(crate) struct OpcodeNames {
     pub(crate) names: Vec<Text>,
     pub(crate) formats: Vec<Text>,
 }
 
-/// Reads the lines of the formats of so many opcodes.
+/// Reads `count` lines of formats of opcodes.
 fn format_lines(alloc: Global, cursor: &mut Cursor, count: usize) -> Result<OpcodeNames, AllocError>
     ensures { IfOk result (λ r. (t : TableContents) (rest : List ℕ) → All IsName t.names → All IsName t.formats
         → count ≡ length t.names → count ≡ length t.formats → cursor.old ≡ each_opcode (format_line t) count ++ rest
@@ -34,7 +34,6 @@ fn format_lines(alloc: Global, cursor: &mut Cursor, count: usize) -> Result<Opco
     Ok(OpcodeNames { names, formats })
 }
 
-/// Reads the list of the formats.
 pub(crate) fn opcode_names(alloc: Global, cursor: &mut Cursor) -> Result<OpcodeNames, AllocError>
     ensures { IfOk result (λ r. (t : TableContents) (rest : List ℕ) → AreNamed t → cursor.old ≡ formats_part t ++ rest
         → (r.names.items ≡ t.names) × (r.formats.items ≡ t.formats) × (cursor.new ≡ rest)) }

@@ -17,13 +17,13 @@ use meta_table_text::{TableList, Version};
 use meta_typevar::Masks;
 use std::alloc::{AllocError, Global};
 
-/// Where on the first line of a text its version stands.
+/// Where the version stands on the first line of a text.
 const VERSION_AT: usize = 22;
 
-/// Where on the first line of a list that has a title the title differs.
+/// Where titles of lists differ: the place of a byte on their line.
 const TITLE_AT: usize = 12;
 
-/// The version that the first line names, and version 3 where it names none.
+/// The version that the first line names. It is version 3 if the line names no version.
 pub(crate) fn version_of(cursor: &Cursor) -> Version
     ensures { (v : Version) (rest : List ℕ) → cursor.now ≡ version_line v ++ rest → result ≡ v }
 {
@@ -58,7 +58,7 @@ fn sets_list(alloc: Global, cursor: &mut Cursor) -> Result<Vec<Masks>, AllocErro
     Ok(sets)
 }
 
-/// Reads the list of the type sets, which is left out where there are none: then that of the constraints stands there.
+/// Reads the list of the type sets. It is left out if there are no type sets: then the list of the constraints comes next.
 fn type_sets(alloc: Global, cursor: &mut Cursor) -> Result<Vec<Masks>, AllocError>
     ensures { IfOk result (λ v. (t : TableContents) (rest : List ℕ) → AreShownLists t
         → cursor.old ≡ sets_part t ++ (constraints_part t ++ rest) → (v.items ≡ t.type_sets) × (cursor.new ≡ constraints_part t ++ rest)) }

@@ -14,18 +14,19 @@ use meta_table_text::{Version, fits, table_text};
 use std::alloc::{AllocError, Global};
 use thiserror::Error;
 
-/// Why no tables are read from a text (this project's own).
+/// Why a text isn't read as tables.
 #[derive(Clone, Copy, Debug, Drop, PartialEq, Eq, Error)]
 pub enum TextError {
-    /// There are no well-formed tables whose text it is, in any version that they fit.
+    /// The text isn't that of well-formed tables, in any version that they fit.
     #[error("Refused")]
     Refused,
-    /// No memory was found for what is read.
+    /// Memory ran out.
     #[error("OutOfMemory")]
     OutOfMemory,
 }
 
-/// What the text shows of tables. It is what they are made of where it is their text in this version, and else it says nothing.
+/// The parts of tables that the text seems to have. If it is the text of tables in this version, these are their parts; else they say
+/// nothing.
 fn table_parts(alloc: Global, text: &[u8], version: Version) -> Result<TableParts, AllocError>
     ensures { IfOk result (λ parts. (t : WholeTables) → AreShown version t → text.now ≡ table_text version t → HasParts parts t) }
 {
@@ -42,7 +43,7 @@ fn table_parts(alloc: Global, text: &[u8], version: Version) -> Result<TablePart
     })
 }
 
-/// Whether the text is that of the tables in the version, which they fit.
+/// Whether the text is that of the tables in the version, and they fit it.
 fn is_text_of(
     alloc: Global,
     version: Version,
@@ -58,7 +59,7 @@ fn is_text_of(
     Ok(written.as_bytes() == text)
 }
 
-/// The tables, and `None` exactly where they don't fit the version or the text isn't theirs in it.
+/// The tables, if they fit the version and the text is theirs in it.
 fn accepted(
     alloc: Global,
     version: Version,
@@ -75,7 +76,7 @@ fn accepted(
     Ok(Some(tables))
 }
 
-/// The tables that the text reads as, if it is that of tables in the version, which its first line names.
+/// The tables that the text reads as in this version, which its first line names. `None` if it isn't the text of tables.
 fn read_in(alloc: Global, version: Version, text: &[u8]) -> Result<Option<Tables>, AllocError>
     ensures some { IfOk result (λ o. IfSome o (IsReadIn version text.now)) }
     ensures none { IfOk result (λ o. IfNone o ((t : WholeTables) → ¬ IsReadIn version text.now t)) }
@@ -88,7 +89,7 @@ fn read_in(alloc: Global, version: Version, text: &[u8]) -> Result<Option<Tables
     }
 }
 
-/// The tables that the text reads as, and `None` exactly where it reads as none.
+/// The tables that the text reads as. `None` exactly if it isn't the text of tables.
 fn read(alloc: Global, text: &[u8]) -> Result<Option<Tables>, AllocError>
     ensures some { IfOk result (λ o. IfSome o (Reads text.now)) }
     ensures none { IfOk result (λ o. IfNone o ((t : WholeTables) → ¬ Reads text.now t)) }
@@ -98,11 +99,10 @@ fn read(alloc: Global, text: &[u8]) -> Result<Option<Tables>, AllocError>
     read_in(alloc, version, text)
 }
 
-/// Reads the text of tables, in any version that they fit (this project's own).
+/// Reads the text of tables, in any version that they fit.
 ///
-/// `Refused` comes exactly where the text reads as no tables: no line is named. It costs one pass over the text, and what it costs to
-/// make the tables of what was read and to write their text again, which is compared. What is read takes memory in proportion to the
-/// text.
+/// The error is `Refused` exactly if the text isn't that of tables; no line is named. The cost is one pass over the text, and what it takes
+/// to make the tables and their text again, which is compared. The memory is in proportion to the text.
 pub fn read_tables(alloc: Global, text: &[u8]) -> Result<Tables, TextError>
     ensures found { IfOk result (λ t. Reads text.now t) }
     ensures refused { IsErrOf result TextError.Refused → (t : WholeTables) → ¬ Reads text.now t }
@@ -114,7 +114,7 @@ pub fn read_tables(alloc: Global, text: &[u8]) -> Result<Tables, TextError>
     }
 }
 
-/// The line that programs write of a text that reads as no tables: `refused` (this project's own).
+/// The line that programs write if a text isn't that of tables: `refused`.
 pub fn refused(alloc: Global) -> Result<String, AllocError>
     ensures line { IfOk result (λ out. string_bytes out ≡ refused_line) }
 {

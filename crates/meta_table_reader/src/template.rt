@@ -6,10 +6,10 @@ ghost use Rattle.meta_table_reader.specs.ShownGroup.{IsByte};
 use meta_cursor::Cursor;
 use std::alloc::{AllocError, Global};
 
-/// How many bytes of the text a default byte takes, with what parts it from the next.
+/// How many bytes of the text a default byte takes, with what separates it from the next.
 const BYTE_LENGTH: usize = 6;
 
-/// Reads bytes in hexadecimal digits, parted by a comma and a space.
+/// Reads bytes as hexadecimal digits, separated by a comma and a space.
 fn bytes(alloc: Global, shown: &[u8]) -> Result<Vec<u8>, AllocError>
     ensures { IfOk result (λ v. (bs : List ℕ) → All IsByte bs → shown.now ≡ bytes_text bs → v.items ≡ bs) }
 {
@@ -22,7 +22,7 @@ fn bytes(alloc: Global, shown: &[u8]) -> Result<Vec<u8>, AllocError>
     Ok(bytes)
 }
 
-/// Reads the default bytes of a template, whose other lines are skipped.
+/// Reads the default bytes of a template. The other lines are skipped.
 pub(crate) fn defaults(alloc: Global, cursor: &mut Cursor) -> Result<Vec<u8>, AllocError>
     ensures { IfOk result (λ v. (name bs rest : List ℕ) → IsName name → All IsByte bs
         → cursor.old ≡ template_text name (bytes_text bs) ++ rest → (v.items ≡ bs) × (cursor.new ≡ rest)) }

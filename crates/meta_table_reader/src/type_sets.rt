@@ -8,7 +8,6 @@ use meta_cursor::Cursor;
 use meta_typevar::Masks;
 use std::alloc::{AllocError, Global};
 
-/// Reads the block of a type set.
 fn type_set(cursor: &mut Cursor) -> Masks
     ensures { (m : Masks) (rest : List ℕ) → AreShownMasks m → cursor.old ≡ set_block m ++ rest → (result ≡ m) × (cursor.new ≡ rest) }
 {

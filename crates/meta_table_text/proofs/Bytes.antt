@@ -4,7 +4,7 @@ use Rattle.std.proofs.Common.{sym, ap, ◌∙◌, codes, arith, add-one, drop-co
 use Rattle.std.proofs.Math.Seq.{take-length}
 use Rattle.meta_table_text.specs.GroupItems.{hex_text, bytes_text}
 
--- a byte behind a comma and a space
+-- a byte after a comma and a space
 abbrev pub comma_hex : ℕ → List ℕ
 comma_hex byte = codes ", " ++ hex_text byte
 
@@ -12,7 +12,7 @@ pub no_bytes : (bytes : List ℕ) → length bytes < 1 → bytes_text bytes ≡ 
 no_bytes [] few = refl
 no_bytes (b ∷ bs) few = absurd (omega arith)
 
--- the first byte, and then the others, each behind a comma and a space
+-- the first byte, and then the others, each after a comma and a space
 pub bytes_written : (bytes none first : List ℕ) → 1 ≤ length bytes → none ≡ []
     → first ≡ none ++ hex_text (get_or bytes 0 0) → first ++ flat_map comma_hex (take (length bytes - 1) (drop 1 bytes)) ≡ bytes_text bytes
 bytes_written [] none first some empty is = absurd (omega arith)

@@ -6,12 +6,12 @@ use Rattle.std.specs.Fmt.{digits, digits_onto, digit_glyph, padded_integral, cha
 use mathlib.Core.List.{append-nil}
 use Rattle.meta_table_text.specs.GroupItems.{binary_text}
 
--- so many binary digits of n, the lowest last, and then the rest
+-- the lowest binary digits of n, the lowest last, and then the rest
 abbrev onto : ℕ → ℕ → List ℕ → List ℕ
 onto zero n rest = rest
 onto (suc width) n rest = onto width (n / 2) (digit_glyph false (n % 2) ∷ rest)
 
--- how many numbers have so many binary digits
+-- how many numbers have this count of binary digits
 abbrev most : ℕ → ℕ
 most zero = 1
 most (suc width) = 2 * most width
@@ -31,7 +31,7 @@ wide (suc width) n small some = omega arith
 half : (width n : ℕ) → n < most (suc width) → n / 2 < most width
 half width n small = let below : n < 2 * most width = small in omega (arith, below)
 
--- the digits of n with zeros in front are so many digits of n
+-- the digits of n with zeros in front are digits of n of this width
 padded : (fuel width n : ℕ) (rest : List ℕ) → 0 < width → width ≤ fuel → n < most width
     → replicate (width + length rest - length (digits_onto fuel 2 false n rest)) 48 ++ digits_onto fuel 2 false n rest ≡ onto width n rest
 padded zero width n rest some fits small = absurd (omega (arith, some, fits))

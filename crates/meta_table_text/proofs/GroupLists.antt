@@ -13,7 +13,7 @@ use Rattle.meta_table_text.specs.GroupItems.{texts_with_commas}
 use Rattle.meta_setting_tables.specs.WellFormed.{is_preset}
 use Rattle.meta_table_text.specs.GroupText.{presets_in}
 
--- nothing is left behind the end
+-- nothing is left after the end
 pub none_left : {X : Type 0} (xs : List X) (i : ℕ) → length xs ≤ i → drop i xs ≡ []
 none_left xs i past = drop_past xs i (slice_get_past xs i past)
 
@@ -27,7 +27,7 @@ pub all_written : (start all now left tail new : List ℕ) → now ++ left ≡ s
 all_written start all now left tail new so_far none more =
     more ∙ ap (λ t. t ++ tail) (sym (append-nil now) ∙ ap (λ t. now ++ t) (sym none) ∙ so_far) ∙ append_assoc start all tail
 
--- the same behind a head
+-- the same after a head
 pub list_written : (start head opened all now left tail new : List ℕ) → opened ≡ start ++ head → now ++ left ≡ opened ++ all → left ≡ []
     → new ≡ now ++ tail → new ≡ start ++ (head ++ (all ++ tail))
 list_written start head opened all now left tail new begun so_far none more =
@@ -42,7 +42,7 @@ names_joined (name ∷ names) = ap (λ t. name.now ++ t) (sym (flat_map-map (λ 
 -- ---- presets among entries
 
 module _ (text : Descriptor → List ℕ) (d : Descriptor) where
-  -- the lines of an entry stand before those of the entries behind it
+  -- the lines of an entry stand before those of the entries after it
   pub entry_written : (rest : List Descriptor) → flat_map text (presets_in (d ∷ rest))
       ≡ flat_map text (presets_in (d ∷ [])) ++ flat_map text (presets_in rest)
   entry_written rest = elim (is_preset d.detail) as (λ b. flat_map text (cond b (d ∷ presets_in rest) (presets_in rest))

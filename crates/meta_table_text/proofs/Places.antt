@@ -4,7 +4,7 @@ use Rattle.std.proofs.Common.{ap₂, ◌∙◌, append_assoc, add-one, drop-cons
 use Rattle.std.specs.List.{flat_map}
 use Rattle.std.proofs.lemmas.Option.{slice_get_cases}
 
--- the rest of a list from a place on is the element there, and the rest behind it
+-- the rest of a list from a place on is the element there, and the rest after it
 pub rest_there : {X : Type 0} (xs : List X) (i : ℕ) (x : X) → i < length xs → get_or xs i x ≡ x → drop i xs ≡ x ∷ drop (i + 1) xs
 rest_there xs i x inside got = drop-cons xs i x inside ∙ ap₂ (λ y ys. y ∷ ys) got (ap (λ k. drop k xs) (sym (add-one i)))
 

@@ -27,7 +27,7 @@ rust_name_or_nothing (Some t) = rust_name_of t
 unfoldable pub type_text : ℕ → List ℕ
 type_text n = rust_name_or_nothing (type_numbered n)
 
--- what stands behind the name of a constraint by the control, and of one by the second control
+-- the mark that comes after the name of a constraint: nothing for the control, a digit for the second control
 abbrev pub control_mark : Which → List ℕ
 control_mark First = []
 control_mark Second = codes "2"
@@ -46,7 +46,7 @@ variant_name (FreeOf j) = codes "Free"
 variant_name (SameNumber which) = codes "Same"
 variant_name (ByNumber which f) = camel_function_name f
 
--- what stands behind that: a type, a type set by its place, or the mark of a second control
+-- what comes after that: a type, a type set by its place, or the mark of a second control
 abbrev pub variant_fields : NumberConstraint → List ℕ
 variant_fields (ConcreteNumber n) = codes "(" ++ (type_text n ++ codes ")")
 variant_fields (FreeOf j) = codes "(" ++ (decimal j ++ codes ")")

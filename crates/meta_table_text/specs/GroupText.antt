@@ -29,14 +29,14 @@ slots_text slots = list_text SettingSlots (length slots) (flat_map slot_text slo
 abbrev pub presets_in : List Descriptor → List Descriptor
 presets_in descriptors = filter (λ d. is_preset d.detail) descriptors
 
--- the lines of a preset, where each preset has so many of the masks: a pair for each of its own, and then the comment, with the names
--- of those of the entries that it turns on
+-- the lines of a preset, if each preset has `size` of the masks: a pair for each of its own, and then the comment, with the names of the
+-- entries that it turns on
 unfoldable pub preset_text : List Descriptor → ℕ → List ℕ → Descriptor → List ℕ
 preset_text entries size masks d =
     flat_map pair_text (masks_from size masks d.offset)
     ++ comment_text d.name (texts_with_commas (names_on entries (masks_from size masks d.offset)))
 
--- the presets among the descriptors, where each has so many of the masks
+-- the presets among the descriptors, if each has `size` of the masks
 unfoldable pub presets_text : List Descriptor → ℕ → List ℕ → List ℕ
 presets_text descriptors size masks = list_text Presets (length (presets_in descriptors) * size)
     (flat_map (preset_text descriptors size masks) (presets_in descriptors))

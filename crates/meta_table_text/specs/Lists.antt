@@ -1,6 +1,6 @@
 -- The lists in the text of tables, with what stands around their elements.
---     list_head list count          what stands before the first element of a list of so many
---     list_text list count lines    a list of so many elements, whose lines these are
+--     list_head list count          what stands before the first element of a list with this count
+--     list_text list count lines    a list with this count of elements, whose lines these are
 use Rattle.std.specs.Prelude.{ℕ, List, [], ◌++◌, codes}
 use Rattle.std.specs.Fmt.{decimal}
 use Rattle.meta_table_text.specs.declared.table_list.TableList.{TableList}
@@ -31,7 +31,7 @@ head_of Descriptors = codes "static DESCRIPTORS: [detail::Descriptor; "
 head_of SettingSlots = codes "static HASH_TABLE: [u16; "
 head_of Presets = codes "static PRESETS: [(u8, u8); "
 
--- all that stands before the first element of a list of so many
+-- all that stands before the first element of a list with this count of elements
 unfoldable pub list_head : TableList → ℕ → List ℕ
 list_head list count = title_of list ++ (head_of list ++ (decimal count ++ codes "] = [\n"))
 
@@ -39,6 +39,6 @@ list_head list count = title_of list ++ (head_of list ++ (decimal count ++ codes
 abbrev pub list_end : List ℕ
 list_end = codes "];\n"
 
--- a list of so many elements, whose lines these are
+-- a list with this count of elements, whose lines these are
 abbrev pub list_text : TableList → ℕ → List ℕ → List ℕ
 list_text list count lines = list_head list count ++ (lines ++ list_end)

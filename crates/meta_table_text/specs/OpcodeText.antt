@@ -20,7 +20,7 @@ abbrev pub each_opcode : (ℕ → List ℕ) → ℕ → List ℕ
 each_opcode f zero = []
 each_opcode f (suc n) = each_opcode f n ++ f (suc n)
 
--- a text, and nothing where there is none
+-- a text, and nothing if there is no text
 abbrev pub or_nothing : Option (List ℕ) → List ℕ
 or_nothing None = []
 or_nothing (Some text) = text

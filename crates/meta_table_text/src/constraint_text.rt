@@ -13,7 +13,7 @@ use meta_gen::{Constraint, Demand, Which};
 use meta_types::{ValueType, there_are_153_types};
 use std::alloc::{AllocError, Global};
 
-/// A type is the one that has its number, and there is none of a number that no type has.
+/// A number that a type has leads back to this type, and no other number leads to a type.
 #[tactic(auto, unfolding(crate::specs::ConstraintText::type_numbered))]
 fn types_by_number()
     ensures type_of { (t : TypeParts) → IsType t → type_numbered (number_of t) ≡ Some t }
@@ -22,7 +22,7 @@ fn types_by_number()
     there_are_153_types();
 }
 
-/// Adds the name in Rust source of the type that has the number, and nothing where none has it.
+/// Adds the name in Rust source of the type with this number, and nothing if no type has it.
 #[tactic(auto, unfolding(crate::specs::ConstraintText::type_text))]
 fn push_type(alloc: Global, out: &mut String, number: u16) -> Result<(), AllocError>
     ensures { OnOk result (string_bytes out.new ≡ string_bytes out.old ++ type_text number) }
@@ -35,7 +35,7 @@ fn push_type(alloc: Global, out: &mut String, number: u16) -> Result<(), AllocEr
     out.push_str(name.as_str())
 }
 
-/// The name of the variant of the constraint with this demand, but for the mark of a second control.
+/// The name of the variant of the constraint with this demand, without the mark of a second control.
 fn variant_name(demand: Demand) -> &'static str
     ensures { result.now ≡ variant_name (number_constraint_demanded demand) }
 {
@@ -47,7 +47,7 @@ fn variant_name(demand: Demand) -> &'static str
     }
 }
 
-/// Adds the mark of a second control, where it is that.
+/// Adds the mark of a second control, if `which` is the second.
 fn push_mark(out: &mut String, which: Which) -> Result<(), AllocError>
     ensures { OnOk result (string_bytes out.new ≡ string_bytes out.old ++ control_mark (which_of which)) }
 {
@@ -73,8 +73,7 @@ fn push_free(out: &mut String, set: u16) -> Result<(), AllocError>
     write!(out, "({set})")
 }
 
-/// Adds what stands behind that name: the type or the type set that the constraint with this demand names, or the mark of a second
-/// control.
+/// Adds what comes after that name: the type or the type set that the constraint with this demand names, or the mark of a second control.
 fn push_fields(alloc: Global, out: &mut String, demand: Demand) -> Result<(), AllocError>
     ensures { OnOk result (string_bytes out.new ≡ string_bytes out.old ++ variant_fields (number_constraint_demanded demand)) }
 {
@@ -99,7 +98,6 @@ fn push_constraint_text(
     push_fields(alloc, out, demand)
 }
 
-/// Adds the line of a constraint.
 #[tactic(auto, unfolding(crate::specs::ConstraintText::constraint_line))]
 pub(crate) fn push_constraint(
     alloc: Global,
@@ -113,7 +111,6 @@ pub(crate) fn push_constraint(
     out.push_str(",\n")
 }
 
-/// Adds a constraint between single quotes.
 #[tactic(auto, unfolding(crate::specs::ConstraintText::quoted))]
 fn push_quoted(alloc: Global, out: &mut String, constraint: Constraint) -> Result<(), AllocError>
     ensures { OnOk result (string_bytes out.new ≡ string_bytes out.old ++ quoted (number_constraint_of constraint)) }
@@ -123,7 +120,7 @@ fn push_quoted(alloc: Global, out: &mut String, constraint: Constraint) -> Resul
     out.push_str("'")
 }
 
-/// Adds a constraint between single quotes behind what stands before it, and answers what stands before the next.
+/// Adds `before` and a constraint between single quotes, and answers what stands before the next constraint.
 fn push_next<'a>(
     alloc: Global,
     out: &mut String,
@@ -139,7 +136,7 @@ fn push_next<'a>(
     Ok(", ")
 }
 
-/// Adds the constraints between single quotes, parted by a comma and a space.
+/// Adds the constraints between single quotes, separated by a comma and a space.
 #[tactic(auto, unfolding(crate::specs::ConstraintText::quoted_all))]
 fn push_quoted_all(
     alloc: Global,

@@ -7,7 +7,6 @@ ghost use Rattle.meta_table_text.specs.Fits.{IsSmall, LacksSecondSet, HasNoSecon
 use super::version::Version;
 use meta_gen::{Constraint, Demand, NO_TYPE_SET, Tables, Which};
 
-/// Whether there are at most 255 opcodes and 255 type sets.
 fn is_small(tables: &Tables) -> bool
     ensures { IsTrue result ↔ IsSmall tables.now.opcodes }
 {
@@ -24,7 +23,7 @@ fn lacks_second_set(tables: &Tables, opcode: u16) -> bool
     }
 }
 
-/// Whether no opcode has one.
+/// Whether no opcode has a type set of a second control.
 fn has_no_second_set(tables: &Tables) -> bool
     ensures { IsTrue result ↔ HasNoSecondSet tables.now.opcodes }
 {
@@ -36,7 +35,6 @@ fn has_no_second_set(tables: &Tables) -> bool
     true
 }
 
-/// Whether it is the control, and not the second control.
 fn is_first(which: Which) -> bool
     ensures { result ≡ is_first (which_of which) }
 {
@@ -46,7 +44,7 @@ fn is_first(which: Which) -> bool
     }
 }
 
-/// Whether the constraint asks for nothing of the second control.
+/// Whether the constraint doesn't name the second control.
 fn asks_of_no_second(constraint: Constraint) -> bool
     ensures { result ≡ asks_of_no_second (number_constraint_of constraint) }
 {
@@ -58,7 +56,7 @@ fn asks_of_no_second(constraint: Constraint) -> bool
     }
 }
 
-/// Whether no constraint asks for anything of the second control.
+/// Whether no constraint names the second control.
 fn all_ask_of_no_second(constraints: &[Constraint]) -> bool
     ensures { result ≡ list_all asks_of_no_second (map number_constraint_of constraints.now) }
 {
@@ -70,8 +68,8 @@ fn all_ask_of_no_second(constraints: &[Constraint]) -> bool
     true
 }
 
-/// Whether the version can show the tables. Version 3 can always; version 2 where there are at most 255 opcodes and 255 type
-/// sets; version 1 where besides no opcode and no constraint knows a second control (this project's own).
+/// Whether tables fit the version: its text then has all that they hold. All tables fit version 3. Version 2 takes at most 255 opcodes and
+/// 255 type sets. Version 1 takes these without second controls, in opcodes and in constraints.
 pub fn fits(version: Version, tables: &Tables) -> bool
     ensures { IsTrue result ↔ Fits version tables.now }
 {

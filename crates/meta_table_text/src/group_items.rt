@@ -6,7 +6,7 @@ use meta_setting_tables::{Descriptor, Detail};
 use std::alloc::{AllocError, Global};
 use std::fmt;
 
-/// Adds the comment that a group of this name begins with.
+/// Adds the comment that the text of a group with this name begins with.
 #[tactic(auto, unfolding(crate::specs::GroupItems::head_text))]
 pub(crate) fn push_head(out: &mut String, name: &str) -> Result<(), AllocError>
     ensures { OnOk result (string_bytes out.new ≡ string_bytes out.old ++ head_text name.now) }
@@ -14,7 +14,6 @@ pub(crate) fn push_head(out: &mut String, name: &str) -> Result<(), AllocError>
     write!(out, "// Settings group {name}.\n")
 }
 
-/// Adds an enumerator.
 #[tactic(auto, unfolding(crate::specs::GroupItems::enumerator_text))]
 pub(crate) fn push_enumerator(out: &mut String, name: &str) -> Result<(), AllocError>
     ensures { OnOk result (string_bytes out.new ≡ string_bytes out.old ++ enumerator_text name.now) }
@@ -22,7 +21,7 @@ pub(crate) fn push_enumerator(out: &mut String, name: &str) -> Result<(), AllocE
     write!(out, "    \"{name}\",\n")
 }
 
-/// What an entry is, as the text shows it.
+/// The kind of an entry, with its numbers, as the text has it.
 #[derive(Clone, Copy)]
 struct DetailText(Detail);
 
@@ -45,7 +44,7 @@ impl fmt::Display for DetailText {
     }
 }
 
-/// Adds the descriptor of an entry of this name, description, offset and detail.
+/// Adds the descriptor of an entry with this name, description, offset and detail.
 #[tactic(auto, unfolding(crate::specs::GroupItems::descriptor_block))]
 fn push_block(
     out: &mut String,
@@ -70,7 +69,6 @@ fn push_block(
     )
 }
 
-/// Adds the descriptor of an entry.
 pub(crate) fn push_descriptor(out: &mut String, entry: &Descriptor) -> Result<(), AllocError>
     ensures { OnOk result (string_bytes out.new ≡ string_bytes out.old ++ descriptor_text entry.now) }
 {
@@ -94,7 +92,7 @@ pub(crate) fn push_slot(out: &mut String, slot: Option<u16>) -> Result<(), Alloc
     }
 }
 
-/// Adds the mask and the value of a preset in a setting byte, which are equal.
+/// Adds the mask and the value of a preset in a setting byte. They are equal.
 #[tactic(auto, unfolding(crate::specs::GroupItems::pair_text), using(crate::proofs::GroupDigits::binary_byte))]
 pub(crate) fn push_pair(out: &mut String, mask: u8) -> Result<(), AllocError>
     ensures { OnOk result (string_bytes out.new ≡ string_bytes out.old ++ pair_text mask) }
@@ -102,7 +100,8 @@ pub(crate) fn push_pair(out: &mut String, mask: u8) -> Result<(), AllocError>
     write!(out, "    (0b{mask:08b}, 0b{mask:08b}),\n")
 }
 
-/// Adds the comment of a preset of this name that turns on booleans, whose names are parted by a comma and a space.
+/// Adds the comment of a preset with this name. `booleans` has the names of the booleans that it turns on, separated by a comma and a
+/// space.
 #[tactic(auto, unfolding(crate::specs::GroupItems::comment_text))]
 pub(crate) fn push_comment(out: &mut String, name: &str, booleans: &str) -> Result<(), AllocError>
     ensures { OnOk result (string_bytes out.new ≡ string_bytes out.old ++ comment_text name.now booleans.now) }
@@ -110,7 +109,7 @@ pub(crate) fn push_comment(out: &mut String, name: &str, booleans: &str) -> Resu
     write!(out, "    // {name}: {booleans}\n")
 }
 
-/// Adds a byte in hexadecimal digits.
+/// Adds a byte as hexadecimal digits.
 #[tactic(auto, using(std::proofs::lemmas::Fmt::hex_byte))]
 fn push_hex(out: &mut String, byte: u8) -> Result<(), AllocError>
     ensures { OnOk result (string_bytes out.new ≡ string_bytes out.old ++ hex_text byte) }
@@ -118,7 +117,7 @@ fn push_hex(out: &mut String, byte: u8) -> Result<(), AllocError>
     write!(out, "0x{byte:02x}")
 }
 
-/// Bytes in hexadecimal digits, parted by a comma and a space.
+/// The text of bytes as hexadecimal digits, separated by a comma and a space.
 pub(crate) fn hex_bytes(alloc: Global, bytes: &[u8]) -> Result<String, AllocError>
     ensures { IfOk result (λ text. string_bytes text ≡ bytes_text bytes.now) }
 {
@@ -134,7 +133,7 @@ pub(crate) fn hex_bytes(alloc: Global, bytes: &[u8]) -> Result<String, AllocErro
     Ok(text)
 }
 
-/// Adds the template of a group of this name with default bytes in hexadecimal digits, parted by a comma and a space.
+/// Adds the template of a group with this name. `defaults` has its default bytes as hexadecimal digits, separated by a comma and a space.
 #[tactic(auto, unfolding(crate::specs::GroupItems::template_text))]
 pub(crate) fn push_template(out: &mut String, name: &str, defaults: &str) -> Result<(), AllocError>
     ensures { OnOk result (string_bytes out.new ≡ string_bytes out.old ++ template_text name.now defaults.now) }

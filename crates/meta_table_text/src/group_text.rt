@@ -19,7 +19,6 @@ use meta_setting_tables::{Descriptor, GroupTables};
 use meta_types::Text;
 use std::alloc::{AllocError, Global};
 
-/// Adds the list of the enumerators.
 fn push_enumerators(out: &mut String, names: &[Text]) -> Result<(), AllocError>
     ensures { OnOk result (string_bytes out.new ≡ string_bytes out.old ++ enumerators_text names.now) }
 {
@@ -30,7 +29,6 @@ fn push_enumerators(out: &mut String, names: &[Text]) -> Result<(), AllocError>
     push_list_end(out)
 }
 
-/// Adds the list of the descriptors.
 fn push_descriptors(out: &mut String, descriptors: &[Descriptor]) -> Result<(), AllocError>
     ensures { OnOk result (string_bytes out.new ≡ string_bytes out.old ++ descriptors_text descriptors.now) }
 {
@@ -62,7 +60,7 @@ fn push_masks(out: &mut String, masks: &[u8]) -> Result<(), AllocError>
     Ok(())
 }
 
-/// Adds the comment of a preset of this name that turns on booleans of these names.
+/// Adds the comment of a preset with this name that turns on the booleans with these names.
 fn push_booleans(
     alloc: Global,
     out: &mut String,
@@ -76,7 +74,7 @@ fn push_booleans(
     push_comment(out, name, shown.as_str())
 }
 
-/// Adds the lines of the preset with this number among the entries, which has this name and these masks.
+/// Adds the lines of a preset, which has this number among the entries, this name and these masks.
 fn push_preset(
     alloc: Global,
     out: &mut String,
@@ -95,7 +93,7 @@ fn push_preset(
     push_booleans(alloc, out, name, booleans.as_slice())
 }
 
-/// Adds the lines of the entry with this number and this name, if it is a preset.
+/// Adds the lines of the entry with this number and name, if it is a preset.
 fn push_entry(
     alloc: Global,
     out: &mut String,
@@ -113,7 +111,6 @@ fn push_entry(
     push_preset(alloc, out, group, number, name, masks)
 }
 
-/// Adds the lines of the presets.
 fn push_each_preset(alloc: Global, out: &mut String, group: &GroupTables) -> Result<(), AllocError>
     ensures { OnOk result (string_bytes out.new ≡ string_bytes out.old ++ flat_map
         (preset_text group.now.descriptors (length group.now.defaults) group.now.preset_masks) (presets_in group.now.descriptors)) }
@@ -125,7 +122,7 @@ fn push_each_preset(alloc: Global, out: &mut String, group: &GroupTables) -> Res
     Ok(())
 }
 
-/// Adds the list of the presets, of which each has one mask a setting byte.
+/// Adds the list of the presets. Each preset has one mask for each setting byte.
 fn push_presets(alloc: Global, out: &mut String, group: &GroupTables) -> Result<(), AllocError>
     ensures { OnOk result (string_bytes out.new ≡ string_bytes out.old ++ presets_text group.now.descriptors
         (length group.now.defaults) group.now.preset_masks) }
@@ -135,7 +132,7 @@ fn push_presets(alloc: Global, out: &mut String, group: &GroupTables) -> Result<
     push_list_end(out)
 }
 
-/// Adds the template of a group of this name with these default bytes.
+/// Adds the template of a group with this name and these default bytes.
 fn push_defaults(
     alloc: Global,
     out: &mut String,
@@ -148,7 +145,7 @@ fn push_defaults(
     push_template(out, name, shown.as_str())
 }
 
-/// Adds the text of the group with these tables. It costs one pass a list, and for each preset one more over the settings.
+/// Adds the text of the group with these tables. The cost is one pass over each list, and for each preset one more over the settings.
 fn push_parts(alloc: Global, out: &mut String, group: &GroupTables) -> Result<(), AllocError>
     ensures { OnOk result (string_bytes out.new ≡ string_bytes out.old ++ group_text group.now) }
 {
@@ -160,7 +157,7 @@ fn push_parts(alloc: Global, out: &mut String, group: &GroupTables) -> Result<()
     push_defaults(alloc, out, group.name().as_str(), group.defaults())
 }
 
-/// Adds the text of a group, and nothing where there is no such group.
+/// Adds the text of a group, and nothing if there is no such group.
 pub(crate) fn push_group(
     alloc: Global,
     out: &mut String,

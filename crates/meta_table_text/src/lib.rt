@@ -1,8 +1,7 @@
-//! The text of tables: what `meta_gen` makes of declarations, as the Rust source of the crate's generator has it, in three
-//! versions.
+//! The text of tables, in three versions: what `meta_gen` makes of declarations, as the crate's generator writes it in Rust source.
 //!
-//! `table_text` makes the text of any tables in any version. `fits` tells whether a version can show all that the tables hold.
-//! `write_tables` writes the newest version to a sink.
+//! `table_text` makes the text of any tables in any version. `fits` tests whether a version has all that the tables hold. `write_tables`
+//! writes the newest version to a sink.
 #![tactic(auto)]
 
 mod constraint_text;

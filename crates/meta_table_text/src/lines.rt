@@ -6,7 +6,7 @@ use super::table_list::{BEHIND_COUNT, LIST_END, TableList};
 use super::version::Version;
 use std::alloc::AllocError;
 
-/// Adds what stands before the first element of a list of so many.
+/// Adds what stands before the first element of a list with `count` elements.
 #[tactic(auto, unfolding(crate::specs::Lists::list_head))]
 pub(crate) fn push_list_head(
     out: &mut String,
@@ -19,7 +19,6 @@ pub(crate) fn push_list_head(
     write!(out, "{title}{head}{count}{}", BEHIND_COUNT)
 }
 
-/// Adds the last line of a list.
 pub(crate) fn push_list_end(out: &mut String) -> Result<(), AllocError>
     ensures { OnOk result (string_bytes out.new ≡ string_bytes out.old ++ list_end) }
 {

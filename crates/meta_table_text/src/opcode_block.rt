@@ -12,7 +12,7 @@ use meta_gen::{Constraint, NO_TYPE_SET, OpcodeConstraints, Tables, constraints_f
 use meta_types::{Text, camel_case};
 use std::alloc::{AllocError, Global};
 
-/// The name of an opcode, and nothing where it isn't one.
+/// The name of an opcode. It is empty if the number isn't that of an opcode.
 pub(crate) fn name_of(tables: &Tables, opcode: u16) -> &str
     ensures { result.now ≡ name_at tables.now.opcodes opcode }
 {
@@ -22,7 +22,7 @@ pub(crate) fn name_of(tables: &Tables, opcode: u16) -> &str
     }
 }
 
-/// The name of the format of an opcode, and nothing where it isn't one.
+/// The name of the format of an opcode. It is empty if the number isn't that of an opcode.
 pub(crate) fn format_of(tables: &Tables, opcode: u16) -> &str
     ensures { result.now ≡ format_at tables.now.opcodes opcode }
 {
@@ -32,7 +32,7 @@ pub(crate) fn format_of(tables: &Tables, opcode: u16) -> &str
     }
 }
 
-/// The camel case of the name of an opcode, and nothing where it isn't one.
+/// The camel case of the name of an opcode. It is empty if the number isn't that of an opcode.
 #[tactic(auto, unfolding(crate::specs::OpcodeText::camel_at))]
 pub(crate) fn camel_of(alloc: Global, tables: &Tables, opcode: u16) -> Result<Text, AllocError>
     ensures { IfOk result (λ t. t ≡ camel_at tables.now.opcodes opcode) }
@@ -43,7 +43,7 @@ pub(crate) fn camel_of(alloc: Global, tables: &Tables, opcode: u16) -> Result<Te
     }
 }
 
-/// Adds a byte in two small hexadecimal digits.
+/// Adds a byte as two hexadecimal digits, with small letters.
 #[tactic(auto, using(std::proofs::lemmas::Fmt::hex_byte), unfolding(crate::specs::OpcodeText::hex_byte))]
 fn push_hex_byte(out: &mut String, byte: u8) -> Result<(), AllocError>
     ensures { OnOk result (string_bytes out.new ≡ string_bytes out.old ++ hex_byte byte) }
@@ -51,7 +51,7 @@ fn push_hex_byte(out: &mut String, byte: u8) -> Result<(), AllocError>
     write!(out, "{byte:02x}")
 }
 
-/// Adds the first lines of a block, and the flags.
+/// Adds the first lines of a block, with the flags.
 #[tactic(auto, unfolding(crate::specs::OpcodeText::flags_lines))]
 fn push_flags(out: &mut String, flags: u8) -> Result<(), AllocError>
     ensures { OnOk result (string_bytes out.new ≡ string_bytes out.old ++ flags_lines flags) }
@@ -61,7 +61,7 @@ fn push_flags(out: &mut String, flags: u8) -> Result<(), AllocError>
     out.push_str(",\n")
 }
 
-/// Adds the line of a field that is a place.
+/// Adds the line of a field whose value is a place.
 #[tactic(auto, unfolding(crate::specs::OpcodeText::place_line))]
 fn push_place(out: &mut String, field: &str, place: u16) -> Result<(), AllocError>
     ensures { OnOk result (string_bytes out.new ≡ string_bytes out.old ++ place_line field.now place) }
@@ -69,7 +69,7 @@ fn push_place(out: &mut String, field: &str, place: u16) -> Result<(), AllocErro
     write!(out, "        {field}: {place},\n")
 }
 
-/// Adds the line of the place of the second control's type set, where the version has it.
+/// Adds the line with the place of the second control's type set, if the version has this line.
 #[tactic(auto, unfolding(crate::specs::OpcodeText::second_line))]
 fn push_second(
     out: &mut String,
@@ -118,7 +118,6 @@ fn push_flags_comment(
     )
 }
 
-/// The constraints of an entry.
 fn constraints_of(tables: &Tables, entry: OpcodeConstraints) -> &[Constraint]
     ensures { map number_constraint_of result.now ≡ constraints_of tables.now.opcodes (entry_of entry) }
 {
@@ -130,7 +129,7 @@ fn constraints_of(tables: &Tables, entry: OpcodeConstraints) -> &[Constraint]
     )
 }
 
-/// Adds the comment on a control whose type set has this place, and nothing where it has none.
+/// Adds the comment on a control whose type set has this place, and nothing if there is no such control.
 #[tactic(auto, unfolding(crate::specs::OpcodeText::control_comment))]
 fn push_control_comment(
     out: &mut String,
@@ -146,7 +145,7 @@ fn push_control_comment(
     push_set_comment(out, about, tables.type_sets().get(offset as usize))
 }
 
-/// Adds the comment on the second control, where the version has it.
+/// Adds the comment on the second control, if the version has it.
 #[tactic(auto, unfolding(crate::specs::OpcodeText::second_comment))]
 fn push_second_comment(
     out: &mut String,
@@ -184,7 +183,6 @@ fn push_comments(
     push_second_comment(out, version, tables, entry)
 }
 
-/// Adds the block of an entry.
 #[tactic(auto, unfolding(crate::specs::OpcodeText::entry_block))]
 fn push_entry(
     alloc: Global,
@@ -201,7 +199,6 @@ fn push_entry(
     push_block_end(out)
 }
 
-/// Adds the block of an opcode.
 #[tactic(auto, unfolding(crate::specs::OpcodeText::opcode_block))]
 pub(crate) fn push_opcode(
     alloc: Global,

@@ -17,7 +17,6 @@ use meta_gen::{Constraint, Tables};
 use meta_typevar::Masks;
 use std::alloc::{AllocError, Global};
 
-/// Adds the line of an opcode's format.
 #[tactic(auto, unfolding(crate::specs::OpcodeText::format_line))]
 fn push_format(out: &mut String, tables: &Tables, opcode: u16) -> Result<(), AllocError>
     ensures { OnOk result (string_bytes out.new ≡ string_bytes out.old ++ format_line tables.now.opcodes opcode) }
@@ -26,7 +25,6 @@ fn push_format(out: &mut String, tables: &Tables, opcode: u16) -> Result<(), All
     write!(out, "    InstructionFormat::{format}, // {name}\n")
 }
 
-/// Adds the lines of the formats of all opcodes.
 fn push_each_format(out: &mut String, tables: &Tables) -> Result<(), AllocError>
     ensures { OnOk result (string_bytes out.new ≡ string_bytes out.old ++ each_opcode (format_line tables.now.opcodes)
         (length tables.now.opcodes.entries)) }
@@ -37,7 +35,6 @@ fn push_each_format(out: &mut String, tables: &Tables) -> Result<(), AllocError>
     Ok(())
 }
 
-/// Adds the list of the formats.
 #[tactic(auto, unfolding(crate::specs::TableText::formats_part))]
 fn push_formats(out: &mut String, tables: &Tables) -> Result<(), AllocError>
     ensures { OnOk result (string_bytes out.new ≡ string_bytes out.old ++ formats_part tables.now.opcodes) }
@@ -48,7 +45,6 @@ fn push_formats(out: &mut String, tables: &Tables) -> Result<(), AllocError>
     push_list_end(out)
 }
 
-/// Adds the line of a slot.
 #[tactic(auto, unfolding(crate::specs::OpcodeText::slot_line))]
 fn push_slot(
     alloc: Global,
@@ -66,7 +62,6 @@ fn push_slot(
     write!(out, "    Some(Opcode::{name}),\n")
 }
 
-/// Adds the lines of the slots.
 fn push_each_slot(
     alloc: Global,
     out: &mut String,
@@ -81,7 +76,6 @@ fn push_each_slot(
     Ok(())
 }
 
-/// Adds the list of the slots.
 #[tactic(auto, unfolding(crate::specs::TableText::slots_part))]
 fn push_slots(alloc: Global, out: &mut String, tables: &Tables) -> Result<(), AllocError>
     ensures { OnOk result (string_bytes out.new ≡ string_bytes out.old ++ slots_part tables.now.opcodes) }
@@ -102,7 +96,6 @@ fn push_each_set(out: &mut String, sets: &[Masks]) -> Result<(), AllocError>
     Ok(())
 }
 
-/// Adds the list of the type sets.
 #[tactic(auto, unfolding(crate::specs::TableText::sets_list))]
 fn push_sets_list(out: &mut String, tables: &Tables) -> Result<(), AllocError>
     ensures { OnOk result (string_bytes out.new ≡ string_bytes out.old ++ sets_list tables.now.opcodes) }
@@ -113,7 +106,7 @@ fn push_sets_list(out: &mut String, tables: &Tables) -> Result<(), AllocError>
     push_list_end(out)
 }
 
-/// Adds that list, where there is a type set.
+/// Adds the list of the type sets, if there are any.
 #[tactic(auto, unfolding(crate::specs::TableText::sets_part))]
 fn push_sets(out: &mut String, tables: &Tables) -> Result<(), AllocError>
     ensures { OnOk result (string_bytes out.new ≡ string_bytes out.old ++ sets_part tables.now.opcodes) }
@@ -139,7 +132,6 @@ fn push_each_constraint(
     Ok(())
 }
 
-/// Adds the list of the operand constraints.
 #[tactic(auto, unfolding(crate::specs::TableText::constraints_part))]
 fn push_constraints(alloc: Global, out: &mut String, tables: &Tables) -> Result<(), AllocError>
     ensures { OnOk result (string_bytes out.new ≡ string_bytes out.old ++ constraints_part tables.now.opcodes) }
@@ -150,7 +142,6 @@ fn push_constraints(alloc: Global, out: &mut String, tables: &Tables) -> Result<
     push_list_end(out)
 }
 
-/// Adds the blocks of all opcodes.
 fn push_each_opcode(
     alloc: Global,
     out: &mut String,
@@ -166,7 +157,7 @@ fn push_each_opcode(
     Ok(())
 }
 
-/// Adds the list of the opcodes' numbers.
+/// Adds the list of the four numbers of each opcode.
 #[tactic(auto, unfolding(crate::specs::TableText::entries_part))]
 fn push_entries(
     alloc: Global,
@@ -182,7 +173,6 @@ fn push_entries(
     push_list_end(out)
 }
 
-/// Adds the text of the tables of the instruction set.
 #[tactic(auto, unfolding(crate::specs::TableText::opcodes_text))]
 pub(crate) fn push_opcodes(
     alloc: Global,

@@ -1,31 +1,31 @@
 ghost use Rattle.std.specs.Prelude.{◌≡◌};
 ghost use Rattle.meta_table_text.specs.Lists.{title_of, head_of};
 
-/// A list in the text of tables (this project's own): the first five are of the instruction set, the others of a group of settings.
+/// A list in the text of tables. The first five are lists of the instruction set, the others of a group of settings.
 #[derive(Clone, Copy, Debug, PartialEq, Eq)]
 pub enum TableList {
-    /// The formats, by opcode.
+    /// The formats of the opcodes.
     Formats,
-    /// The slots of the names of the opcodes.
+    /// The slots of the names of opcodes.
     OpcodeSlots,
     /// The type sets.
     TypeSets,
     /// The operand constraints.
     Constraints,
-    /// The numbers of the opcodes.
+    /// The four numbers of each opcode.
     Entries,
-    /// The enumerators.
+    /// The enumerators of a group.
     Enumerators,
-    /// The descriptors of the entries.
+    /// The descriptors of a group's entries.
     Descriptors,
-    /// The slots of the names of the entries.
+    /// The slots of the names of a group's entries.
     SettingSlots,
-    /// The presets.
+    /// The presets of a group.
     Presets,
 }
 
 impl TableList {
-    /// The line before it, of the lists that have one.
+    /// The line that stands before the list. It is empty if the list has no such line.
     pub fn title(self) -> &'static str
         ensures { result.now ≡ title_of self }
     {
@@ -42,7 +42,7 @@ impl TableList {
         }
     }
 
-    /// What stands on its first line before the count of its elements: its name and their type.
+    /// What the first line of the list has before the count of elements: the name of the list and the type of an element.
     pub fn head(self) -> &'static str
         ensures { result.now ≡ head_of self }
     {
@@ -60,8 +60,8 @@ impl TableList {
     }
 }
 
-/// What stands on the first line of a list behind the count of its elements.
+/// What the first line of a list has after the count of elements.
 pub const BEHIND_COUNT: &str = "] = [\n";
 
-/// What stands behind the last element of a list.
+/// What comes after the last element of a list.
 pub const LIST_END: &str = "];\n";

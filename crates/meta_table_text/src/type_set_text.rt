@@ -8,12 +8,12 @@ ghost use Rattle.meta_text.specs.Lines.{text_of};
 use meta_typevar::Masks;
 use std::alloc::AllocError;
 
-/// The powers of two that a mask may hold.
+/// The powers of two that a mask can hold.
 const POWERS: [u16; 16] = [
     1, 2, 4, 8, 16, 32, 64, 128, 256, 512, 1024, 2048, 4096, 8192, 16384, 32768,
 ];
 
-/// Adds a number, where the mask holds it, behind what stands before it, and answers what stands before the next.
+/// Adds `before` and a number if the mask holds the number, and answers what stands before the next number.
 fn push_number<'a>(
     out: &mut String,
     mask: u16,
@@ -31,7 +31,7 @@ fn push_number<'a>(
     Ok(", ")
 }
 
-/// Adds those of the numbers that the mask holds, parted by a comma and a space.
+/// Adds the numbers that the mask holds, separated by a comma and a space.
 fn push_held(out: &mut String, mask: u16, numbers: &[u16]) -> Result<(), AllocError>
     ensures { OnOk result (string_bytes out.new ≡ string_bytes out.old ++ parted_behind [] (map decimal (held mask numbers.now))) }
 {
@@ -50,7 +50,7 @@ fn push_members(out: &mut String, mask: u16) -> Result<(), AllocError>
     push_held(out, mask, &POWERS)
 }
 
-/// Adds this text, the members of a mask and `}`, and nothing where the mask is empty.
+/// Adds the text `before`, the members of a mask and `}`. It adds nothing if the mask is empty.
 #[tactic(auto, unfolding(crate::specs::TypeSetText::part_of))]
 fn push_part(out: &mut String, before: &str, mask: u16) -> Result<(), AllocError>
     ensures { OnOk result (string_bytes out.new ≡ string_bytes out.old ++ part_of before.now mask) }
@@ -76,7 +76,7 @@ fn push_set_text(out: &mut String, masks: &Masks) -> Result<(), AllocError>
     out.push_str(")")
 }
 
-/// Adds the lines of the masks of a type set.
+/// Adds the lines of the four masks of a type set.
 #[tactic(auto, unfolding(crate::specs::TypeSetText::mask_lines))]
 fn push_masks(out: &mut String, masks: &Masks) -> Result<(), AllocError>
     ensures { OnOk result (string_bytes out.new ≡ string_bytes out.old ++ text_of (mask_lines masks.now)) }
@@ -94,7 +94,7 @@ fn push_masks(out: &mut String, masks: &Masks) -> Result<(), AllocError>
     )
 }
 
-/// Adds the text of a type set, where there is one.
+/// Adds the text of a type set, if there is one.
 fn push_set_or_nothing(out: &mut String, masks: Option<&Masks>) -> Result<(), AllocError>
     ensures { OnOk result (string_bytes out.new ≡ string_bytes out.old ++ set_or_nothing (option_map (λ m. m.now) masks.entry)) }
 {
@@ -104,7 +104,7 @@ fn push_set_or_nothing(out: &mut String, masks: Option<&Masks>) -> Result<(), Al
     }
 }
 
-/// Adds the comment that says what a type set is for, and the set, where there is one.
+/// Adds the comment that says what a type set is for, and the type set, if there is one.
 #[tactic(auto, unfolding(crate::specs::TypeSetText::set_comment))]
 pub(crate) fn push_set_comment(
     out: &mut String,
@@ -120,7 +120,6 @@ pub(crate) fn push_set_comment(
     out.push_str("\n")
 }
 
-/// Adds the end of a block.
 #[tactic(auto, unfolding(crate::specs::TypeSetText::block_end))]
 pub(crate) fn push_block_end(out: &mut String) -> Result<(), AllocError>
     ensures { OnOk result (string_bytes out.new ≡ string_bytes out.old ++ block_end) }
@@ -128,7 +127,6 @@ pub(crate) fn push_block_end(out: &mut String) -> Result<(), AllocError>
     out.push_str("    }\n    ,\n")
 }
 
-/// Adds the block of a type set.
 #[tactic(auto, unfolding(crate::specs::TypeSetText::set_block))]
 pub(crate) fn push_set(out: &mut String, masks: &Masks) -> Result<(), AllocError>
     ensures { OnOk result (string_bytes out.new ≡ string_bytes out.old ++ set_block masks.now) }

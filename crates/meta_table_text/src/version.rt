@@ -3,20 +3,19 @@ ghost use Rattle.meta_table_text.specs.Version.{version_number, none_of, offset_
 
 use meta_gen::NO_TYPE_SET;
 
-/// A version of the text of tables (this project's own). An earlier version shows less: where it can't tell tables from others,
-/// they don't fit it.
+/// A version of the text of tables. Earlier versions have less in them, and tables for which that isn't enough don't fit them.
 #[derive(Clone, Copy, Debug, PartialEq, Eq)]
 pub enum Version {
-    /// At most 255 opcodes and 255 type sets, and no second control.
+    /// Takes at most 255 opcodes and 255 type sets, and no second control.
     One,
-    /// At most 255 opcodes and 255 type sets.
+    /// Takes at most 255 opcodes and 255 type sets.
     Two,
-    /// All tables.
+    /// Takes all tables.
     Three,
 }
 
 impl Version {
-    /// The number that the first line of the text names: 1 to 3.
+    /// The number of the version in the first line of the text: 1 to 3.
     pub fn number(self) -> u8
         ensures { result ≡ version_number self }
     {
@@ -27,7 +26,7 @@ impl Version {
         }
     }
 
-    /// What is shown where there is no type set: 255 in versions 1 and 2, and 65,535 in version 3.
+    /// What stands in the text for no type set: 255 in versions 1 and 2, and 65,535 in version 3.
     pub fn none(self) -> u16
         ensures { result ≡ none_of self }
     {
@@ -37,7 +36,7 @@ impl Version {
         }
     }
 
-    /// What is shown for the place of a type set, or for none.
+    /// What stands in the text for the place of a type set, or for no type set.
     pub(crate) fn shown(self, offset: u16) -> u16
         ensures { result ≡ offset_shown self offset }
     {

@@ -12,7 +12,6 @@ use meta_gen::Tables;
 use meta_text::{Sink, WriteError, write_whole};
 use std::alloc::{AllocError, Global};
 
-/// Adds the texts of the tables of all groups of settings.
 fn push_groups(alloc: Global, out: &mut String, tables: &Tables) -> Result<(), AllocError>
     ensures { OnOk result (string_bytes out.new ≡ string_bytes out.old ++ flat_map group_text tables.now.groups) }
 {
@@ -22,10 +21,10 @@ fn push_groups(alloc: Global, out: &mut String, tables: &Tables) -> Result<(), A
     Ok(())
 }
 
-/// The text of the tables in a version (this project's own, in place of the writers of tables in `gen_inst.rs` and
-/// `gen_settings.rs`). Tables that don't fit the version have a text too, of which some tables can't be told.
+/// The text of tables in a version. It takes the place of what the crate's `gen_inst.rs` and `gen_settings.rs` write of tables. Tables that
+/// don't fit the version have a text too, but other tables can have the same one.
 ///
-/// The text is made in one pass over the tables, and the only error is want of memory.
+/// The text is made in one pass over the tables.
 #[tactic(auto, unfolding(crate::specs::TableText::table_text))]
 pub fn table_text(alloc: Global, version: Version, tables: &Tables) -> Result<String, AllocError>
     ensures { IfOk result (λ text. string_bytes text ≡ table_text version tables.now) }
@@ -36,10 +35,10 @@ pub fn table_text(alloc: Global, version: Version, tables: &Tables) -> Result<St
     Ok(out)
 }
 
-/// Writes the text of the tables, in version 3, to the sink (this project's own).
+/// Writes the text of the tables, in version 3, to the sink.
 ///
-/// `OutOfMemory` comes before anything is written. After `WriteFault`, which comes only where a write failed, the sink took a
-/// front of the text.
+/// `OutOfMemory` comes before anything is written. `WriteFault` comes only if a write failed; the sink then took the beginning of the text,
+/// and not all of it.
 pub fn write_tables<K: Sink>(alloc: Global, tables: &Tables, sink: &mut K) -> Result<(), WriteError>
     ensures ok { OnOk result (K.taken sink.new ≡ with_more (K.taken sink.old) (table_text Three tables.now)) }
     ensures in_part { IsErrOf result WriteError.WriteFault → TookPart (table_text Three tables.now) (K.taken sink.old) (K.taken sink.new) }

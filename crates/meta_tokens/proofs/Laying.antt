@@ -58,7 +58,7 @@ text_goes_on t (c ∷ cs) rest =
     ∙ text_goes_on (t ++ c ∷ []) cs rest
     ∙ ap (λ (x : List ℕ). scanned InText x rest) (append_assoc t (c ∷ []) cs)
 
--- a whole text between quotes, behind something else
+-- a whole text between quotes, after something else
 pub text_reads : (u rest : List ℕ) → scanned Between [] (34 ∷ (escaped u ++ 34 ∷ rest)) ≡ Quoted u ∷ scanned Between [] rest
 unfolding next ended_by class_of
 text_reads u rest = text_goes_on [] u (34 ∷ rest)
@@ -124,7 +124,7 @@ bytes_after (Doc []) = []
 bytes_after (Doc (c ∷ cs)) = (c ∷ cs) ++ cr_more (c ∷ cs)
 bytes_after (Stray f) = []
 
--- the token where it isn't told before what stands behind it
+-- the token if what comes after it is needed to tell it
 abbrev pending : Token → List Token
 pending (Key k) = Key k ∷ []
 pending (Word w) = Word w ∷ []
@@ -264,7 +264,7 @@ no_doc (Stray f) e d = d
 word_is : (w : List ℕ) → IsWord w → word_token w ≡ Word w
 word_is w h = rw h.free refl
 
--- behind a token: the end of a line, a blank, or a token that stands close
+-- after a token: the end of a line, a blank, or a token that stands close
 line_ends : (u : Token) (rest : List ℕ) → CanWrite u
     → scanned (mode_after u) (bytes_after u) (10 ∷ rest) ≡ pending u ++ scanned Start [] rest
 unfolding ended

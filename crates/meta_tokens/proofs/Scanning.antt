@@ -8,7 +8,7 @@ use Rattle.meta_tokens.specs.declared.scanner.Mode.{Mode}
 use Rattle.meta_tokens.specs.Scan.{State, in_mode, after, given, scanned}
 use Rattle.meta_tokens.specs.TokenLines.{each, line_behind, token_lines, last_line_from}
 
--- the byte at a place, in front of those behind it
+-- the byte at a place, in front of those after it
 at_byte : {X : Type 0} (f : List ℕ → X) (text : List ℕ) (i c : ℕ) → i < length text → c ≡ get_or text i 0
     → f (drop i text) ≡ f (c ∷ drop (i + 1) text)
 at_byte f text i c within is = at_drop_more f text i 0 within ∙ ap (λ b. f (b ∷ drop (i + 1) text)) (sym is)
@@ -42,7 +42,7 @@ last_more text i c last line below all within is behind so_far =
     ap (λ (n : ℕ). last_line_from line n (drop (i + 1) text)) behind
     ∙ sym (at_byte (last_line_from last line) text i c within is) ∙ so_far
 
--- the line behind a byte is the same or the next
+-- the line after a byte is the same or the next
 at_most_one_more : (line c : ℕ) → line_behind line c ≤ line + 1
 at_most_one_more line c = grind (arith, nat_tests)
 

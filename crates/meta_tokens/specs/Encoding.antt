@@ -8,11 +8,11 @@ use Rattle.meta_tokens.specs.declared.flaw.Flaw.TheVariants.{NotUtf8}
 use Rattle.meta_tokens.specs.Scan.{tokens_in}
 use Rattle.meta_tokens.specs.TokenLines.{lines_in, line_after, last_line_in}
 
--- where a line begins behind the byte at a place: behind a line end, or where it began before
+-- where the line begins in which the byte after this one stands: after a line end, or where it began before
 abbrev pub start_behind : ℕ → ℕ → ℕ → ℕ
 start_behind start place c = if c == 10 then place + 1 else start
 
--- where the last line of a text begins, of which so many bytes stand before these
+-- where the last line of a text begins, if the given bytes follow `place` others
 abbrev pub last_start : ℕ → ℕ → List ℕ → ℕ
 last_start start place [] = start
 last_start start place (c ∷ cs) = last_start (start_behind start place c) (place + 1) cs

@@ -20,7 +20,7 @@ escaped (c ∷ cs) = escaped_byte c ++ escaped cs
 abbrev pub cr_more : List ℕ → List ℕ
 cr_more line = if slice_index line (length line - 1) == 13 then 13 ∷ [] else []
 
--- a line of documentation behind its three slashes
+-- a line of documentation after its three slashes
 abbrev pub doc_line : List ℕ → List ℕ
 doc_line [] = []
 doc_line (c ∷ cs) = 32 ∷ ((c ∷ cs) ++ cr_more (c ∷ cs))
@@ -59,7 +59,7 @@ closes (Sign c) = (c == 58) || ((c == 44) || ((c == 40) || ((c == 41) || ((c == 
 closes (Doc d) = false
 closes (Stray f) = false
 
--- no blank behind ( [ . -
+-- no blank stands after ( [ . -
 abbrev pub opens : Token → Bool
 opens (Key k) = false
 opens (Word w) = false
@@ -71,7 +71,7 @@ opens (Stray f) = false
 abbrev pub separator : Token → Token → List ℕ
 separator u t = if is_doc u || starts t then 10 ∷ [] else (if closes t || opens u then [] else 32 ∷ [])
 
--- what stands behind a token
+-- what stands after a token
 unfoldable pub behind : Token → List Token → List ℕ
 behind u [] = 10 ∷ []
 behind u (t ∷ ts) = separator u t ++ (written t ++ behind t ts)

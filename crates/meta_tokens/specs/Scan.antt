@@ -71,7 +71,7 @@ word_token w = word_by w (keyword_of w)
 abbrev pub in_mode : Mode → List ℕ → State
 in_mode mode bytes = record { mode = mode; bytes = bytes }
 
--- the state behind a byte that isn't LF
+-- the state after a byte that isn't LF
 unfoldable pub next : Mode → List ℕ → ℕ → State
 next Start bytes c = begun true (class_of c) c
 next Between bytes c = begun false (class_of c) c
@@ -117,7 +117,7 @@ ended InDoc bytes = Doc (strip_carriage_return bytes) ∷ []
 ended Comment bytes = []
 ended Lost bytes = []
 
--- the state behind a byte
+-- the state after a byte
 abbrev pub after : Mode → List ℕ → ℕ → State
 after mode bytes c = if c == 10 then in_mode Start [] else next mode bytes c
 

@@ -5,7 +5,7 @@ use Rattle.meta_tokens.specs.declared.scanner.Mode.{Mode}
 use Rattle.meta_tokens.specs.declared.scanner.Mode.TheVariants.{Start}
 use Rattle.meta_tokens.specs.Scan.{ended, given, after}
 
--- the line behind a byte: a line end ends its own
+-- the line after a byte: a line end ends its own line
 abbrev pub line_behind : ℕ → ℕ → ℕ
 line_behind line c = if c == 10 then line + 1 else line
 
@@ -23,7 +23,7 @@ token_lines mode bytes line (c ∷ cs) =
 abbrev pub lines_in : List ℕ → List ℕ
 lines_in text = token_lines Start [] 1 text
 
--- the line behind a text that begins in a line
+-- the line in which a text ends that begins in this line
 abbrev pub line_after : ℕ → List ℕ → ℕ
 line_after line [] = line
 line_after line (c ∷ cs) = line_after (line_behind line c) cs
@@ -37,6 +37,6 @@ last_line_from last line (c ∷ cs) = last_line_from line (line_behind line c) c
 abbrev pub last_line_in : List ℕ → ℕ
 last_line_in text = last_line_from 1 1 text
 
--- the line of the token at a place: the last line of the text where there is none
+-- the line of the token at a place: the last line of the text if there is no such token
 abbrev pub line_at : List ℕ → ℕ → ℕ → ℕ
 line_at lines last place = if nat_lt place (length lines) then slice_index lines place else last

@@ -28,7 +28,8 @@ fn place_of_no_character(text: &[u8]) -> Option<usize>
     }
 }
 
-/// Where a line begins behind the byte at a place.
+/// Where the line begins in which the byte after this one stands. `start` is where the line of this byte begins, and `place` is the place
+/// of this byte.
 fn start_behind(start: usize, place: usize, byte: u8) -> usize
     requires { place + 1 < 2 ^ 64 }
     ensures { result ≡ start_behind start place byte }
@@ -36,7 +37,7 @@ fn start_behind(start: usize, place: usize, byte: u8) -> usize
     if byte == b'\n' { place + 1 } else { start }
 }
 
-/// The lines at the front of a text that have their line ends.
+/// The lines at the front of a text that end in an LF.
 fn whole_lines(text: &[u8]) -> &[u8]
     ensures { result.now ≡ whole_lines text.now }
 {
@@ -47,7 +48,7 @@ fn whole_lines(text: &[u8]) -> &[u8]
     &text[..start]
 }
 
-/// The line behind a text.
+/// The number of the line in which the byte after a text would stand.
 fn line_after(text: &[u8]) -> usize
     ensures { result ≡ line_after 1 text.now }
 {
@@ -58,7 +59,7 @@ fn line_after(text: &[u8]) -> usize
     line
 }
 
-/// The tokens of some lines, and a flaw in the line behind them.
+/// The tokens of the lines, and after them a flaw in the next line.
 fn scan_flawed(alloc: Global, lines: &[u8]) -> Result<Tokens, AllocError>
     ensures tokens { IfOk result (λ v. v.tokens.items ≡ tokens_in lines.now ++ Stray NotUtf8 ∷ []) }
     ensures lines { IfOk result (λ v. v.lines.items ≡ lines_in lines.now ++ line_after 1 lines.now ∷ []) }
@@ -73,7 +74,7 @@ fn scan_flawed(alloc: Global, lines: &[u8]) -> Result<Tokens, AllocError>
     Ok(read)
 }
 
-/// The tokens of a text up to the first line that isn't UTF-8, which is a flaw, and their lines.
+/// The tokens of a text, with their lines. The first line that isn't UTF-8 is a flaw, and the last token.
 pub(crate) fn scan_text(alloc: Global, text: &[u8]) -> Result<Tokens, AllocError>
     ensures tokens { IfOk result (λ v. v.tokens.items ≡ text_tokens text.now) }
     ensures lines { IfOk result (λ v. v.lines.items ≡ text_lines text.now) }

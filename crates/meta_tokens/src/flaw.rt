@@ -1,14 +1,14 @@
-/// Why a part of a file is no token that an item has.
+/// Why a part of a file can't be a token of an item.
 #[derive(Clone, Copy, PartialEq, Eq)]
 pub enum Flaw {
-    /// A text without its closing quote.
+    /// A text in quotes has no closing quote.
     NoClosingQuote,
-    /// A backslash behind which no quote, backslash or `n` stands.
+    /// A backslash isn't followed by a quote, a backslash or `n`.
     BadEscape,
-    /// One slash.
+    /// A slash stands alone.
     LoneSlash,
-    /// A line that isn't UTF-8.
+    /// A line isn't UTF-8.
     NotUtf8,
-    /// A byte that is no part of a word, no blank, sign, quote, slash or line end.
+    /// A byte can't stand here: it isn't part of a word, a blank, a sign, a quote, a slash or a line end.
     StrayByte(u8),
 }

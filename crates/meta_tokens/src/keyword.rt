@@ -1,7 +1,7 @@
 ghost use Rattle.std.specs.Prelude.{◌≡◌};
 ghost use Rattle.meta_tokens.specs.Keywords.{keyword_of, keyword_text};
 
-/// A word that begins an item.
+/// A keyword: a word that begins an item.
 #[derive(Clone, Copy, PartialEq, Eq)]
 pub enum Keyword {
     /// `type`
@@ -25,7 +25,7 @@ pub enum Keyword {
 }
 
 impl Keyword {
-    /// The word that it is.
+    /// The keyword as a word.
     pub fn as_slice(self) -> &'static [u8]
         ensures { result.now ≡ keyword_text self }
     {
@@ -42,7 +42,7 @@ impl Keyword {
         }
     }
 
-    /// The keyword that a word is, if it is one.
+    /// The keyword with this word, if there is one.
     #[tactic(auto, unfolding(crate::specs::Keywords::keyword_of))]
     pub fn of(word: &[u8]) -> Option<Keyword>
         ensures { result ≡ keyword_of word.now }

@@ -3,7 +3,7 @@ ghost use Rattle.meta_tokens.specs.Encoding.{text_tokens};
 ghost use Rattle.meta_tokens.specs.Laid.{laid, CanWriteAll};
 ghost use Rattle.meta_tokens.specs.declared.token.Token.{Token};
 
-/// What is laid out has these tokens, documentation and all commas too.
+/// The canonical text of tokens has these tokens, including documentation and all commas.
 pub fn what_is_laid_is_read()
     ensures { (ts : List Token) → CanWriteAll ts → text_tokens (laid ts) ≡ ts }
 {}

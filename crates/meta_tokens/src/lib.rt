@@ -1,5 +1,5 @@
-//! The tokens of a file of declarations: words, texts in quotes, signs and lines of documentation, with their lines, and their canonical
-//! text.
+//! The tokens of a file of declarations: words, texts in quotes, signs and lines of documentation, with their lines. They also have a
+//! canonical text.
 #![tactic(auto)]
 
 mod bytes;

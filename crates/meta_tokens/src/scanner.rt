@@ -14,36 +14,36 @@ use super::tokens::Tokens;
 use std::alloc::{AllocError, Global};
 use std::mem;
 
-/// What is being read.
+/// What the scanner is reading.
 #[derive(Clone, Copy)]
 enum Mode {
     /// Nothing, at the front of a line.
     Start,
-    /// Nothing, behind something else of the line.
+    /// Nothing, after something else in the line.
     Between,
     /// A word.
     InWord,
     /// A text between quotes.
     InText,
-    /// Such a text, behind a backslash.
+    /// A text between quotes, after a backslash.
     Escape,
-    /// Behind one slash.
+    /// What comes after one slash.
     Slash,
-    /// Behind one slash at the front of a line.
+    /// What comes after one slash at the front of a line.
     StartSlash,
-    /// Behind two of them.
+    /// What comes after two slashes at the front of a line.
     TwoSlashes,
-    /// Behind three of them.
+    /// What comes after three slashes at the front of a line.
     ThreeSlashes,
     /// A line of documentation.
     InDoc,
     /// A comment.
     Comment,
-    /// The rest of a line, behind what no item has.
+    /// The rest of a line, after what can't be a token of an item.
     Lost,
 }
 
-/// What a byte is, where nothing began.
+/// The class of a byte that stands where nothing has begun.
 #[derive(Clone, Copy)]
 enum Class {
     WordByte,
@@ -54,7 +54,7 @@ enum Class {
     NoClass,
 }
 
-/// Reads a text byte after byte.
+/// A scanner, which reads a text byte by byte.
 #[derive(Drop)]
 struct Scanner {
     alloc: Global,
@@ -63,21 +63,19 @@ struct Scanner {
     tokens: Vec<Token>,
 }
 
-/// Whether it is a letter, a digit or `_`.
+/// Whether the byte is a letter, a digit or `_`.
 fn is_word_byte(byte: u8) -> bool
     ensures { result ≡ is_word_byte byte }
 {
     matches!(byte, b'a'..=b'z' | b'A'..=b'Z' | b'0'..=b'9' | b'_')
 }
 
-/// Whether it is a blank.
 fn is_blank(byte: u8) -> bool
     ensures { result ≡ is_blank byte }
 {
     matches!(byte, b' ' | b'\t' | b'\r')
 }
 
-/// Whether it is a sign.
 fn is_sign(byte: u8) -> bool
     ensures { result ≡ is_sign byte }
 {
@@ -87,7 +85,7 @@ fn is_sign(byte: u8) -> bool
     )
 }
 
-/// The token that a whole word is.
+/// The token of a whole word: a keyword, or another word.
 fn word_token(bytes: Vec<u8>) -> Token
     ensures { result ≡ word_token bytes.items }
 {
@@ -97,7 +95,7 @@ fn word_token(bytes: Vec<u8>) -> Token
     }
 }
 
-/// The line without the one CR at its end, if it has one.
+/// The line without the CR at its end, if it has one. Only one CR is taken off.
 fn without_cr(mut line: Vec<u8>) -> Vec<u8>
     ensures { result.items ≡ strip_carriage_return line.items }
 {
@@ -108,7 +106,7 @@ fn without_cr(mut line: Vec<u8>) -> Vec<u8>
 }
 
 impl Scanner {
-    /// Takes the bytes so far, and leaves none.
+    /// Takes the bytes read so far out of the scanner.
     fn taken(&mut self) -> Vec<u8>
         ensures bytes { result.items ≡ self.old.bytes.items }
         ensures left { self.new.bytes.items ≡ [] }
@@ -118,7 +116,7 @@ impl Scanner {
         mem::replace(&mut self.bytes, Vec::new(self.alloc))
     }
 
-    /// Goes on in a mode, without bytes.
+    /// Goes on in a mode, without bytes read so far.
     fn enter(&mut self, mode: Mode)
         ensures mode { self.new.mode ≡ mode }
         ensures bytes { self.new.bytes.items ≡ [] }
@@ -128,7 +126,6 @@ impl Scanner {
         self.bytes.clear();
     }
 
-    /// Adds a token.
     fn add(&mut self, token: Token) -> Result<(), AllocError>
         ensures tokens { OnOk result (self.new.tokens.items ≡ self.old.tokens.items ++ token ∷ []) }
         ensures mode { self.new.mode ≡ self.old.mode }
@@ -149,7 +146,7 @@ impl Scanner {
         Ok(())
     }
 
-    /// Reads a byte where nothing began, at the front of a line or behind it.
+    /// Reads a byte where nothing has begun, at the front of a line or later in it.
     fn begin(&mut self, front: bool, byte: u8) -> Result<(), AllocError>
         ensures state { OnOk result (in_mode self.new.mode self.new.bytes.items ≡ begun front (class_of byte) byte) }
         ensures tokens { OnOk result (self.new.tokens.items ≡ self.old.tokens.items ++ told (class_of byte) byte) }
@@ -182,7 +179,7 @@ impl Scanner {
         }
     }
 
-    /// Reads a byte in a word, or behind it.
+    /// Reads a byte in a word, or the byte after it.
     #[tactic(auto, unfolding(crate::specs::Scan::next, crate::specs::Scan::ended_by))]
     fn go_on_in_word(&mut self, byte: u8) -> Result<(), AllocError>
         ensures state { OnOk result (in_mode self.new.mode self.new.bytes.items ≡ next Mode.InWord self.old.bytes.items byte) }
@@ -196,7 +193,7 @@ impl Scanner {
         self.begin(false, byte)
     }
 
-    /// Reads a byte in a text.
+    /// Reads a byte in a text between quotes.
     #[tactic(auto, unfolding(crate::specs::Scan::next, crate::specs::Scan::ended_by))]
     fn go_on_in_text(&mut self, byte: u8) -> Result<(), AllocError>
         ensures state { OnOk result (in_mode self.new.mode self.new.bytes.items ≡ next Mode.InText self.old.bytes.items byte) }
@@ -216,7 +213,7 @@ impl Scanner {
         }
     }
 
-    /// Reads a byte behind a backslash.
+    /// Reads a byte after a backslash.
     #[tactic(auto, unfolding(crate::specs::Scan::next, crate::specs::Scan::ended_by))]
     fn escape(&mut self, byte: u8) -> Result<(), AllocError>
         ensures state { OnOk result (in_mode self.new.mode self.new.bytes.items ≡ next Mode.Escape self.old.bytes.items byte) }
@@ -232,7 +229,7 @@ impl Scanner {
         }
     }
 
-    /// Reads a byte behind a slash.
+    /// Reads a byte after a slash.
     #[tactic(auto, unfolding(crate::specs::Scan::next, crate::specs::Scan::ended_by))]
     fn go_on_behind_slash(&mut self, byte: u8) -> Result<(), AllocError>
         ensures state { OnOk result (in_mode self.new.mode self.new.bytes.items ≡ next Mode.Slash self.old.bytes.items byte) }
@@ -246,7 +243,7 @@ impl Scanner {
         self.add(Token::Stray(Flaw::LoneSlash))
     }
 
-    /// Reads a byte behind a slash at the front of a line.
+    /// Reads a byte after a slash at the front of a line.
     #[tactic(auto, unfolding(crate::specs::Scan::next, crate::specs::Scan::ended_by))]
     fn go_on_behind_first_slash(&mut self, byte: u8) -> Result<(), AllocError>
         ensures state { OnOk result (in_mode self.new.mode self.new.bytes.items ≡ next Mode.StartSlash self.old.bytes.items byte) }
@@ -260,7 +257,7 @@ impl Scanner {
         self.add(Token::Stray(Flaw::LoneSlash))
     }
 
-    /// Reads a byte behind two slashes at the front of a line.
+    /// Reads a byte after two slashes at the front of a line.
     #[tactic(auto, unfolding(crate::specs::Scan::next, crate::specs::Scan::ended_by))]
     fn go_on_behind_two_slashes(&mut self, byte: u8) -> Result<(), AllocError>
         ensures state { OnOk result (in_mode self.new.mode self.new.bytes.items ≡ next Mode.TwoSlashes self.old.bytes.items byte) }
@@ -274,7 +271,7 @@ impl Scanner {
         Ok(())
     }
 
-    /// Reads a byte behind three slashes at the front of a line.
+    /// Reads a byte after three slashes at the front of a line.
     #[tactic(auto, unfolding(crate::specs::Scan::next, crate::specs::Scan::ended_by))]
     fn go_on_behind_three_slashes(&mut self, byte: u8) -> Result<(), AllocError>
         ensures state { OnOk result (in_mode self.new.mode self.new.bytes.items ≡ next Mode.ThreeSlashes self.old.bytes.items byte) }
@@ -356,7 +353,6 @@ impl Scanner {
     }
 }
 
-/// The class of a byte.
 #[tactic(auto, unfolding(crate::specs::Scan::class_of))]
 fn class_of(byte: u8) -> Class
     ensures { result ≡ class_of byte }
@@ -379,7 +375,7 @@ fn class_of(byte: u8) -> Class
     Class::NoClass
 }
 
-/// The line behind a byte.
+/// The number of the line in which the byte after this one stands.
 pub(crate) fn line_behind(line: usize, byte: u8) -> usize
     requires { line + 1 < 2 ^ 64 }
     ensures { result ≡ line_behind line byte }
@@ -387,7 +383,7 @@ pub(crate) fn line_behind(line: usize, byte: u8) -> usize
     if byte == b'\n' { line + 1 } else { line }
 }
 
-/// Gives a line to each token that has none yet.
+/// Gives a line to each token that doesn't have one yet.
 #[tactic(auto, using(std::proofs::lemmas::List::take_all))]
 fn number(lines: &mut Vec<usize>, tokens: &[Token], line: usize) -> Result<(), AllocError>
     requires { length lines.old.items ≤ length tokens.now }
@@ -396,7 +392,6 @@ fn number(lines: &mut Vec<usize>, tokens: &[Token], line: usize) -> Result<(), A
     lines.resize(tokens.len(), line)
 }
 
-/// The tokens of a text, with their lines.
 pub(crate) fn scan(alloc: Global, text: &[u8]) -> Result<Tokens, AllocError>
     ensures tokens { IfOk result (λ v. v.tokens.items ≡ tokens_in text.now) }
     ensures lines { IfOk result (λ v. v.lines.items ≡ lines_in text.now) }

@@ -6,7 +6,6 @@ use super::tokens::Tokens;
 use std::alloc::{AllocError, Global};
 use std::collections::VecDeque;
 
-/// Whether it is a comma.
 fn is_comma(token: &Token) -> bool
     ensures { result ≡ is_comma token.now }
 {
@@ -16,7 +15,7 @@ fn is_comma(token: &Token) -> bool
     }
 }
 
-/// Whether it is `)` or `]`.
+/// Whether the token is `)` or `]`.
 fn is_end(token: &Token) -> bool
     ensures { result ≡ is_end token.now }
 {
@@ -26,7 +25,7 @@ fn is_end(token: &Token) -> bool
     }
 }
 
-/// Whether `)` or `]` is the first of these.
+/// Whether the first of these tokens is `)` or `]`.
 fn ends_first(rest: &VecDeque<Token>) -> bool
     ensures { result ≡ ends_first rest.now.items }
 {

@@ -3,27 +3,27 @@ use super::flaw::Flaw;
 use super::keyword::Keyword;
 use std::alloc::{AllocError, Global};
 
-/// A part of a file that counts.
+/// A token: a part of a file that isn't a blank or a comment.
 #[derive(Drop)]
 pub enum Token {
-    /// A word that begins an item.
+    /// A keyword, which begins an item.
     Key(Keyword),
     /// Another word: letters, digits and `_`.
     Word(Bytes),
-    /// What stands between quotes, without the backslashes.
+    /// A text in quotes, without the backslashes.
     Quoted(Bytes),
     /// One of the signs `=` `:` `,` `(` `)` `[` `]` `-` `>` `.`.
     Sign(u8),
-    /// A line of documentation, without its slashes, the blank behind them and its line end.
+    /// A line of documentation, without its slashes, the blank after them, and its line end.
     Doc(Bytes),
-    /// What no item has. The rest of its line isn't read.
+    /// What can't be a token of an item. The rest of its line isn't read.
     Stray(Flaw),
 }
 
 ghost use Rattle.std.specs.Prelude.{◌≡◌, IfOk};
 
 impl Token {
-    /// An equal token with bytes of its own.
+    /// Makes a copy of the token.
     pub fn copy(&self, alloc: Global) -> Result<Token, AllocError>
         ensures { IfOk result (λ t. t ≡ self.now) }
     {

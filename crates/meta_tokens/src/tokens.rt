@@ -15,12 +15,12 @@ pub struct Tokens {
     pub tokens: Vec<Token>,
     /// The line of each token. The first line of a text is 1.
     pub lines: Vec<usize>,
-    /// The line of the last byte, or 1 where the text has none; of a text that isn't UTF-8 the line of its flaw.
+    /// The line of the last byte, or 1 if the text is empty. If the text isn't UTF-8, it is the line of the flaw.
     pub last_line: usize,
 }
 
-/// The tokens of a text, without each comma directly before `)` or `]`, and their lines. The first line that isn't UTF-8 is a flaw,
-/// `NotUtf8`, and the last token: nothing is read behind it.
+/// Reads the tokens of a text and their lines, without each comma directly before `)` or `]`. The first line that isn't UTF-8 is the flaw
+/// `NotUtf8`, which is the last token: nothing after it is read.
 pub fn tokens_of(alloc: Global, text: &[u8]) -> Result<Tokens, AllocError>
     ensures tokens { IfOk result (λ v. v.tokens.items ≡ read_in text.now) }
     // Each token has the line in which it stands.
@@ -32,7 +32,7 @@ pub fn tokens_of(alloc: Global, text: &[u8]) -> Result<Tokens, AllocError>
 }
 
 impl Tokens {
-    /// The line of the token at this place; the last line of the text where there is none.
+    /// The line of the token at this place, or the last line of the text if there is no such token.
     pub fn line_at(&self, place: usize) -> usize
         ensures { result ≡ line_at self.now.lines.items self.now.last_line place }
     {

@@ -5,7 +5,7 @@ ghost use Rattle.meta_tokens.specs.Laid.{behind, laid};
 use super::token::Token;
 use std::alloc::{AllocError, Global};
 
-/// Adds a byte of a text between quotes.
+/// Adds a byte of a text between quotes, with a backslash if it needs one.
 fn write_escaped_byte(text: &mut Vec<u8>, byte: u8) -> Result<(), AllocError>
     ensures { OnOk result (text.new.items ≡ text.old.items ++ escaped_byte byte) }
 {
@@ -16,7 +16,7 @@ fn write_escaped_byte(text: &mut Vec<u8>, byte: u8) -> Result<(), AllocError>
     }
 }
 
-/// Adds a text as it stands between quotes.
+/// Adds a text as it stands between quotes, with its backslashes.
 pub fn write_escaped(text: &mut Vec<u8>, bytes: &[u8]) -> Result<(), AllocError>
     ensures { OnOk result (text.new.items ≡ text.old.items ++ escaped bytes.now) }
 {
@@ -26,7 +26,7 @@ pub fn write_escaped(text: &mut Vec<u8>, bytes: &[u8]) -> Result<(), AllocError>
     Ok(())
 }
 
-/// Adds a line of documentation behind its slashes.
+/// Adds a line of documentation, which stands after its slashes.
 fn write_doc(text: &mut Vec<u8>, line: &[u8]) -> Result<(), AllocError>
     ensures { OnOk result (text.new.items ≡ text.old.items ++ doc_line line.now) }
 {
@@ -41,7 +41,6 @@ fn write_doc(text: &mut Vec<u8>, line: &[u8]) -> Result<(), AllocError>
     Ok(())
 }
 
-/// Adds a token.
 fn write_token(text: &mut Vec<u8>, token: &Token) -> Result<(), AllocError>
     ensures { OnOk result (text.new.items ≡ text.old.items ++ written token.now) }
 {
@@ -62,21 +61,20 @@ fn write_token(text: &mut Vec<u8>, token: &Token) -> Result<(), AllocError>
     }
 }
 
-/// Whether it is documentation.
 fn is_doc(token: &Token) -> bool
     ensures { result ≡ is_doc token.now }
 {
     matches!(token, Token::Doc(_))
 }
 
-/// Whether it begins a line.
+/// Whether the token begins a line.
 fn starts(token: &Token) -> bool
     ensures { result ≡ starts token.now }
 {
     matches!(token, Token::Key(_) | Token::Doc(_))
 }
 
-/// Whether it is a sign before which no blank stands.
+/// Whether the token is a sign without a blank before it.
 fn closes(token: &Token) -> bool
     ensures { result ≡ closes token.now }
 {
@@ -86,7 +84,7 @@ fn closes(token: &Token) -> bool
     }
 }
 
-/// Whether it is a sign behind which no blank stands.
+/// Whether the token is a sign without a blank after it.
 fn opens(token: &Token) -> bool
     ensures { result ≡ opens token.now }
 {
@@ -109,7 +107,7 @@ fn write_separator(text: &mut Vec<u8>, last: &Token, token: &Token) -> Result<()
     text.extend_from_slice(b" ")
 }
 
-/// Adds the tokens behind a token, and the end of the last line.
+/// Adds the tokens after the first, and the end of the last line.
 #[tactic(auto, unfolding(crate::specs::Laid::behind))]
 fn write_behind(text: &mut Vec<u8>, first: &Token, tokens: &[Token]) -> Result<(), AllocError>
     ensures { OnOk result (text.new.items ≡ text.old.items ++ behind first.now tokens.now) }
@@ -123,9 +121,9 @@ fn write_behind(text: &mut Vec<u8>, first: &Token, tokens: &[Token]) -> Result<(
     text.extend_from_slice(b"\n")
 }
 
-/// The canonical text of the tokens: documentation and keywords begin a line, and a blank stands between two other tokens, but for signs
-/// that stand close. Where each token can be written, the text has these tokens (`what_is_laid_is_read`), and `tokens_of` reads them off it
-/// again, but for a comma directly before `)` or `]`.
+/// The canonical text of the tokens. Documentation and keywords begin a line, and there is a blank between two other tokens, except beside
+/// some signs. If each token can be written, the text has these tokens (`what_is_laid_is_read`), and `tokens_of` reads them from it, except
+/// a comma directly before `)` or `]`.
 #[tactic(auto, unfolding(crate::specs::Laid::laid))]
 pub fn write_tokens(alloc: Global, tokens: &[Token]) -> Result<Vec<u8>, AllocError>
     ensures { IfOk result (λ v. v.items ≡ laid tokens.now) }

@@ -45,7 +45,7 @@ found g f v u (Some t) is same from takes of =
     (subst (Answers f u) (sym of) (leads f u takes (subst IsType (sym same) from) (subst IsType of (typed t))))
 found g f v u None is same from takes of = of
 
--- where it is no type's there is none
+-- where it isn't a type's there is no answer
 pub none : (g f : Function) (v u : TypeParts) (r : Option ValueType) → g ≡ f → u ≡ v → IfNone r (¬ IsType (candidate f u))
     → IfNone r ((t : TypeParts) → ¬ Answers g v t)
 none g f v u (Some t) is same of = of

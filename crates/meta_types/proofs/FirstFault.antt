@@ -1,17 +1,17 @@
--- The search for the first fault, step by step, and that there is one first fault at most.
+-- The search for the first fault, step by step, and that there is at most one first fault.
 use Rattle.std.proofs.Common.{◌≡◌, ◌<◌, ◌+◌, ◌⊎◌, inl, inr, ⊎_elim, ℕ, suc, sym, ap, ◌∙◌, subst, arith}
 use Rattle.std.proofs.lemmas.Bool.{cases_order}
 use Rattle.meta_types.specs.declared.fault.DefinitionError.{DefinitionError}
 use Rattle.meta_types.specs.FirstFault.{Key, key_at, IsEarlier, ShowsNoneBefore, IsFirstShown, ShowsNone}
 
--- k is one of so many parts, of so many places in its part, and of so many rules
+-- k is one of these counts: of parts, of places in its part, and of rules
 pub record IsIn (parts : ℕ) (places rules : ℕ → ℕ) (k : Key) : Type 0 where
   pub part : k.part < parts
   pub place : k.place < places k.part
   pub rule : k.rule < rules k.part
 
--- What is to be shown of an order in which faults are looked for: a position is known by its key; at a position one fault at most
--- is shown; and there are so many parts, so many places in each where one can be shown, and so many rules for each.
+-- What is to be shown of an order in which faults are looked for: a position is known by its key; at a position at most one fault is shown;
+-- and the keys are within these counts of parts, of places in each part, and of rules for each place.
 pub record IsSearchable {P : Type 0} (key : P → Key) (Shows : P → DefinitionError → Type 0) (parts : ℕ)
     (places rules : ℕ → ℕ) : Type 0 where
   pub position_of : Key → P

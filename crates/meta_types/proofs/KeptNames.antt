@@ -152,7 +152,7 @@ shared_name m camel name place j names found e keeps is =
           false≢true (sym (f.first i other below at_names) ∙ has_shared camel name other e shares);
     })
 
--- the map with the name that a reference points to, behind those that others point to
+-- the map with the name that a reference points to, after those that others point to
 pub added_reference : (m n : BTreeMap (List ℕ) ℕ) (camel : List ℕ) (place : ℕ) (old new : List (Bor (List ℕ))) (r : Bor (List ℕ))
     → new ≡ old ++ r ∷ [] → place ≡ length old → Updates (slice_cmp nat_cmp) m n camel (Some place)
     → get (slice_cmp nat_cmp) m camel ≡ None → camel ≡ camel_case_of r.now → Keeps m (map (λ q. q.now) old) → Keeps n (map (λ q. q.now) new)

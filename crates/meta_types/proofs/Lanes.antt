@@ -45,7 +45,7 @@ among_lane_types (FloatLane F32) = (6, omega arith, refl)
 among_lane_types (FloatLane F64) = (7, omega arith, refl)
 among_lane_types (FloatLane F128) = (8, omega arith, refl)
 
--- a lane's name has nothing behind it
+-- a lane's name has nothing after it
 pub lane_named : (lane : LaneType) → name_of (lane_parts lane) ≡ lane_name (lane_parts lane).kind (lane_parts lane).width
 lane_named (IntLane i) = append-nil _
 lane_named (FloatLane f) = append-nil _

@@ -1,4 +1,4 @@
--- A derived function leads from a type to one type at most.
+-- A derived function leads from a type to at most one type.
 use Rattle.std.proofs.Common.{Bool, Contains, subst, ◌&&◌, ◌||◌, ◌==◌, not, nat_lt, ◌≡◌, ◌<◌, ℕ, ◌*◌, ◌/◌, false, true, if◌then◌else◌, refl}
 use Rattle.std.proofs.Common.{sym, ◌∙◌, ap, arith, ⊎_elim}
 use Rattle.std.proofs.lemmas.Bool.{and_parts, and_from, or_cases, eqb-true, ltb-true, ltb-false, not-true, false≢true}

@@ -110,7 +110,7 @@ is_lane text code e = found_row IsLane lane_codes (
   ),
 ) text code e
 
--- the text is what a name has behind that of its lane, with this row
+-- the text is what a name has after that of its lane, with this row
 record IsBehindLane (text : List ℕ) (row : ℕ) : Type 0 where
   lanes : ℕ
   is_dynamic : Bool
@@ -198,7 +198,7 @@ of_parts lane lanes code row l b =
     (ap₂ (λ front behind. front ++ behind) (sym l.named) (sym b.written))
     (let e = l.coded in let d = b.doubled in omega (arith, e, d))
 
--- ---- of a name that is cut behind that of its lane
+-- ---- of a name that is cut after that of its lane
 
 module _ (text lane lanes : List ℕ) (end : ℕ) (is : end ≡ lane_length text) (front : lane ≡ take end text) (back : lanes
     ≡ drop end text) where

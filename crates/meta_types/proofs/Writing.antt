@@ -6,7 +6,7 @@ use Rattle.std.specs.declared.fmt.Error.{Error}
 use Rattle.std.specs.Fmt.{HasWritten, IsPlainFormatter, WritesOnOk}
 
 module _ {W : Type 0} (took : W → List ℕ → W → Type 0) where
-  -- two texts that were written one behind the other are one text
+  -- two texts that were written one after the other are one text
   pub written_both : (f g h : Formatter W) (r : Result (Unit {0}) Error) (a b all : List ℕ)
       → (IsPlainFormatter f → HasWritten took f a g) → WritesOnOk took g r b h → a ++ b ≡ all → WritesOnOk took f r all h
   written_both f g h r a b all first second e = λ plain is_ok.

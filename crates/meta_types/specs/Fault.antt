@@ -59,7 +59,7 @@ fault_name (BadPreset _ _) = codes "BadPreset"
 fault_name (TooManySettings _ _ _ _) = codes "TooManySettings"
 fault_name OutOfMemory = codes "OutOfMemory"
 
--- what the line of a fault shows behind its name
+-- what the line of a fault has after its name
 abbrev pub fault_detail_text : FaultDetail → List ℕ
 fault_detail_text Nothing = []
 fault_detail_text (One a) = 32 ∷ decimal a

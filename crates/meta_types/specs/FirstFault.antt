@@ -1,7 +1,7 @@
 -- Faults are looked for in one order, and the first counts.
 --     IsFirstShown key Shows e      e is the first fault
---     ShowsNone Shows               there is none
---     ShowsNoneBefore key Shows k   none is looked for before k and shown
+--     ShowsNone Shows               no fault is shown
+--     ShowsNoneBefore key Shows k   no fault that is looked for before k is shown
 use Rattle.std.specs.Prelude.{◌≡◌, ◌<◌, ◌⊎◌, ℕ}
 use Rattle.meta_types.specs.declared.fault.DefinitionError.{DefinitionError}
 

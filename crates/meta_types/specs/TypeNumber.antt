@@ -44,7 +44,7 @@ lane_codes =
     (codes "i8", 4) ∷ (codes "i16", 5) ∷ (codes "i32", 6) ∷ (codes "i64", 7) ∷ (codes "i128", 8)
     ∷ (codes "f16", 9) ∷ (codes "f32", 10) ∷ (codes "f64", 11) ∷ (codes "f128", 12) ∷ []
 
--- what a name has behind that of its lane, and the row of its number: of scalars and fixed vectors the exponent of the lanes
+-- what a name has after that of its lane, and the row of its number: of scalars and fixed vectors the exponent of the lanes
 abbrev pub fixed_rows : List (List ℕ × ℕ)
 fixed_rows =
     ([], 0) ∷ (codes "x2", 1) ∷ (codes "x4", 2) ∷ (codes "x8", 3) ∷ (codes "x16", 4)
@@ -56,7 +56,7 @@ dynamic_rows =
     (codes "x2xN", 9) ∷ (codes "x4xN", 10) ∷ (codes "x8xN", 11) ∷ (codes "x16xN", 12)
     ∷ (codes "x32xN", 13) ∷ (codes "x64xN", 14) ∷ (codes "x128xN", 15) ∷ (codes "x256xN", 16) ∷ []
 
--- the row for what a name has behind that of its lane
+-- the row for what a name has after that of its lane
 abbrev pub row_of : List ℕ → Option ℕ
 row_of lanes = option_or (found_in fixed_rows lanes) (found_in dynamic_rows lanes)
 
@@ -68,7 +68,7 @@ lane_length (a ∷ b ∷ []) = 2
 lane_length (a ∷ b ∷ c ∷ []) = if b == 56 then 2 else 3
 lane_length (a ∷ b ∷ c ∷ d ∷ more) = if b == 56 then 2 else (if (b == 49) && (c == 50) then 4 else 3)
 
--- the number of the type whose name is that of a lane and what stands behind it, if there is one
+-- the number of the type whose name is that of a lane and what comes after it, if there is one
 abbrev pub number_of_parts : List ℕ → List ℕ → Option ℕ
 number_of_parts lane lanes = option_and_then (λ code. option_map (λ row. 0x70 + code + 16 * row) (row_of lanes)) (found_in lane_codes lane)
 

@@ -67,7 +67,7 @@ letter FloatKind = 102
 abbrev pub lane_name : NumberKind → ℕ → List ℕ
 lane_name kind width = letter kind ∷ decimal width
 
--- what a name has behind its lane: nothing, `x4` or `x4xN`
+-- what a name has after its lane: nothing, `x4` or `x4xN`
 abbrev pub lanes_name : ℕ → Bool → List ℕ
 lanes_name lanes is_dynamic =
     if lanes == 1 then []

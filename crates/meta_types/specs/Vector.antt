@@ -20,7 +20,7 @@ lane_count X64 = 64
 lane_count X128 = 128
 lane_count X256 = 256
 
--- the parts of so many lanes with the parts of one
+-- the parts of the type with this count of lanes, from the parts of one lane
 abbrev pub lanes_of : TypeParts → ℕ → TypeParts
 lanes_of lane lanes = record { kind = lane.kind; width = lane.width; lanes = lanes; is_dynamic = false }
 

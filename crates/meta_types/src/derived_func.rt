@@ -14,8 +14,8 @@ use super::lane_count::is_lane_count;
 use super::value_type::ValueType;
 use super::vector::{DynamicVectorType, VectorType};
 
-/// How one type variable is derived from another (`cdsl/typevar.rs`): by one of seven functions, which give at most one type,
-/// or by one of the two relations `Narrower` and `Wider`.
+/// A derived function, by which one type variable is derived from another, as in the crate's `cdsl/typevar.rs`. Seven of them give at most
+/// one type. `Narrower` and `Wider` are relations, which can give several.
 #[derive(Clone, Copy, Debug, PartialEq, Eq, Hash)]
 pub enum DerivedFunc {
     /// The lane of a type.
@@ -30,7 +30,7 @@ pub enum DerivedFunc {
     SplitLanes,
     /// The type with half the lanes, each of twice the width.
     MergeLanes,
-    /// The fixed vector of the least lanes of a dynamic one, which are less than 256.
+    /// The fixed vector with the least lane count of a dynamic one, if that is less than 256.
     DynamicToVector,
     /// The scalars of the same kind with fewer bits.
     Narrower,
@@ -58,7 +58,7 @@ fn has_camel_name(derived_func: DerivedFunc, name: &[u8]) -> bool
     derived_func.camel_name().as_bytes() == name
 }
 
-/// The place, among all derived functions, of the one that has this name in camel case.
+/// The place of the function with this name in camel case among all derived functions.
 fn camel_place(name: &[u8]) -> Option<usize>
     ensures { result ≡ position (λ f. pointwise ◌==◌ (camel_function_name (function_of f)) name.now) DERIVED_FUNCS }
 {
@@ -72,8 +72,8 @@ enum LaneKind {
     Float,
 }
 
-/// The parts of a type: what a lane holds, its width in bits, how many lanes there are, and whether that is the least count.
-/// Not all parts are those of a type.
+/// The parts of a type: what a lane holds, its width in bits, the lane count, and whether that is the least count. Some parts aren't those
+/// of any type.
 #[derive(Clone, Copy)]
 struct Parts {
     kind: LaneKind,
@@ -83,7 +83,7 @@ struct Parts {
 }
 
 impl DerivedFunc {
-    /// The name of the function in snake case, as `lane_of`.
+    /// The name of the function in snake case, such as `lane_of`.
     pub fn name(self) -> &'static str
         ensures { result.now ≡ function_name (function_of self) }
     {
@@ -100,7 +100,7 @@ impl DerivedFunc {
         }
     }
 
-    /// The name of the function in camel case, as `LaneOf` (this project's own).
+    /// The name of the function in camel case, such as `LaneOf`.
     pub fn camel_name(self) -> &'static str
         ensures { result.now ≡ camel_function_name (function_of self) }
     {
@@ -117,7 +117,7 @@ impl DerivedFunc {
         }
     }
 
-    /// The function that has this name in camel case, and `None` exactly where none has it (this project's own).
+    /// The function with this name in camel case. `None` exactly if there is no such function.
     pub fn of_camel_name(name: &[u8]) -> Option<DerivedFunc>
         ensures found { IfSome result (λ f. camel_function_name (function_of f) ≡ name.now) }
         ensures none { IfNone result ((f : Function) → camel_function_name f ≢ name.now) }
@@ -126,15 +126,14 @@ impl DerivedFunc {
         Some(DERIVED_FUNCS[place])
     }
 
-    /// Whether it is a relation, which leaves several types (this project's own).
+    /// Whether the function is a relation, which can give several types.
     pub fn is_relation(self) -> bool
         ensures { IsTrue result ↔ IsRelation (function_of self) }
     {
         matches!(self, DerivedFunc::Narrower | DerivedFunc::Wider)
     }
 
-    /// The type to which the function leads from `c`, and `None` exactly where that would be no type, or for a relation
-    /// (this project's own).
+    /// The type to which the function leads from `c`. `None` exactly if it doesn't lead to a type, or is a relation.
     pub fn apply(self, c: ValueType) -> Option<ValueType>
         ensures found { IfSome result (λ t. Answers (function_of self) (type_parts_of c) (type_parts_of t)) }
         ensures none { IfNone result ((t : TypeParts) → ¬ Answers (function_of self) (type_parts_of c) t) }
@@ -184,7 +183,7 @@ impl DerivedFunc {
         }
     }
 
-    /// Whether the function leads from `c` to `t`, or `t` stands in the relation to `c` (this project's own).
+    /// Whether the function leads from `c` to `t`. A relation can lead to several types.
     pub fn relates(self, c: ValueType, t: ValueType) -> bool
         ensures { IsTrue result ↔ StepsTypes (function_of self) (type_parts_of c) (type_parts_of t) }
     {
@@ -195,8 +194,8 @@ impl DerivedFunc {
         }
     }
 
-    /// The number of the type to which the function leads from the type of number `c`, and `None` exactly where no type has
-    /// the number, the answer would be no type, or for a relation (this project's own).
+    /// The number of the type to which the function leads from the type with the number `c`. `None` exactly if no type has the number `c`,
+    /// or the function doesn't lead to a type, or is a relation.
     pub fn apply_number(self, c: u16) -> Option<u16>
         ensures found { IfSome result (λ m. AnswersNumber (function_of self) c m) }
         ensures none { IfNone result ((m : ℕ) → ¬ AnswersNumber (function_of self) c m) }
@@ -205,8 +204,8 @@ impl DerivedFunc {
         Some(t.number())
     }
 
-    /// Whether there are types of the numbers `c` and `t`, and the function leads from the one to the other, or they stand in
-    /// the relation (this project's own).
+    /// Whether `c` and `t` are the numbers of types, and the function leads from the first to the second. A relation can lead to several
+    /// types.
     pub fn relates_number(self, c: u16, t: u16) -> bool
         ensures { IsTrue result ↔ StepsNumbers (function_of self) c t }
     {
@@ -218,7 +217,6 @@ impl DerivedFunc {
 }
 
 impl Parts {
-    /// The parts of a type.
     fn of(t: ValueType) -> Parts
         ensures { parts_meaning result ≡ type_parts_of t }
     {
@@ -231,7 +229,7 @@ impl Parts {
         }
     }
 
-    /// The parts of so many lanes.
+    /// The parts of the type with this lane and this lane count.
     fn of_lanes(lane: LaneType, lanes: u64, is_dynamic: bool) -> Parts
         ensures { parts_meaning result ≡ record {
           kind = (lane_parts lane).kind;
@@ -252,7 +250,7 @@ impl Parts {
         }
     }
 
-    /// The lane type, if there is one of the kind and width.
+    /// The lane type of the kind and width, if there is one.
     fn lane(self) -> Option<LaneType>
         ensures found { IfSome result (λ lane. lane_parts lane ≡ scalar (parts_meaning self).kind self.width) }
         ensures none { IfNone result (¬ Contains (widths (parts_meaning self).kind) self.width) }
@@ -265,7 +263,7 @@ impl Parts {
         }
     }
 
-    /// The type that has the parts, if there is one.
+    /// The type that has these parts, if there is one.
     fn value_type(self) -> Option<ValueType>
         ensures found { IfSome result (λ t. type_parts_of t ≡ parts_meaning self) }
         ensures none { IfNone result (¬ IsType (parts_meaning self)) }
@@ -284,14 +282,13 @@ impl Parts {
         })
     }
 
-    /// Whether there is one lane.
     fn is_scalar(self) -> bool
         ensures { result ≡ is_scalar (parts_meaning self) }
     {
         self.lanes == 1
     }
 
-    /// Whether it is a dynamic vector that `dynamic_to_vector` takes to a fixed one.
+    /// Whether this is a dynamic vector that `dynamic_to_vector` leads from to a fixed one.
     fn has_fixed_form(self) -> bool
         ensures { result ≡ (self.is_dynamic && nat_lt self.lanes 256) }
     {
@@ -307,7 +304,7 @@ impl Parts {
     }
 }
 
-/// A function leads from one type to at most one type (this project's own).
+/// A derived function leads from a type to at most one type.
 pub fn answers_are_one()
     ensures { (f : Function) (u s t : TypeParts) → Answers f u s → Answers f u t → s ≡ t }
 {}

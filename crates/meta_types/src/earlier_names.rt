@@ -7,8 +7,7 @@ use std::alloc::{AllocError, Global};
 use std::collections::BTreeMap;
 use std::marker::Model;
 
-/// Names in order, none of which shares one with an earlier one: it is not the same, and neither are their camel cases (this
-/// project's own). They are borrowed.
+/// A list of names in which no two are the same or have the same camel case. The names are borrowed.
 #[derive(Drop)]
 pub struct EarlierNames<'n> {
     names: Vec<&'n Text>,
@@ -28,7 +27,7 @@ impl<'n> Model for EarlierNames<'n> {
 }
 
 impl<'n> EarlierNames<'n> {
-    /// No names.
+    /// Makes an empty list.
     pub fn new(alloc: Global) -> EarlierNames<'n>
         ensures { result ≡ [] }
     {
@@ -38,9 +37,8 @@ impl<'n> EarlierNames<'n> {
         }
     }
 
-    /// Adds the name at the end, or answers the place, from 0, of the first of the names that it shares one with, and then
-    /// they stay as they were. It costs the length of the name, and the logarithm of their count. The only error is want of
-    /// memory.
+    /// Adds the name at the end. If it is the same as an earlier name, or has the same camel case, nothing changes, and the answer is the
+    /// place of the first such name, from 0. The cost is the length of the name, and the logarithm of the count of names.
     pub fn add(&mut self, alloc: Global, name: &'n Text) -> Result<Option<usize>, AllocError>
         ensures added { IfOk result (λ o. IfNone o (self.new ≡ self.old ++ name.now ∷ [])) }
         ensures unshared { IfOk result (λ o. IfNone o ((j : ℕ) → IsDuplicate (self.old ++ name.now ∷ []) (length self.old) j → ⊥)) }
@@ -64,7 +62,7 @@ impl<'n> EarlierNames<'n> {
     }
 }
 
-/// Whether no two of the names are the same or have the same camel case, in one pass over them. The only error is want of memory.
+/// Whether no two of the names are the same or have the same camel case. It takes one pass over them.
 pub fn are_distinct(alloc: Global, names: &[Text]) -> Result<bool, AllocError>
     ensures { IfOk result (λ b. IsTrue b ↔ AreDistinct names.now) }
 {

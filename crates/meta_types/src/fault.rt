@@ -16,47 +16,51 @@ pub enum Place {
     Format(u64),
     /// A group of settings.
     Group(u64),
-    /// An entry of a group, the group first. The entries are the group's settings in order of declaration, then its presets.
+    /// An entry of a group: the number of the group, then that of the entry. Entries are the group's settings in order of declaration, then
+    /// its presets.
     Entry(u64, u64),
 }
 
-/// Why declarations are refused (this project's own; the crate panics at these places).
+/// A fault of declarations, for which they are refused. The crate panics at most of these places, or doesn't test them.
 #[derive(Clone, Copy, Drop, Error)]
 pub enum DefinitionError {
-    /// The name at the place, or the name of one of its enumerators, isn't an ASCII letter followed by ASCII letters, digits or `_`;
-    /// or its description holds a double quote, a backslash or a byte outside 0x20 to 0x7e.
+    /// The name at the place, or that of one of its enumerators, isn't an ASCII letter followed by ASCII letters, digits or `_`; or the
+    /// description at the place has a double quote, a backslash or a byte outside 0x20 to 0x7e.
     BadName(Place),
-    /// The name at the place, or its camel case, is that of an earlier one, whose number is second.
+    /// The name at the place, or its camel case, is that of an earlier declaration. The second number is that one's.
     DuplicateName(Place, u64),
-    /// More than 4,095 instructions are declared: how many.
+    /// More than 4,095 instructions are declared. The number is their count.
     TooManyOpcodes(u64),
-    /// The instruction (first) has an output (its place) that is neither a value nor varargs.
+    /// An output of the instruction is neither a value nor varargs. The numbers are that of the instruction and the place of the output.
     BadOutput(u64, u64),
-    /// The instruction's operands aren't those of its format.
+    /// The operands of the instruction with this number don't match its format.
     FormatMismatch(u64),
-    /// The instruction is polymorphic, and nothing controls it.
+    /// The instruction with this number is polymorphic and has no control.
     NoControl(u64),
-    /// The instruction names a second control that is derived, or is the root of no value operand, or the instruction isn't
-    /// polymorphic.
+    /// The instruction with this number names a second control that is derived, or isn't the root of a value operand, or the instruction
+    /// isn't polymorphic.
     BadSecond(u64),
-    /// The instruction (first) has a derived value operand (its place among value results followed by value inputs) that isn't
-    /// fixed to one type and isn't derived from the control or the second control directly.
+    /// A value operand of the instruction has a bad derivation: it is derived, isn't fixed to one type, and isn't derived directly from the
+    /// control or the second control. The numbers are that of the instruction and the place of the operand among value results and then
+    /// value inputs.
     BadDerivation(u64, u64),
-    /// The instruction has eight or more value results (then their count), or else value inputs (then theirs).
+    /// The instruction has eight or more value results, or else value inputs. The numbers are that of the instruction and their count.
     TooManyOperands(u64, u64),
-    /// The instruction asks for an immediate method, which its format or its operands don't allow.
+    /// The instruction with this number asks for an immediate method, which its format or its operands don't allow.
     BadImmMethod(u64),
-    /// The format in use has more than two blocks or more than one raw block.
+    /// The format with this number is in use, and has more than two blocks or more than one block without arguments.
     BadFormat(u64),
-    /// The format in use shares its name or structure with one that is used earlier, whose number is second.
+    /// The format is in use, and has the name or the structure of a format that is used earlier. The second number is that one's.
     FormatClash(u64, u64),
-    /// The instructions need more than 4,095 different type sets: how many.
+    /// The instructions need more than 4,095 different type sets. The number is their count.
     TooManyTypeSets(u64),
-    /// The group's (first) enum (its entry) has no value, more than 256, or two with the same name or camel case.
+    /// An enum has no value, more than 256, or two with the same name or camel case. The numbers are those of the group and the entry.
     BadEnum(u64, u64),
-    /// The group's (first) preset (its entry) names a boolean that the group doesn't have, or a preset that isn't earlier.
+    /// A preset names a boolean that the group doesn't have, or a preset that isn't declared earlier. The numbers are those of the group
+    /// and the entry.
     BadPreset(u64, u64),
-    /// The group (first) has more than 248 booleans, 255 setting bytes or 65,535 entries: how many of each.
+    /// A group has more than 248 booleans, 255 setting bytes or 65,535 entries. The numbers are that of the group, and the three counts in
+    /// this order.
     TooManySettings(u64, u64, u64, u64),
     /// Memory ran out.
     OutOfMemory,
@@ -78,7 +82,7 @@ impl<T: Drop> From<AllocFailed<T>> for DefinitionError {
     }
 }
 
-/// What the line of a fault shows behind its name.
+/// What the line of a fault has after its name.
 #[derive(Clone, Copy)]
 enum FaultDetail {
     Nothing,
@@ -89,7 +93,7 @@ enum FaultDetail {
     AtAndOne(Place, u64),
 }
 
-/// Writes the text, and the number behind it.
+/// Writes the text, then the number.
 fn write_numbered<W: fmt::Write>(f: &mut fmt::Formatter<W>, text: &str, n: u64) -> fmt::Result
     ensures { DisplaysOnOk W.write_str_gives f.old result (Some (text.now ++ decimal n)) f.new }
 {
@@ -132,7 +136,7 @@ impl fmt::Display for Place {
     }
 }
 
-/// Each number and each place with a space before it.
+/// Writes each number and each place after a space.
 impl fmt::Display for FaultDetail {
     ghost use Rattle.std.specs.Prelude.{Some};
     ghost use Rattle.meta_types.specs.Fault.{fault_detail_text};
@@ -157,7 +161,7 @@ impl fmt::Display for FaultDetail {
     }
 }
 
-/// The fault's name alone.
+/// Writes the name of the fault alone.
 impl fmt::Display for DefinitionError {
     ghost use Rattle.std.specs.Prelude.{Some};
     ghost use Rattle.meta_types.specs.Fault.{fault_name};
@@ -169,7 +173,7 @@ impl fmt::Display for DefinitionError {
     }
 }
 
-/// The fault as its line shows it.
+/// Writes the fault's line, as `line` gives it.
 impl fmt::Debug for DefinitionError {
     ghost use Rattle.std.specs.Prelude.{Some};
     ghost use Rattle.meta_types.specs.Fault.{line_of};
@@ -183,7 +187,7 @@ impl fmt::Debug for DefinitionError {
 }
 
 impl DefinitionError {
-    /// The fault in one line: its name, and its numbers parted by single spaces, as `FormatClash 1 0`.
+    /// The fault in one line: its name, then its numbers, separated by single spaces, such as `FormatClash 1 0`.
     pub fn line(&self, alloc: Global) -> Result<Text, AllocError>
         ensures { IfOk result (λ t. t ≡ line_of self.now) }
     {
@@ -192,7 +196,6 @@ impl DefinitionError {
         Ok(Text::of(line))
     }
 
-    /// The fault's name.
     fn name(&self) -> &'static str
         ensures { result.now ≡ fault_name self.now }
     {
@@ -217,7 +220,7 @@ impl DefinitionError {
         }
     }
 
-    /// What the fault's line shows behind its name.
+    /// What the fault's line has after the name.
     fn detail(&self) -> FaultDetail
         ensures { line_of self.now ≡ fault_name self.now ++ fault_detail_text result }
     {

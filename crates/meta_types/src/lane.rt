@@ -27,7 +27,7 @@ pub enum Int {
     I128,
 }
 
-/// A floating-point lane, by its width. No arithmetic is meant: a float is a name and a width.
+/// A floating-point lane, by its width. It is only a name and a width: no arithmetic is done.
 #[derive(Clone, Copy, PartialEq, Eq, Hash)]
 pub enum Float {
     /// 16 bits.
@@ -40,7 +40,7 @@ pub enum Float {
     F128,
 }
 
-/// A type that can stand alone or as a lane of a vector (`cdsl/types.rs`).
+/// A type that can stand alone or be a lane of a vector, as in the crate's `cdsl/types.rs`.
 #[derive(Clone, Copy, PartialEq, Eq, Hash)]
 pub enum LaneType {
     /// An integer.
@@ -49,18 +49,17 @@ pub enum LaneType {
     Float(Float),
 }
 
-/// The number from which the numbers of types count. It is this project's own profile of the numbers that a consumer of
-/// the tables reads.
+/// The number from which the numbers of types count. In Cranelift another crate defines it.
 pub(crate) const LANE_BASE: u16 = 0x70;
 
-/// Whether an integer lane may be this wide: 8, 16, 32, 64 or 128 bits.
+/// Whether an integer lane can have this width: 8, 16, 32, 64 or 128 bits.
 pub fn is_int_width(num_bits: u16) -> bool
     ensures { IsTrue result ↔ Contains (widths IntKind) num_bits }
 {
     [8, 16, 32, 64, 128].contains(&num_bits)
 }
 
-/// Whether a floating-point lane may be this wide: 16, 32, 64 or 128 bits.
+/// Whether a floating-point lane can have this width: 16, 32, 64 or 128 bits.
 pub fn is_float_width(num_bits: u16) -> bool
     ensures { IsTrue result ↔ Contains (widths FloatKind) num_bits }
 {
@@ -81,8 +80,7 @@ impl LaneType {
         }
     }
 
-    /// The number of the type, 0x74 to 0x7c: `i8` is 0x74, and the others follow in the order of `i16`, `i32`, `i64`,
-    /// `i128`, `f16`, `f32`, `f64` and `f128`.
+    /// The number of the type, 0x74 to 0x7c. The order is `i8`, `i16`, `i32`, `i64`, `i128`, `f16`, `f32`, `f64`, `f128`.
     pub fn number(self) -> u16
         ensures { result ≡ number_of (lane_parts self) }
     {
@@ -106,7 +104,7 @@ impl LaneType {
         }
     }
 
-    /// The lane of this code, and `None` exactly where no lane has it.
+    /// The lane with this code. `None` exactly if no lane has it.
     pub(crate) fn from_code(code: u16) -> Option<LaneType>
         ensures found { IfSome result (λ l. lane_code (lane_parts l).kind (lane_parts l).width ≡ code) }
         ensures none { IfNone result ((kind : NumberKind) (width : ℕ) → Contains (widths kind) width → lane_code kind width ≢ code) }
@@ -119,7 +117,7 @@ impl LaneType {
         None
     }
 
-    /// The integer lane of this width, which `is_int_width` tells.
+    /// The integer lane with this width in bits, which `is_int_width` tests.
     pub fn int_from_bits(num_bits: u16) -> LaneType
         requires { Contains (widths IntKind) num_bits }
         ensures { lane_parts result ≡ scalar IntKind num_bits }
@@ -133,7 +131,7 @@ impl LaneType {
         })
     }
 
-    /// The floating-point lane of this width, which `is_float_width` tells.
+    /// The floating-point lane with this width in bits, which `is_float_width` tests.
     pub fn float_from_bits(num_bits: u16) -> LaneType
         requires { Contains (widths FloatKind) num_bits }
         ensures { lane_parts result ≡ scalar FloatKind num_bits }
@@ -146,8 +144,8 @@ impl LaneType {
         })
     }
 
-    /// The type of so many lanes of this type: the lane itself for one, else a vector. `is_lane_count` tells whether a
-    /// vector may have so many.
+    /// The type with this many lanes of this type: the lane itself for 1, else a vector. `is_lane_count` tests whether a vector can have
+    /// this many.
     pub fn by(self, lanes: u16) -> ValueType
         requires { (lanes ≡ 1) ⊎ Contains (lane_counts true) lanes }
         ensures { type_parts_of result ≡ lanes_of (lane_parts self) lanes }
@@ -159,7 +157,7 @@ impl LaneType {
         }
     }
 
-    /// The dynamic vector of at least so many lanes of this type; `is_lane_count` tells whether there may be so many.
+    /// The dynamic vector with at least this many lanes of this type. `is_lane_count` tests the count.
     pub fn to_dynamic(self, lanes: u16) -> ValueType
         requires { Contains (lane_counts true) lanes }
         ensures { type_parts_of result ≡ least_lanes_of (lane_parts self) lanes }
@@ -167,7 +165,7 @@ impl LaneType {
         ValueType::DynamicVector(DynamicVectorType::new(self, lanes.into()))
     }
 
-    /// What the type is, in one line: `An integer type with 32 bits.`
+    /// A description of the type in one line, such as `An integer type with 32 bits.`
     pub fn doc(self, alloc: Global) -> Result<Text, AllocError>
         ensures { IfOk result (λ t. t ≡ type_doc (lane_parts self)) }
     {
@@ -180,7 +178,7 @@ impl LaneType {
         Ok(Text::of(doc))
     }
 
-    /// The name, as `i32`.
+    /// The name, such as `i32`.
     pub(crate) fn name(self) -> &'static str
         ensures { result.now ≡ name_of (lane_parts self) }
     {

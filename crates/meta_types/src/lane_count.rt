@@ -15,7 +15,7 @@ pub(crate) enum LaneCount {
     X256,
 }
 
-/// Whether a vector may have so many lanes: a power of two from 2 to 256 (this project's own; the crate takes any count).
+/// Whether a vector can have this many lanes: a power of two from 2 to 256. The crate takes any count.
 pub fn is_lane_count(lanes: u64) -> bool
     ensures { IsTrue result ↔ Contains (lane_counts true) lanes }
 {
@@ -35,7 +35,7 @@ const LANE_COUNTS: [LaneCount; 8] = [
 ];
 
 impl LaneCount {
-    /// The count of this number, which `is_lane_count` tells.
+    /// The lane count with this number, which `is_lane_count` tests.
     pub(crate) fn new(lanes: u64) -> LaneCount
         requires { Contains (lane_counts true) lanes }
         ensures { lane_count result ≡ lanes }
@@ -84,7 +84,7 @@ impl LaneCount {
         }
     }
 
-    /// The count of this exponent, and `None` exactly where there is none.
+    /// The lane count with this exponent. `None` exactly if there is no such count.
     pub(crate) fn from_log2(exponent: u16) -> Option<LaneCount>
         ensures found { IfSome result (λ n. log2 (lane_count n) ≡ exponent) }
         ensures none { IfNone result ((n : ℕ) → Contains (lane_counts true) n → log2 n ≢ exponent) }

@@ -10,19 +10,20 @@ const INTS: [Int; 5] = [Int::I8, Int::I16, Int::I32, Int::I64, Int::I128];
 /// The floats in rising width.
 const FLOATS: [Float; 4] = [Float::F16, Float::F32, Float::F64, Float::F128];
 
-/// Gives each integer lane once, in rising width (`shared/types.rs`).
+/// An iterator that gives each integer lane once, in rising width, as in the crate's `shared/types.rs`.
 #[derive(Drop)]
 pub struct IntIterator {
     index: usize,
 }
 
-/// Gives each floating-point lane once, in rising width (`shared/types.rs`).
+/// An iterator that gives each floating-point lane once, in rising width, as in the crate's `shared/types.rs`.
 #[derive(Drop)]
 pub struct FloatIterator {
     index: usize,
 }
 
-/// Gives each of the nine lane types once: the integers, then the floats, each kind in rising width (`cdsl/types.rs`).
+/// An iterator that gives each of the nine lane types once: the integers, then the floats, each in rising width. It is as in the crate's
+/// `cdsl/types.rs`.
 #[derive(Drop)]
 pub struct LaneTypeIterator {
     int_iter: IntIterator,
@@ -30,7 +31,7 @@ pub struct LaneTypeIterator {
 }
 
 impl IntIterator {
-    /// Before the first.
+    /// Makes an iterator that stands before the first lane.
     pub fn new() -> IntIterator
         ensures { ints_left result ≡ ints }
     {
@@ -39,7 +40,7 @@ impl IntIterator {
 }
 
 impl FloatIterator {
-    /// Before the first.
+    /// Makes an iterator that stands before the first lane.
     pub fn new() -> FloatIterator
         ensures { floats_left result ≡ floats }
     {
@@ -48,7 +49,7 @@ impl FloatIterator {
 }
 
 impl LaneTypeIterator {
-    /// Before the first.
+    /// Makes an iterator that stands before the first lane type.
     pub fn new() -> LaneTypeIterator
         ensures { lane_types_left result ≡ lane_types }
     {

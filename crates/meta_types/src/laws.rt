@@ -6,17 +6,17 @@ ghost use Rattle.meta_types.specs.SharedNames.{AreDistinct, AreDifferentNames};
 ghost use Rattle.meta_types.specs.ValueTypes.{type_parts_of};
 ghost use Rattle.meta_types.specs.declared.value_type.ValueType.{ValueType};
 
-/// The numbers of the types are pairwise different.
+/// No two types have the same number.
 pub fn numbers_differ()
     ensures { (a b : TypeParts) → IsType a → IsType b → number_of a ≡ number_of b → a ≡ b }
 {}
 
-/// The names of the types are pairwise different.
+/// No two types have the same name.
 pub fn names_differ()
     ensures { (a b : TypeParts) → IsType a → IsType b → name_of a ≡ name_of b → a ≡ b }
 {}
 
-/// Each type is one `ValueType`, and each `ValueType` is a type.
+/// Each type of the definitions is one `ValueType`, and each `ValueType` is such a type.
 pub fn each_type_is_one_value()
     ensures is_type { (t : ValueType) → IsType (type_parts_of t) }
     ensures every { (s : TypeParts) → IsType s → (t : ValueType) × (type_parts_of t ≡ s) }
@@ -30,7 +30,7 @@ pub fn there_are_153_types()
     ensures count { length all_types ≡ 153 }
 {}
 
-/// Names of which none is shared by an earlier one are different.
+/// Names are different if none is the same as an earlier one or has its camel case.
 pub fn distinct_names_differ()
     ensures { (names : List (List ℕ)) → AreDistinct names → AreDifferentNames names }
 {}

@@ -1,6 +1,6 @@
-//! Value types, texts and the faults of declarations: what the crates above speak of.
+//! Value types, texts and the faults of declarations, which all other crates use.
 //!
-//! A contract sees a value type as a `TypeParts` of `specs/`: a kind, a width, a count of lanes and a dynamic mark.
+//! A contract sees a value type as a `TypeParts` of `specs/`: a kind, a width, a lane count, and whether it is dynamic.
 #![tactic(auto)]
 
 mod derived_func;

@@ -5,7 +5,7 @@ ghost use Rattle.meta_types.specs.Name.{IsName};
 use super::text::Text;
 use std::alloc::{AllocError, Global};
 
-/// Whether a text may name a declaration: an ASCII letter followed by ASCII letters, digits or `_` (this project's own).
+/// Whether a text can be the name of a declaration: an ASCII letter followed by ASCII letters, digits or `_`.
 pub fn is_name(text: &Text) -> bool
     ensures { IsTrue result ↔ IsName text.now }
 {
@@ -16,22 +16,21 @@ pub fn is_name(text: &Text) -> bool
     }
 }
 
-/// Whether all of the texts may name declarations, each for itself: two may be the same.
+/// Whether each of the texts can be the name of a declaration. Two may be the same.
 pub fn are_names(texts: &[Text]) -> bool
     ensures { IsTrue result ↔ All IsName texts.now }
 {
     texts.iter().all(|text| is_name(text))
 }
 
-/// The character, or its capital where it is a letter `a` to `z` and `at_start` is set.
+/// The character, or its capital if it is a letter `a` to `z` and `at_start` is set.
 fn capital_at(at_start: bool, c: char) -> char
     ensures { result ≡ capital_at at_start c }
 {
     if at_start { c.to_ascii_uppercase() } else { c }
 }
 
-/// The camel case of a name: each `_` is dropped, and a letter `a` to `z` that is first or follows a `_` becomes a capital
-/// (this project's own rule, in place of the crate `heck`).
+/// The camel case of a name: each `_` is dropped, and a letter `a` to `z` becomes a capital if it is first or follows a `_`.
 pub fn camel_case(alloc: Global, s: &Text) -> Result<Text, AllocError>
     ensures { IfOk result (λ t. t ≡ camel_case_of s.now) }
 {

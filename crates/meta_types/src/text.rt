@@ -11,7 +11,7 @@ use std::cmp::Ordering;
 use std::hash::{Hash, Hasher};
 use std::marker::Model;
 
-/// An owned text. A contract sees its bytes (this project's own).
+/// An owned text. A contract sees its bytes.
 #[derive(Debug, Drop)]
 pub struct Text {
     inner: String,
@@ -26,7 +26,7 @@ impl Model for Text {
 }
 
 impl Text {
-    /// An owned copy of the text.
+    /// Makes an owned copy of the text.
     pub fn new(alloc: Global, text: &str) -> Result<Text, AllocError>
         ensures { IfOk result (λ t. t ≡ text.now) }
     {
@@ -42,21 +42,21 @@ impl Text {
         Text { inner }
     }
 
-    /// An equal text of its own.
+    /// Makes a copy of the text.
     pub fn copy(&self, alloc: Global) -> Result<Text, AllocError>
         ensures { IfOk result (λ t. t ≡ self.now) }
     {
         Text::new(alloc, self.inner.as_str())
     }
 
-    /// The text as it is.
+    /// The text as a `str`.
     pub fn as_str(&self) -> &str
         ensures { result.now ≡ self.now }
     {
         self.inner.as_str()
     }
 
-    /// Its bytes.
+    /// The bytes of the text.
     pub fn as_bytes(&self) -> &[u8]
         ensures { result.now ≡ self.now }
     {
@@ -88,7 +88,7 @@ impl PartialOrd for Text {
     }
 }
 
-/// By its bytes.
+/// Texts are ordered by their bytes.
 impl Ord for Text {
     ghost cmp = { slice_cmp nat_cmp };
 
@@ -103,7 +103,7 @@ impl Ord for Text {
     }
 }
 
-/// By its bytes, as a `str`: equal texts hash equally.
+/// A text hashes as a `str` does, by its bytes. Equal texts have equal hashes.
 impl Hash for Text {
     ghost hash_input = { λ t. fed.str t };
 

@@ -17,7 +17,7 @@ fn lane_len(name: &[u8]) -> usize
     }
 }
 
-/// The names of the lanes, and the codes beside them, in the order of the numbers of types.
+/// The names of the lanes and their codes, in the order of the numbers of types.
 const LANE_CODES: [(&str, u8); 9] = [
     ("i8", 4),
     ("i16", 5),
@@ -30,7 +30,7 @@ const LANE_CODES: [(&str, u8); 9] = [
     ("f128", 12),
 ];
 
-/// What the names of scalars and fixed vectors have behind the lane's, and their rows.
+/// What comes after the lane in the names of scalars and fixed vectors, and the rows of their numbers.
 const FIXED_ROWS: [(&str, u8); 9] = [
     ("", 0),
     ("x2", 1),
@@ -43,7 +43,7 @@ const FIXED_ROWS: [(&str, u8); 9] = [
     ("x256", 8),
 ];
 
-/// And those of dynamic vectors.
+/// What comes after the lane in the names of dynamic vectors, and the rows of their numbers.
 const DYNAMIC_ROWS: [(&str, u8); 8] = [
     ("x2xN", 9),
     ("x4xN", 10),
@@ -55,7 +55,7 @@ const DYNAMIC_ROWS: [(&str, u8); 8] = [
     ("x256xN", 16),
 ];
 
-/// The number beside the text.
+/// The number that stands with the text in these rows.
 fn number_beside(rows: &[(&str, u8)], text: &[u8]) -> Option<u8>
     ensures { result ≡ found_in (map (λ row. (row.0.now, row.1)) rows.now) text.now }
 {
@@ -67,7 +67,7 @@ fn number_beside(rows: &[(&str, u8)], text: &[u8]) -> Option<u8>
     None
 }
 
-/// The row of the types whose names have this behind the lane's.
+/// The row of the types whose names have this text after the lane's name.
 fn lanes_row(lanes: &[u8]) -> Option<u8>
     ensures { result ≡ row_of lanes.now }
 {
@@ -77,8 +77,7 @@ fn lanes_row(lanes: &[u8]) -> Option<u8>
     }
 }
 
-/// The number of the type that has the name, as `i32`, `i32x4` or `i32x4xN`, and `None` exactly where no type has it (this project's
-/// own).
+/// The number of the type with this name, such as `i32`, `i32x4` or `i32x4xN`. `None` exactly if no type has the name.
 pub fn type_number(name: &[u8]) -> Option<u16>
     ensures found { IfSome result (λ n. IsNameOf name.now n) }
     ensures none { IfNone result ((t : TypeParts) → IsType t → name_of t ≢ name.now) }

@@ -13,19 +13,19 @@ use super::vector::{DynamicVectorType, VectorType};
 use std::alloc::{AllocError, Global};
 use std::fmt;
 
-/// The type of a value (`cdsl/types.rs`).
+/// The type of a value, as in the crate's `cdsl/types.rs`.
 #[derive(Clone, Copy, Debug, PartialEq, Eq, Hash)]
 pub enum ValueType {
     /// A scalar.
     Lane(LaneType),
     /// A vector of 2 to 256 lanes.
     Vector(VectorType),
-    /// A vector of at least 2 to 256 lanes.
+    /// A vector of at least 2 to 256 lanes, whose actual count isn't known.
     DynamicVector(DynamicVectorType),
 }
 
 impl ValueType {
-    /// The nine lane types, integers first and each kind in rising width.
+    /// The nine lane types: integers, then floats, each in rising width.
     pub fn all_lane_types() -> LaneTypeIterator
         ensures { lane_types_left result ≡ lane_types }
     {
@@ -43,7 +43,7 @@ impl ValueType {
         }
     }
 
-    /// How many lanes are known to be there, 1 to 256: one of a scalar and of a dynamic vector.
+    /// The count of lanes that are known to be there, 1 to 256. It is 1 for a scalar and for a dynamic vector.
     pub fn lane_count(&self) -> u64
         ensures { result ≡ known_lanes (type_parts_of self.now) }
     {
@@ -53,21 +53,22 @@ impl ValueType {
         }
     }
 
-    /// The bits of the lanes that are known to be there, 8 to 32768; of a dynamic vector those of one lane.
+    /// The count of bits in the lanes that are known to be there, 8 to 32768. For a dynamic vector these are the bits of one lane.
     pub fn width(&self) -> u64
         ensures { result ≡ bits_of (type_parts_of self.now) }
     {
         self.lane_count() * self.lane_bits()
     }
 
-    /// The bytes in memory of the lanes that are known to be there, 1 to 4096; of a dynamic vector those of one lane.
+    /// The count of bytes in memory of the lanes that are known to be there, 1 to 4096. For a dynamic vector these are the bytes of one
+    /// lane.
     pub fn membytes(&self) -> u64
         ensures { result ≡ bytes_of (type_parts_of self.now) }
     {
         self.width() / 8
     }
 
-    /// The number of the type, by which tables name it, 0x74 to 0x17c.
+    /// The number of the type, 0x74 to 0x17c. Tables name types by these numbers.
     pub fn number(&self) -> u16
         ensures { result ≡ number_of (type_parts_of self.now) }
     {
@@ -78,7 +79,7 @@ impl ValueType {
         }
     }
 
-    /// What the type is, in one line.
+    /// A description of the type in one line.
     pub fn doc(&self, alloc: Global) -> Result<Text, AllocError>
         ensures { IfOk result (λ t. t ≡ type_doc (type_parts_of self.now)) }
     {
@@ -89,7 +90,7 @@ impl ValueType {
         }
     }
 
-    /// The name of the type in Rust source: `ir::types::` and the name in capitals, as `ir::types::I32X4`.
+    /// The name of the type in Rust source: `ir::types::` and the name in capitals, such as `ir::types::I32X4`.
     pub fn rust_name(&self, alloc: Global) -> Result<Text, AllocError>
         ensures { IfOk result (λ t. t ≡ rust_name_of (type_parts_of self.now)) }
     {
@@ -99,7 +100,7 @@ impl ValueType {
         Ok(Text::of(rust_name))
     }
 
-    /// The type that has the number, and `None` exactly where no type has it (this project's own).
+    /// The type with this number. `None` exactly if no type has it.
     pub fn from_number(n: u16) -> Option<ValueType>
         ensures found { IfSome result (λ t. number_of (type_parts_of t) ≡ n) }
         ensures none { IfNone result ((t : TypeParts) → IsType t → number_of t ≢ n) }
@@ -118,7 +119,7 @@ impl ValueType {
         Some(ValueType::DynamicVector(DynamicVectorType::of(lane, least)))
     }
 
-    /// The type that has the name, and `None` exactly where the bytes are no type's name (this project's own).
+    /// The type with this name. `None` exactly if no type has it.
     pub fn parse(text: &[u8]) -> Option<ValueType>
         ensures found { IfSome result (λ t. name_of (type_parts_of t) ≡ text.now) }
         ensures none { IfNone result ((t : TypeParts) → IsType t → name_of t ≢ text.now) }

@@ -11,14 +11,14 @@ use super::text::Text;
 use std::alloc::{AllocError, Global};
 use std::fmt;
 
-/// A vector of lanes of one type (`cdsl/types.rs`).
+/// A vector of lanes of one type, as in the crate's `cdsl/types.rs`.
 #[derive(Clone, Copy, PartialEq, Eq, Hash)]
 pub struct VectorType {
     base: LaneType,
     lanes: LaneCount,
 }
 
-/// A vector of lanes of one type, of which only the least count of lanes is known (`cdsl/types.rs`).
+/// A dynamic vector: lanes of one type, of which only the least count is known. It is as in the crate's `cdsl/types.rs`.
 #[derive(Clone, Copy, PartialEq, Eq, Hash)]
 pub struct DynamicVectorType {
     base: LaneType,
@@ -26,7 +26,7 @@ pub struct DynamicVectorType {
 }
 
 impl VectorType {
-    /// The vector of so many lanes of this type; `is_lane_count` tells whether there may be so many.
+    /// The vector with this many lanes of this type. `is_lane_count` tests the count.
     pub fn new(base: LaneType, lanes: u64) -> VectorType
         requires { Contains (lane_counts true) lanes }
         ensures { vector_parts result ≡ lanes_of (lane_parts base) lanes }
@@ -34,7 +34,6 @@ impl VectorType {
         VectorType::of(base, LaneCount::new(lanes))
     }
 
-    /// The vector of so many lanes of this type.
     pub(crate) fn of(base: LaneType, lanes: LaneCount) -> VectorType
         ensures { vector_parts result ≡ lanes_of (lane_parts base) (lane_count lanes) }
     {
@@ -48,7 +47,7 @@ impl VectorType {
         self.base.lane_bits()
     }
 
-    /// How many lanes there are: a power of two from 2 to 256.
+    /// The lane count: a power of two from 2 to 256.
     pub fn lane_count(&self) -> u64
         ensures { result ≡ (vector_parts self.now).lanes }
     {
@@ -62,14 +61,14 @@ impl VectorType {
         self.base
     }
 
-    /// The number of the type: that of its lane, and 16 more for each doubling of the lanes, 0x84 to 0xfc.
+    /// The number of the type, 0x84 to 0xfc: that of its lane, and 16 more for each doubling of the lane count.
     pub fn number(&self) -> u16
         ensures { result ≡ number_of (vector_parts self.now) }
     {
         self.base.number() + 16 * self.lanes.log2()
     }
 
-    /// What the type is, in one line: ``A SIMD vector with 4 lanes containing a `i32` each.``
+    /// A description of the type in one line: ``A SIMD vector with 4 lanes containing a `i32` each.``
     pub fn doc(&self, alloc: Global) -> Result<Text, AllocError>
         ensures { IfOk result (λ t. t ≡ type_doc (vector_parts self.now)) }
     {
@@ -83,7 +82,7 @@ impl VectorType {
 }
 
 impl DynamicVectorType {
-    /// The vector of at least so many lanes of this type; `is_lane_count` tells whether there may be so many.
+    /// The dynamic vector with at least this many lanes of this type. `is_lane_count` tests the count.
     pub fn new(base: LaneType, unscaled_lanes: u64) -> DynamicVectorType
         requires { Contains (lane_counts true) unscaled_lanes }
         ensures { dynamic_parts result ≡ least_lanes_of (lane_parts base) unscaled_lanes }
@@ -91,7 +90,6 @@ impl DynamicVectorType {
         DynamicVectorType::of(base, LaneCount::new(unscaled_lanes))
     }
 
-    /// The vector of at least so many lanes of this type.
     pub(crate) fn of(base: LaneType, unscaled_lanes: LaneCount) -> DynamicVectorType
         ensures { dynamic_parts result ≡ least_lanes_of (lane_parts base) (lane_count unscaled_lanes) }
     {
@@ -108,7 +106,7 @@ impl DynamicVectorType {
         self.base.lane_bits()
     }
 
-    /// The least count of lanes: a power of two from 2 to 256.
+    /// The least lane count: a power of two from 2 to 256.
     pub fn minimum_lane_count(&self) -> u64
         ensures { result ≡ (dynamic_parts self.now).lanes }
     {
@@ -122,15 +120,14 @@ impl DynamicVectorType {
         self.base
     }
 
-    /// The number of the type: that of the fixed vector of the least count of lanes, and 0x80 more, 0x104 to 0x17c.
+    /// The number of the type, 0x104 to 0x17c: that of the fixed vector with the same lane count, and 0x80 more.
     pub fn number(&self) -> u16
         ensures { result ≡ number_of (dynamic_parts self.now) }
     {
         0x80 + self.base.number() + 16 * self.unscaled_lanes.log2()
     }
 
-    /// What the type is, in one line:
-    /// ``A dynamically-scaled SIMD vector with a minimum of 4 lanes containing `i32` bits each.``
+    /// A description of the type in one line: ``A dynamically-scaled SIMD vector with a minimum of 4 lanes containing `i32` bits each.``
     pub fn doc(&self, alloc: Global) -> Result<Text, AllocError>
         ensures { IfOk result (λ t. t ≡ type_doc (dynamic_parts self.now)) }
     {
@@ -171,7 +168,7 @@ impl fmt::Display for DynamicVectorType {
     }
 }
 
-/// Writes a vector as a programmer sees it, after the name of its kind.
+/// Writes a vector as a programmer sees it, with the name of its kind first.
 fn write_debug<W: fmt::Write>(
     f: &mut fmt::Formatter<W>,
     name: &str,

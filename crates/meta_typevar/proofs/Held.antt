@@ -8,7 +8,7 @@ use Rattle.std.proofs.lemmas.List.Elements.{filter_more}
 use Rattle.meta_typevar.specs.Image.{has_some}
 use Rattle.meta_typevar.specs.MaskSets.{holds}
 
--- a number that is held comes behind those before it
+-- a number that is held comes after those before it
 pub held_more : (mask : ℕ) (xs : List ℕ) (i : ℕ) → i < length xs → bit_and mask (slice_index_or xs i 0) ≡ slice_index_or xs i 0
     → filter (holds mask) (take (i + 1) xs) ≡ filter (holds mask) (take i xs) ++ slice_index_or xs i 0 ∷ []
 held_more mask xs i l e =

@@ -65,7 +65,7 @@ in_right : (us vs : List TypeParts) (t : TypeParts) → In vs t → In (us ++ vs
 in_right [] vs t h = h
 in_right (u ∷ us) vs t h = inr (in_right us vs t h)
 
--- the types of a kind with so many lanes
+-- the types of a kind with this count of lanes
 in_widths : (k : NumberKind) (b : Bool) (n : ℕ) (xs : List ℕ) (t : TypeParts) → In (types_of k b n xs) t
     → (t.kind ≡ k) × (t.is_dynamic ≡ b) × (t.lanes ≡ n) × Among xs t.width
 in_widths k b n [] t h = absurd h
@@ -78,7 +78,7 @@ has_width k b n [] w h = absurd h
 has_width k b n (x ∷ xs) w (inl e) = inl (λ i. record { kind = k; width = e i; lanes = n; is_dynamic = b })
 has_width k b n (x ∷ xs) w (inr h) = inr (has_width k b n xs w h)
 
--- the types with so many lanes
+-- the types with this count of lanes
 in_lanes : (s : TypeSetParts) (b : Bool) (n : ℕ) (t : TypeParts) → In (types_at s b n) t
     → (t.is_dynamic ≡ b) × (t.lanes ≡ n) × Among (widths_in s t.kind) t.width
 in_lanes s b n t h =

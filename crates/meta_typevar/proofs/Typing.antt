@@ -32,7 +32,7 @@ pushed_more {X = X} {Y = Y} g f xs i d t old new start l n e h =
     ∙ append_assoc start (map f (take i xs)) (f (slice_index_or xs i d) ∷ [])
     ∙ ap (λ (ys : List TypeParts). start ++ ys) (sym (map_more f xs i d l))
 
--- so many lanes of the type
+-- the type with this count of lanes
 abbrev placed : Bool → ℕ → TypeParts → TypeParts
 placed b n t = record { kind = t.kind; width = t.width; lanes = n; is_dynamic = b }
 

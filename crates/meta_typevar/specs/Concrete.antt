@@ -7,15 +7,15 @@ use Rattle.std.specs.Fmt.{decimal}
 use Rattle.meta_types.specs.TypeParts.{NumberKind, IntKind, FloatKind, TypeParts}
 use Rattle.meta_typevar.specs.TypeSetParts.{TypeSetParts}
 
--- the types of a kind with these widths, and so many lanes
+-- the types of a kind with these widths and this count of lanes
 abbrev pub types_of : NumberKind → Bool → ℕ → List ℕ → List TypeParts
 types_of kind is_dynamic lanes widths = map (λ w. record { kind = kind; width = w; lanes = lanes; is_dynamic = is_dynamic }) widths
 
--- the members with so many lanes: the ints in rising width, then the floats
+-- the types of the set with this count of lanes: the integers in rising width, then the floats
 abbrev pub types_at : TypeSetParts → Bool → ℕ → List TypeParts
 types_at s is_dynamic lanes = types_of IntKind is_dynamic lanes s.ints ++ types_of FloatKind is_dynamic lanes s.floats
 
--- the members: for each lane count rising, those with so many lanes; then the same for the dynamic lane counts
+-- the types of the set: those of each lane count in rising order, then those of the dynamic lane counts
 abbrev pub types_in : TypeSetParts → List TypeParts
 types_in s = flat_map (types_at s false) s.lanes ++ flat_map (types_at s true) s.dynamic_lanes
 

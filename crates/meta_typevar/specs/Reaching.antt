@@ -1,4 +1,4 @@
--- Chains without a relation, which lead from a type to one type at most.
+-- Chains without a relation. Such a chain leads from a type to at most one type.
 use Rattle.std.specs.Prelude.{◌≡◌, List, [], ◌∷◌}
 use Rattle.meta_types.specs.TypeParts.{TypeParts}
 use Rattle.meta_types.specs.Function.{Function, Answers}

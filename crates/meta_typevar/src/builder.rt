@@ -7,10 +7,10 @@ use super::type_set::TypeSet;
 use std::alloc::{AllocError, Global};
 use std::marker::Model;
 
-/// The widths that an integer lane may have.
+/// The widths of integer lanes, in bits.
 pub(crate) const INT_WIDTHS: [u16; 5] = [8, 16, 32, 64, 128];
 
-/// The widths that a floating-point lane may have.
+/// The widths of floating-point lanes, in bits.
 pub(crate) const FLOAT_WIDTHS: [u16; 4] = [16, 32, 64, 128];
 
 /// The lane counts of scalars and fixed vectors.
@@ -19,7 +19,7 @@ pub(crate) const SIMD_LANES: [u16; 9] = [1, 2, 4, 8, 16, 32, 64, 128, 256];
 /// The lane counts of vectors alone.
 pub(crate) const VECTOR_LANES: [u16; 8] = [2, 4, 8, 16, 32, 64, 128, 256];
 
-/// Puts a type set together part by part (`cdsl/typevar.rs`).
+/// Puts a type set together part by part, as in the crate's `cdsl/typevar.rs`.
 #[derive(Drop)]
 pub struct TypeSetBuilder {
     ints: Interval,
@@ -44,7 +44,7 @@ impl Model for TypeSetBuilder {
 }
 
 impl TypeSetBuilder {
-    /// Scalars are included, and no part is set.
+    /// Makes a builder that includes scalars. No part is set yet.
     pub fn new() -> TypeSetBuilder
         ensures { result ≡ nothing_set }
     {
@@ -57,7 +57,7 @@ impl TypeSetBuilder {
         }
     }
 
-    /// Sets the int widths, which were not set before (`is_set` tells).
+    /// Sets the integer widths, in bits. They must not have been set before, which `is_set` tells.
     pub fn ints(mut self, interval: Interval) -> Self
         requires { self.ints ≡ Interval.None }
         ensures { result ≡ record self { ints = interval } }
@@ -66,7 +66,7 @@ impl TypeSetBuilder {
         self
     }
 
-    /// Sets the float widths, which were not set before (`is_set` tells).
+    /// Sets the float widths, in bits. They must not have been set before, which `is_set` tells.
     pub fn floats(mut self, interval: Interval) -> Self
         requires { self.floats ≡ Interval.None }
         ensures { result ≡ record self { floats = interval } }
@@ -75,7 +75,7 @@ impl TypeSetBuilder {
         self
     }
 
-    /// Whether one lane is among all lane counts of `simd_lanes`. A range that is set there is taken as it is.
+    /// Says whether `Interval::All` of `simd_lanes` includes one lane, the scalars. A range is taken as it is.
     pub fn includes_scalars(mut self, includes_scalars: bool) -> Self
         ensures { result ≡ record self { includes_scalars = includes_scalars } }
     {
@@ -83,7 +83,7 @@ impl TypeSetBuilder {
         self
     }
 
-    /// Sets the lane counts of scalars and fixed vectors, which were not set before (`is_set` tells).
+    /// Sets the lane counts of scalars and fixed vectors. They must not have been set before, which `is_set` tells.
     pub fn simd_lanes(mut self, interval: Interval) -> Self
         requires { self.simd_lanes ≡ Interval.None }
         ensures { result ≡ record self { simd_lanes = interval } }
@@ -92,7 +92,7 @@ impl TypeSetBuilder {
         self
     }
 
-    /// Sets the least lane counts of dynamic vectors, which were not set before (`is_set` tells).
+    /// Sets the least lane counts of dynamic vectors. They must not have been set before, which `is_set` tells.
     pub fn dynamic_simd_lanes(mut self, interval: Interval) -> Self
         requires { self.dynamic_simd_lanes ≡ Interval.None }
         ensures { result ≡ record self { dynamic_simd_lanes = interval } }
@@ -101,7 +101,7 @@ impl TypeSetBuilder {
         self
     }
 
-    /// Whether the part is set: it is no longer `Interval::None` (this project's own).
+    /// Whether the part is set: it isn't `Interval::None`.
     pub fn is_set(&self, part: Part) -> bool
         ensures { MatchBool result (interval_of self.now part ≢ Interval.None) (interval_of self.now part ≡ Interval.None) }
     {
@@ -114,9 +114,9 @@ impl TypeSetBuilder {
         !matches!(interval, Interval::None)
     }
 
-    /// Whether each range has powers of two as its ends, the low one at most the high one, inside the full range of its
-    /// part: 8 to 128 for ints, 16 to 128 for floats, 1 to 256 for lanes (2 to 256 where scalars are not included), and 2
-    /// to 256 for dynamic lanes (this project's own; the crate asserts it).
+    /// Whether `build` can be called: the ends of each range are powers of two, the low end is at most the high end, and both are in the
+    /// full range of the part. That is 8 to 128 for integers, 16 to 128 for floats, 1 to 256 for lanes (2 to 256 if scalars aren't
+    /// included), and 2 to 256 for dynamic lanes. The crate asserts this.
     pub fn can_build(&self) -> bool
         ensures { IsTrue result ↔ CanBuild self.now }
     {
@@ -126,9 +126,9 @@ impl TypeSetBuilder {
             && self.dynamic_simd_lanes.is_within(&VECTOR_LANES)
     }
 
-    /// The set that the parts span. Ints, floats and dynamic lanes are none for `Interval::None`, all for `Interval::All`,
-    /// and the powers of two from end to end for a range; so are lanes, but that `Interval::None` means one lane.
-    /// `can_build` tells whether it may be called. Memory never runs out here.
+    /// Builds the type set of these parts. For integers, floats and dynamic lanes `Interval::None` gives no number, `Interval::All` gives
+    /// all that the part can have, and a range gives the powers of two from end to end. For lanes it is the same, except that
+    /// `Interval::None` gives one lane. `can_build` tests whether it can be called. Memory never runs out here.
     pub fn build(self, _alloc: Global) -> Result<TypeSet, AllocError>
         requires { CanBuild self }
         ensures { IsOkAnd result (λ s. s ≡ sets_between self) }
@@ -141,7 +141,7 @@ impl TypeSetBuilder {
         }))
     }
 
-    /// All lane counts that `simd_lanes` may have.
+    /// All lane counts that `simd_lanes` can have.
     fn all_simd_lanes(&self) -> &[u16]
         ensures { result.now ≡ simd_counts self.now.includes_scalars }
     {

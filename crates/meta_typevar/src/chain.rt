@@ -6,7 +6,7 @@ use meta_types::DerivedFunc;
 use std::alloc::{AllocError, Global};
 use std::marker::Model;
 
-/// The derived functions from a root to a variable, from the root outwards.
+/// A chain: the derived functions that lead from a root to a variable, in order from the root.
 #[derive(Drop)]
 pub(crate) struct Chain {
     functions: Vec<DerivedFunc>,
@@ -23,7 +23,7 @@ impl Model for Chain {
 }
 
 impl Chain {
-    /// The chain of a root.
+    /// The chain of a root, which is empty.
     pub(crate) fn new(alloc: Global) -> Chain
         ensures { result ≡ [] }
     {
@@ -32,14 +32,13 @@ impl Chain {
         }
     }
 
-    /// The functions in order.
     pub(crate) fn as_slice(&self) -> &[DerivedFunc]
         ensures { functions_of result.now ≡ self.now }
     {
         self.functions.as_slice()
     }
 
-    /// A chain of its own with one function more at the end.
+    /// A copy of the chain, with one function more at the end.
     pub(crate) fn with(&self, alloc: Global, derived_func: DerivedFunc) -> Result<Chain, AllocError>
         ensures { IfOk result (λ c. c ≡ self.now ++ function_of derived_func ∷ []) }
     {

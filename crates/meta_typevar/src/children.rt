@@ -4,7 +4,7 @@ ghost use Rattle.meta_typevar.specs.Children.{child_of, no_children};
 
 use meta_types::DerivedFunc;
 
-/// The numbers of the variables that are derived from one, by their functions.
+/// The numbers of the variables that are derived from one variable, by their functions.
 #[derive(Drop)]
 pub(crate) struct Children {
     lane_of: Option<u32>,
@@ -19,7 +19,6 @@ pub(crate) struct Children {
 }
 
 impl Children {
-    /// None.
     pub(crate) fn new() -> Children
         ensures { result ≡ no_children }
     {
@@ -53,7 +52,7 @@ impl Children {
         }
     }
 
-    /// Notes the number of the variable that is derived by the function.
+    /// Sets the number of the variable that is derived by the function.
     pub(crate) fn set(&mut self, derived_func: DerivedFunc, number: u32)
         ensures this { child_of self.new derived_func ≡ Some number }
         ensures others { (f : DerivedFunc) → f ≢ derived_func → child_of self.new f ≡ child_of self.old f }

@@ -7,7 +7,7 @@ use super::typevar::TypeVar;
 use meta_types::{DerivedFunc, Text};
 use std::alloc::{AllocError, Global};
 
-/// What a derived variable is derived from (`cdsl/typevar.rs`).
+/// What a derived type variable is derived from, as in the crate's `cdsl/typevar.rs`.
 #[derive(Clone, Copy, Debug, PartialEq, Eq, Hash)]
 pub struct TypeVarParent {
     /// The variable from which it is derived.
@@ -16,31 +16,30 @@ pub struct TypeVarParent {
     pub derived_func: DerivedFunc,
 }
 
-/// What is kept of a type variable (`cdsl/typevar.rs`).
+/// What a registry keeps of a type variable, as in the crate's `cdsl/typevar.rs`.
 #[derive(Drop)]
 pub struct TypeVarContent {
-    /// Its short name, which descriptions of instructions use: `Int`, `lane_of(Int)`.
+    /// The short name, which descriptions of instructions use, such as `Int` or `lane_of(Int)`.
     pub name: Text,
-    /// Its documentation, which is empty for a derived variable.
+    /// The documentation, which is empty for a derived variable.
     pub doc: Text,
-    /// Its parent, and none for a root.
+    /// What the variable is derived from. `None` for a root.
     pub base: Option<TypeVarParent>,
-    // The set of a root, and of a derived variable the coded image of its parent.
+    // The type set of a root; of a derived variable, the coded image of its parent.
     pub(crate) type_set: TypeSet,
-    // The root's number, and the chain from there.
+    // The number of the root, and the chain from there.
     pub(crate) root: TypeVar,
     pub(crate) chain: Chain,
 }
 
 impl TypeVarContent {
-    /// Whether it has no parent.
     pub(crate) fn is_root(&self) -> bool
         ensures { result ≡ is_root self.now }
     {
         self.base.is_none()
     }
 
-    /// The coded image of the variable: the set of a root, and else the image of the parent's under the last function.
+    /// The coded image of the variable: the type set of a root, and else the image of the parent's under the last function.
     pub(crate) fn coded(&self, alloc: Global) -> Result<TypeSet, AllocError>
         ensures { IsOkAnd result (λ s. s ≡ coded_set self.now) }
     {

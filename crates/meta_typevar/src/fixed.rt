@@ -9,13 +9,13 @@ ghost use Rattle.meta_typevar.specs.Reaching.{Reaches};
 use super::type_set::TypeSet;
 use meta_types::{DerivedFunc, ValueType};
 
-/// The numbers of types run from the first to below the last.
+/// The numbers of types run from the first up to, but not including, the last.
 const FIRST_NUMBER: u16 = 0x74;
 
 const END_OF_NUMBERS: u16 = 0x17d;
 
-/// The type that the chain fixes, whatever member of the set its root has; `None` exactly where there is no such type. Members are
-/// looked at up to the first that the chain takes to another type than the one before.
+/// The type to which the chain leads from each member of the set. `None` exactly if there is no one such type. Members are looked at up to
+/// the first from which the chain leads elsewhere.
 pub(crate) fn fixed_along(set: &TypeSet, chain: &[DerivedFunc]) -> Option<ValueType>
     ensures found { IfSome result (λ t. IsFixed set.now (functions_of chain.now) (type_parts_of t)) }
     ensures none { IfNone result (IsFixedNowhere set.now (functions_of chain.now)) }
@@ -34,7 +34,7 @@ pub(crate) fn fixed_along(set: &TypeSet, chain: &[DerivedFunc]) -> Option<ValueT
     Some(t)
 }
 
-/// The only member, where there is exactly one.
+/// The only member, if there is exactly one.
 fn only_member(set: &TypeSet) -> Option<ValueType>
     ensures found { IfSome result (λ t. IsFixed set.now [] (type_parts_of t)) }
     ensures none { IfNone result (IsFixedNowhere set.now []) }
@@ -59,7 +59,7 @@ fn first_member(set: &TypeSet) -> Option<ValueType>
     None
 }
 
-/// Whether the functions lead from each member with this number or a greater one to the type.
+/// Whether the functions lead to the type from each member whose number is at least `from`.
 fn all_reach(set: &TypeSet, chain: &[DerivedFunc], from: u16, t: ValueType) -> bool
     ensures { IsTrue result ↔ ((r : TypeParts) → IsMember set.now r → from ≤ number_of r
         → Reaches (functions_of chain.now) r (type_parts_of t)) }
@@ -72,7 +72,7 @@ fn all_reach(set: &TypeSet, chain: &[DerivedFunc], from: u16, t: ValueType) -> b
     true
 }
 
-/// Whether the functions lead from the member with the number, if there is one, to the type.
+/// Whether the functions lead to the type from the member with the number, if there is one.
 fn member_reaches(set: &TypeSet, chain: &[DerivedFunc], number: u16, t: ValueType) -> bool
     ensures { IsTrue result ↔ ((r : TypeParts) → IsMember set.now r → number_of r ≡ number
         → Reaches (functions_of chain.now) r (type_parts_of t)) }
@@ -93,7 +93,7 @@ fn reaches(chain: &[DerivedFunc], r: ValueType, t: ValueType) -> bool
     }
 }
 
-/// The type to which the functions lead, from the root outwards, if none of them is a relation and each gives a type.
+/// The type to which the functions lead, in order from the root, if none of them is a relation and each gives a type.
 fn reached(chain: &[DerivedFunc], r: ValueType) -> Option<ValueType>
     ensures found { IfSome result (λ t. Reaches (functions_of chain.now) (type_parts_of r) (type_parts_of t)) }
     ensures none { IfNone result ((t : TypeParts) → Reaches (functions_of chain.now) (type_parts_of r) t → ⊥) }

@@ -3,21 +3,21 @@ ghost use Rattle.meta_typevar.specs.Intervals.{has, IsWithin};
 
 use std::ops::Range;
 
-/// Which numbers of a part of a type set are meant (`cdsl/typevar.rs`).
+/// Which numbers a part of a type set has, as in the crate's `cdsl/typevar.rs`.
 #[derive(Debug, Drop, PartialEq, Eq)]
 pub enum Interval {
-    /// None.
+    /// No number.
     None,
-    /// Each that the part may have.
+    /// All numbers that the part can have.
     All,
-    /// The powers of two from `start` to `end`, both of them included.
+    /// The powers of two from `start` to `end`, including both.
     Range(Range<u16>),
 }
 
-/// A part of a type set builder (this project's own).
+/// A part of a type set builder.
 #[derive(Clone, Copy, Debug, PartialEq, Eq)]
 pub enum Part {
-    /// The int widths.
+    /// The integer widths.
     Ints,
     /// The float widths.
     Floats,
@@ -39,7 +39,7 @@ impl From<Range<u16>> for Interval {
 }
 
 impl Interval {
-    /// Whether the number is meant.
+    /// Whether the interval has the number.
     pub(crate) fn has(&self, n: u16) -> bool
         ensures { result ≡ has self.now n }
     {
@@ -50,7 +50,7 @@ impl Interval {
         }
     }
 
-    /// Whether, if it is a range, both ends are among the numbers, and the low one is at most the high one.
+    /// Whether a range has both ends among these numbers, and its low end is at most its high end.
     pub(crate) fn is_within(&self, all: &[u16]) -> bool
         ensures { IsTrue result ↔ IsWithin all.now self.now }
     {
@@ -62,7 +62,7 @@ impl Interval {
         }
     }
 
-    /// The mask of those of the numbers, which are powers of two, that are meant.
+    /// The mask of those of these numbers, which are powers of two, that the interval has.
     pub(crate) fn to_mask(&self, all: &[u16]) -> u16
         requires { sum all.now < 2 ^ 16 }
         ensures { result ≡ sum (filter (has self.now) all.now) }

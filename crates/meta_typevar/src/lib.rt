@@ -1,7 +1,7 @@
-//! Sets of types and type variables.
+//! Type sets and type variables.
 //!
-//! A contract sees a set of types as the four sets of numbers that span it, and a registry as the list of what is kept of
-//! each variable.
+//! A contract sees a type set as four sets of numbers: lane counts, dynamic lane counts, integer widths and float widths. It sees a
+//! registry as the list of what is kept of each variable.
 #![tactic(auto)]
 
 mod builder;

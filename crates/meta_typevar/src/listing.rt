@@ -13,8 +13,8 @@ use meta_types::{LaneType, ValueType};
 use std::alloc::{AllocError, Global};
 
 impl Masks {
-    /// The types that the masks contain: for each lane count rising, ints in rising width and then floats; after that the
-    /// same for the dynamic lane counts.
+    /// The types that the masks contain. For each lane count in rising order come the integers and then the floats, each in rising width.
+    /// Then come the dynamic vectors in the same way.
     pub(crate) fn concrete_types(self, alloc: Global) -> Result<Vec<ValueType>, AllocError>
         ensures { IfOk result (λ v. map type_parts_of v.items ≡ types_in (sets_in self)) }
     {
@@ -31,7 +31,7 @@ impl Masks {
         Ok(types)
     }
 
-    /// The lane types whose widths the masks hold: ints in rising width, then floats.
+    /// The lane types whose widths the masks hold: integers, then floats, each in rising width.
     fn lane_types(self, alloc: Global) -> Result<Vec<LaneType>, AllocError>
         ensures { IfOk result (λ v. map lane_parts v.items ≡ map (scalar IntKind) (sets_in self).ints
             ++ map (scalar FloatKind) (sets_in self).floats) }
@@ -48,7 +48,6 @@ impl Masks {
         Ok(lane_types)
     }
 
-    /// The lane counts of scalars and fixed vectors.
     pub(crate) fn lane_numbers(self) -> Numbers
         ensures { result ≡ (sets_in self).lanes }
     {
@@ -62,7 +61,7 @@ impl Masks {
         Numbers::new(self.dynamic_lanes, &VECTOR_LANES)
     }
 
-    /// The int widths.
+    /// The integer widths.
     pub(crate) fn int_numbers(self) -> Numbers
         ensures { result ≡ (sets_in self).ints }
     {
@@ -77,7 +76,7 @@ impl Masks {
     }
 }
 
-/// Adds the types of so many lanes of each of these types.
+/// Adds the types with this lane count of each of these lanes.
 fn push_fixed(
     types: &mut Vec<ValueType>,
     lane_types: &[LaneType],
@@ -93,7 +92,7 @@ fn push_fixed(
     Ok(())
 }
 
-/// Adds the dynamic vectors of at least so many lanes of each of these types.
+/// Adds the dynamic vectors with this least lane count of each of these lanes.
 fn push_dynamic(
     types: &mut Vec<ValueType>,
     lane_types: &[LaneType],

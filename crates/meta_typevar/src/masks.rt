@@ -11,20 +11,20 @@ ghost use Rattle.meta_types.specs.Function.{LaneOf, AsTruthy, HalfWidth, DoubleW
 use super::builder::{FLOAT_WIDTHS, INT_WIDTHS, SIMD_LANES, VECTOR_LANES};
 use meta_types::DerivedFunc;
 
-/// A set of types as four masks. Bit `k` of a mask stands for the power of two `2^k`: a lane count or a width in bits.
+/// A type set as four masks. Bit `k` of a mask stands for `2^k`, which is a lane count or a width in bits.
 #[derive(Clone, Copy, Debug, PartialEq, Eq, Hash)]
 pub struct Masks {
     /// The lane counts of scalars and fixed vectors, 1 to 256: at most 511.
     pub lanes: u16,
     /// The least lane counts of dynamic vectors, 2 to 256: at most 510.
     pub dynamic_lanes: u16,
-    /// The int widths, 8 to 128: at most 248.
+    /// The integer widths, 8 to 128: at most 248.
     pub ints: u8,
     /// The float widths, 16 to 128: at most 240.
     pub floats: u8,
 }
 
-/// The sum of those of the numbers, which are powers of two, that the mask holds.
+/// The sum of those of these numbers, which are powers of two, that the mask holds.
 fn held(mask: u16, all: &[u16]) -> u16
     requires { sum all.now < 2 ^ 16 }
     ensures { result ≡ sum (filter (mask_holds mask) all.now) }
@@ -36,7 +36,7 @@ fn held(mask: u16, all: &[u16]) -> u16
 const LANE_BASE: u16 = 0x70;
 
 impl Masks {
-    /// Whether `n` is the number of a type whose width and lane count the masks hold (this project's own).
+    /// Whether the masks hold the width and the lane count of the type with the number `n`. It is false if no type has this number.
     pub fn contains(&self, n: u16) -> bool
         ensures { IsTrue result ↔ ContainsNumber self.now n }
     {
@@ -47,7 +47,7 @@ impl Masks {
         self.holds_lane(place % 16) && self.holds_lanes(place / 16)
     }
 
-    /// Whether the masks are those of a set of types: each is the sum of some widths, or lane counts, that types have.
+    /// Whether the masks are those of a type set: each is the sum of some of the widths, or lane counts, that types have.
     pub(crate) fn are_of_types(&self) -> bool
         ensures { IsTrue result ↔ AreMasks self.now }
     {
@@ -57,7 +57,7 @@ impl Masks {
             && held(self.floats as u16, &FLOAT_WIDTHS) == self.floats as u16
     }
 
-    /// Whether the masks hold the width of the lane with this code: `i8` is 4 and `f16` is 9.
+    /// Whether the masks hold the width of the lane with this code. For example `i8` is 4 and `f16` is 9.
     fn holds_lane(&self, code: u16) -> bool
         ensures { IsTrue result ↔ HoldsLane self.now code }
     {
@@ -68,7 +68,7 @@ impl Masks {
         }
     }
 
-    /// Whether the masks hold the lane count of this row of numbers: 0 to 8 are scalars and fixed vectors, 9 to 16 dynamic
+    /// Whether the masks hold the lane count of this row of type numbers. Rows 0 to 8 are scalars and fixed vectors, rows 9 to 16 dynamic
     /// vectors.
     fn holds_lanes(&self, row: u16) -> bool
         ensures { IsTrue result ↔ HoldsLanes self.now row }
@@ -81,7 +81,7 @@ impl Masks {
     }
 }
 
-/// All int widths, and all float widths.
+/// All integer widths, and all float widths.
 const ALL_INTS: u8 = 248;
 
 const ALL_FLOATS: u8 = 240;
@@ -92,7 +92,7 @@ const ALL_LANES: u16 = 511;
 const LANES_BELOW_256: u16 = 255;
 
 impl Masks {
-    /// The coded image under a derived function. The relations leave the masks as they are.
+    /// The coded image under a derived function. A relation leaves the masks as they are.
     pub(crate) fn image(self, derived_func: DerivedFunc) -> Masks
         requires { AreMasks self }
         ensures { IsMaskImage (function_of derived_func) self result }
@@ -109,7 +109,7 @@ impl Masks {
         }
     }
 
-    /// Whether a variable with this coded set may be derived from by the function.
+    /// Whether a variable with this coded set can be derived from by the function.
     pub(crate) fn can_derive(self, derived_func: DerivedFunc) -> bool
         requires { AreMasks self }
         ensures { result ≡ can_derive (function_of derived_func) (sets_in self) }
@@ -124,7 +124,7 @@ impl Masks {
         }
     }
 
-    /// One lane in place of the lanes.
+    /// The masks with one lane in place of the lanes.
     fn lane_of(self) -> Masks
         requires { AreMasks self }
         ensures { IsMaskImage LaneOf self result }
@@ -132,7 +132,7 @@ impl Masks {
         Masks { lanes: 1, ..self }
     }
 
-    /// Integers of 8 bits where there are scalars alone, and else integers of all the widths.
+    /// The masks with integers alone: of 8 bits if there are only scalars, and else of all the widths.
     fn as_truthy(self) -> Masks
         requires { AreMasks self }
         ensures { IsMaskImage AsTruthy self result }
@@ -149,7 +149,7 @@ impl Masks {
         }
     }
 
-    /// Half the widths, where they can be halved.
+    /// Half the widths that can be halved.
     fn half_width(self) -> Masks
         requires { AreMasks self }
         ensures { IsMaskImage HalfWidth self result }
@@ -161,7 +161,7 @@ impl Masks {
         }
     }
 
-    /// Twice the widths, where they can be doubled.
+    /// Twice the widths that can be doubled.
     fn double_width(self) -> Masks
         requires { AreMasks self }
         ensures { IsMaskImage DoubleWidth self result }
@@ -173,7 +173,7 @@ impl Masks {
         }
     }
 
-    /// Half the widths and twice the lanes, where they can be halved and doubled.
+    /// Half the widths and twice the lane counts, of those that can be halved and doubled.
     fn split_lanes(self) -> Masks
         requires { AreMasks self }
         ensures { IsMaskImage SplitLanes self result }
@@ -184,7 +184,7 @@ impl Masks {
         }
     }
 
-    /// Twice the widths and half the lanes, where they can be doubled and halved.
+    /// Twice the widths and half the lane counts, of those that can be doubled and halved.
     fn merge_lanes(self) -> Masks
         requires { AreMasks self }
         ensures { IsMaskImage MergeLanes self result }
@@ -195,7 +195,7 @@ impl Masks {
         }
     }
 
-    /// The dynamic lanes below 256 as lanes, and no dynamic lanes.
+    /// The dynamic lane counts below 256 as lane counts, and no dynamic ones.
     fn dynamic_to_vector(self) -> Masks
         requires { AreMasks self }
         ensures { IsMaskImage DynamicToVector self result }
@@ -207,7 +207,7 @@ impl Masks {
         }
     }
 
-    /// Whether each width is above the least one of its kind.
+    /// Whether each width is above the least width of its kind.
     fn can_halve(self) -> bool
         requires { AreMasks self }
         ensures { result ≡ can_halve (sets_in self) }
@@ -239,7 +239,7 @@ impl Masks {
         self.lanes != 0 && self.lanes & 1 == 0
     }
 
-    /// Whether there are scalars alone, of some width.
+    /// Whether there are only scalars, of some width.
     fn has_scalars_alone(self) -> bool
         requires { AreMasks self }
         ensures { result ≡ has_scalars_alone (sets_in self) }

@@ -8,7 +8,7 @@ use std::alloc::{AllocError, Global};
 use std::fmt;
 use std::marker::Model;
 
-/// One of the four sets of numbers of a type set: those that its mask holds, of all that it may have.
+/// One of the four sets of numbers of a type set: those that a mask holds, of all that the part can have.
 #[derive(Drop)]
 pub(crate) struct Numbers {
     mask: u16,
@@ -27,7 +27,6 @@ impl Model for Numbers {
 }
 
 impl Numbers {
-    /// Those of all that the mask holds.
     pub(crate) fn new(mask: u16, all: &'static [u16]) -> Numbers
         ensures { result ≡ filter (holds mask) all.now }
     {
@@ -79,7 +78,7 @@ impl fmt::Display for Numbers {
     }
 }
 
-/// Writes a number, with a comma before it where it follows another.
+/// Writes a number, after a comma if it follows another.
 fn write_number<W: fmt::Write>(f: &mut fmt::Formatter<W>, n: u16, follows: bool) -> fmt::Result
     ensures { DisplaysOnOk W.write_str_gives f.old result (Some ((if follows then codes ", " else []) ++ decimal n)) f.new }
 {
@@ -89,8 +88,7 @@ fn write_number<W: fmt::Write>(f: &mut fmt::Formatter<W>, n: u16, follows: bool)
     write!(f, "{n}")
 }
 
-/// A part of a type set as its text shows it, as `ints={8, 16}`, with a comma before it where it follows another part.
-/// Nothing is shown of a part without a number.
+/// The text of a part of a type set, such as `ints={8, 16}`, after a comma if it follows another part. A part without a number has no text.
 #[derive(Drop)]
 pub(crate) struct PartText {
     pub(crate) name: &'static str,

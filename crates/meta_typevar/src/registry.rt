@@ -14,7 +14,7 @@ use meta_types::{DerivedFunc, Text};
 use std::alloc::{AllocError, Global};
 use std::marker::Model;
 
-/// A registry of type variables, which are numbered from 0 in the order in which they were added (this project's own).
+/// A registry of type variables. Variables are numbered from 0, in the order in which they were added.
 #[derive(Drop)]
 pub struct TypeVars {
     contents: Vec<TypeVarContent>,
@@ -37,7 +37,7 @@ impl Model for TypeVars {
 }
 
 impl TypeVars {
-    /// A registry without a variable.
+    /// Makes a registry without variables.
     pub fn new(alloc: Global) -> TypeVars
         ensures { result ≡ [] }
     {
@@ -47,7 +47,7 @@ impl TypeVars {
         }
     }
 
-    /// How many variables there are: below 2^32.
+    /// How many variables there are, below 2^32.
     pub fn len(&self) -> usize
         ensures count { result ≡ length self.now }
         ensures registry { IsRegistry self.now }
@@ -55,28 +55,28 @@ impl TypeVars {
         self.contents.len()
     }
 
-    /// How many of them have no parent (this project's own).
+    /// How many variables are roots.
     pub fn root_count(&self) -> usize
         ensures { result ≡ length (filter is_root self.now) }
     {
         self.contents.iter().filter(|c| c.is_root()).count()
     }
 
-    /// Whether one more fits: there are less than 2^32 - 1 (this project's own).
+    /// Whether a variable can be added: there are fewer than 2^32 - 1.
     pub fn has_room(&self) -> bool
         ensures { IsTrue result ↔ (length self.now < 2 ^ 32 - 1) }
     {
         self.contents.len() < u32::MAX as usize
     }
 
-    /// Whether the variable is of this registry: its number is below `len` (this project's own).
+    /// Whether the variable is of this registry: its number is below `len`.
     pub fn is_of(&self, tv: TypeVar) -> bool
         ensures { IsTrue result ↔ (tv < length self.now) }
     {
         tv.index() < self.contents.len()
     }
 
-    /// What is kept of a variable of this registry.
+    /// What the registry keeps of a variable, which must be of this registry.
     pub fn content(&self, tv: TypeVar) -> &TypeVarContent
         requires { tv < length self.now }
         ensures kept { slice_get self.now tv ≡ Some result.now }
@@ -85,12 +85,12 @@ impl TypeVars {
         &self.contents[tv.index()]
     }
 
-    /// Where the registry's memory comes from.
+    /// The allocator of the registry.
     pub(crate) fn allocator(&self) -> Global {
         *self.contents.allocator()
     }
 
-    /// The variable that is derived from one of this registry by the function, if it is there.
+    /// The variable that is derived from `tv`, of this registry, by the function, if there is one.
     pub(crate) fn find(&self, tv: TypeVar, derived_func: DerivedFunc) -> Option<TypeVar>
         requires { tv < length self.now }
         ensures registry { IsRegistry self.now }
@@ -103,7 +103,7 @@ impl TypeVars {
         }
     }
 
-    /// Adds a root where there is room. After an error the registry is as it was.
+    /// Adds a root. There must be room. After an error the registry is as it was.
     pub(crate) fn add_root(
         &mut self,
         name: Text,
@@ -115,7 +115,7 @@ impl TypeVars {
         ensures added { OnOk result (self.new ≡ self.old ++ root_content name doc type_set (length self.old) ∷ []) }
         ensures err { OnErr result (self.new ≡ self.old) }
     {
-        // Its clause says that the set is one of types, which the registry keeps.
+        // The clause of this call says that the set is one of types, which the registry keeps.
         let _masks = type_set.masks();
         let chain = Chain::new(self.allocator());
         let tv = TypeVar::of(self.contents.len() as u32);
@@ -131,8 +131,7 @@ impl TypeVars {
         Ok(tv)
     }
 
-    /// What is to be kept of the variable that is derived from one of this registry by the function. The type set is its coded
-    /// image.
+    /// What to keep of the variable that is derived from `tv`, of this registry, by the function. Its type set is its coded image.
     pub(crate) fn derive(
         &self,
         parent: TypeVar,
@@ -158,8 +157,8 @@ impl TypeVars {
         })
     }
 
-    /// Adds what is derived from a variable of this registry by a function, which wasn't there, where there is room. After an
-    /// error the registry is as it was.
+    /// Adds the variable that is derived from `tv` by a function, which must not be there yet. There must be room. After an error the
+    /// registry is as it was.
     pub(crate) fn add_derived(
         &mut self,
         parent: TypeVar,
@@ -173,7 +172,7 @@ impl TypeVars {
         ensures added { OnOk result (self.new ≡ self.old ++ content ∷ []) }
         ensures err { OnErr result (self.new ≡ self.old) }
     {
-        // Its clause says that the set is one of types, which the registry keeps.
+        // The clause of this call says that the set is one of types, which the registry keeps.
         let _masks = content.type_set.masks();
         let tv = TypeVar::of(self.contents.len() as u32);
         push_both(&mut self.contents, &mut self.children, content)?;
@@ -203,7 +202,7 @@ fn push_both(
     }
 }
 
-/// The name of what is derived by the function from a variable of this name: `lane_of(X)`.
+/// The name of the variable that is derived by the function from one with this name, such as `lane_of(X)`.
 fn derived_name(alloc: Global, derived_func: DerivedFunc, parent: &Text) -> Result<Text, AllocError>
     ensures { IfOk result (λ t. t ≡ derived_name (function_of derived_func) parent.now) }
 {

@@ -19,8 +19,8 @@ use std::alloc::{AllocError, Global};
 use std::fmt;
 use std::marker::Model;
 
-/// A set of types: those whose width is one of the widths of their kind, and whose lane count is one of the lane counts
-/// (`cdsl/typevar.rs`, which holds four ordered sets where this holds four masks).
+/// A type set: the types whose width is one of the widths of their kind, and whose lane count is one of the lane counts. In the crate's
+/// `cdsl/typevar.rs` it holds four ordered sets, and here four masks.
 #[derive(Drop, PartialEq, Eq, Hash)]
 pub struct TypeSet {
     masks: Masks,
@@ -59,7 +59,7 @@ impl Model for TypeSet {
 }
 
 impl TypeSet {
-    /// The set that the masks stand for.
+    /// The type set of these masks.
     pub(crate) fn from_masks(masks: Masks) -> TypeSet
         requires { AreMasks masks }
         ensures { result ≡ sets_in masks }
@@ -67,8 +67,7 @@ impl TypeSet {
         TypeSet { masks }
     }
 
-    /// The set that the masks stand for; there is none exactly where a mask isn't the sum of some widths, or lane counts, that types have
-    /// (this project's own).
+    /// The type set of these masks. `None` exactly if a mask isn't the sum of some of the widths, or lane counts, that types have.
     pub fn of(masks: Masks) -> Option<TypeSet>
         ensures found { IfSome result (λ s. AreMasksOf s masks) }
         ensures sets { IfSome result (λ s. IsTypeSet s) }
@@ -80,7 +79,7 @@ impl TypeSet {
         Some(TypeSet::from_masks(masks))
     }
 
-    /// How many types are members.
+    /// How many types the set has.
     pub fn size(&self) -> usize
         ensures count { result ≡ length (types_in self.now) }
         ensures one { (result ≡ 1) ↔ HasOne self.now }
@@ -90,14 +89,14 @@ impl TypeSet {
         lanes as usize * widths as usize
     }
 
-    /// Whether the type is a member (this project's own).
+    /// Whether the set has the type.
     pub fn contains(&self, t: ValueType) -> bool
         ensures { IsTrue result ↔ IsMember self.now (type_parts_of t) }
     {
         self.masks.contains(t.number())
     }
 
-    /// The member with the number, where there is one.
+    /// The type of the set with the number, if there is one.
     pub(crate) fn member(&self, number: u16) -> Option<ValueType>
         ensures found { IfSome result (λ r. IsMember self.now (type_parts_of r) × (number_of (type_parts_of r) ≡ number)) }
         ensures none { IfNone result ((r : TypeParts) → IsMember self.now r → number_of r ≡ number → ⊥) }
@@ -108,8 +107,8 @@ impl TypeSet {
         ValueType::from_number(number)
     }
 
-    /// The members: for each lane count rising, the ints in rising width and then the floats; after that the same for the
-    /// dynamic lane counts.
+    /// The types of the set. For each lane count in rising order come the integers and then the floats, each in rising width. Then come the
+    /// dynamic vectors in the same way.
     pub fn concrete_types(&self, alloc: Global) -> Result<Vec<ValueType>, AllocError>
         ensures listed { IfOk result (λ v. map type_parts_of v.items ≡ types_in self.now) }
         ensures members { (t : TypeParts) → (Contains (types_in self.now) t ↔ IsMember self.now t) }
@@ -119,7 +118,7 @@ impl TypeSet {
         self.masks.concrete_types(alloc)
     }
 
-    /// The set as four masks, each the sum of the members of one of the four sets (this project's own).
+    /// The set as four masks.
     pub fn masks(&self) -> Masks
         ensures sums { AreMasksOf self.now result }
         ensures sets { IsTypeSet self.now }
@@ -127,29 +126,30 @@ impl TypeSet {
         self.masks
     }
 
-    /// An equal set of its own. Memory never runs out here (this project's own).
+    /// Makes a copy of the set. Memory never runs out here.
     pub fn copy(&self, _alloc: Global) -> Result<TypeSet, AllocError>
         ensures { IsOkAnd result (λ s. s ≡ self.now) }
     {
         Ok(TypeSet { masks: self.masks })
     }
 
-    /// The coded image of the set under a derived function. Memory never runs out here.
+    /// The coded image of the set under a derived function: what the code of the crate computes for the set of a derived variable. Memory
+    /// never runs out here.
     pub fn image(&self, _alloc: Global, derived_func: DerivedFunc) -> Result<TypeSet, AllocError>
         ensures { IsOkAnd result (λ s. s ≡ image_of (function_of derived_func) self.now) }
     {
         Ok(TypeSet::from_masks(self.masks.image(derived_func)))
     }
 
-    /// Whether a variable with this coded set may be derived from by the function.
+    /// Whether a variable with this coded set can be derived from by the function.
     pub(crate) fn can_derive(&self, derived_func: DerivedFunc) -> bool
         ensures { result ≡ can_derive (function_of derived_func) self.now }
     {
         self.masks.can_derive(derived_func)
     }
 
-    /// The set of a variable that stands for the type: the type alone, or, where it has more than one lane, the fixed and the
-    /// dynamic vector of these lanes.
+    /// The set of a variable that stands for the type: the type alone; or, if it has several lanes, the fixed and the dynamic vector with
+    /// this lane count.
     pub(crate) fn singleton(value_type: ValueType) -> TypeSet
         ensures { result ≡ singleton_sets (type_parts_of value_type) }
     {
@@ -163,7 +163,7 @@ impl TypeSet {
         })
     }
 
-    /// The only member, where there is exactly one.
+    /// The only type of the set, if there is exactly one.
     pub(crate) fn only_type(&self) -> Option<ValueType>
         ensures found { IfSome result (λ t. IsOnlyMember self.now (type_parts_of t)) }
         ensures none { IfNone result (¬ HasOne self.now) }
@@ -184,7 +184,7 @@ fn lane_of(value_type: ValueType) -> LaneType
     }
 }
 
-/// How many lanes there are, or at least are.
+/// The lane count, or the least lane count of a dynamic vector.
 fn least_lanes(value_type: ValueType) -> u64
     ensures lanes { result ≡ (type_parts_of value_type).lanes }
     ensures few { result ≤ 256 }
@@ -196,14 +196,14 @@ fn least_lanes(value_type: ValueType) -> u64
     }
 }
 
-/// The lane count as a mask of dynamic lanes, which has none for one lane.
+/// The lane count as a mask of dynamic lanes. For one lane the mask is empty.
 fn dynamic_mask(lanes: u16) -> u16
     ensures { result ≡ sum (vector_lanes lanes) }
 {
     if lanes == 1 { 0 } else { lanes }
 }
 
-/// The width of an integer lane as a mask.
+/// The width of an integer lane as a mask. It is empty for a float.
 fn int_mask(lane: LaneType) -> u8
     ensures { result ≡ sum (int_width_of (lane_parts lane).kind (lane_parts lane).width) }
 {
@@ -213,7 +213,7 @@ fn int_mask(lane: LaneType) -> u8
     }
 }
 
-/// The width of a floating-point lane as a mask.
+/// The width of a floating-point lane as a mask. It is empty for an integer.
 fn float_mask(lane: LaneType) -> u8
     ensures { result ≡ sum (float_width_of (lane_parts lane).kind (lane_parts lane).width) }
 {

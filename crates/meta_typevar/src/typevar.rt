@@ -21,8 +21,7 @@ use meta_types::{DerivedFunc, Text, ValueType};
 use std::alloc::{AllocError, Global};
 use std::marker::Model;
 
-/// A type variable, as its number in a registry (`cdsl/typevar.rs`, where it is a pointer). Variables are ordered by their
-/// numbers (this project's own).
+/// A type variable, by its number in a registry. Variables are ordered by their numbers. In the crate's `cdsl/typevar.rs` it is a pointer.
 #[derive(Clone, Copy, Debug, PartialEq, Eq, Hash, PartialOrd, Ord)]
 pub struct TypeVar {
     number: u32,
@@ -49,8 +48,8 @@ impl From<&TypeVar> for TypeVar {
 }
 
 impl TypeVar {
-    /// Adds a fresh root with this name, documentation and type set to a registry that has room. After an error the registry
-    /// is as it was.
+    /// Adds a new root with this name, documentation and type set to the registry, which must have room. After an error the registry is as
+    /// it was.
     pub fn new(
         vars: &mut TypeVars,
         name: Text,
@@ -65,9 +64,9 @@ impl TypeVar {
         vars.add_root(name, doc, type_set)
     }
 
-    /// Adds a fresh root that stands for a type to a registry that has room: it has the type's name and documentation, and
-    /// its set has the type alone, or, where it has more than one lane, the fixed and the dynamic vector of these lanes. After
-    /// an error the registry is as it was.
+    /// Adds a new root that stands for a type to the registry, which must have room. It has the type's name and documentation. Its set has
+    /// the type alone; or, if the type has several lanes, the fixed and the dynamic vector with this lane count. After an error the
+    /// registry is as it was.
     pub fn new_singleton(vars: &mut TypeVars, value_type: ValueType) -> Result<TypeVar, AllocError>
         requires { length vars.old < 2 ^ 32 - 1 }
         ensures number { IfOk result (λ v. v ≡ length vars.old) }
@@ -82,8 +81,8 @@ impl TypeVar {
         vars.add_root(name, doc, TypeSet::singleton(value_type))
     }
 
-    /// Adds a fresh root with this name, no documentation, and the type set of a root of this registry, which has room. After
-    /// an error the registry is as it was.
+    /// Adds a new root with this name, no documentation, and the type set of another root to the registry, which must have room. After an
+    /// error the registry is as it was.
     pub fn copy_from(vars: &mut TypeVars, other: TypeVar, name: Text) -> Result<TypeVar, AllocError>
         requires room { length vars.old < 2 ^ 32 - 1 }
         requires of { other < length vars.old }
@@ -98,8 +97,8 @@ impl TypeVar {
         vars.add_root(name, doc, type_set)
     }
 
-    /// The variable that is derived from this one by a function. It is added to the registry, which has room, exactly where it
-    /// isn't there. `can_derive` tells whether it may be called. After an error the registry is as it was.
+    /// The type variable that is derived from this one by a function. It is added if the registry doesn't have it; there must be room.
+    /// `can_derive` tests whether the function is allowed. After an error the registry is as it was.
     pub fn derived(
         self,
         vars: &mut TypeVars,
@@ -216,8 +215,8 @@ impl TypeVar {
         self.derived(vars, DerivedFunc::Wider)
     }
 
-    /// Whether the coded image of the variable, of this registry, allows the function: each width that is halved is above the
-    /// least, each that is doubled below 128, and so on. Memory never runs out here (this project's own; the crate asserts it).
+    /// Whether the function can be applied to the coded image of the variable, which must be of this registry. For example, each width that
+    /// is halved must be above the least one, and each that is doubled below 128. Memory never runs out here. The crate asserts this.
     pub fn can_derive(
         self,
         alloc: Global,
@@ -230,7 +229,8 @@ impl TypeVar {
         Ok(self.get_typeset(alloc, vars)?.can_derive(derived_func))
     }
 
-    /// The coded image of the variable, of this registry: that of its root's set along its chain. Memory never runs out here.
+    /// The coded image of the variable, which must be of this registry: what the chain makes of the root's type set. Memory never runs out
+    /// here.
     pub fn get_typeset(self, alloc: Global, vars: &TypeVars) -> Result<TypeSet, AllocError>
         requires { self < length vars.now }
         ensures { IsOkAnd result (λ s. s ≡ coded_at vars.now self) }
@@ -238,8 +238,8 @@ impl TypeVar {
         vars.content(self).coded(alloc)
     }
 
-    /// Whether what is kept as the set of the variable, of this registry, is its coded image, as it is for a root. Memory never
-    /// runs out here (this project's own; the crate asserts it).
+    /// Whether the stored type set is the variable's own coded image, and not that of the variable it is derived from. It is true for a
+    /// root. The variable must be of this registry. Memory never runs out here. In the crate `get_raw_typeset` asserts this.
     pub fn is_raw(self, alloc: Global, vars: &TypeVars) -> Result<bool, AllocError>
         requires { self < length vars.now }
         ensures { IsOkAnd result (λ raw. IsTrue raw ↔ IsRaw vars.now self) }
@@ -248,7 +248,7 @@ impl TypeVar {
         Ok(vars.content(self).type_set.masks() == coded)
     }
 
-    /// What is kept as the set of a variable of this registry, where that is its coded image (`is_raw` tells).
+    /// The stored type set of the variable, which must be of this registry. That set must be the variable's own, which `is_raw` tests.
     pub fn get_raw_typeset(self, vars: &TypeVars) -> &TypeSet
         requires of { self < length vars.now }
         requires raw { IsRaw vars.now self }
@@ -257,8 +257,8 @@ impl TypeVar {
         &vars.content(self).type_set
     }
 
-    /// The only member of the coded image of the variable, of this registry; `None` exactly where it hasn't exactly one. Memory
-    /// never runs out here.
+    /// The only type in the coded image of the variable, which must be of this registry. `None` exactly if the image doesn't have exactly
+    /// one type. Memory never runs out here.
     pub fn singleton_type(
         self,
         alloc: Global,
@@ -271,8 +271,8 @@ impl TypeVar {
         Ok(self.get_typeset(alloc, vars)?.only_type())
     }
 
-    /// The root of the variable, of this registry; `None` exactly where its set has exactly one type. Memory never runs out
-    /// here.
+    /// The root of the variable, which must be of this registry. `None` exactly if the root's type set has exactly one type. Memory never
+    /// runs out here.
     pub fn free_typevar(
         self,
         _alloc: Global,
@@ -290,7 +290,7 @@ impl TypeVar {
         Ok(Some(root))
     }
 
-    /// The root of the variable, of this registry: itself where it isn't derived (this project's own).
+    /// The root of the variable, which must be of this registry. A root is its own root.
     pub fn root(self, vars: &TypeVars) -> TypeVar
         requires { self < length vars.now }
         ensures root { result ≡ (variable_at vars.now self).root }
@@ -300,8 +300,7 @@ impl TypeVar {
         vars.content(self).root
     }
 
-    /// The derived functions from the root of the variable, of this registry, to it, from the root outwards (this project's
-    /// own).
+    /// The chain of the variable, which must be of this registry: the derived functions from the root to it, in order from the root.
     pub fn chain(self, alloc: Global, vars: &TypeVars) -> Result<Vec<DerivedFunc>, AllocError>
         requires { self < length vars.now }
         ensures { IfOk result (λ v. functions_of v.items ≡ (variable_at vars.now self).chain) }
@@ -309,8 +308,8 @@ impl TypeVar {
         vars.content(self).chain.as_slice().to_vec(alloc)
     }
 
-    /// The only type that the variable, of this registry, can have, whatever its root has; `None` exactly where there is no
-    /// such type, and for a chain with a relation (this project's own).
+    /// The only type that the variable can have, whichever type of its set the root has. The variable must be of this registry. `None`
+    /// exactly if there is no one such type, or the chain has a relation.
     pub fn fixed_type(self, vars: &TypeVars) -> Option<ValueType>
         requires { self < length vars.now }
         ensures found { let v = variable_at vars.now self in
@@ -328,14 +327,12 @@ impl TypeVar {
         TypeVar { number }
     }
 
-    /// Its number.
     pub(crate) fn number(self) -> u32
         ensures { result ≡ self }
     {
         self.number
     }
 
-    /// The number as an index.
     pub(crate) fn index(self) -> usize
         ensures { result ≡ self }
     {

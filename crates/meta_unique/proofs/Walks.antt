@@ -29,7 +29,7 @@ visits_power n p = subst VisitsEach (sym p.1) (visits p.0)
 pub vacant_taken : {X : Type 0} (slots : List (Option X)) (slot : ℕ) → IsVacant slots slot → IsTaken slots slot → ⊥
 vacant_taken slots slot v t = let e : Some None ≡ Some (Some t.0) = sym v ∙ t.1 in (cc)
 
--- where P is of taken slots, the vacant one lies behind each slot that has P
+-- if P is of taken slots, the vacant slot comes after each slot that has P
 behind : {X : Type 0} (slots : List (Option X)) (start slot passed vacant : ℕ) (P : ℕ → Type 0)
     → ((s : ℕ) → P s → IsTaken slots s) → Walked slots start slot passed P → P slot → IsVacant slots vacant
     → (k : ℕ) → slot_at (length slots) start k ≡ vacant → passed < k

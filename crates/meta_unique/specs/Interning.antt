@@ -22,7 +22,7 @@ IsNew eq entries x = (i : ℕ) → IsIndexOf eq entries x i → ⊥
 abbrev pub AreDifferent : {X : Type 0} → (X → X → Bool) → List X → Type 0
 AreDifferent {X} eq entries = (i j : ℕ) (x y : X) → slice_get entries i ≡ Some x → slice_get entries j ≡ Some y → eq x y ≡ true → i ≡ j
 
--- no two entries are equal, and a look-up gives each value the index of the entry that equals it, and nothing where there is none
+-- no two entries are equal, and a look-up gives each value the index of the entry that equals it, and nothing if no entry does
 pub record IsIndexed {X : Type 0} (eq : X → X → Bool) (entries : List X) (look_up : Bor X → Option ℕ) : Type 0 where
   pub different : AreDifferent eq entries
   pub sound : (r : Bor X) (i : ℕ) → look_up r ≡ Some i → IsIndexOf eq entries r.now i

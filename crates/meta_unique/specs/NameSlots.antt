@@ -19,7 +19,7 @@ pub record HashesTo (first : ℕ) (names : List (List ℕ)) (number h : ℕ) : T
   pub is_number : IsNumberOfName first names name number
   pub hash : h ≡ simple_hash_of name
 
--- so many numbers from `first` on
+-- the numbers from `first` on, as many as the second argument
 abbrev pub numbers_from : ℕ → ℕ → List ℕ
 numbers_from first zero = []
 numbers_from first (suc count) = first ∷ numbers_from (first + 1) count

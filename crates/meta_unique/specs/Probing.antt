@@ -22,7 +22,7 @@ IsVacant slots slot = slice_get slots slot ≡ Some None
 abbrev pub SlotHolds : {X : Type 0} → List (Option X) → ℕ → X → Type 0
 SlotHolds slots slot x = slice_get slots slot ≡ Some (Some x)
 
--- the slot holds a number that the test refuses, so that a lookup goes on behind it
+-- the slot holds a number that the test refuses, so that a look-up goes on to the next slot
 pub record IsPassed (says : ℕ → Bool → Type 0) (slots : List (Option ℕ)) (slot : ℕ) : Type 0 where
   pub number : ℕ
   pub taken : SlotHolds slots slot number

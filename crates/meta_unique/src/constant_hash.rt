@@ -8,7 +8,7 @@ ghost use Rattle.meta_unique.specs.SimpleHash.{simple_hash_of};
 
 use std::alloc::{AllocError, Global};
 
-/// The hash of a name, below 2^32 (this project's own, in place of a call of another crate).
+/// The hash of a name, below 2^32. In the crate it is a call of another crate of Cranelift.
 pub fn simple_hash(name: &[u8]) -> usize
     ensures { result ≡ simple_hash_of name.now }
 {
@@ -17,9 +17,9 @@ pub fn simple_hash(name: &[u8]) -> usize
     }) as usize
 }
 
-/// The slots of a hash table of the items, of which there are at most 65,535 (`constant_hash.rs`, where they are an iterator).
-/// There are as many slots as the least power of two above the number of items and a fifth of it, so that one is vacant. By
-/// order, each item goes into the first vacant slot of the probe from its hash. The only error is want of memory.
+/// Makes the slots of a hash table for the items, of which there may be at most 65,535. The count of slots is the least power of two above
+/// the count of items and a fifth of it, so that some slot stays vacant. In order, each item goes into the first vacant slot of the probe
+/// from its hash. In the crate's `constant_hash.rs` the items are an iterator.
 pub fn generate_table<'c, T, H: Fn(&T) -> usize + Drop>(
     alloc: Global,
     items: &'c [T],

@@ -1,5 +1,5 @@
-//! Tables that find what was put into them: an interned list, a list of lists that overlap, and slots that are found by
-//! probing. Each call holds for every element type and every hash.
+//! Tables that find what was put into them: an interned list, a list of lists that overlap, and slots that are found by probing. Each call
+//! works for every element type and every hash.
 #![tactic(auto)]
 
 mod constant_hash;

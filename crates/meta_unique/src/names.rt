@@ -6,7 +6,7 @@ ghost use Rattle.meta_unique.specs.NameSlots.{HashesTo, AreNameSlots, numbers_fr
 use super::constant_hash::{generate_table, simple_hash};
 use std::alloc::{AllocError, Global};
 
-/// So many numbers from `first` on.
+/// The numbers from `first` on, `count` of them.
 fn numbers(alloc: Global, first: u16, count: usize) -> Result<Vec<u16>, AllocError>
     requires { first + count ≤ 65536 }
     ensures { IfOk result (λ v. v.items ≡ numbers_from first count) }
@@ -18,7 +18,7 @@ fn numbers(alloc: Global, first: u16, count: usize) -> Result<Vec<u16>, AllocErr
     Ok(numbers)
 }
 
-/// The slots with what the references point to.
+/// The slots with the numbers that the references point to.
 fn pointed_at(alloc: Global, slots: &[Option<&u16>]) -> Result<Vec<Option<u16>>, AllocError>
     ensures { IfOk result (λ v. v.items ≡ map option_copied slots.now) }
 {
@@ -39,8 +39,8 @@ fn hash_at(names: &[&[u8]], first: u16, number: u16) -> usize
     simple_hash(name)
 }
 
-/// The slots of names, of which there are at most 65,535 and which are numbered from `first` on: they hold the numbers, found
-/// from `simple_hash` of the name.
+/// Makes the slots of names, of which there may be at most 65,535. Names have numbers from `first` on, and the slots hold these numbers.
+/// The probe of a name begins at its `simple_hash`.
 pub fn name_slots(
     alloc: Global,
     names: &[&[u8]],
@@ -58,7 +58,7 @@ pub fn name_slots(
     pointed_at(alloc, table.as_slice())
 }
 
-/// Whether the slots hold the same.
+/// Whether both have the same slots, in the same order.
 pub fn same_slots(one: &[Option<u16>], other: &[Option<u16>]) -> bool
     ensures { IsTrue result ↔ (one.now ≡ other.now) }
 {

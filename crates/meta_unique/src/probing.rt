@@ -6,13 +6,13 @@ use super::steps::Steps;
 use std::marker::Brand;
 use std::sync::ledger::{Blank, Ledger};
 
-/// The law behind filling and looking up: in a power of two slots a probe meets all slots, each once, wherever it starts
-/// (this project's own). It does nothing.
+/// A probe meets every slot exactly once, wherever it starts, if the count of slots is a power of two. Filling and looking up rest on this
+/// law.
 pub fn visits_each()
     ensures { (j : ℕ) → VisitsEach (2 ^ j) }
 {}
 
-/// Whether slots can be looked through: they are a power of two, and one is vacant (this project's own).
+/// Whether the slots can be probed: their count is a power of two, and some slot is vacant.
 pub fn can_probe(slots: &[Option<u16>]) -> bool
     ensures { IsTrue result ↔ (IsPowerOfTwo (length slots.now) × Contains slots.now None) }
 {
@@ -28,8 +28,8 @@ fn is_power_of_two(size: usize) -> bool
     size.next_power_of_two() == size
 }
 
-/// The first number that matches in the slots of the probe from `start`, and nothing exactly where a vacant slot comes first
-/// (this project's own). The slots are such that `can_probe` is true of them.
+/// The first number in the slots of the probe from `start` that `matches` accepts. `None` exactly if a vacant slot comes first. The slots
+/// must be such that `can_probe` is true.
 pub fn probe<M: Fn(u16) -> bool + Drop>(
     slots: &[Option<u16>],
     start: usize,
@@ -61,7 +61,7 @@ fn probe_from<M: Fn(u16) -> bool + Drop, L: Ledger>(
     probe_counted(slots, start, matches, &mut steps)
 }
 
-/// As `probe`, and `steps` rises by the number of slots that were looked at (this project's own).
+/// Probes as `probe` does. `steps` rises by the number of slots that were looked at.
 pub fn probe_counted<M: Fn(u16) -> bool + Drop, L: Ledger>(
     slots: &[Option<u16>],
     start: usize,

@@ -3,8 +3,8 @@ ghost use Rattle.std.specs.Prelude.{◌≡◌, ◌+◌, ◌<◌};
 use std::marker::Model;
 use std::sync::ledger::{Blank, Book, Ledger, Share};
 
-/// A count of the slots that lookups looked at, for contracts alone: it takes no room and no time in the program (this
-/// project's own). `L` is the ledger that it counts in.
+/// A count of the slots that look-ups looked at. It is for contracts alone, and takes no room and no time in the program. `L` is the ledger
+/// that it counts in.
 #[derive(Drop)]
 pub struct Steps<L: Ledger> {
     book: Book<L>,
@@ -22,7 +22,7 @@ impl<L: Ledger> Model for Steps<L> {
 }
 
 impl<L: Ledger> Steps<L> {
-    /// A count of 0, in a new ledger that has a part.
+    /// Makes a count of 0, in a new ledger.
     pub fn new(blank: Blank) -> Steps<L>
         requires name { blank.name ≡ L.name }
         requires parts { blank.parts ≡ L.parts }

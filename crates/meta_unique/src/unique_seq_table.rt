@@ -6,7 +6,8 @@ use std::alloc::{AllocError, Global};
 use std::marker::Model;
 use std::slice;
 
-/// A list that has each list added to it in one piece, and shares what it can at the seam (`unique_table.rs`).
+/// One list that has other lists in it, each in one piece. A list that is added shares with the end of the table what it can, as in the
+/// crate's `unique_table.rs`.
 #[derive(Drop)]
 pub struct UniqueSeqTable<T: Eq + Clone + Drop> {
     table: Vec<T>,
@@ -21,7 +22,7 @@ impl<T: Eq + Clone + Drop> Model for UniqueSeqTable<T> {
 }
 
 impl<T: Eq + Clone + Drop> UniqueSeqTable<T> {
-    /// A table without an element.
+    /// Makes a table without elements.
     pub fn new(alloc: Global) -> Self
         ensures { result ≡ [] }
     {
@@ -30,10 +31,10 @@ impl<T: Eq + Clone + Drop> UniqueSeqTable<T> {
         }
     }
 
-    /// Where the values stand in the table in one piece: 0 if there are none, and their first place if they stood there. Else
-    /// clones are added at the end, of what follows the longest tail of the table that is a proper prefix of the values, and
-    /// they stand where that tail begins. Clones of the values have to equal them. The only error is want of memory, and it
-    /// leaves the table as it was.
+    /// Adds the values in one piece, and answers where they stand. If there are no values, that is 0; if they stood in the table, it is
+    /// their first place there. Else the longest tail of the table that is also the beginning of the values, but not all of them, is
+    /// shared: clones of the other values are added at the end. Clones must equal the values. If memory runs out, the table stays as it
+    /// was.
     pub fn add(&mut self, values: &[T]) -> Result<usize, AllocError>
         requires { (x y : T) → Contains values.now x → T.is_clone x y → T.eq x y ≡ true }
         ensures made { OnOk result (AreAlike T.eq (added T.eq self.old values.now) self.new) }
@@ -70,7 +71,7 @@ impl<T: Eq + Clone + Drop> UniqueSeqTable<T> {
     }
 }
 
-// The first place where the values, of which there are some, stand in the whole.
+// The first place where the values stand in `whole`. There must be some values.
 fn find_subsequence<T: Eq>(values: &[T], whole: &[T]) -> Option<usize>
     ensures found { IfSome result (λ place. place ≡ first_place T.eq whole.now values.now) }
     ensures inside { IfSome result (λ place. place < length whole.now) }
@@ -86,7 +87,7 @@ fn find_subsequence<T: Eq>(values: &[T], whole: &[T]) -> Option<usize>
     None
 }
 
-// How long the longest tail of the table is that is a proper prefix of the values, of which there are some.
+// The length of the longest tail of the table that is also the beginning of the values, but not all of them. There must be some values.
 fn shared_tail<T: Eq>(table: &[T], values: &[T]) -> usize
     requires { 0 < length values.now }
     ensures count { result ≡ shared T.eq table.now values.now }

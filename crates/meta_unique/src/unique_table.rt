@@ -8,8 +8,8 @@ use std::hash::Hash;
 use std::marker::Model;
 use std::slice;
 
-/// A list of entries that are borrowed, no two of which are equal (`unique_table.rs`). Each keeps its index, from 0 in the
-/// order in which they came.
+/// A list of borrowed entries, no two of which are equal. Each entry keeps its index: they count from 0, in the order of adding. It is as
+/// in the crate's `unique_table.rs`.
 #[derive(Drop)]
 pub struct UniqueTable<'e, T: Eq + Hash> {
     entries: Vec<&'e T>,
@@ -30,7 +30,7 @@ impl<'e, T: Eq + Hash> Model for UniqueTable<'e, T> {
 }
 
 impl<'e, T: Eq + Hash> UniqueTable<'e, T> {
-    /// A table without an entry.
+    /// Makes a table without entries.
     pub fn new(alloc: Global) -> Self
         ensures { result ≡ [] }
     {
@@ -40,8 +40,8 @@ impl<'e, T: Eq + Hash> UniqueTable<'e, T> {
         }
     }
 
-    /// The index of the entry that equals this one, which is added at the end where there is none. The only error is want of
-    /// memory, for a new entry, and it leaves the table as it was.
+    /// The index of the entry that equals this one. If there is no such entry, this one is added at the end. Memory can run out only for a
+    /// new entry, and then the table stays as it was.
     pub fn add(&mut self, entry: &'e T) -> Result<usize, AllocError>
         ensures index { IfOk result (IsIndexOf T.eq self.new entry.now) }
         ensures known { (i : ℕ) → IsIndexOf T.eq self.old entry.now i → (result ≡ Ok i) × (self.new ≡ self.old) }
@@ -63,14 +63,14 @@ impl<'e, T: Eq + Hash> UniqueTable<'e, T> {
         }
     }
 
-    /// Whether some entry equals this one.
+    /// Whether the table has an entry that equals this one.
     pub fn contains(&self, entry: &T) -> bool
         ensures { IsTrue result ↔ ((i : ℕ) × IsIndexOf T.eq self.now entry.now i) }
     {
         self.indexes.get(&entry).is_some()
     }
 
-    /// The index of the entry that equals this one. There is one, as `contains` tells.
+    /// The index of the entry that equals this one. There must be one, which `contains` tests.
     pub fn index_of(&self, entry: &T) -> usize
         requires { (i : ℕ) × IsIndexOf T.eq self.now entry.now i }
         ensures index { IsIndexOf T.eq self.now entry.now result }

@@ -83,7 +83,7 @@ pieces_of-join byte piece (next ∷ more) h =
     first_piece byte piece (join_with_byte byte (next ∷ more)) (All-head (λ x. All (λ b. b ≢ byte) x) piece (next ∷ more) h)
     ∙ ap (λ ps. piece ∷ ps) (pieces_of-join byte next more (All-tail (λ x. All (λ b. b ≢ byte) x) piece (next ∷ more) h))
 
--- the first place of a byte, and the length where there is none
+-- the first place of a byte, and the length if there is no such byte
 pub place_or_len : (stop : ℕ) (xs : List ℕ) (r : Option ℕ) → r ≡ position (λ b. b == stop) xs
     → unwrap_or r (length xs) ≡ position_or_len (λ b. b == stop) xs
 place_or_len stop xs r e = ap (λ o. unwrap_or o (length xs)) e ∙ by_test (nat_lt n (length xs)) refl

@@ -98,7 +98,7 @@ first_named ns word left h = fronts ns left ∙ ap (take (length ns)) h
     fronts [] left = refl
     fronts (n ∷ ns) left = ap (λ xs. name_of (type_with n) ∷ xs) (fronts ns left)
 
--- and the name behind them is the next of those that are left
+-- and the name after them is the next of those that are left
 pub next_named : (ns word name : List ℕ) (left rest : List (List ℕ))
     → map name_of (map type_with ns) ++ left ≡ pieces_of 44 word → left ≡ name ∷ rest
     → ((t : TypeParts) → IsType t → name_of t ≢ name) → NamesNoneAt (length ns) word

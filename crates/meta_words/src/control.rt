@@ -7,17 +7,17 @@ ghost use Rattle.meta_words.specs.Control.{IsBehind, control_text};
 use super::pieces::cut;
 use meta_types::type_number;
 
-/// The numbers of the controlling types that a word gives. There is no second one alone (this project's own).
+/// The numbers of the controlling types that a word gives. There is a second one only if there is a first.
 #[derive(Clone, Copy)]
 pub struct ControlNumbers {
     /// The number of the controlling type, if there is one.
     pub control: Option<u16>,
-    /// That of the second controlling type, if there is one.
+    /// The number of the second controlling type, if there is one.
     pub second: Option<u16>,
 }
 
-/// The controlling types that the word gives: `-` for none, the name of one, or the names of two, joined by `/`. `None` exactly where
-/// no controlling types are written so (this project's own).
+/// The controlling types that a word gives: `-` for none, the name of one type, or the names of two types joined by `/`. `None` exactly if
+/// the word has another form.
 pub fn parse_control(word: &[u8]) -> Option<ControlNumbers>
     ensures found { IfSome result (λ c. control_text (option_map type_with c.control) (option_map type_with c.second) ≡ word.now) }
     ensures known { IfSome result (λ c. IfSome c.control IsTypeNumber) }

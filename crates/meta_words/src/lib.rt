@@ -1,4 +1,4 @@
-//! The lines of an input, the words of a line, and what a word tells: a type, controlling types, a list of types, a number.
+//! The lines of an input, the words of a line, and what a word stands for: a type, controlling types, a list of types, a number.
 #![tactic(auto)]
 
 mod control;

@@ -4,7 +4,7 @@ ghost use Rattle.meta_words.specs.Number.{is_plain};
 
 use std::str;
 
-/// Whether a number is written without a sign and without a zero before it.
+/// Whether the word has no sign and no needless zero at its front.
 fn is_plain(word: &[u8]) -> bool
     ensures { result ≡ is_plain word.now }
 {
@@ -15,7 +15,7 @@ fn is_plain(word: &[u8]) -> bool
     }
 }
 
-/// The number of 64 bits that the word writes.
+/// The number of 64 bits that the word is, if it is one.
 fn number_of(word: &[u8]) -> Option<u64>
     ensures some { IfSome result (λ n. word.now ≡ decimal n) }
     ensures small { IfSome result (λ n. n < 2 ^ 64) }
@@ -30,8 +30,8 @@ fn number_of(word: &[u8]) -> Option<u64>
     }
 }
 
-/// The number up to `most` that the word writes: decimal, with no sign and no zero before it. `None` exactly where none is written so
-/// (this project's own).
+/// The number that the word is, if it is at most `most`: decimal, without a sign, and without a needless zero at its front. `None` exactly
+/// if the word isn't such a number.
 pub fn number_in(word: &[u8], most: u64) -> Option<u64>
     ensures some { IfSome result (λ n. word.now ≡ decimal n) }
     ensures within { IfSome result (λ n. n ≤ most) }
@@ -41,7 +41,7 @@ pub fn number_in(word: &[u8], most: u64) -> Option<u64>
     if number <= most { Some(number) } else { None }
 }
 
-/// As `number_in`, for the numbers of 8 bits.
+/// The number of 8 bits that the word is, as `number_in` reads it.
 pub fn number_u8(word: &[u8]) -> Option<u8>
     ensures some { IfSome result (λ n. word.now ≡ decimal n) }
     ensures none { IfNone result ((n : ℕ) → n < 2 ^ 8 → word.now ≢ decimal n) }
@@ -50,7 +50,7 @@ pub fn number_u8(word: &[u8]) -> Option<u8>
     Some(number as u8)
 }
 
-/// As `number_in`, for the numbers of 16 bits.
+/// The number of 16 bits that the word is, as `number_in` reads it.
 pub fn number_u16(word: &[u8]) -> Option<u16>
     ensures some { IfSome result (λ n. word.now ≡ decimal n) }
     ensures none { IfNone result ((n : ℕ) → n < 2 ^ 16 → word.now ≢ decimal n) }
@@ -59,7 +59,7 @@ pub fn number_u16(word: &[u8]) -> Option<u16>
     Some(number as u16)
 }
 
-/// As `number_in`, for the numbers of 32 bits.
+/// The number of 32 bits that the word is, as `number_in` reads it.
 pub fn number_u32(word: &[u8]) -> Option<u32>
     ensures some { IfSome result (λ n. word.now ≡ decimal n) }
     ensures none { IfNone result ((n : ℕ) → n < 2 ^ 32 → word.now ≢ decimal n) }

@@ -5,21 +5,21 @@ ghost use Rattle.meta_words.specs.Words.{pieces_of};
 
 use std::marker::Model;
 
-/// The place of the first such byte, from 0.
+/// The place of the first such byte, from 0, if there is one.
 fn place_of(text: &[u8], byte: u8) -> Option<usize>
     ensures { result ≡ position (λ c. c == byte) text.now }
 {
     text.iter().position(|c| *c == byte)
 }
 
-/// The place of the first such byte, from 0, and the length of the text where it has none (this project's own).
+/// The place of the first such byte, from 0. It is the length of the text if there is no such byte.
 pub fn end_of(text: &[u8], stop: u8) -> usize
     ensures { result ≡ position_or_len (λ c. c == stop) text.now }
 {
     place_of(text, stop).unwrap_or(text.len())
 }
 
-/// What stands before the first such byte, and what stands after it, if the text has one (this project's own).
+/// The part of the text before the first such byte, and the part after it. The second is `None` if there is no such byte.
 pub fn cut(text: &[u8], byte: u8) -> (&[u8], Option<&[u8]>)
     ensures { pieces_of byte text.now ≡ result.0.now ∷ option_map_or (λ rest. pieces_of byte rest.now) result.1 [] }
 {
@@ -31,7 +31,7 @@ pub fn cut(text: &[u8], byte: u8) -> (&[u8], Option<&[u8]>)
     (&text[..end], Some(&text[end + 1..]))
 }
 
-/// The pieces of a text between the bytes of one value. A contract sees the pieces that are left (this project's own).
+/// An iterator over the pieces of a text, which is cut at each byte of one value. A contract sees the pieces that are left.
 #[derive(Drop)]
 pub struct Pieces<'a> {
     rest: Option<&'a [u8]>,
@@ -50,7 +50,7 @@ impl<'a> Model for Pieces<'a> {
 }
 
 impl<'a> Pieces<'a> {
-    /// The pieces, of which there is at least one.
+    /// Makes an iterator over the pieces of a text. There is at least one piece.
     pub fn new(text: &'a [u8], byte: u8) -> Self
         ensures { result ≡ pieces_of byte text.now }
     {
@@ -60,8 +60,8 @@ impl<'a> Pieces<'a> {
         }
     }
 
-    /// Takes the next piece, if one is left, and answers it where it has bytes. `None` is for no piece, and for one without bytes, which
-    /// is taken too.
+    /// Takes the next piece, and answers it if it isn't empty. `None` means that no piece was left, or that the piece was empty; an empty
+    /// piece is taken too.
     pub fn word(&mut self) -> Option<&'a [u8]>
         ensures taken { IfSome result (λ word. self.old ≡ word.now ∷ self.new) }
         ensures some { IfSome result (λ word. 0 < length word.now) }
@@ -75,7 +75,7 @@ impl<'a> Pieces<'a> {
         Some(piece)
     }
 
-    /// Whether no piece is left. The next one, if one is left, is taken.
+    /// Whether no piece is left. If one is left, it is taken.
     pub fn is_done(&mut self) -> bool
         ensures done { result ≡ true → self.old ≡ [] }
         ensures more { result ≡ false → (word : List ℕ) × (rest : List (List ℕ)) × (self.old ≡ word ∷ rest) }

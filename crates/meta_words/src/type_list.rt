@@ -7,9 +7,9 @@ use super::pieces::Pieces;
 use meta_types::type_number;
 use std::alloc::AllocError;
 
-/// Reads the types that the word lists into a list of their numbers, in place of what was there: `-` for none, or their names, parted
-/// by commas. It is false exactly where no types are listed so. The numbers are then those of the names before the first that names no
-/// type, and after an error those of the first names, as far as they were read (this project's own).
+/// Reads the types that a word lists, and replaces the list by their numbers: `-` for no types, or the names of types separated by commas.
+/// It answers false exactly if the word has another form; the list then has the numbers of the names before the first that isn't a type's.
+/// If memory runs out, the list has the numbers of the first names.
 pub fn read_types(numbers: &mut Vec<u16>, word: &[u8]) -> Result<bool, AllocError>
     ensures known { All IsTypeNumber numbers.new.items }
     ensures found { IfOk result (λ read. read ≡ true → types_text (map type_with numbers.new.items) ≡ word.now) }

@@ -7,7 +7,7 @@ use Rattle.meta_declared.specs.Searched.{IsCleanBefore}
 use Rattle.meta_declared.proofs.FormatSearch.{declared}
 use Rattle.meta_declared.proofs.formats.used_formats.Given as goal
 
--- these formats are used so far, and none of them shows a fault, if none is shown before
+-- these formats are used so far, and no fault is in them, if there is none before
 abbrev pub invariant-loop-place : goal.invariant-loop-place
 invariant-loop-place l = record {
   table : l.used.formats.now ≡ l.formats;

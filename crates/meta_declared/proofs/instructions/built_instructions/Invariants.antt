@@ -6,7 +6,7 @@ use Rattle.meta_declared.specs.Searched.{IsCleanBefore}
 use Rattle.meta_declared.specs.BuiltInstructions.{IsBuiltAt}
 use Rattle.meta_declared.proofs.instructions.built_instructions.Given as goal
 
--- the names are those so far, none of the instructions so far shows a fault, and each of them is built
+-- the names are those so far, the instructions so far have no fault, and each of them is built
 abbrev pub invariant-loop-place : goal.invariant-loop-place
 invariant-loop-place l = record {
   kept : l.names ≡ take l.place (names_of l.set);

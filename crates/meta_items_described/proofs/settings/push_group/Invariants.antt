@@ -5,7 +5,7 @@ use Rattle.meta_items_described.specs.Wording.{name_for}
 use Rattle.meta_items_described.specs.SettingItems.{item_of_setting, item_of_preset}
 use Rattle.meta_items_described.proofs.settings.push_group.Given as goal
 
--- behind what was there stand the group and the settings so far, and these fit
+-- after what was there come the group and the settings so far, and these fit
 abbrev pub invariant-loop-setting : goal.invariant-loop-setting
 invariant-loop-setting l = record {
   items : l.items.items
@@ -13,7 +13,7 @@ invariant-loop-setting l = record {
   fit : Every Fits (map item_of_setting (take l.setting-index l.group.settings));
 }
 
--- behind what was there stand the group, its settings and the presets so far, and the settings fit
+-- after what was there come the group, its settings and the presets so far, and the settings fit
 abbrev pub invariant-loop-preset : goal.invariant-loop-preset
 invariant-loop-preset l = record {
   items : l.items.items

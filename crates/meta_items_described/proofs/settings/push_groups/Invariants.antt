@@ -3,7 +3,7 @@ use Rattle.meta_items_reader.specs.Fits.{Fits, Every}
 use Rattle.meta_items_described.specs.SettingItems.{items_of_groups}
 use Rattle.meta_items_described.proofs.settings.push_groups.Given as goal
 
--- behind what was there stand the items of the groups so far, and these fit
+-- after what was there come the items of the groups so far, and these fit
 abbrev pub invariant-loop-group : goal.invariant-loop-group
 invariant-loop-group l = record {
   items : l.items.items ≡ l.fn.items.items ++ items_of_groups (take l.group-index l.groups);

@@ -6,7 +6,7 @@ use Rattle.meta_items_insts.specs.Registered.{IsSecondIn}
 use Rattle.meta_items_insts.proofs.Seconds.{IsSecondSoFar}
 use Rattle.meta_items_insts.proofs.marks.second_in.Given as goal
 
--- behind the marks before this one
+-- after the marks before this one
 abbrev pub ghost-second_at : goal.ghost-second_at
 ghost-second_at g a = after_marks g.said (take a.place a.marks.now)
 

@@ -7,7 +7,7 @@ use Rattle.meta_items_insts.specs.Registered.{AreOperandsIn}
 use Rattle.meta_items_insts.proofs.Each.{SoFar}
 use Rattle.meta_items_insts.proofs.operands.operands_in.Given as goal
 
--- behind the operands before this one
+-- after the operands before this one
 abbrev pub ghost-operand_in : goal.ghost-operand_in
 ghost-operand_in g a = after_operands g.said (take a.place a.items.now)
 

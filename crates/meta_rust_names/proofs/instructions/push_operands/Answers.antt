@@ -22,7 +22,7 @@ use Rattle.meta_rust_names.proofs.instructions.push_operands.Goals as goal
 regrouped : {Y : Type 0} (out a b c d : List Y) → (((out ++ a) ++ b) ++ c) ++ d ≡ out ++ (a ++ (b ++ (c ++ d)))
 regrouped out a b c d = simp append_assoc
 
--- the four parts, each behind those before it
+-- the four parts, each after those before it
 parts_added : (vars : List TypeVarContent) (i : BuiltInstruction) (f : InstructionFormat) (place : Place) (inputs outputs : List Operand)
     (why : Option Why) (control : Option ℕ) (is_known : List ℕ → Bool) (out first second third fourth : List RefusedName)
     → inputs ≡ i.operands_in → outputs ≡ i.operands_out → why ≡ doc_why i.doc → control ≡ asked_control i.polymorphic_info

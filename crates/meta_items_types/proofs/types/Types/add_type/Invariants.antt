@@ -5,6 +5,6 @@ use Rattle.meta_items_types.proofs.types.Types.add_type.Given as goal
 abbrev pub ghost-set_of : goal.ghost-set_of
 ghost-set_of g a = g.said
 
--- behind the set
+-- after the set
 abbrev pub ghost-declare_root : goal.ghost-declare_root
 ghost-declare_root g a = after_set g.said a.item.now.set

@@ -5,7 +5,7 @@ use Rattle.meta_settings.specs.Layout.{PlacedSetting}
 use Rattle.meta_settings.specs.PresetLayout.{boolean_name}
 use Rattle.meta_settings.proofs.preset.SettingNamesIterator.next.Goals as goal
 
--- the numbers behind the first are below the bound, as all are
+-- the numbers after the first are below the bound, as all are
 all_behind : (n : ℕ) (numbers rest : List ℕ) (number : ℕ) → numbers ≡ number ∷ rest → All (λ b. b < n) numbers → All (λ b. b < n) rest
 all_behind n numbers rest number e h = λ k d l. subst (λ ns. All (λ b. b < n) ns) e h (suc k) d (omega (arith, l))
 
