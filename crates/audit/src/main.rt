@@ -41,7 +41,7 @@ impl Program for Shared {
         sink: &mut K,
     ) -> Ending {
         match define(alloc) {
-            Ok(declarations) => audit_run(alloc, words, &declarations, source, sink).ending(),
+            Ok(declarations) => audit_run(alloc, words, &declarations, source, sink),
             Err(_) => Ending::OutOfMemory,
         }
     }

@@ -5,10 +5,10 @@ mod manual;
 
 use manual::MANUAL;
 use meta_command_line::{FileTrouble, Plan, about, wrong_line};
-use meta_file::{FileEnding, Over, Tool, listed_tools, run_file, run_words};
+use meta_file::{FileEnding, Over, Tool, listed_tools, run_tool};
 use meta_file_check::{CheckEnding, Names, check_file};
 use meta_main::{tell, words};
-use meta_run::Ending;
+use meta_run::{Ending, run_answerer};
 use meta_shared_ops::define;
 use meta_text::{StdSink, StdSource};
 use meta_tokens::Bytes;
@@ -117,27 +117,27 @@ fn print_version(rt: &HostRuntime) -> u8 {
     printed(rt, println!(rt; "{name} {version}"))
 }
 
-/// Runs the words over the shared declarations.
-fn run_shared(rt: &HostRuntime, words: &[Text]) -> Ending {
+/// Runs the tool over the shared declarations.
+fn run_shared(rt: &HostRuntime, tool: Tool) -> Ending {
     let mut source = StdSource::new(rt.reader());
     let mut sink = StdSink::new(io::writer(rt));
     match define(rt.alloc()) {
-        Ok(declarations) => run_words(rt.alloc(), words, &declarations, &mut source, &mut sink),
+        Ok(declarations) => run_answerer(rt.alloc(), &tool, &declarations, &mut source, &mut sink),
         Err(_) => Ending::OutOfMemory,
     }
 }
 
-/// Runs the words over the declarations of the file at a path.
-fn run_over(rt: &HostRuntime, path: &Text, words: &[Text]) -> FileEnding {
+/// Runs the tool over the declarations of the file at a path.
+fn run_over(rt: &HostRuntime, path: &Text, tool: Tool) -> FileEnding {
     let Ok(file) = File::open(rt, path.as_str()) else {
         return FileEnding::FileFault;
     };
     let mut file = StdSource::new(file);
     let mut source = StdSource::new(rt.reader());
     let mut sink = StdSink::new(io::writer(rt));
-    run_file(
+    run_tool(
         rt.alloc(),
-        words,
+        tool,
         path.as_bytes(),
         &mut file,
         &mut source,
@@ -163,22 +163,16 @@ fn check_over(rt: &HostRuntime, path: &Text, names: Names) -> CheckEnding {
     )
 }
 
-/// Does what the words ask over the shared declarations.
-fn answer_shared(rt: &HostRuntime, words: &[Text]) -> u8 {
-    let Some(tool) = Tool::parse(words) else {
-        return tell_wrong(rt, &Over::Shared(words));
-    };
-    let ending = run_shared(rt, words);
+/// Runs the tool over the shared declarations, and says what its ending was about.
+fn answer_shared(rt: &HostRuntime, tool: Tool) -> u8 {
+    let ending = run_shared(rt, tool);
     tell_ending(rt, tool, ending);
     ending.code()
 }
 
-/// Does what the words ask over the declarations of the file at a path, which is opened only where they ask something.
-fn answer_over(rt: &HostRuntime, path: &Text, words: &[Text]) -> u8 {
-    let Some(tool) = Tool::parse(words) else {
-        return tell_wrong(rt, &Over::File(path, words));
-    };
-    let ending = run_over(rt, path, words);
+/// Runs the tool over the declarations of the file at a path, and says what its ending was about.
+fn answer_over(rt: &HostRuntime, path: &Text, tool: Tool) -> u8 {
+    let ending = run_over(rt, path, tool);
     tell_file_ending(rt, tool, &ending, path);
     ending.code()
 }
@@ -195,9 +189,10 @@ fn run(rt: &HostRuntime, words: &[Text]) -> u8 {
     match Plan::of(words) {
         Plan::Help => print_help(rt),
         Plan::Version => print_version(rt),
-        Plan::Shared(words) => answer_shared(rt, words),
-        Plan::File(path, words) => answer_over(rt, path, words),
+        Plan::Shared(tool) => answer_shared(rt, tool),
+        Plan::File(path, tool) => answer_over(rt, path, tool),
         Plan::Check(path, names) => answer_check(rt, path, names),
+        Plan::Nothing(over) => tell_wrong(rt, &over),
     }
 }
 

@@ -5,7 +5,7 @@ use Rattle.meta_text.specs.Outside.{Rose}
 use Rattle.meta_declared.specs.AllDeclared.{Declared, AreValid}
 use Rattle.meta_words.specs.Lines.{lines_of}
 use Rattle.meta_gen.specs.Reply.{AcceptedReply}
-use Rattle.meta_run.specs.Run.{IsGiven, IsAnsweredWhole, IsCutShort}
+use Rattle.meta_run.specs.Run.{IsGiven}
 use Rattle.meta_run.specs.declared.ending.Ending.{Ending}
 use Rattle.meta_run.specs.declared.ending.Ending.TheVariants.{Done, OutOfMemory, Rejected}
 use Rattle.meta_verify.specs.Verdict.{wrong_text}
@@ -17,22 +17,9 @@ use Rattle.meta_asm.specs.Form.{words_for, written_in}
 use Rattle.meta_asm.specs.declared.form.Form.{Form}
 use Rattle.meta_asm.specs.declared.form.Form.TheVariants.{Short, Explicit}
 
--- the words ask for some form
-abbrev pub AskForm : List (List ℕ) → Type 0
-AskForm words = (form : Form) × (words ≡ words_for form)
-
 -- a source and a sink, by what they tell, before and after a run over declarations
 module _ {S K : Type 0} (left : S → Option (List ℕ)) (reads : S → ℕ) (taken : K → Option (List ℕ)) (writes : K → ℕ)
     (d : Declared) (s s' : S) (k k' : K) where
-  -- for a form that the words ask for, the input was written in it whole, as an answer or, where the mark is true, as a rejection
-  abbrev pub IsWrittenWhole : List (List ℕ) → Bool → Type 0
-  IsWrittenWhole words is_rejection = (form : Form) × (words ≡ words_for form)
-      × IsAnsweredWhole left reads taken writes d s s' k k' true (written_in form) is_rejection
-
-  -- the same, and the sink took a part of what was to be written, and not all
-  abbrev pub IsWrittenInPart : List (List ℕ) → Type 0
-  IsWrittenInPart words = (form : Form) × (words ≡ words_for form) × IsCutShort left reads taken writes d s s' k k' true (written_in form)
-
   -- Nothing fails: memory didn't run out, the source told what it had left, which is at most the limit, the sink told what it had taken,
   -- and no count rose.
   abbrev pub NothingFails : List ℕ → List ℕ → Ending → Type 0

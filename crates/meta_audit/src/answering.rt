@@ -48,9 +48,9 @@ fn audit_line(
     }
 }
 
-/// The auditor of the text of tables.
+/// Answers the text of tables by its line, as `audit_run` does (this project's own).
 #[derive(Clone, Copy)]
-pub(crate) struct Auditor;
+pub struct Auditor;
 
 impl Answerer for Auditor {
     ghost use Rattle.std.specs.Prelude.{true};

@@ -17,11 +17,12 @@ mod places;
 mod running;
 mod verdict;
 
+pub use answering::Auditor;
 pub use auditing::audit;
 pub use laws::{
     meant_tables_mean_the_declarations, one_audit_line, one_verdict,
     tables_of_declarations_are_meant,
 };
-pub use meta_run::Status as AuditStatus;
+pub use meta_run::Ending as AuditStatus;
 pub use running::audit_run;
 pub use verdict::Verdict;

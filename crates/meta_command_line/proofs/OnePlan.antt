@@ -1,11 +1,17 @@
 -- Words have one plan at most.
-use Rattle.std.proofs.Common.{◌≡◌, ◌∙◌, ℕ, inl, inr, List, length, refl, sym, ap, ap₂, arith}
-use Rattle.std.specs.Prelude.{codes, None, Some}
+use Rattle.std.proofs.Common.{◌≡◌, ◌∙◌, ℕ, inl, inr, List, [], length, refl, sym, subst, ap, ap₂, arith}
+use Rattle.std.specs.Prelude.{codes, Option, None, Some}
 use Rattle.meta_main.specs.declared.asked.Asked.TheVariants as asks
-use Rattle.meta_file.specs.Over.{IsOption, AskOverFile}
-use Rattle.meta_command_line.specs.Plan.{AskOfItself, IsPlan, Planned, planned}
+use Rattle.meta_file.specs.Over.{IsOption, AskOverFile, IsOver, path_of, asked_of}
+use Rattle.meta_file.specs.Tool.{AreToolWords}
+use Rattle.meta_file.specs.declared.over.Over.{Over}
+use Rattle.meta_file.specs.declared.over.Over.TheVariants as of_over
+use Rattle.meta_file.specs.declared.tool.Tool.{Tool}
+use Rattle.meta_file_check.specs.Asked.{check_words}
+use Rattle.meta_file_check.specs.declared.asked.Names.{Names}
+use Rattle.meta_command_line.specs.Plan.{AskOfItself, IsPlan, IsNoCheck, Planned, planned}
 use Rattle.meta_command_line.specs.declared.plan.Plan.{Plan}
-use Rattle.meta_command_line.specs.declared.plan.Plan.TheVariants.{Help, Version, Shared, File, Check}
+use Rattle.meta_command_line.specs.declared.plan.Plan.TheVariants.{Help, Version, Shared, File, Check, Nothing}
 use Rattle.meta_command_line.proofs.Asked.{one_asked}
 use Rattle.meta_command_line.proofs.Words.{first, second, third, behind_two}
 
@@ -29,42 +35,90 @@ one_file words p q a b (inr (inr h)) (inr (inr g)) = (ap third (sym h.0 ∙ g.0)
 itself : (words : List (List ℕ)) (p : Plan) → IsPlan words p → AskOfItself words (planned p).asked
 itself words Help h = h
 itself words Version h = h
-itself words (Shared a) h = h.0
-itself words (File p a) h = h.0
+itself words (Shared t) h = h.0
+itself words (File p t) h = h.0
 itself words (Check p n) h = h.0
+itself words (Nothing o) h = h.0
 
-abbrev shared : List (List ℕ) → Planned
-shared words = record { asked = asks.Work; path = None; words = words }
+abbrev shared : Tool → Planned
+shared tool = record { asked = asks.Work; path = None; tool = Some tool; words = [] }
 
-abbrev over_file : List ℕ → List (List ℕ) → Planned
-over_file path words = record { asked = asks.Work; path = Some path; words = words }
+abbrev of_file : List ℕ → Tool → Planned
+of_file path tool = record { asked = asks.Work; path = Some path; tool = Some tool; words = [] }
 
-pub same_plan : (words : List (List ℕ)) (p q : Plan) → IsPlan words p → IsPlan words q → planned p ≡ planned q
-same_plan words p q h g = by p q h g (one_asked words (planned p).asked (planned q).asked (itself words p h) (itself words q g))
-  where
-    by : (p q : Plan) → IsPlan words p → IsPlan words q → (planned p).asked ≡ (planned q).asked → planned p ≡ planned q
-    by Help Help h g e = refl
-    by Help Version h g e = absurd (cc)
-    by Help (Shared b) h g e = absurd (cc)
-    by Help (File q b) h g e = absurd (cc)
-    by Help (Check q m) h g e = absurd (cc)
-    by Version Help h g e = absurd (cc)
-    by Version Version h g e = refl
-    by Version (Shared b) h g e = absurd (cc)
-    by Version (File q b) h g e = absurd (cc)
-    by Version (Check q m) h g e = absurd (cc)
-    by (Shared a) Help h g e = absurd (cc)
-    by (Shared a) Version h g e = absurd (cc)
-    by (Shared a) (Shared b) h g e = ap shared (h.1 ∙ sym g.1)
-    by (Shared a) (File q b) h g e = absurd (h.2 _ _ g.1)
-    by (Shared a) (Check q m) h g e = absurd (h.2 _ _ g.1)
-    by (File p a) Help h g e = absurd (cc)
-    by (File p a) Version h g e = absurd (cc)
-    by (File p a) (Shared b) h g e = absurd (g.2 _ _ h.1)
-    by (File p a) (File q b) h g e = let same = one_file words _ _ _ _ h.1 g.1 in ap₂ over_file same.0 same.1
-    by (File p a) (Check q m) h g e = let same = one_file words _ _ _ _ h.1 g.1 in ap₂ over_file same.0 same.1
-    by (Check p n) Help h g e = absurd (cc)
-    by (Check p n) Version h g e = absurd (cc)
-    by (Check p n) (Shared b) h g e = absurd (g.2 _ _ h.1)
-    by (Check p n) (File q b) h g e = let same = one_file words _ _ _ _ h.1 g.1 in ap₂ over_file same.0 same.1
-    by (Check p n) (Check q m) h g e = let same = one_file words _ _ _ _ h.1 g.1 in ap₂ over_file same.0 same.1
+abbrev over_words : Option (List ℕ) → List (List ℕ) → Planned
+over_words path words = record { asked = asks.Work; path = path; tool = None; words = words }
+
+module _ (one_tool : (t u : Tool) (words : List (List ℕ)) → AreToolWords t words → AreToolWords u words → t ≡ u)
+    (words : List (List ℕ)) where
+  -- words that ask something of a file that are none of a check ask a tool
+  nothing_of_file : (path : List ℕ) (asked : List (List ℕ)) (over : Over) → AskOverFile words path asked → IsOver words over
+      → (path_of over ≡ Some path) × (asked_of over ≡ asked)
+  nothing_of_file path asked (of_over.Shared x) h g = absurd (g.1 path asked h)
+  nothing_of_file path asked (of_over.File p x) h g = let same = one_file words _ _ _ _ g h in (ap Some same.0, same.1)
+
+  -- words that ask nothing of a file ask all of the shared declarations
+  nothing_of_shared : (over : Over) → ((path : List ℕ) (others : List (List ℕ)) → AskOverFile words path others → ⊥) → IsOver words over
+      → asked_of over ≡ words
+  nothing_of_shared (of_over.Shared x) none g = g.0
+  nothing_of_shared (of_over.File p x) none g = absurd (none _ _ g)
+
+  -- what is asked over a file is no check
+  no_check : (over : Over) (path : List ℕ) (names : Names) → IsNoCheck over → IsOver words over → AskOverFile words path (check_words names)
+      → ⊥
+  no_check (of_over.Shared x) path names no g h = g.1 _ _ h
+  no_check (of_over.File p x) path names no g h = no names (one_file words _ _ _ _ g h).1
+
+  one_over : (a b : Over) → IsOver words a → IsOver words b → (path_of a ≡ path_of b) × (asked_of a ≡ asked_of b)
+  one_over (of_over.Shared x) (of_over.Shared y) h g = (refl, h.0 ∙ sym g.0)
+  one_over (of_over.Shared x) (of_over.File q y) h g = absurd (h.1 _ _ g)
+  one_over (of_over.File p x) (of_over.Shared y) h g = absurd (g.1 _ _ h)
+  one_over (of_over.File p x) (of_over.File q y) h g = let same = one_file words _ _ _ _ h g in (ap Some same.0, same.1)
+
+  pub same_plan : (p q : Plan) → IsPlan words p → IsPlan words q → planned p ≡ planned q
+  same_plan p q h g = by p q h g (one_asked words (planned p).asked (planned q).asked (itself words p h) (itself words q g))
+    where
+      by : (p q : Plan) → IsPlan words p → IsPlan words q → (planned p).asked ≡ (planned q).asked → planned p ≡ planned q
+      by Help Help h g e = refl
+      by Help Version h g e = absurd (cc)
+      by Help (Shared u) h g e = absurd (cc)
+      by Help (File q u) h g e = absurd (cc)
+      by Help (Check q m) h g e = absurd (cc)
+      by Help (Nothing o) h g e = absurd (cc)
+      by Version Help h g e = absurd (cc)
+      by Version Version h g e = refl
+      by Version (Shared u) h g e = absurd (cc)
+      by Version (File q u) h g e = absurd (cc)
+      by Version (Check q m) h g e = absurd (cc)
+      by Version (Nothing o) h g e = absurd (cc)
+      by (Shared t) Help h g e = absurd (cc)
+      by (Shared t) Version h g e = absurd (cc)
+      by (Shared t) (Shared u) h g e = ap shared (one_tool t u words h.1 g.1)
+      by (Shared t) (File q u) h g e = absurd (h.2 _ _ g.2)
+      by (Shared t) (Check q m) h g e = absurd (h.2 _ _ g.1)
+      by (Shared t) (Nothing o) h g e =
+          absurd (g.2 (t, subst (λ (ws : List (List ℕ)). AreToolWords t ws) (sym (nothing_of_shared o h.2 g.1)) h.1))
+      by (File p t) Help h g e = absurd (cc)
+      by (File p t) Version h g e = absurd (cc)
+      by (File p t) (Shared u) h g e = absurd (g.2 _ _ h.2)
+      by (File p t) (File q u) h g e =
+          let same = one_file words _ _ _ _ h.2 g.2 in
+          ap₂ of_file same.0 (one_tool t u h.1 h.3 (subst (λ (ws : List (List ℕ)). AreToolWords u ws) (sym same.1) g.3))
+      by (File p t) (Check q m) h g e = absurd (h.4 m (one_file words _ _ _ _ h.2 g.1).1)
+      by (File p t) (Nothing o) h g e =
+          absurd (g.2 (t, subst (λ (ws : List (List ℕ)). AreToolWords t ws) (sym (nothing_of_file _ _ o h.2 g.1).1) h.3))
+      by (Check p n) Help h g e = absurd (cc)
+      by (Check p n) Version h g e = absurd (cc)
+      by (Check p n) (Shared u) h g e = absurd (g.2 _ _ h.1)
+      by (Check p n) (File q u) h g e = absurd (g.4 n (one_file words _ _ _ _ g.2 h.1).1)
+      by (Check p n) (Check q m) h g e =
+          let same = one_file words _ _ _ _ h.1 g.1 in ap₂ over_words (ap Some same.0) same.1
+      by (Check p n) (Nothing o) h g e = absurd (no_check o _ n g.3 g.1 h.1)
+      by (Nothing o) Help h g e = absurd (cc)
+      by (Nothing o) Version h g e = absurd (cc)
+      by (Nothing o) (Shared u) h g e =
+          absurd (h.2 (u, subst (λ (ws : List (List ℕ)). AreToolWords u ws) (sym (nothing_of_shared o g.2 h.1)) g.1))
+      by (Nothing o) (File q u) h g e =
+          absurd (h.2 (u, subst (λ (ws : List (List ℕ)). AreToolWords u ws) (sym (nothing_of_file _ _ o g.2 h.1).1) g.3))
+      by (Nothing o) (Check q m) h g e = absurd (no_check o _ m h.3 h.1 g.1)
+      by (Nothing o) (Nothing r) h g e = let same = one_over o r h.1 g.1 in ap₂ over_words same.0 same.1

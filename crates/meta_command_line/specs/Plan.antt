@@ -1,15 +1,19 @@
 -- What the words of the program ask for.
 --     AskOfItself words asked     of the program itself
 --     IsPlan words plan           in all
-use Rattle.std.specs.Prelude.{◌≡◌, ◌≢◌, ◌⊎◌, ℕ, List, [], ◌∷◌, codes, Option, None, Some}
+use Rattle.std.specs.Prelude.{◌≡◌, ◌≢◌, ◌⊎◌, ⊤, ℕ, List, [], ◌∷◌, codes, Option, None, Some}
 use Rattle.meta_main.specs.Asked.{AsksFor}
 use Rattle.meta_main.specs.declared.asked.Asked.{Asked}
 use Rattle.meta_main.specs.declared.asked.Asked.TheVariants as asks
-use Rattle.meta_file.specs.Over.{AskOverFile}
+use Rattle.meta_file.specs.Over.{AskOverFile, IsOver, path_of, asked_of}
+use Rattle.meta_file.specs.Tool.{AreToolWords, AskSomething}
+use Rattle.meta_file.specs.declared.over.Over.{Over}
+use Rattle.meta_file.specs.declared.over.Over.TheVariants as of_over
+use Rattle.meta_file.specs.declared.tool.Tool.{Tool}
 use Rattle.meta_file_check.specs.Asked.{check_words}
 use Rattle.meta_file_check.specs.declared.asked.Names.{Names}
 use Rattle.meta_command_line.specs.declared.plan.Plan.{Plan}
-use Rattle.meta_command_line.specs.declared.plan.Plan.TheVariants.{Help, Version, Shared, File, Check}
+use Rattle.meta_command_line.specs.declared.plan.Plan.TheVariants.{Help, Version, Shared, File, Check, Nothing}
 
 -- `tables --version` and a word, and whatever stands behind it
 pub record BeginWithVersion (words : List (List ℕ)) : Type 0 where
@@ -26,26 +30,36 @@ AskForVersion words = BeginWithVersion words
 abbrev pub AskOfItself : List (List ℕ) → Asked → Type 0
 AskOfItself words asked = (AskForVersion words × (asked ≡ asks.Work)) ⊎ ((AskForVersion words → ⊥) × AsksFor words asked)
 
--- what the words ask for: words are asked over the shared declarations exactly where they ask nothing of a file, and what is asked of a
--- file is a check exactly where its words are those of one
+-- what is asked is no check of a file
+abbrev pub IsNoCheck : Over → Type 0
+IsNoCheck (of_over.Shared asked) = ⊤
+IsNoCheck (of_over.File path asked) = (names : Names) → asked.now ≢ check_words names
+
+-- What the words ask for: a tool over the shared declarations exactly where they ask nothing of a file; of a file a check exactly where
+-- what is asked of it are the words of one, and else a tool; and nothing exactly where what is asked are the words of no tool and of no
+-- check of a file.
 abbrev pub IsPlan : List (List ℕ) → Plan → Type 0
 IsPlan words Help = AskOfItself words asks.Help
 IsPlan words Version = AskOfItself words asks.Version
-IsPlan words (Shared asked) = AskOfItself words asks.Work × (asked.now ≡ words)
+IsPlan words (Shared tool) = AskOfItself words asks.Work × AreToolWords tool words
     × ((path : List ℕ) (others : List (List ℕ)) → AskOverFile words path others → ⊥)
-IsPlan words (File path asked) = AskOfItself words asks.Work × AskOverFile words path.now asked.now
-    × ((names : Names) → asked.now ≢ check_words names)
+IsPlan words (File path tool) = AskOfItself words asks.Work × (asked : List (List ℕ)) × AskOverFile words path.now asked
+    × AreToolWords tool asked × ((names : Names) → asked ≢ check_words names)
 IsPlan words (Check path names) = AskOfItself words asks.Work × AskOverFile words path.now (check_words names)
+IsPlan words (Nothing over) = AskOfItself words asks.Work × IsOver words over × (AskSomething (asked_of over) → ⊥) × IsNoCheck over
 
--- what a plan says: what is asked of the program itself, the path of the file, and the words that are asked
+-- what a plan says: what is asked of the program itself, the path of the file, the tool, and the words that are those of a check or ask
+-- nothing
 pub record Planned : Type 0 where
   pub asked : Asked
   pub path : Option (List ℕ)
+  pub tool : Option Tool
   pub words : List (List ℕ)
 
 abbrev pub planned : Plan → Planned
-planned Help = record { asked = asks.Help; path = None; words = [] }
-planned Version = record { asked = asks.Version; path = None; words = [] }
-planned (Shared asked) = record { asked = asks.Work; path = None; words = asked.now }
-planned (File path asked) = record { asked = asks.Work; path = Some path.now; words = asked.now }
-planned (Check path names) = record { asked = asks.Work; path = Some path.now; words = check_words names }
+planned Help = record { asked = asks.Help; path = None; tool = None; words = [] }
+planned Version = record { asked = asks.Version; path = None; tool = None; words = [] }
+planned (Shared tool) = record { asked = asks.Work; path = None; tool = Some tool; words = [] }
+planned (File path tool) = record { asked = asks.Work; path = Some path.now; tool = Some tool; words = [] }
+planned (Check path names) = record { asked = asks.Work; path = Some path.now; tool = None; words = check_words names }
+planned (Nothing over) = record { asked = asks.Work; path = path_of over; tool = None; words = asked_of over }

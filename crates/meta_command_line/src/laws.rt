@@ -5,10 +5,14 @@ ghost use Rattle.meta_command_line.specs.declared.plan.Plan.{Plan as spec_Plan};
 ghost use Rattle.meta_command_line.specs.Wrong.{IsWrong, IsWrongIfAny};
 ghost use Rattle.meta_command_line.specs.declared.wrong.Wrong.{Wrong as spec_Wrong};
 
-/// Words have one plan at most, by what its references point to.
+use meta_file::one_tool;
+
+/// The words decide the plan: two plans for the same words name the same path, and ask the same.
 pub fn one_plan()
     ensures { (words : List (List ℕ)) (p q : spec_Plan) → IsPlan words p → IsPlan words q → planned p ≡ planned q }
-{}
+{
+    one_tool();
+}
 
 /// Words have one wrong case at most, and none besides where a list of commands tells what is wrong.
 pub fn one_wrong()

@@ -1,9 +1,9 @@
-ghost use Rattle.std.specs.Prelude.{◌≡◌, ◌↔◌, IsTrue, codes};
+ghost use Rattle.std.specs.Prelude.{◌≡◌, ◌↔◌, ℕ, List, IsTrue, codes};
 ghost use Rattle.meta_main.specs.declared.asked.Asked.TheVariants as spec_asked;
 ghost use Rattle.meta_file.specs.Over.{AskOverFile};
 ghost use Rattle.meta_command_line.specs.Plan.{BeginWithVersion, AskForVersion, AskOfItself, IsPlan};
 
-use meta_file::Over;
+use meta_file::{Over, Tool};
 use meta_file_check::Names;
 use meta_main::Asked;
 use meta_types::Text;
@@ -15,12 +15,14 @@ pub enum Plan<'w> {
     Help,
     /// Its version.
     Version,
-    /// What these words ask over the shared declarations.
-    Shared(&'w [Text]),
-    /// What these words ask over the declarations of the file at this path, where that is no check.
-    File(&'w Text, &'w [Text]),
+    /// This tool over the shared declarations.
+    Shared(Tool),
+    /// This tool over the declarations of the file at this path, where that is no check.
+    File(&'w Text, Tool),
     /// A check of the file at this path, and what it does with names that Rust refuses.
     Check(&'w Text, Names),
+    /// Nothing: `Wrong` and the list of commands say what is wrong with what is asked over the shared declarations, or over a file.
+    Nothing(Over<'w>),
 }
 
 /// Whether the words are `tables` and `--version`.
@@ -78,8 +80,21 @@ impl<'w> Plan<'w> {
         ensures { IsPlan words.now result }
     {
         match Over::of(words) {
-            Over::Shared(asked) => Plan::Shared(asked),
+            Over::Shared(asked) => Plan::over_shared(words, asked),
             Over::File(path, asked) => Plan::over_file(words, path, asked),
+        }
+    }
+
+    /// The same of words that ask this of the shared declarations.
+    fn over_shared(_words: &'w [Text], asked: &'w [Text]) -> Plan<'w>
+        requires work { AskOfItself _words.now spec_asked.Work }
+        requires same { asked.now ≡ _words.now }
+        requires over { (path : List ℕ) (others : List (List ℕ)) → AskOverFile _words.now path others → ⊥ }
+        ensures { IsPlan _words.now result }
+    {
+        match Tool::parse(asked) {
+            Some(tool) => Plan::Shared(tool),
+            None => Plan::Nothing(Over::Shared(asked)),
         }
     }
 
@@ -89,9 +104,12 @@ impl<'w> Plan<'w> {
         requires over { AskOverFile _words.now path.now asked.now }
         ensures { IsPlan _words.now result }
     {
-        match Names::asked(asked) {
-            Some(names) => Plan::Check(path, names),
-            None => Plan::File(path, asked),
+        if let Some(names) = Names::asked(asked) {
+            return Plan::Check(path, names);
+        }
+        match Tool::parse(asked) {
+            Some(tool) => Plan::File(path, tool),
+            None => Plan::Nothing(Over::File(path, asked)),
         }
     }
 }

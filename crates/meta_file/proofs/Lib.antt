@@ -1,5 +1,4 @@
 pub mod Counted
-pub mod ToolRuns
 pub mod OneTool
 mod ToolsListed
 pub mod Texts

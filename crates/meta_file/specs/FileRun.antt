@@ -1,14 +1,15 @@
 -- What a run over the declarations of a file does.
 --     DidFile .. ending                     what was read and written, by how it ended
 --     AnswersFile, RefusesFile, LeavesLongFile .. ending    what is done where nothing fails
+--     RunsFile .. ending                    all of this, each fact by its name
 use Rattle.std.specs.Prelude.{◌≡◌, ◌≢◌, ◌⊎◌, ◌<◌, ◌≤◌, ℕ, Bool, List, ◌++◌, length, Option, Some}
-use Rattle.meta_text.specs.Outside.{Rose, longest_input, GaveMore}
+use Rattle.meta_text.specs.Outside.{Rose, longest_input, GaveMore, GaveAtMost}
 use Rattle.meta_declared.specs.AllDeclared.{Declared, AreValid}
-use Rattle.meta_run.specs.Run.{IsReadWhole, IsGiven, Ran as RanOver}
+use Rattle.meta_run.specs.Run.{IsReadWhole, IsGiven, Runs, Ran as RanOver}
 use Rattle.meta_run.specs.Ending.{code_of, written_as}
 use Rattle.meta_run.specs.declared.ending.Ending.{Ending}
 use Rattle.meta_run.specs.declared.ending.Ending.TheVariants as ends
-use Rattle.meta_file.specs.Tool.{AreToolWords, AskSomething, reads_input, texts_of}
+use Rattle.meta_file.specs.Tool.{reads_input, texts_of}
 use Rattle.meta_file.specs.File.{Declares, IsRefusal}
 use Rattle.meta_file.specs.declared.tool.Tool.{Tool}
 use Rattle.meta_file.specs.declared.file_ending.FileEnding.{FileEnding}
@@ -21,16 +22,26 @@ file_code (Refused message) = code_of ends.Refused
 file_code FileFault = 8
 file_code FileTooLong = code_of ends.TooLong
 
--- the words, the path and a text; and a source and a sink, by what they tell, before and after a run over what the text declares
+-- a file, by what it tells, before and after a call: it told its text, which is within the limit, and no read of it failed
+abbrev pub IsFileGiven : {F : Type 0} → (F → Option (List ℕ)) → (F → ℕ) → F → F → List ℕ → Type 0
+IsFileGiven file_left file_reads f f' text =
+    (file_left f ≡ Some text) × (length text ≤ longest_input) × (Rose (file_reads f) (file_reads f') → ⊥)
+
+-- some tool is asked
+abbrev pub IsAsked : (Tool → Type 0) → Type 0
+IsAsked Means = (tool : Tool) × Means tool
+
+-- which tools are asked, the path and a text; and a source and a sink, by what they tell, before and after a run over what the text
+-- declares
 module _ {S K : Type 0} (left : S → Option (List ℕ)) (reads : S → ℕ) (taken : K → Option (List ℕ)) (writes : K → ℕ)
-    (words : List (List ℕ)) (path text : List ℕ) (s s' : S) (k k' : K) where
-  -- the text declares what shows no fault, and what the words ask ran over that
+    (Means : Tool → Type 0) (path text : List ℕ) (s s' : S) (k k' : K) where
+  -- the text declares what shows no fault, and a tool that is asked ran over that
   pub record RanText (ending : Ending) : Type 0 where
     pub declared : Declared
     pub declares : Declares text declared
     pub valid : AreValid declared
     pub tool : Tool
-    pub asked : AreToolWords tool words
+    pub asked : Means tool
     pub ran : RanOver left reads taken writes declared s s' k k' (reads_input tool) (texts_of tool) ending
 
   -- what was read and written of a text
@@ -40,18 +51,18 @@ module _ {S K : Type 0} (left : S → Option (List ℕ)) (reads : S → ℕ) (ta
   DidText FileFault = ⊥
   DidText FileTooLong = ⊥
 
--- the words and the path; and a file, a source and a sink, by what they tell, before and after a run
+-- which tools are asked, and the path; and a file, a source and a sink, by what they tell, before and after a run
 module _ {F S K : Type 0} (file_left : F → Option (List ℕ)) (file_reads : F → ℕ) (left : S → Option (List ℕ)) (reads : S → ℕ)
-    (taken : K → Option (List ℕ)) (writes : K → ℕ) (words : List (List ℕ)) (path : List ℕ) (f f' : F) (s s' : S) (k k' : K) where
+    (taken : K → Option (List ℕ)) (writes : K → ℕ) (Means : Tool → Type 0) (path : List ℕ) (f f' : F) (s s' : S) (k k' : K) where
   -- nothing was read beside the file, and nothing was written
   abbrev pub LeavesAll : Type 0
   LeavesAll = (s' ≡ s) × (k' ≡ k)
 
-  -- the file was read whole, and what the words ask ran over what it declares
+  -- the file was read whole, and a tool that is asked ran over what it declares
   pub record RanFile (ending : Ending) : Type 0 where
     pub text : List ℕ
     pub read : IsReadWhole file_left f f' text
-    pub ran : RanText left reads taken writes words path text s s' k k' ending
+    pub ran : RanText left reads taken writes Means path text s s' k k' ending
 
   -- the file was read whole, and the message tells why it is refused
   pub record IsRefusedFile (message : List ℕ) : Type 0 where
@@ -59,46 +70,72 @@ module _ {F S K : Type 0} (file_left : F → Option (List ℕ)) (file_reads : F 
     pub read : IsReadWhole file_left f f' text
     pub refusal : IsRefusal path text message
 
-  -- What was read and written. Where the words ask nothing, not even the file was read.
+  -- What was read and written. Where no tool is asked, not even the file was read.
   abbrev pub DidFile : FileEnding → Type 0
   DidFile (Ran ending) =
       RanFile ending
-      ⊎ (((AskSomething words → ⊥) × (ending ≡ ends.Usage) × (f' ≡ f) × LeavesAll)
-      ⊎ (AskSomething words × (ending ≡ ends.OutOfMemory) × LeavesAll))
-  DidFile (Refused message) = AskSomething words × IsRefusedFile message × LeavesAll
-  DidFile FileFault = AskSomething words × Rose (file_reads f) (file_reads f') × LeavesAll
-  DidFile FileTooLong = AskSomething words × GaveMore longest_input (file_left f) (file_left f') × LeavesAll
+      ⊎ (((IsAsked Means → ⊥) × (ending ≡ ends.Usage) × (f' ≡ f) × LeavesAll)
+      ⊎ (IsAsked Means × (ending ≡ ends.OutOfMemory) × LeavesAll))
+  DidFile (Refused message) = IsAsked Means × IsRefusedFile message × LeavesAll
+  DidFile FileFault = IsAsked Means × Rose (file_reads f) (file_reads f') × LeavesAll
+  DidFile FileTooLong = IsAsked Means × GaveMore longest_input (file_left f) (file_left f') × LeavesAll
 
-  -- the file told its text, which is within the limit, and no read of it failed
-  abbrev pub IsFileGiven : List ℕ → Type 0
-  IsFileGiven text = (file_left f ≡ Some text) × (length text ≤ longest_input) × (Rose (file_reads f) (file_reads f') → ⊥)
-
-  -- Where the file declares what shows no fault, the words ask something, memory didn't run out and nothing failed, the sink took
+  -- Where the file declares what shows no fault, a tool is asked, memory didn't run out and nothing failed, the sink took
   -- exactly a text that answers what is given over these declarations, and the ending says which.
   abbrev pub AnswersFile : FileEnding → Type 0
   AnswersFile ending =
-      (text : List ℕ) (d : Declared) (tool : Tool) → IsFileGiven text → Declares text d → AreValid d → AreToolWords tool words
+      (text : List ℕ) (d : Declared) (tool : Tool) → IsFileGiven file_left file_reads f f' text → Declares text d → AreValid d → Means tool
       → ending ≢ Ran ends.OutOfMemory → (input before : List ℕ) → IsGiven left reads taken writes d s s' k k' (reads_input tool) input
       → taken k ≡ Some before → (Rose (writes k) (writes k') → ⊥)
       → (is_rejection : Bool) × (out : List ℕ) × texts_of tool d input is_rejection out × (ending ≡ Ran (written_as is_rejection))
       × (taken k' ≡ Some (before ++ out))
 
-  -- Where the file declares nothing, or what shows a fault, the words ask something, memory didn't run out and no read of the file
+  -- Where the file declares nothing, or what shows a fault, a tool is asked, memory didn't run out and no read of the file
   -- failed, it is refused, and the message tells the first thing that is wrong.
   abbrev pub RefusesFile : FileEnding → Type 0
   RefusesFile ending =
-      (text : List ℕ) → IsFileGiven text → AskSomething words → ((d : Declared) → Declares text d → AreValid d → ⊥)
+      (text : List ℕ) → IsFileGiven file_left file_reads f f' text → IsAsked Means → ((d : Declared) → Declares text d → AreValid d → ⊥)
       → ending ≢ Ran ends.OutOfMemory
       → (message : List ℕ) × (ending ≡ Refused message) × IsRefusal path text message × LeavesAll
 
   -- It is refused only there: what it declares, if it declares anything, shows a fault.
   abbrev pub IsRefusedOnly : FileEnding → Type 0
   IsRefusedOnly ending =
-      (message text : List ℕ) (d : Declared) → ending ≡ Refused message → IsFileGiven text → Declares text d → AreValid d → ⊥
+      (message text : List ℕ) (d : Declared) → ending ≡ Refused message → IsFileGiven file_left file_reads f f' text → Declares text d → AreValid d → ⊥
 
-  -- Where the file told more bytes than the limit, the words ask something, memory didn't run out and no read of the file failed, it is
+  -- Where the file told more bytes than the limit, a tool is asked, memory didn't run out and no read of the file failed, it is
   -- too long, and nothing else was read or written.
   abbrev pub LeavesLongFile : FileEnding → Type 0
   LeavesLongFile ending =
       (text : List ℕ) → file_left f ≡ Some text → longest_input < length text → (Rose (file_reads f) (file_reads f') → ⊥)
-      → AskSomething words → ending ≢ Ran ends.OutOfMemory → (ending ≡ FileTooLong) × LeavesAll
+      → IsAsked Means → ending ≢ Ran ends.OutOfMemory → (ending ≡ FileTooLong) × LeavesAll
+
+  -- where it ran over what the file declares, that was a run over these declarations, with all that is known of one
+  pub record RunsDeclared (ending : Ending) : Type 0 where
+    pub text : List ℕ
+    pub read : IsReadWhole file_left f f' text
+    pub declared : Declared
+    pub declares : Declares text declared
+    pub valid : AreValid declared
+    pub runs : Runs left reads taken writes declared s s' k k' Means reads_input texts_of ending
+
+  -- What is known of a run over a file that ended so. Each field is a fact that follows from the first.
+  pub record RunsFile (ending : FileEnding) : Type 0 where
+    -- What was read and written, by how it ended.
+    pub did : DidFile ending
+    pub runs : (how : Ending) → ending ≡ Ran how → how ≢ ends.Usage → how ≢ ends.OutOfMemory → RunsDeclared how
+    -- Over what a file declares without a fault the words are answered, and other files are refused, and only they.
+    pub answers : AnswersFile ending
+    pub refuses : RefusesFile ending
+    pub refused_only : IsRefusedOnly ending
+    -- A file is too long exactly where it has more than the limit. Where no fault of it is told, no read of it failed. Its count of faults
+    -- never falls.
+    pub too_long : LeavesLongFile ending
+    pub file_within : ending ≢ FileTooLong → GaveAtMost longest_input (file_left f) (file_left f')
+    pub file_else_no_fault : ending ≢ FileFault → file_reads f' ≡ file_reads f
+    pub file_counted : file_reads f ≤ file_reads f'
+    -- Where no fault of the source is told, no read of it failed.
+    pub else_no_fault : ending ≢ Ran ends.ReadFault → reads s' ≡ reads s
+    -- Where no tool is asked, and only there, it is a usage error, whatever the file is.
+    pub usage : ending ≡ Ran ends.Usage → IsAsked Means → ⊥
+    pub no_words : (IsAsked Means → ⊥) → ending ≡ Ran ends.Usage

@@ -3,7 +3,6 @@ ghost use Rattle.meta_file.specs.Counts.{entries_in, laid_entries_in, check_line
 
 use meta_declared::Built;
 use meta_gen::{Tables, tables_of};
-use meta_run::{Answer, Answerer};
 use meta_settings::SettingGroup;
 use std::alloc::{AllocError, Global};
 
@@ -74,42 +73,12 @@ fn counts_of(built: &Built<'_>, tables: &Tables) -> Result<Counts, AllocError>
     })
 }
 
-/// What is said of what was built of declarations.
+/// How much of each kind there is in what was built of declarations: what `check` says of it.
 #[tactic(auto, using(crate::proofs::Counted::counted))]
-fn line_of(alloc: Global, built: &Built<'_>) -> Result<String, AllocError>
+pub(crate) fn counted(alloc: Global, built: &Built<'_>) -> Result<String, AllocError>
     ensures { IfOk result (λ line. IsCheckLine built.now.declared (string_bytes line)) }
 {
     let tables = tables_of(alloc, built)?;
     let counts = counts_of(built, &tables)?;
     counts.line(alloc)
-}
-
-/// Answers how much of each kind there is, where the declarations show no fault.
-#[derive(Clone, Copy)]
-pub(crate) struct Checker;
-
-impl Answerer for Checker {
-    ghost use Rattle.std.specs.Prelude.{false};
-    ghost use Rattle.meta_run.specs.Run.{never_rejecting};
-    ghost use Rattle.meta_file.specs.Tool.{says_counts};
-
-    ghost reads = { λ _. false };
-
-    ghost texts = { λ _. never_rejecting says_counts };
-
-    fn has_input(&self) -> bool {
-        false
-    }
-
-    fn answer(
-        &self,
-        alloc: Global,
-        built: &Built<'_>,
-        _input: &[u8],
-    ) -> Result<Answer, AllocError> {
-        Ok(Answer {
-            text: line_of(alloc, built)?,
-            is_rejection: false,
-        })
-    }
 }

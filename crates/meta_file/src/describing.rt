@@ -3,7 +3,7 @@ ghost use Rattle.meta_file.specs.Described.{undescribed_line, AreDescribed};
 
 use meta_declared::Built;
 use meta_items_described::write_description;
-use meta_run::{Answer, Answerer};
+use meta_run::Answer;
 use std::alloc::{AllocError, Global};
 
 /// The line where no file of the form describes the declarations.
@@ -17,7 +17,7 @@ fn undescribed(alloc: Global) -> Result<String, AllocError>
 }
 
 /// The declarations as the text of a file, and a rejection where there is none.
-fn described(alloc: Global, built: &Built<'_>) -> Result<Answer, AllocError>
+pub(crate) fn described(alloc: Global, built: &Built<'_>) -> Result<Answer, AllocError>
     ensures { IfOk result (λ answer. AreDescribed built.now.declared answer.is_rejection (string_bytes answer.text)) }
 {
     match write_description(alloc, built)? {
@@ -29,31 +29,5 @@ fn described(alloc: Global, built: &Built<'_>) -> Result<Answer, AllocError>
             text: undescribed(alloc)?,
             is_rejection: true,
         }),
-    }
-}
-
-/// Describes declarations.
-#[derive(Clone, Copy)]
-pub(crate) struct Describer;
-
-impl Answerer for Describer {
-    ghost use Rattle.std.specs.Prelude.{false};
-    ghost use Rattle.meta_file.specs.Described.{described};
-
-    ghost reads = { λ _. false };
-
-    ghost texts = { λ _. described };
-
-    fn has_input(&self) -> bool {
-        false
-    }
-
-    fn answer(
-        &self,
-        alloc: Global,
-        built: &Built<'_>,
-        _input: &[u8],
-    ) -> Result<Answer, AllocError> {
-        described(alloc, built)
     }
 }

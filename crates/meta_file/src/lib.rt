@@ -17,7 +17,7 @@ mod tool;
 mod tool_list;
 
 pub use file_ending::FileEnding;
-pub use file_run::run_file;
+pub use file_run::{run_file, run_tool};
 pub use laws::{
     a_text_declares_one_thing, one_check_line, one_over, one_text_of_a_version, one_tool,
 };

@@ -1,10 +1,10 @@
 ghost use Rattle.std.specs.Prelude.{◌≡◌, ◌≢◌, ◌↔◌, ◌∷◌, [], codes, IfOk, IfSome, IfNone, IsTrue, string_bytes};
 ghost use Rattle.meta_table_text.specs.declared.version.Version as spec_version;
-ghost use Rattle.meta_file.specs.TablesIn.{version_word, version_words, limits_of, unfit_line, AreShownIn};
+ghost use Rattle.meta_file.specs.TablesIn.{version_word, version_words, limits_of, unfit_line, AreShownIn, IsShownIn};
 
 use meta_declared::Built;
 use meta_gen::{Tables, tables_of};
-use meta_run::{Answer, Answerer};
+use meta_run::Answer;
 use meta_table_text::{Version, fits, table_text};
 use meta_types::Text;
 use std::alloc::{AllocError, Global};
@@ -86,7 +86,7 @@ fn unfit(alloc: Global, version: Version) -> Result<String, AllocError>
     format!(in alloc; "unfit: version {number} holds {limits}\n")
 }
 
-/// The text of the tables in the version where they fit it, and else that they don't.
+/// The text of the tables in the version where they fit it, and else, as a rejection, that they don't.
 fn shown(alloc: Global, version: Version, tables: &Tables) -> Result<Answer, AllocError>
     ensures { IfOk result (λ answer. AreShownIn version tables.now answer.is_rejection (string_bytes answer.text)) }
 {
@@ -102,31 +102,13 @@ fn shown(alloc: Global, version: Version, tables: &Tables) -> Result<Answer, All
     })
 }
 
-/// Shows the tables of declarations in a version of their text.
-#[derive(Clone, Copy)]
-pub(crate) struct InVersion {
-    pub(crate) version: Version,
-}
-
-impl Answerer for InVersion {
-    ghost use Rattle.std.specs.Prelude.{false};
-    ghost use Rattle.meta_file.specs.TablesIn.{shown_in};
-
-    ghost reads = { λ _. false };
-
-    ghost texts = { λ a. shown_in a.version };
-
-    fn has_input(&self) -> bool {
-        false
-    }
-
-    fn answer(
-        &self,
-        alloc: Global,
-        built: &Built<'_>,
-        _input: &[u8],
-    ) -> Result<Answer, AllocError> {
-        let tables = tables_of(alloc, built)?;
-        shown(alloc, self.version, &tables)
-    }
+/// The same of the tables of what was built of declarations.
+pub(crate) fn shown_in(
+    alloc: Global,
+    version: Version,
+    built: &Built<'_>,
+) -> Result<Answer, AllocError>
+    ensures { IfOk result (λ answer. IsShownIn version built.now.declared answer.is_rejection (string_bytes answer.text)) }
+{
+    shown(alloc, version, &tables_of(alloc, built)?)
 }

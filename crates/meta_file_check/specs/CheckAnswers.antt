@@ -12,7 +12,6 @@ use Rattle.meta_run.specs.declared.ending.Ending.TheVariants as ends
 use Rattle.meta_file.specs.Counts.{IsCheckLine}
 use Rattle.meta_file.specs.File.{Declares, IsRefusal}
 use Rattle.meta_file.specs.FileRun.{IsFileGiven}
-use Rattle.meta_file_check.specs.Asked.{check_words}
 use Rattle.meta_file_check.specs.Told.{AreTold}
 use Rattle.meta_file_check.specs.declared.asked.Names.{Names}
 use Rattle.meta_file_check.specs.declared.asked.Names.TheVariants.{Warn, Refuse}
@@ -52,7 +51,7 @@ module _ {F S K : Type 0} (file_left : F → Option (List ℕ)) (file_reads : F 
 
   -- the file told its text, which is within the limit, and no read of it failed
   abbrev pub IsGiven : List ℕ → Type 0
-  IsGiven text = IsFileGiven file_left file_reads left reads taken writes (check_words names) path f f' s s' k k' text
+  IsGiven text = IsFileGiven file_left file_reads f f' text
 
   -- names are to be refused, and there are some: the file is refused with these messages, and nothing was written
   pub record AreNamesRefused (messages : Vec (List ℕ)) (ending : CheckEnding) : Type 0 where

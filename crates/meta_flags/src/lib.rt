@@ -19,5 +19,5 @@ pub use flag_error::FlagError;
 pub use flag_value::FlagValue;
 pub use held::Flags;
 pub use laws::{one_flags_output, tables_serve_what_is_declared};
-pub use meta_run::Status as FlagStatus;
-pub use serving::flags;
+pub use meta_run::Ending as FlagStatus;
+pub use serving::{Service, flags};

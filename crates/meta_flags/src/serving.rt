@@ -1,23 +1,19 @@
-ghost use Rattle.std.specs.Prelude.{◌≡◌, ◌≢◌, ◌≤◌, true, false, []};
-ghost use Rattle.meta_text.specs.Outside.{Rose, longest_input, GaveMore, GaveAtMost};
-ghost use Rattle.meta_declared.specs.AllDeclared.{AreValid};
-ghost use Rattle.meta_run.specs.Ending.{WritesNothing, ending_of};
-ghost use Rattle.meta_run.specs.Run.{never_rejecting, IsWordlessRun, IsAnsweredWhole, IsRefusedWhole, IsCutShort, NeverRises, WritesOutput};
-ghost use Rattle.meta_run.specs.Run.{RefusesDeclarations, Completes};
+ghost use Rattle.std.specs.Prelude.{◌≡◌, ◌≢◌, true, []};
+ghost use Rattle.meta_run.specs.Run.{never_rejecting, IsWordlessRun, RunsWordless, WritesOutput};
 ghost use Rattle.meta_flags.specs.FlagsOutput.{IsFlagsOutput};
 
 use super::answering::answers;
 use super::held::Flags;
 use super::laws::tables_serve_what_is_declared;
 use meta_gen::{Built, Declarations, one_first_fault, tables_of};
-use meta_run::{Answer, Answerer, Ending, Status, run_answerer};
+use meta_run::{Answer, Answerer, Ending, run_answerer};
 use meta_text::{Sink, Source};
 use meta_types::Text;
 use std::alloc::{AllocError, Global};
 
-/// Answers the lines of an input by the first group of declarations.
+/// Answers the lines of an input by the first group of declarations, as `flags` does (this project's own).
 #[derive(Clone, Copy)]
-struct Service;
+pub struct Service;
 
 impl Answerer for Service {
     ghost use Rattle.std.specs.Prelude.{true};
@@ -82,44 +78,17 @@ pub fn flags<S: Source, K: Sink>(
     declarations: &Declarations,
     source: &mut S,
     sink: &mut K,
-) -> Status
-    // The lines get their answers over valid declarations, and others are refused.
+) -> Ending
+    // The lines get their answers over valid declarations.
     ensures headline { words.now ≡ [] → WritesOutput S.left S.faults K.taken K.faults declarations.now source.old
-        source.new sink.old sink.new true IsFlagsOutput (ending_of result) }
-    ensures refuses { words.now ≡ [] → RefusesDeclarations S.left S.faults K.taken K.faults declarations.now
-        source.old source.new sink.old sink.new (ending_of result) }
-    ensures complete { words.now ≡ [] → Completes S.left S.faults K.taken K.faults declarations.now source.old
-        source.new sink.old sink.new true (ending_of result) }
+        source.new sink.old sink.new true IsFlagsOutput result }
 
-    // It is a usage error exactly where there are words, and then nothing was read or written.
-    ensures usage { result ≡ Status.Usage → words.now ≢ [] }
-    ensures some_words { words.now ≢ [] → result ≡ Status.Usage }
-
-    ensures done { result ≡ Status.Done
-        → IsAnsweredWhole S.left S.faults K.taken K.faults declarations.now source.old source.new sink.old sink.new
-        true (never_rejecting IsFlagsOutput) false }
-    ensures refused { result ≡ Status.Refused → IsRefusedWhole declarations.now (K.taken sink.old) (K.taken sink.new) }
-    ensures read_fault { result ≡ Status.ReadFault → AreValid declarations.now × Rose (S.faults source.old) (S.faults source.new) }
-    ensures write_fault { result ≡ Status.WriteFault → Rose (K.faults sink.old) (K.faults sink.new) }
-    ensures written_in_part { result ≡ Status.WriteFault
-        → IsCutShort S.left S.faults K.taken K.faults declarations.now source.old source.new sink.old sink.new true
-        (never_rejecting IsFlagsOutput) }
-    ensures too_long { result ≡ Status.TooLong → AreValid declarations.now
-        × GaveMore longest_input (S.left source.old) (S.left source.new) }
-    ensures else_within { result ≢ Status.TooLong → GaveAtMost longest_input (S.left source.old) (S.left source.new) }
-    ensures else_no_fault { result ≢ Status.ReadFault → S.faults source.new ≡ S.faults source.old }
-
-    ensures untouched { WritesNothing (ending_of result) → sink.new ≡ sink.old }
-    ensures usage_unread { result ≡ Status.Usage → source.new ≡ source.old }
-    ensures refused_unread { result ≡ Status.Refused → source.new ≡ source.old }
-    ensures read_counted { S.faults source.old ≤ S.faults source.new }
-    ensures write_counted { K.faults sink.old ≤ K.faults sink.new }
-
-    // A source that never fails is never said to, and neither is such a sink.
-    ensures unfailing_source { NeverRises S.faults → result ≢ Status.ReadFault }
-    ensures unfailing_sink { NeverRises K.faults → result ≢ Status.WriteFault }
+    // What was read and written, by how it ended, and what is done where nothing fails: each field is a fact of the call. It rejects
+    // nothing.
+    ensures runs { RunsWordless S.left S.faults K.taken K.faults declarations.now source.old source.new sink.old sink.new
+        words.now (never_rejecting IsFlagsOutput) result }
+    ensures never_rejected { result ≢ Ending.Rejected }
 {
     one_first_fault();
-    let ending = run_words(alloc, words, declarations, source, sink);
-    Status::of(ending)
+    run_words(alloc, words, declarations, source, sink)
 }

@@ -22,11 +22,6 @@ module _ {S K : Type 0} {left : S → Option (List ℕ)} {reads : S → ℕ} {ta
     → ℕ} {d : Declared} {s s' : S} {k k' : K} {words : List (List ℕ)} {ending : Ending}
     (run : IsRun left reads taken writes d s s' k k' (λ (command : Command). AreWordsOf command words) has_input
     (λ command. never_rejecting (IsOutputOf command)) ending) where
-  -- a command that writes a text reads nothing
-  pub text_unread : (command : Command) → WritesText command → AreWordsOf command words → s' ≡ s
-  text_unread command text is =
-      lemma.unread run (λ c other. is_false (has_input c) (λ h. text (subst HasInput (one_command c command other is) h)))
-
   module _ (no_fault : (e : DefinitionError) → AreValid d → ShowsFirst d e → ⊥) where
     written : (command : Command) → AreWordsOf command words
         → WritesOutput left reads taken writes d s s' k k' (has_input command) (IsOutputOf command) ending

@@ -1,7 +1,6 @@
--- What a command answers, and what its run wrote of that.
+-- What a command answers.
 --     IsOutputOf command d input output      the output of a command over declarations
---     IsOutputWhole, IsOutputCutShort        the sink took it whole, or a part of what was to be written
-use Rattle.std.specs.Prelude.{◌≡◌, ℕ, Bool, true, false, List, [], map, Option}
+use Rattle.std.specs.Prelude.{◌≡◌, ℕ, Bool, true, false, List, [], map}
 use Rattle.meta_declared.specs.AllDeclared.{Declared}
 use Rattle.meta_gen.specs.WholeTables.{WholeTables, AreWholeTablesOf}
 use Rattle.meta_table_text.specs.TableText.{table_text}
@@ -13,8 +12,7 @@ use Rattle.meta_builder_text.specs.BuilderText.{builder_text}
 use Rattle.meta_rust_text.specs.TypesText.{types_text}
 use Rattle.meta_rust_text.specs.InstructionsText.{instructions_text}
 use Rattle.meta_answers.specs.Answer.{IsOutput}
-use Rattle.meta_run.specs.Run.{Outputs, never_rejecting, IsAnsweredWhole, IsCutShort}
-use Rattle.meta_query.specs.Command.{AreWordsOf}
+use Rattle.meta_run.specs.Run.{Outputs}
 use Rattle.meta_query.specs.declared.command.Command.{Command}
 use Rattle.meta_query.specs.declared.command.Command.TheVariants.{Query, Recheck, Tables, Types, Settings, Instructions, Builder, Synth}
 use Rattle.meta_query.specs.Recheck.{IsRecheckOf}
@@ -60,23 +58,3 @@ HasInput command = has_input command ≡ true
 -- the command writes a text, and has no input
 abbrev pub WritesText : Command → Type 0
 WritesText command = HasInput command → ⊥
-
--- the words are a command that has an input
-abbrev pub IsReading : List (List ℕ) → Type 0
-IsReading words = (command : Command) × AreWordsOf command words × HasInput command
-
--- a source and a sink, by what they tell, before and after a run over declarations
-module _ {S K : Type 0} (left : S → Option (List ℕ)) (reads : S → ℕ) (taken : K → Option (List ℕ)) (writes : K → ℕ)
-    (d : Declared) (s s' : S) (k k' : K) where
-  -- The words are a command. Its input was read whole, and the sink took its output whole: what it answers as the declarations,
-  -- which are valid, mean.
-  abbrev pub IsOutputWhole : List (List ℕ) → Type 0
-  IsOutputWhole words =
-      (command : Command) × AreWordsOf command words
-      × IsAnsweredWhole left reads taken writes d s s' k k' (has_input command) (never_rejecting (IsOutputOf command)) false
-
-  -- the words are a command, and the sink took a part of what was to be written, and not all
-  abbrev pub IsOutputCutShort : List (List ℕ) → Type 0
-  IsOutputCutShort words =
-      (command : Command) × AreWordsOf command words
-      × IsCutShort left reads taken writes d s s' k k' (has_input command) (never_rejecting (IsOutputOf command))

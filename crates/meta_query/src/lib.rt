@@ -19,6 +19,6 @@ pub use meta_answers::{
     Inference, Lines, Query, Question, Reply, answer_line, asks_one_query, asks_one_question,
     one_output, push_answers,
 };
-pub use meta_run::Status;
+pub use meta_run::Ending as Status;
 pub use meta_synth::synth;
 pub use running::run;

@@ -4,12 +4,11 @@ use Rattle.std.specs.Prelude.{⊤}
 use Rattle.meta_types.specs.declared.fault.DefinitionError.{DefinitionError}
 use Rattle.meta_text.specs.Outside.{Rose, longest_input, GaveMore, GaveAtMost}
 use Rattle.meta_declared.specs.AllDeclared.{Declared, ShowsFirst, AreValid}
-use Rattle.meta_run.specs.Ending.{WritesNothing, ending_of, written_as}
+use Rattle.meta_run.specs.Ending.{WritesNothing, written_as}
 use Rattle.meta_run.specs.declared.ending.Ending.{Ending}
 use Rattle.meta_run.specs.declared.ending.Ending.TheVariants.{Done, Refused, Usage, ReadFault, WriteFault, OutOfMemory, TooLong, Rejected}
-use Rattle.meta_run.specs.declared.status.Status.{Status}
 use Rattle.meta_run.specs.Run.{Texts, Outputs, never_rejecting, NeverRises, IsAnsweredWhole, IsRefusedWhole, IsCutShort, Did, Ran, IsRun}
-use Rattle.meta_run.specs.Run.{AnswersInput, WritesOutput, RefusesDeclarations, Completes}
+use Rattle.meta_run.specs.Run.{AnswersInput, WritesOutput, RefusesDeclarations, Completes, Runs}
 use Rattle.meta_run.proofs.Runs as lemma
 
 -- where there are no words, there is one way to mean that
@@ -21,11 +20,6 @@ module _ {S K W : Type 0} {left : S → Option (List ℕ)} {reads : S → ℕ} {
     → Texts} {ending : Ending} (run : IsRun left reads taken writes d s s' k k' Means has_input texts ending) where
   abbrev DidBy : W → Ending → Type 0
   DidBy w other = Did left reads taken writes d s s' k k' (has_input w) (texts w) other
-
-  -- the run as that of a status
-  pub by_status : (status : Status) → ending_of status ≡ ending
-      → IsRun left reads taken writes d s s' k k' Means has_input texts (ending_of status)
-  by_status status is = subst (λ e. IsRun left reads taken writes d s s' k k' Means has_input texts e) (sym is) run
 
   -- what follows from either
   known : {X : Type 0} → ((w : W) → Means w → Ran left reads taken writes d s s' k k' (has_input w) (texts w) ending → X)
@@ -127,6 +121,37 @@ module _ {S K W : Type 0} {left : S → Option (List ℕ)} {reads : S → ℕ} {
 
     pub complete : Completes left reads taken writes d s s' k k' (has_input w) ending
     complete = lemma.complete left reads taken writes d s s' k k' (texts w) (has_input w) no_fault ending own
+
+  -- ---- all of it
+
+  pub runs : ((v w : W) → Means v → Means w → v ≡ w) → ((e : DefinitionError) → AreValid d → ShowsFirst d e → ⊥)
+      → ((e f : DefinitionError) → ShowsFirst d e → ShowsFirst d f → e ≡ f)
+      → Runs left reads taken writes d s s' k k' Means has_input texts ending
+  runs one no_fault one_fault = record {
+    run = run;
+    answers = λ w means. answers one no_fault w means;
+    refuses = λ w means. refuses one no_fault w means one_fault;
+    complete = λ w means. complete one no_fault w means;
+    usage = usage;
+    no_words = no_words;
+    done = done;
+    rejected = rejected;
+    refused = refused;
+    read_fault = read_fault;
+    else_no_fault = else_no_fault;
+    write_fault = write_fault;
+    written_in_part = written_in_part;
+    too_long = too_long;
+    else_within = else_within;
+    untouched = untouched;
+    usage_unread = usage_unread;
+    refused_unread = refused_unread;
+    unread = λ w means none. unread (λ v other. subst (λ x. has_input x ≡ false) (one w v means other) none);
+    read_counted = read_counted;
+    write_counted = write_counted;
+    unfailing_source = unfailing_source;
+    unfailing_sink = unfailing_sink;
+  }
 
 -- a program that rejects nothing is done where it answers
 module _ {S K W : Type 0} {left : S → Option (List ℕ)} {reads : S → ℕ} {taken : K → Option (List ℕ)} {writes : K

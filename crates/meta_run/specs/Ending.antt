@@ -2,8 +2,6 @@
 use Rattle.std.specs.Prelude.{◌≡◌, ◌⊎◌, ℕ, Bool, true, false}
 use Rattle.meta_run.specs.declared.ending.Ending.{Ending}
 use Rattle.meta_run.specs.declared.ending.Ending.TheVariants.{Done, Refused, Usage, ReadFault, WriteFault, OutOfMemory, TooLong, Rejected}
-use Rattle.meta_run.specs.declared.status.Status.{Status}
-use Rattle.meta_run.specs.declared.status.Status.TheVariants as status
 
 -- the exit status of the process
 abbrev pub code_of : Ending → ℕ
@@ -24,13 +22,3 @@ WritesNothing ending = (ending ≡ Usage) ⊎ ((ending ≡ ReadFault) ⊎ ((endi
 abbrev pub written_as : Bool → Ending
 written_as false = Done
 written_as true = Rejected
-
--- the ending that a status stands for, in a program that rejects nothing
-abbrev pub ending_of : Status → Ending
-ending_of status.Done = Done
-ending_of status.Refused = Refused
-ending_of status.Usage = Usage
-ending_of status.ReadFault = ReadFault
-ending_of status.WriteFault = WriteFault
-ending_of status.OutOfMemory = OutOfMemory
-ending_of status.TooLong = TooLong

@@ -3,6 +3,7 @@
 --     Ran .. ending          that, and what is so of each run
 --     IsRun Means .. ending  the same of a program with words, and IsWordlessRun of one without
 --     AnswersInput, WritesOutput, RefusesDeclarations, Completes      what a run does where nothing fails
+--     Runs Means .. ending   all of this, each fact by its name, of a program with words, and RunsWordless of one without
 use Rattle.std.specs.Prelude.{◌≡◌, ◌≢◌, ℕ, ◌≤◌, ◌⊎◌, ⊤, Bool, true, false, List, [], ◌∷◌, ◌++◌, length, codes, Option, Some}
 use Rattle.meta_types.specs.Fault.{line_of}
 use Rattle.meta_types.specs.declared.fault.DefinitionError.{DefinitionError}
@@ -11,7 +12,7 @@ use Rattle.meta_text.specs.Outside.{Rose, with_front, with_more, NothingLeft, lo
 use Rattle.meta_declared.specs.AllDeclared.{Declared, ShowsFirst, AreValid}
 use Rattle.meta_run.specs.declared.ending.Ending.{Ending}
 use Rattle.meta_run.specs.declared.ending.Ending.TheVariants.{Done, Refused, Usage, ReadFault, WriteFault, OutOfMemory, TooLong, Rejected}
-use Rattle.meta_run.specs.Ending.{written_as}
+use Rattle.meta_run.specs.Ending.{WritesNothing, written_as}
 
 -- what is written where declarations are refused: `refused: `, the fault and LF
 abbrev pub refusal : DefinitionError → List ℕ
@@ -172,3 +173,46 @@ module _ {S K : Type 0} (left : S → Option (List ℕ)) (reads : S → ℕ) (ta
       AreValid d → (Rose (reads s) (reads s') → ⊥) → (Rose (writes k) (writes k') → ⊥)
       → ((is_rejection : Bool) × (ending ≡ written_as is_rejection))
       ⊎ ((ending ≡ OutOfMemory) ⊎ ((ending ≡ TooLong) × (has_input ≡ true) × GaveMore longest_input (left s) (left s')))
+
+  -- ---- a program
+
+  -- A program whose words mean one of W, with an input where the mark is true of what they mean, ran, and ended so. Each field is a fact
+  -- that follows from the first.
+  pub record Runs {W : Type 0} (Means : W → Type 0) (has_input : W → Bool) (texts : W → Texts) (ending : Ending) : Type 0 where
+    -- What was read and written, by how it ended.
+    pub run : IsRun Means has_input texts ending
+    -- Over valid declarations what the words ask is answered, and others are refused.
+    pub answers : (w : W) → Means w → AnswersInput (has_input w) (texts w) ending
+    pub refuses : (w : W) → Means w → RefusesDeclarations ending
+    pub complete : (w : W) → Means w → Completes (has_input w) ending
+    -- The words decide whether it is a usage error.
+    pub usage : ending ≡ Usage → (w : W) → Means w → ⊥
+    pub no_words : ((w : W) → Means w → ⊥) → ending ≡ Usage
+    -- The words mean something at each other ending. The answer or the rejection was written whole, or the line that refuses.
+    pub done : ending ≡ Done → (w : W) × Means w × IsAnsweredWhole (has_input w) (texts w) false
+    pub rejected : ending ≡ Rejected → (w : W) × Means w × IsAnsweredWhole (has_input w) (texts w) true
+    pub refused : ending ≡ Refused → (w : W) × Means w × IsRefusedWhole d (taken k) (taken k')
+    -- A fault is told only where a read or a write failed, and an input is too long only where more than the limit was given. Where that
+    -- isn't told, no read failed, and no more was given.
+    pub read_fault : ending ≡ ReadFault → (w : W) × Means w × (has_input w ≡ true) × AreValid d × Rose (reads s) (reads s')
+    pub else_no_fault : ending ≢ ReadFault → reads s' ≡ reads s
+    pub write_fault : ending ≡ WriteFault → (w : W) × Means w × Rose (writes k) (writes k')
+    pub written_in_part : ending ≡ WriteFault → (w : W) × Means w × IsCutShort (has_input w) (texts w)
+    pub too_long : ending ≡ TooLong
+        → (w : W) × Means w × (has_input w ≡ true) × AreValid d × GaveMore longest_input (left s) (left s')
+    pub else_within : ending ≢ TooLong → GaveAtMost longest_input (left s) (left s')
+    -- What is as it was: the sink where nothing was written; the source after a usage error, where the declarations are refused, and for
+    -- words that have no input. No count falls.
+    pub untouched : WritesNothing ending → k' ≡ k
+    pub usage_unread : ending ≡ Usage → s' ≡ s
+    pub refused_unread : ending ≡ Refused → s' ≡ s
+    pub unread : (w : W) → Means w → has_input w ≡ false → s' ≡ s
+    pub read_counted : reads s ≤ reads s'
+    pub write_counted : writes k ≤ writes k'
+    -- A source that never fails is never said to, and neither is such a sink.
+    pub unfailing_source : NeverRises reads → ending ≢ ReadFault
+    pub unfailing_sink : NeverRises writes → ending ≢ WriteFault
+
+  -- The same of a program without words, which has an input.
+  abbrev pub RunsWordless : List (List ℕ) → Texts → Ending → Type 0
+  RunsWordless words texts ending = Runs (λ (_ : ⊤). words ≡ []) (λ _. true) (λ _. texts) ending

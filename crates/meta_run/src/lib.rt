@@ -25,28 +25,27 @@
 //!     source: &mut S,
 //!     sink: &mut K,
 //! ) -> Ending
-//!     ensures run { IsWordlessRun S.left S.faults K.taken K.faults declarations.now source.old source.new sink.old sink.new
-//!         words.now IsVerdict result }
+//!     ensures runs { RunsWordless S.left S.faults K.taken K.faults declarations.now source.old source.new sink.old sink.new
+//!         words.now verdicts result }
 //! {
-//!     if !words.is_empty() {
-//!         return Ending::Usage;
+//!     one_first_fault();
+//!     match words {
+//!         [] => run_answerer(alloc, &Verifier, declarations, source, sink),
+//!         _ => Ending::Usage,
 //!     }
-//!     run_answerer(alloc, &Verifier, declarations, source, sink)
 //! }
 //! ```
 //!
-//! A program with words has `IsRun` instead, over what its words mean. One that rejects nothing has the texts `never_rejecting` of its
-//! outputs. Then clause `rejected` says that the ending isn't `Rejected`, and `Status::of` makes a `Status` of it. What is known of each
-//! ending follows from the run by the lemmas of `proofs/Programs`, one for each clause of such a call.
+//! A program with words has `Runs` instead, over what its words mean. Each field of `Runs` is a fact of the call: what was read and
+//! written by how it ended, and what it does where nothing fails. One that rejects nothing has the texts `never_rejecting` of its
+//! outputs. Where a call has the run itself, `IsRun`, the lemma `runs` of `proofs/Programs` gives all fields.
 #![tactic(auto)]
 
 mod answerer;
 mod ending;
 mod refusing;
 mod running;
-mod status;
 
 pub use answerer::{Answer, Answerer};
 pub use ending::Ending;
 pub use running::run_answerer;
-pub use status::Status;

@@ -24,4 +24,4 @@ pub use meta_run::Ending as VerifyStatus;
 pub use reason::Reason;
 pub use statement::{Application, Statement, TypedNumber};
 pub use verdict::wrong_line;
-pub use verifier::verify;
+pub use verifier::{Verifier, verify};

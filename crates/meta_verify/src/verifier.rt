@@ -1,9 +1,4 @@
-ghost use Rattle.std.specs.Prelude.{◌≡◌, ◌≢◌, ◌≤◌, ◌↔◌, [], true, false};
-ghost use Rattle.meta_text.specs.Outside.{Rose, longest_input, GaveMore, GaveAtMost};
-ghost use Rattle.meta_declared.specs.AllDeclared.{AreValid};
-ghost use Rattle.meta_run.specs.Ending.{WritesNothing};
-ghost use Rattle.meta_run.specs.Run.{IsWordlessRun, IsAnsweredWhole, IsRefusedWhole, IsCutShort, NeverRises, RefusesDeclarations};
-ghost use Rattle.meta_run.specs.Run.{Completes};
+ghost use Rattle.meta_run.specs.Run.{IsWordlessRun, RunsWordless};
 ghost use Rattle.meta_verify.specs.Verifier.{verdicts, ChecksLines};
 
 use super::laws::verdicts_mean;
@@ -15,9 +10,9 @@ use meta_text::{Sink, Source};
 use meta_types::Text;
 use std::alloc::{AllocError, Global};
 
-/// Answers an input by what is said of its lines.
+/// Answers an input by what is said of its lines, as `verify` does (this project's own).
 #[derive(Clone, Copy)]
-struct Verifier;
+pub struct Verifier;
 
 impl Answerer for Verifier {
     ghost use Rattle.std.specs.Prelude.{true};
@@ -60,7 +55,7 @@ fn check<S: Source, K: Sink>(
 /// `line N: REASON` of the first wrong one, whose number N counts from 1. There are no words.
 ///
 /// The order is: the words; the declarations, which are refused by the first fault that they show; the whole input; what is said of it,
-/// in memory; the writes. `VerifyStatus` says how it ended, and `OutOfMemory` may come in any case but `Usage`.
+/// in memory; the writes. The ending says how it went, and `OutOfMemory` may come in any case but `Usage`.
 pub fn verify<S: Source, K: Sink>(
     alloc: Global,
     words: &[Text],
@@ -68,41 +63,13 @@ pub fn verify<S: Source, K: Sink>(
     source: &mut S,
     sink: &mut K,
 ) -> Ending
-    // Over valid declarations `ok` is said exactly where no line is wrong, and else which is the first wrong one, and why; others are
-    // refused.
+    // Over valid declarations `ok` is said exactly where no line is wrong, and else which is the first wrong one, and why.
     ensures headline { ChecksLines S.left S.faults K.taken K.faults declarations.now source.old source.new sink.old
         sink.new words.now result }
-    ensures refuses { words.now ≡ [] → RefusesDeclarations S.left S.faults K.taken K.faults declarations.now
-        source.old source.new sink.old sink.new result }
-    ensures complete { words.now ≡ [] → Completes S.left S.faults K.taken K.faults declarations.now source.old
-        source.new sink.old sink.new true result }
 
-    // The words decide whether it is a usage error, and then nothing was read or written.
-    ensures usage { (result ≡ Ending.Usage) ↔ (words.now ≢ []) }
-
-    ensures done { result ≡ Ending.Done
-        → IsAnsweredWhole S.left S.faults K.taken K.faults declarations.now source.old source.new sink.old sink.new true verdicts false }
-    ensures rejected { result ≡ Ending.Rejected
-        → IsAnsweredWhole S.left S.faults K.taken K.faults declarations.now source.old source.new sink.old sink.new true verdicts true }
-    ensures refused { result ≡ Ending.Refused → IsRefusedWhole declarations.now (K.taken sink.old) (K.taken sink.new) }
-    ensures read_fault { result ≡ Ending.ReadFault → AreValid declarations.now × Rose (S.faults source.old) (S.faults source.new) }
-    ensures write_fault { result ≡ Ending.WriteFault → Rose (K.faults sink.old) (K.faults sink.new) }
-    ensures written_in_part { result ≡ Ending.WriteFault
-        → IsCutShort S.left S.faults K.taken K.faults declarations.now source.old source.new sink.old sink.new true verdicts }
-    ensures too_long { result ≡ Ending.TooLong → AreValid declarations.now
-        × GaveMore longest_input (S.left source.old) (S.left source.new) }
-    ensures else_within { result ≢ Ending.TooLong → GaveAtMost longest_input (S.left source.old) (S.left source.new) }
-    ensures else_no_fault { result ≢ Ending.ReadFault → S.faults source.new ≡ S.faults source.old }
-
-    ensures untouched { WritesNothing result → sink.new ≡ sink.old }
-    ensures usage_unread { result ≡ Ending.Usage → source.new ≡ source.old }
-    ensures refused_unread { result ≡ Ending.Refused → source.new ≡ source.old }
-    ensures read_counted { S.faults source.old ≤ S.faults source.new }
-    ensures write_counted { K.faults sink.old ≤ K.faults sink.new }
-
-    // A source that never fails is never said to, and neither is such a sink.
-    ensures unfailing_source { NeverRises S.faults → result ≢ Ending.ReadFault }
-    ensures unfailing_sink { NeverRises K.faults → result ≢ Ending.WriteFault }
+    // What was read and written, by how it ended, and what is done where nothing fails: each field is a fact of the call.
+    ensures runs { RunsWordless S.left S.faults K.taken K.faults declarations.now source.old source.new sink.old sink.new
+        words.now verdicts result }
 {
     one_first_fault();
     check(alloc, words, declarations, source, sink)

@@ -81,7 +81,7 @@ impl Program for Shared {
         sink: &mut K,
     ) -> Ending {
         match define(alloc) {
-            Ok(declarations) => run(alloc, words, &declarations, source, sink).ending(),
+            Ok(declarations) => run(alloc, words, &declarations, source, sink),
             Err(_) => Ending::OutOfMemory,
         }
     }

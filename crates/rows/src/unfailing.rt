@@ -1,5 +1,5 @@
 ghost use Rattle.std.specs.Prelude.{◌≢◌};
-ghost use Rattle.meta_run.specs.declared.status.Status.{Status};
+ghost use Rattle.meta_run.specs.declared.ending.Ending.{Ending as Status};
 
 use meta_declared::Declarations;
 use meta_query::{Status, run};

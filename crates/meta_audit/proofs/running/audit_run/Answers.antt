@@ -1,82 +1,12 @@
-use Rattle.std.proofs.Common.{ap}
-use Rattle.meta_run.specs.Ending.{ending_of}
-use Rattle.meta_run.specs.declared.status.Status.TheVariants.{Usage, ReadFault, TooLong}
 use Rattle.meta_run.proofs.Programs as lemma
-use Rattle.meta_run.proofs.Statuses.{status_is}
 use Rattle.meta_audit.specs.AuditLine.{IsAuditLine}
 use Rattle.meta_audit.proofs.running.audit_run.Goals as goal
 
-pub of-requires : goal.of-requires
-of-requires g c = lemma.never_rejects c.run_words-ending.ensures (λ w input text h. h)
-
 pub returns-clause-headline : goal.returns-clause-headline
-returns-clause-headline g c none =
-    lemma.output (λ w. IsAuditLine) (lemma.by_status c.run_words-ending.ensures _ c.of.ensures) lemma.no_other
-    (c.one_first_fault.ensures.valid _) tt none
+returns-clause-headline g c none = lemma.output (λ w. IsAuditLine) c.run_words.ensures lemma.no_other (c.one_first_fault.ensures.valid _) tt none
 
-pub returns-clause-refuses : goal.returns-clause-refuses
-returns-clause-refuses g c none = lemma.refuses (lemma.by_status c.run_words-ending.ensures _ c.of.ensures) lemma.no_other
-    (c.one_first_fault.ensures.valid _) tt none (c.one_first_fault.ensures.same _)
+pub returns-clause-runs : goal.returns-clause-runs
+returns-clause-runs g c = lemma.runs c.run_words.ensures lemma.no_other (c.one_first_fault.ensures.valid _) (c.one_first_fault.ensures.same _)
 
-pub returns-clause-complete : goal.returns-clause-complete
-returns-clause-complete g c none =
-    lemma.complete (lemma.by_status c.run_words-ending.ensures _ c.of.ensures) lemma.no_other (c.one_first_fault.ensures.valid _) tt none
-
-pub returns-clause-usage : goal.returns-clause-usage
-returns-clause-usage g c e none = lemma.usage (lemma.by_status c.run_words-ending.ensures _ c.of.ensures) (ap ending_of e) tt none
-
-pub returns-clause-some_words : goal.returns-clause-some_words
-returns-clause-some_words g c some =
-    status_is _ Usage (lemma.no_words (lemma.by_status c.run_words-ending.ensures _ c.of.ensures) (λ w none. some none))
-
-pub returns-clause-done : goal.returns-clause-done
-returns-clause-done g c e = (lemma.done (lemma.by_status c.run_words-ending.ensures _ c.of.ensures) (ap ending_of e)).2
-
-pub returns-clause-refused : goal.returns-clause-refused
-returns-clause-refused g c e = (lemma.refused (lemma.by_status c.run_words-ending.ensures _ c.of.ensures) (ap ending_of e)).2
-
-pub returns-clause-read_fault : goal.returns-clause-read_fault
-returns-clause-read_fault g c e = let (w, means, has, valid, rose) =
-    lemma.read_fault (lemma.by_status c.run_words-ending.ensures _ c.of.ensures) (ap ending_of e) in (valid, rose)
-
-pub returns-clause-write_fault : goal.returns-clause-write_fault
-returns-clause-write_fault g c e = (lemma.write_fault (lemma.by_status c.run_words-ending.ensures _ c.of.ensures) (ap ending_of e)).2
-
-pub returns-clause-written_in_part : goal.returns-clause-written_in_part
-returns-clause-written_in_part g c e =
-    (lemma.written_in_part (lemma.by_status c.run_words-ending.ensures _ c.of.ensures) (ap ending_of e)).2
-
-pub returns-clause-too_long : goal.returns-clause-too_long
-returns-clause-too_long g c e = let (w, means, has, valid, more) =
-    lemma.too_long (lemma.by_status c.run_words-ending.ensures _ c.of.ensures) (ap ending_of e) in (valid, more)
-
-pub returns-clause-else_within : goal.returns-clause-else_within
-returns-clause-else_within g c other =
-    lemma.else_within (lemma.by_status c.run_words-ending.ensures _ c.of.ensures) (λ e. other (status_is _ TooLong e))
-
-pub returns-clause-else_no_fault : goal.returns-clause-else_no_fault
-returns-clause-else_no_fault g c other = lemma.else_no_fault (lemma.by_status c.run_words-ending.ensures _ c.of.ensures)
-    (λ e. other (status_is _ ReadFault e))
-
-pub returns-clause-untouched : goal.returns-clause-untouched
-returns-clause-untouched g c = lemma.untouched (lemma.by_status c.run_words-ending.ensures _ c.of.ensures)
-
-pub returns-clause-usage_unread : goal.returns-clause-usage_unread
-returns-clause-usage_unread g c e = lemma.usage_unread (lemma.by_status c.run_words-ending.ensures _ c.of.ensures) (ap ending_of e)
-
-pub returns-clause-refused_unread : goal.returns-clause-refused_unread
-returns-clause-refused_unread g c e = lemma.refused_unread (lemma.by_status c.run_words-ending.ensures _ c.of.ensures) (ap ending_of e)
-
-pub returns-clause-read_counted : goal.returns-clause-read_counted
-returns-clause-read_counted g c = lemma.read_counted c.run_words-ending.ensures
-
-pub returns-clause-write_counted : goal.returns-clause-write_counted
-returns-clause-write_counted g c = lemma.write_counted c.run_words-ending.ensures
-
-pub returns-clause-unfailing_source : goal.returns-clause-unfailing_source
-returns-clause-unfailing_source g c never e =
-    lemma.unfailing_source (lemma.by_status c.run_words-ending.ensures _ c.of.ensures) never (ap ending_of e)
-
-pub returns-clause-unfailing_sink : goal.returns-clause-unfailing_sink
-returns-clause-unfailing_sink g c never e =
-    lemma.unfailing_sink (lemma.by_status c.run_words-ending.ensures _ c.of.ensures) never (ap ending_of e)
+pub returns-clause-never_rejected : goal.returns-clause-never_rejected
+returns-clause-never_rejected g c = lemma.never_rejects c.run_words.ensures (λ w input text h. h)

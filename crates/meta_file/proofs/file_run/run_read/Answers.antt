@@ -1,10 +1,11 @@
+use Rattle.std.proofs.Common.{refl}
 use Rattle.meta_file.proofs.FileRuns.{did_read}
 use Rattle.meta_file.proofs.file_run.run_read.Goals as goal
 
 pub returns-in-Ok-clause-did : goal.returns-in-Ok-clause-did
 returns-in-Ok-clause-did g c =
     did_read g.F.Source.left g.F.Source.faults g.S.Source.left g.S.Source.faults g.K.Sink.taken g.K.Sink.faults
-    _ _ _ _ _ _ _ _ _ c.requires _ c.deref.ensures.value (record {
+    _ _ _ _ _ _ _ _ _ (c.args.tool, refl) _ c.deref.ensures.value (record {
       read = c.in-Ok.ensures.ok;
       end = c.in-Ok.ensures.end;
       within = c.in-Ok.ensures.within;
