@@ -15,7 +15,7 @@ sink_of writer = writer.sink.now
 abbrev pub sink_name : {K : Type 0} → LineWriter K → GName
 sink_name writer = writer.sink.ghost_name
 
--- how many levels the next line stands in
+-- the level of the next line
 abbrev pub level_of : {K : Type 0} → LineWriter K → ℕ
 level_of writer = writer.level
 
@@ -23,7 +23,7 @@ level_of writer = writer.level
 abbrev pub without_blanks : List ℕ → List ℕ
 without_blanks bytes = take (length bytes - suffix_len (λ byte. byte == 32) bytes) bytes
 
--- a field behind a comma
+-- a comma and a space, and then the field
 abbrev pub behind_comma : List ℕ → List ℕ
 behind_comma field = codes ", " ++ field
 
