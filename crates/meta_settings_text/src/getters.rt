@@ -16,7 +16,7 @@ $predicate$$getters$}
 
 const GETTERS_HOLES: [&str; 2] = ["predicate", "getters"];
 
-/// The getter of booleans by their numbers, where this is the byte of the first.
+/// The getter of booleans by their numbers. It has the byte of the first boolean.
 const PREDICATE: &str = "    /// Dynamic numbered predicate getter.
     fn numbered_predicate(&self, p: usize) -> bool {
         self.bytes[$start$ + p / 8] & (1 << (p % 8)) != 0
@@ -123,7 +123,6 @@ fn push_getter(alloc: Global, out: &mut String, setting: &Setting) -> Result<(),
     }
 }
 
-/// The getters of the settings.
 fn each_getter(alloc: Global, settings: &[Setting]) -> Result<String, AllocError>
     ensures { IfOk result (λ getters. string_bytes getters ≡ flat_map getter_text settings.now) }
 {
@@ -134,7 +133,7 @@ fn each_getter(alloc: Global, settings: &[Setting]) -> Result<String, AllocError
     Ok(getters)
 }
 
-/// The getter of booleans by their numbers, where the group has a setting.
+/// The getter of booleans by their numbers, and no text if the group has no setting.
 #[tactic(auto, using(crate::proofs::Templates::predicate_same))]
 fn predicate(alloc: Global, group: &SettingGroup) -> Result<String, AllocError>
     ensures { IfOk result (λ text. string_bytes text ≡ predicate_of group.now.bool_start_byte_offset group.now.settings) }
