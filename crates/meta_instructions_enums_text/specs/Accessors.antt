@@ -51,7 +51,7 @@ mark_doc CanTrap = codes "Can this instruction cause a trap?"
 mark_doc OtherSideEffects = codes "Does this instruction have other side effects besides can_* flags?"
 mark_doc SideEffectsIdempotent = codes "Despite having side effects, is this instruction okay to GVN?"
 
--- the arm of an instruction, where it has the mark
+-- the arm of an instruction, if it has the mark
 unfoldable pub mark_arm : Mark → BuiltInstruction → List ℕ
 mark_arm mark c = if has_mark mark c.marks then text_of (at 3 (codes "Self::" ∷ c.camel_name ∷ codes " => true," ∷ []) ∷ []) else []
 
