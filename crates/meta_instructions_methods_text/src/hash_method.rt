@@ -21,7 +21,7 @@ const HASH_ARM_HOLES: [&str; 3] = ["name", "pattern", "members"];
 /// A member is hashed.
 const HASHED: &str = "                ::core::hash::Hash::hash(&$member$, state);\n";
 
-/// The count of the values is hashed, and each of them.
+/// The count of the values is hashed, and then each of them.
 const EACH_VALUE: &str = "                ::core::hash::Hash::hash(&$count$, state);
                 for &arg in $args$ {
                     ::core::hash::Hash::hash(&arg, state);
@@ -30,7 +30,7 @@ const EACH_VALUE: &str = "                ::core::hash::Hash::hash(&$count$, sta
 
 const EACH_VALUE_HOLES: [&str; 2] = ["count", "args"];
 
-/// The count of the blocks is hashed, and each of them with its arguments.
+/// The count of the blocks is hashed, and then each of them with its arguments.
 const EACH_BLOCK: &str = "                ::core::hash::Hash::hash(&$count$, state);
                 for &block in $blocks$ {
                     ::core::hash::Hash::hash(&block.block(pool), state);

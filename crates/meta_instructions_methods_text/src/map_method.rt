@@ -18,7 +18,7 @@ use std::alloc::{AllocError, Global};
 /// A block without arguments is mapped.
 const MAPPED_BLOCK: &str = "                    $member$: mapper.map_block($member$),\n";
 
-/// Adds the mapped value at a place of the array, behind a comma where others stand before it.
+/// Adds the mapped value at a place of the array, after a comma if others come before it.
 #[tactic(auto, unfolding(crate::specs::MapMethod::mapped_value))]
 fn push_mapped_value(out: &mut String, place: u32) -> Result<(), AllocError>
     ensures { OnOk result (string_bytes out.new ≡ string_bytes out.old ++ mapped_value place) }
@@ -29,7 +29,7 @@ fn push_mapped_value(out: &mut String, place: u32) -> Result<(), AllocError>
     write!(out, ", mapper.map_value(args[{place}])")
 }
 
-/// The mapped values of an array of so many, parted by a comma and a space.
+/// The mapped values of an array of `count`, separated by a comma and a space.
 fn mapped_elements(alloc: Global, count: u32) -> Result<String, AllocError>
     ensures { IfOk result (λ text. string_bytes text ≡ mapped_below count) }
 {
@@ -89,7 +89,7 @@ fn push_mapped_blocks(out: &mut String, blocks: Blocks) -> Result<(), AllocError
     }
 }
 
-/// Adds an entity of this Rust type.
+/// Adds a member that is an entity of this Rust type.
 fn push_mapped_entity(
     alloc: Global,
     out: &mut String,
@@ -102,7 +102,7 @@ fn push_mapped_entity(
     push_mapped(out, member, word.as_str())
 }
 
-/// Adds a value of this Rust type that the instruction itself holds.
+/// Adds a member that is a value of this Rust type, which the instruction itself holds.
 fn push_immediate(out: &mut String, member: &str, rust_type: &str) -> Result<(), AllocError>
     ensures { OnOk result (string_bytes out.new ≡ string_bytes out.old ++ mapped_or_kept member.now (immediate_mapper rust_type.now)) }
 {
@@ -126,7 +126,6 @@ fn push_mapped_field(alloc: Global, out: &mut String, field: &FormatField) -> Re
     }
 }
 
-/// Adds fields.
 fn push_mapped_fields(
     alloc: Global,
     out: &mut String,
