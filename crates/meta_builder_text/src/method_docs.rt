@@ -22,7 +22,7 @@ fn push_control_line(out: &mut String, name: &str, doc: &str) -> Result<(), Allo
     write!(out, "    /// - {name} (controlling type variable): {doc}\n")
 }
 
-/// Adds the line on the control, where it is an argument.
+/// Adds the line on the control, if it is an argument.
 #[tactic(auto, unfolding(crate::specs::MethodDocs::control_doc))]
 fn push_control_doc(
     out: &mut String,
@@ -143,7 +143,7 @@ fn outputs_docs(
     Ok(out)
 }
 
-/// Adds a list of this title with these lines, where there are lines.
+/// Adds a list of this title with these lines, if there are lines.
 #[tactic(auto, unfolding(crate::specs::MethodDocs::titled))]
 fn push_titled(out: &mut String, title: &str, lines: &str) -> Result<(), AllocError>
     ensures { OnOk result (string_bytes out.new ≡ string_bytes out.old ++ titled title.now lines.now) }
