@@ -21,7 +21,7 @@ pub(crate) fn write_is_name(alloc: Global, text: &str, case: &mut Case<'_>) -> R
     Ok(())
 }
 
-/// Writes for each name of a list the place of the earlier name that it shares one with.
+/// Writes, for each name of a list, the place of the earlier name with which it is shared.
 pub(crate) fn write_earlier(alloc: Global, case: &mut Case<'_>) -> Result<(), Trouble> {
     let texts = texts_of(alloc, case.word(), "")?;
     let mut names = EarlierNames::new(alloc);
@@ -35,8 +35,8 @@ pub(crate) fn write_earlier(alloc: Global, case: &mut Case<'_>) -> Result<(), Tr
     Ok(())
 }
 
-/// Writes what is said of two texts: a copy of the first, whether it equals the first, how the two are ordered, whether they are
-/// equal, whether the first has the hash of its `str`, and whether the two have one hash.
+/// Compares two texts. Writes a copy of the first, whether it equals the first, how the two are ordered, whether they are equal, whether
+/// the first has the hash of its `str`, and whether the two have one hash.
 pub(crate) fn write_pair(alloc: Global, pair: &str, case: &mut Case<'_>) -> Result<(), Trouble> {
     let (text, other) = pair_of(pair, ',')?;
     let text = Text::new(alloc, text)?;
