@@ -21,7 +21,7 @@ pub(crate) fn write_is_name(alloc: Global, text: &str, case: &mut Case<'_>) -> R
     Ok(())
 }
 
-/// Writes, for each name of a list, the place of the earlier name with which it is shared.
+/// Writes, for each name of a list, the place of the first earlier name that is the same or has the same camel case, or `-`.
 pub(crate) fn write_earlier(alloc: Global, case: &mut Case<'_>) -> Result<(), Trouble> {
     let texts = texts_of(alloc, case.word(), "")?;
     let mut names = EarlierNames::new(alloc);
