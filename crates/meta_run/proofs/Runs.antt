@@ -1,4 +1,4 @@
--- From how a run ended to what it did.
+-- What a run did, by how it ended.
 use Rattle.std.proofs.Common.{◌≡◌, ◌≢◌, ◌<◌, ◌≤◌, inl, inr, ℕ, Bool, true, false, List, [], ◌++◌, length, length-append, Option, None, Some}
 use Rattle.std.proofs.Common.{refl, sym, ap, ◌∙◌, subst, arith}
 use Rattle.std.proofs.lemmas.List.{append-nil}
@@ -11,7 +11,7 @@ use Rattle.meta_run.specs.declared.ending.Ending.TheVariants.{Done, Refused, Usa
 use Rattle.meta_run.specs.Run.{refusal, Texts, IsInput, IsAnsweredWhole, Refuses, Did, Ran, IsGiven, AnswersInput, RefusesDeclarations}
 use Rattle.meta_run.specs.Run.{Completes}
 
--- what was read is all that was left, where that was told and nothing is left now
+-- what was read is all that was left, if contracts see the bytes and nothing is left now
 read_all : (input bytes : List ℕ) (left' : Option (List ℕ)) → Some input ≡ with_front bytes left' → NothingLeft left' → bytes ≡ input
 read_all input bytes None e end = absurd (cc)
 read_all input bytes (Some rest) e end =
@@ -32,7 +32,7 @@ gave_within input left' few h = within left' h.given
         let m = more in
         omega (arith, ap length whole, length-append h.bytes rest)
 
--- what wasn't read stands there
+-- if nothing was read, no more was given than may be
 pub gave_nothing : (left : Option (List ℕ)) → GaveAtMost longest_input left left
 gave_nothing None = record { bytes = []; given = refl; within = omega arith }
 gave_nothing (Some rest) = record { bytes = []; given = refl; within = omega arith }
@@ -109,7 +109,7 @@ module _ {S K : Type 0} (left : S → Option (List ℕ)) (reads : S → ℕ) (ta
   complete has_input no_fault OutOfMemory did valid no_read no_write = inr (inl refl)
   complete has_input no_fault TooLong did valid no_read no_write = inr (inr (refl, did.0, did.2))
 
-  -- what a run did that ended so
+  -- what a run did, by how it ended
   pub at_ending : (has_input : Bool) (ending other : Ending) → ending ≡ other
       → Did left reads taken writes d s s' k k' has_input texts ending → Did left reads taken writes d s s' k k' has_input texts other
   at_ending has_input ending other same did = subst (λ e. Did left reads taken writes d s s' k k' has_input texts e) same did
