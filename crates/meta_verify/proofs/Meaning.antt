@@ -89,11 +89,11 @@ question_typed a types can h = record {
   values = h;
 }
 
--- where no value is defined
+-- no value is defined, so all types can be named
 pub nothing_named : HasNamedTypes nothing_defined
 nothing_named v t e = absurd (cc)
 
--- ---- behind lines the types can still be named
+-- ---- after lines the types can still be named
 
 module _ (R : Replies) where
   answers_named : (env env' : Environment) (line : List ℕ) (answer : Option Reason) → HasNamedTypes env

@@ -1,4 +1,4 @@
--- Where a question has one reply at most, a line has one answer at most, and an input one verdict.
+-- If a question has at most one reply, a line has at most one answer, and an input at most one verdict.
 use Rattle.std.proofs.Common.{◌≡◌, ◌⊎◌, inl, inr, ℕ, ◌+◌, ◌<◌, Bool, true, false, List, [], ◌∷◌, map, take, Option, None, Some, refl, sym}
 use Rattle.std.proofs.Common.{ap, ap₂, ◌∙◌, subst}
 use Rattle.std.proofs.lemmas.Bool.{cases_order}

@@ -224,7 +224,7 @@ pub no_application : (line : List ℕ) → ((name control results values : List 
 no_application line none a h = none a.name (control_text a.control a.second) (list_text (map typed_text a.results))
     (list_text (map value_text a.values)) (name_has_bytes line a h) (pieces_are line (OfApplication a) h)
 
--- ---- a line states one thing at most
+-- ---- a line states at most one thing
 
 pub one_statement : (line : List ℕ) (s t : Statement) → IsStatement line s → IsStatement line t → s ≡ t
 one_statement line (OfParameter r) (OfParameter q) h k =
