@@ -17,7 +17,7 @@ first_letter words = get_or (get_or words 0 []) 0 0
 
 -- ---- the words of a request
 
--- the command of a request, and the words behind it
+-- the command of a request, and the words after it
 abbrev pub command_in : Request → RequestWord
 command_in (Set name value) = command.Set
 command_in (Enable name) = command.Enable
@@ -115,7 +115,7 @@ module _ (line : List ℕ) where
       own : pieces_of 32 line ≡ command_word c ∷ rest
       own = pieces ∙ ap (λ w. w ∷ rest) is
 
-      -- nor one behind whose command other words stand
+      -- nor one with other words after its command
       pub no_request : ((r : Request) → All HasBytes (request_words r) → command_word c ∷ rest ≢ request_words r)
           → (r : Request) → Requests line r → ⊥
       no_request none r h = none r (words_have_bytes line r h) (sym own ∙ request_pieces line r h)

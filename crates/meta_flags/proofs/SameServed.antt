@@ -44,7 +44,7 @@ no_preset enumerators before (AnEnum values) detail is = ap is_preset is.is
 no_preset enumerators before (ANum default) detail is = ap is_preset is
 
 module _ (marked : Descriptor → Bool) (is_named : PlacedSetting → Bool) where
-  -- settings and their descriptors, behind which presets stand, are marked the same
+  -- settings and their descriptors, after which presets come, are marked the same
   same_marks : (ss : List PlacedSetting) (ds : List Descriptor)
       → ((k : ℕ) (s : PlacedSetting) (d : Descriptor) → slice_get ss k ≡ Some s → slice_get ds k ≡ Some d
       → AreNamedAlike marked is_named s d × (is_preset d.detail ≡ false)) → length ss ≤ length ds
