@@ -1,4 +1,4 @@
--- A constraint depends on one control at most. So it is enough to try each control beside one number of the other.
+-- A constraint depends on at most one control. So it is enough to try each control beside one number of the other.
 use Rattle.std.proofs.Common.{◌≡◌, ◌↔◌, ◌⊎◌, ℕ, Bool, true, false, Option, slice_get, None, Some, refl, sym, ◌∙◌, subst, inl, inr}
 use Rattle.std.proofs.lemmas.Option.{same_Some, none-some}
 use Rattle.meta_inst.specs.Which.{Which, First, Second, both}

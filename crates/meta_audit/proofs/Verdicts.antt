@@ -213,12 +213,12 @@ module _ (d : InstructionSet) (other : TableContents) (well : IsWellFormedOpcode
   pub finds_declared : (name : List ℕ) (answer : Option ℕ) → (FindsOpcode other name answer ↔ FindsName d name answer)
   finds_declared name answer = (finds_to name answer, finds_from name answer)
 
--- what is none behind a function is none
+-- if a function gives `None` after another, it is given `None` by it
 none_behind : {X Y : Type 0} (f : X → Y) (o : Option X) → option_map f o ≡ None → o ≡ None
 none_behind f None e = refl
 none_behind f (Some x) e = absurd (none-some (f x) (sym e))
 
--- the one entry of a name is the first that has it, and none is where none has it
+-- the one entry of a name is the first that has it, and there is no such entry if no entry has it
 finds_one : (names : List (List ℕ)) (name : List ℕ) (answer : Option ℕ) → ((e : ℕ) → ((answer ≡ Some e) ↔ (slice_get names e ≡ Some name)))
     → FindsEntry names name answer
 finds_one names name None exact = λ e at. absurd (none-some e ((exact e).1 at))

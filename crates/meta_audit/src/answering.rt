@@ -31,7 +31,7 @@ fn line_of(alloc: Global, verdict: Verdict) -> Result<String, AllocError>
     Ok(out)
 }
 
-/// The line for a text beside declarations, of which these are the own tables.
+/// The line for a text that is compared with declarations. `own` are the tables of these.
 fn audit_line(
     alloc: Global,
     declarations: &Declarations,
@@ -48,7 +48,7 @@ fn audit_line(
     }
 }
 
-/// Answers the text of tables by its line, as `audit_run` does (this project's own).
+/// The answerer of `audit_run`: it answers the text of tables by its line.
 #[derive(Clone, Copy)]
 pub struct Auditor;
 
