@@ -213,7 +213,7 @@ module _ (d : InstructionSet) (other : TableContents) (well : IsWellFormedOpcode
   pub finds_declared : (name : List ℕ) (answer : Option ℕ) → (FindsOpcode other name answer ↔ FindsName d name answer)
   finds_declared name answer = (finds_to name answer, finds_from name answer)
 
--- if a function gives `None` after another, it is given `None` by it
+-- if a mapped option is `None`, so is the option
 none_behind : {X Y : Type 0} (f : X → Y) (o : Option X) → option_map f o ≡ None → o ≡ None
 none_behind f None e = refl
 none_behind f (Some x) e = absurd (none-some (f x) (sym e))

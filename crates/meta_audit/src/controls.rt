@@ -6,7 +6,7 @@ ghost use Rattle.meta_audit.specs.Comparison.{SameControl};
 use super::forms::same_masks;
 use meta_opcode_tables::OpcodeTables;
 
-/// The least number that is tested. The numbers of types are greater.
+/// The base from which the numbers of types count. All of them are greater.
 pub(crate) const LEAST: u16 = 112;
 
 /// A number above those of all types, of which the greatest is 380.
