@@ -62,9 +62,9 @@ fn run_words<S: Source, K: Sink>(
 /// before it left, and the first from the declared defaults. There must be no words. A line is one of these:
 ///
 /// - `set NAME VALUE` gives the setting the value, and the answer is `ok`; or `unknown` if no entry has the name, `kind` if it is a
-/// preset's, and `value` if VALUE is no value of the setting;
+///   preset's, and `value` if VALUE is no value of the setting;
 /// - `enable NAME` makes the boolean true, or each that the preset turns on, and the answer is `ok`; or `unknown`, and `kind` if it is a
-/// number's or an enum's;
+///   number's or an enum's;
 /// - `get NAME` is answered by the value; or by `unknown`, and `kind` if it is a preset's;
 /// - `toml` is answered by the text of `Flags::toml`, and by no line if there is no group.
 ///
