@@ -105,13 +105,11 @@ fn printed(rt: &HostRuntime, outcome: io::Result<()>) -> u8 {
     ending.code()
 }
 
-/// Prints the help.
 fn print_help(rt: &HostRuntime) -> u8 {
     let help = MANUAL.help;
     printed(rt, println!(rt; "{help}"))
 }
 
-/// Prints the version.
 fn print_version(rt: &HostRuntime) -> u8 {
     let (name, version) = (MANUAL.name, MANUAL.version);
     printed(rt, println!(rt; "{name} {version}"))
