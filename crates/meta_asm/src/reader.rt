@@ -133,7 +133,6 @@ fn spelled_out(
     }
 }
 
-/// Whether the text is the short form of the line.
 fn is_short_form(
     alloc: Global,
     tables: &Tables,

@@ -20,7 +20,6 @@ pub(crate) struct Words<'a> {
     pub(crate) values: &'a [u8],
 }
 
-/// The line of the words.
 pub(crate) fn line_of(alloc: Global, words: Words<'_>) -> Result<Vec<u8>, AllocError>
     ensures { IfOk result (λ line. line.items ≡ join_with_byte 32
         (codes "line" ∷ words.entry.name.now ∷ words.entry.control.now ∷ words.entry.results.now ∷ words.entry.values.now ∷ [])) }
@@ -37,7 +36,6 @@ pub(crate) fn line_of(alloc: Global, words: Words<'_>) -> Result<Vec<u8>, AllocE
     Ok(line)
 }
 
-/// The list without its spaces.
 fn without_spaces(alloc: Global, list: &[u8]) -> Result<Vec<u8>, AllocError>
     ensures { IfOk result (λ word. word.items ≡ filter (λ b. not (b == 32)) list.now) }
 {
