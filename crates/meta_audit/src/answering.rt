@@ -9,7 +9,6 @@ use meta_run::{Answer, Answerer};
 use meta_table_reader::{TextError, read_tables, refused};
 use std::alloc::{AllocError, Global};
 
-/// Adds the verdict.
 fn push_verdict(out: &mut String, verdict: Verdict) -> Result<(), AllocError>
     ensures { OnOk result (string_bytes out.new ≡ string_bytes out.old ++ verdict_text verdict) }
 {
@@ -21,7 +20,6 @@ fn push_verdict(out: &mut String, verdict: Verdict) -> Result<(), AllocError>
     }
 }
 
-/// The line of a verdict.
 fn line_of(alloc: Global, verdict: Verdict) -> Result<String, AllocError>
     ensures { IfOk result (λ out. string_bytes out ≡ verdict_text verdict ++ 10 ∷ []) }
 {
@@ -66,7 +64,6 @@ impl Answerer for Auditor {
         true
     }
 
-    /// The line for the input.
     fn answer(&self, alloc: Global, built: &Built<'_>, input: &[u8]) -> Result<Answer, AllocError> {
         let own = tables_of(alloc, built)?;
         Ok(Answer {
