@@ -71,11 +71,11 @@ extends_sign SignExtends signed = true
 extends_sign ZeroExtends signed = false
 extends_sign Deprecated signed = signed
 
--- how it extends, in words
+-- how the immediate is extended, in words
 abbrev pub extension_of : Bool → List ℕ
 extension_of extends = if extends then codes "sign-extended" else codes "zero-extended"
 
--- and as a word of the language
+-- whether the sign is extended, as a word of Rust
 abbrev pub truth_of : Bool → List ℕ
 truth_of extends = if extends then codes "true" else codes "false"
 

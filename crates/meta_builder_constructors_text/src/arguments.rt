@@ -43,7 +43,6 @@ fn push_numbered_arguments(
     Ok(())
 }
 
-/// Adds an argument for each field.
 #[tactic(auto, unfolding(crate::specs::Arguments::field_arguments))]
 fn push_field_arguments(out: &mut String, fields: &[FormatField]) -> Result<(), AllocError>
     ensures { OnOk result (string_bytes out.new ≡ string_bytes out.old ++ field_arguments fields.now) }

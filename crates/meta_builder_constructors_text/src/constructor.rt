@@ -39,7 +39,6 @@ fn push_array(out: &mut String, member: &str, names: &str) -> Result<(), AllocEr
     write!(out, "            {member}: [{names}],\n")
 }
 
-/// Adds the member of each field.
 #[tactic(auto, unfolding(crate::specs::Constructor::field_members))]
 fn push_field_members(out: &mut String, fields: &[FormatField]) -> Result<(), AllocError>
     ensures { OnOk result (string_bytes out.new ≡ string_bytes out.old ++ field_members fields.now) }

@@ -198,7 +198,6 @@ fn push_method(
     )
 }
 
-/// Adds the three methods.
 #[tactic(auto, unfolding(crate::specs::ImmBuilders::three_methods_text))]
 fn push_methods(alloc: Global, out: &mut String, methods: &ImmMethods<'_>) -> Result<(), AllocError>
     ensures { OnOk result (string_bytes out.new ≡ string_bytes out.old ++ three_methods_text methods.now) }
