@@ -89,7 +89,7 @@ one_value_line name = text_of (at 3 (codes "vlist.push(" ∷ name ∷ codes ", p
 unfoldable pub more_values_line : List ℕ → List ℕ
 more_values_line name = text_of (at 3 (codes "vlist.extend(" ∷ name ∷ codes ".iter().cloned(), pool);" ∷ []) ∷ [])
 
--- the line that adds the operand, where it is one value or a variable number
+-- the line that adds the operand, if it is one value or a variable number of them
 unfoldable pub added_text : Operand → List ℕ
 added_text o = if is_value_operand o then one_value_line o.name else (if is_varargs_operand o then more_values_line o.name else [])
 

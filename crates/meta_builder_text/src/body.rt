@@ -98,7 +98,6 @@ fn push_block_call(out: &mut String, operand: &Operand) -> Result<(), AllocError
     push_block_call_text(out, operand.name.as_str())
 }
 
-/// Adds the lines of the blocks.
 fn push_block_calls(out: &mut String, operands: &[Operand]) -> Result<(), AllocError>
     ensures { OnOk result (string_bytes out.new ≡ string_bytes out.old ++ flat_map block_call_of operands.now) }
 {

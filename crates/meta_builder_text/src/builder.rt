@@ -52,7 +52,6 @@ fn push_imm_methods(
     push_gap(out)
 }
 
-/// Adds the methods that build the instruction.
 #[tactic(auto, unfolding(crate::specs::BuilderText::methods_text))]
 fn push_methods(
     alloc: Global,

@@ -81,7 +81,6 @@ fn push_input_docs(out: &mut String, vars: &TypeVars, operand: &Operand) -> Resu
     push_operand_line(out, vars, operand)
 }
 
-/// Adds the lines on the arguments for the inputs.
 fn push_each_input(
     out: &mut String,
     vars: &TypeVars,
@@ -96,7 +95,6 @@ fn push_each_input(
     Ok(())
 }
 
-/// Adds the lines on the outputs.
 fn push_each_output(
     out: &mut String,
     vars: &TypeVars,
@@ -128,7 +126,6 @@ fn inputs_docs(
     Ok(out)
 }
 
-/// The lines on the outputs.
 #[tactic(auto, unfolding(crate::specs::MethodDocs::outputs_docs))]
 fn outputs_docs(
     alloc: Global,

@@ -55,7 +55,6 @@ fn push_one_result(out: &mut String) -> Result<(), AllocError>
     push_text(out, "        dfg.first_result(inst)\n")
 }
 
-/// Adds the lines that give `count` results.
 #[tactic(auto, unfolding(crate::specs::MethodBody::results_lines))]
 pub(crate) fn push_results(alloc: Global, out: &mut String, count: usize) -> Result<(), AllocError>
     ensures { OnOk result (string_bytes out.new ≡ string_bytes out.old ++ results_lines count) }
