@@ -31,7 +31,6 @@ fn is_version(word: &Text) -> bool
     word == b"1".as_slice() || word == b"2".as_slice() || word == b"3".as_slice()
 }
 
-/// Whether a file is missing.
 fn miss_file(words: &[Text]) -> bool
     ensures { IsTrue result ↔ MissFile words.now }
 {
@@ -122,7 +121,6 @@ fn begin_with_asm(words: &[Text]) -> bool
     }
 }
 
-/// Whether a file is missing.
 fn is_file_missing(over: &Over<'_>) -> bool
     ensures { IsTrue result ↔ IsFileMissing over.now }
 {
