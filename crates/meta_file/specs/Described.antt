@@ -11,7 +11,7 @@ use Rattle.meta_run.specs.Run.{Texts}
 abbrev pub undescribed_line : List ℕ
 undescribed_line = codes "undescribed: no file of this form declares the same" ++ 10 ∷ []
 
--- it is the line, and the declarations aren't settings alone, whose comments are UTF-8
+-- the text is that line, and the declarations aren't settings alone, whose comments are UTF-8
 pub record IsUndescribed (d : Declared) (out : List ℕ) : Type 0 where
   pub line : out ≡ undescribed_line
   pub not_alone : HoldSettingsAlone d → ⊥

@@ -64,7 +64,7 @@ module _ {F S K : Type 0} (file_left : F → Option (List ℕ)) (file_reads : F 
     pub read : IsReadWhole file_left f f' text
     pub ran : RanText left reads taken writes Means path text s s' k k' ending
 
-  -- the file was read whole, and the message tells why it is refused
+  -- the file was read whole, and the message says why it is refused
   pub record IsRefusedFile (message : List ℕ) : Type 0 where
     pub text : List ℕ
     pub read : IsReadWhole file_left f f' text

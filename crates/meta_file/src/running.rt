@@ -30,7 +30,6 @@ impl Answerer for Tool {
         }
     }
 
-    /// What the tool answers.
     fn answer(&self, alloc: Global, built: &Built<'_>, input: &[u8]) -> Result<Answer, AllocError> {
         match self {
             Tool::Run(command) => command.answer(alloc, built, input),

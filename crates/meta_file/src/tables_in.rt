@@ -9,7 +9,6 @@ use meta_table_text::{Version, fits, table_text};
 use meta_types::Text;
 use std::alloc::{AllocError, Global};
 
-/// The version of this number.
 fn version_named(number: &[u8]) -> Option<Version>
     ensures some { IfSome result (λ v. number.now ≡ version_word v) }
     ensures none { IfNone result ((v : spec_version.Version) → number.now ≢ version_word v) }
@@ -67,7 +66,6 @@ fn word_of(version: Version) -> &'static str
     }
 }
 
-/// The limits of a version.
 fn limits_of(version: Version) -> &'static str
     ensures { result.now ≡ limits_of version }
 {

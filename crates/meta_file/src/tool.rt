@@ -42,7 +42,6 @@ enum Lone {
     Describe,
 }
 
-/// The tool of this name.
 fn lone_named(name: &[u8]) -> Option<Lone>
     ensures some { IfSome result (λ l. name.now ≡ lone_name l) }
     ensures none { IfNone result ((l : spec_lone.Lone) → name.now ≢ lone_name l) }
