@@ -42,7 +42,7 @@ pub record DeclaresLaid (items : List Item) (groups : List Layout) (k g n : ℕ)
   pub stands : slice_get layout.settings n ≡ Some placed
   pub is : placed ≡ placed_at setting byte boolean
 
--- and it is an enum, which has a value at place v
+-- the same, and the setting is an enum, which has a value at place v
 pub record DeclaresValue (items : List Item) (groups : List Layout) (k g n v : ℕ) : Type 0 where
   pub laid : DeclaresLaid items groups k g n
   pub values : List (List ℕ)

@@ -28,7 +28,6 @@ impl Names {
         }
     }
 
-    /// Whether names are refused.
     pub(crate) fn are_refused(self) -> bool
         ensures { IsTrue result ↔ (self ≡ spec_names.Refuse) }
     {
