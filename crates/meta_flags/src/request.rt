@@ -27,7 +27,6 @@ enum RequestWord {
     Toml,
 }
 
-/// The command that the word is.
 fn command_of(word: &[u8]) -> Option<RequestWord>
     ensures some { IfSome result (λ c. word.now ≡ command_word c) }
     ensures none { IfNone result ((c : declared.RequestWord) → word.now ≢ command_word c) }

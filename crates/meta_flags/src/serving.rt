@@ -29,7 +29,6 @@ impl Answerer for Service {
         true
     }
 
-    /// The answers to the lines of the input.
     fn answer(&self, alloc: Global, built: &Built<'_>, input: &[u8]) -> Result<Answer, AllocError> {
         tables_serve_what_is_declared();
         let tables = tables_of(alloc, built)?;
