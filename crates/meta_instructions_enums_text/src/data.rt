@@ -28,7 +28,7 @@ $members$    }
 
 const VARIANT_HOLES: [&str; 2] = ["name", "members"];
 
-/// Adds the member for `count` values, beside those of a value list.
+/// Adds the member for the values: a value list, or else `count` values.
 #[tactic(auto, unfolding(crate::specs::DataText::values_text))]
 fn push_values(out: &mut String, has_list: bool, count: u32) -> Result<(), AllocError>
     ensures { OnOk result (string_bytes out.new ≡ string_bytes out.old ++ values_text has_list count) }
@@ -66,7 +66,6 @@ fn push_raw_blocks(out: &mut String, count: u32) -> Result<(), AllocError>
     }
 }
 
-/// Adds a field of a format.
 #[tactic(auto, unfolding(crate::specs::DataText::field_line))]
 fn push_field(out: &mut String, field: &FormatField) -> Result<(), AllocError>
     ensures { OnOk result (string_bytes out.new ≡ string_bytes out.old ++ field_line field.now) }
