@@ -82,7 +82,7 @@ mapped_field field = mapped_or_kept field.member (mapper_method field.kind)
 
 -- ---- the arm of a format
 
--- its values and blocks, this text of the block without arguments, and its fields
+-- the mapped members of a format: its values and blocks, this text of the block without arguments, and its fields
 abbrev pub mapped_members : (List ℕ → List ℕ) → InstructionFormat → List ℕ
 mapped_members raw_block f =
     mapped_values (values_of f)

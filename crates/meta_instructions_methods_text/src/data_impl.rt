@@ -69,7 +69,6 @@ $map$        }
 
 const WHOLE_HOLES: [&str; 4] = ["eq", "hash", "deep_clone", "map"];
 
-/// Adds the methods that read an instruction.
 fn push_reading_methods(
     alloc: Global,
     out: &mut String,

@@ -42,7 +42,6 @@ const EACH_BLOCK: &str = "                ::core::hash::Hash::hash(&$count$, sta
 
 const EACH_BLOCK_HOLES: [&str; 2] = ["count", "blocks"];
 
-/// Adds that the values are hashed.
 #[tactic(auto, using(crate::proofs::Templates::hash_steps))]
 fn push_hashed_values(out: &mut String, values: Values) -> Result<(), AllocError>
     ensures { OnOk result (string_bytes out.new ≡ string_bytes out.old ++ hashed_values values) }
@@ -65,7 +64,6 @@ fn push_hashed_values(out: &mut String, values: Values) -> Result<(), AllocError
     }
 }
 
-/// Adds that the blocks are hashed.
 #[tactic(auto, using(crate::proofs::Templates::hash_steps))]
 fn push_hashed_blocks(out: &mut String, blocks: Blocks) -> Result<(), AllocError>
     ensures { OnOk result (string_bytes out.new ≡ string_bytes out.old ++ hashed_blocks blocks) }

@@ -59,7 +59,6 @@ fn push_mapped_array(out: &mut String, elements: &str) -> Result<(), AllocError>
     write!(out, "                    args: [{elements}],\n")
 }
 
-/// Adds the values.
 #[tactic(auto, unfolding(crate::specs::MapMethod::mapped_values))]
 fn push_mapped_values(alloc: Global, out: &mut String, values: Values) -> Result<(), AllocError>
     ensures { OnOk result (string_bytes out.new ≡ string_bytes out.old ++ mapped_values values) }
@@ -75,7 +74,6 @@ fn push_mapped_values(alloc: Global, out: &mut String, values: Values) -> Result
     }
 }
 
-/// Adds the blocks.
 fn push_mapped_blocks(out: &mut String, blocks: Blocks) -> Result<(), AllocError>
     ensures { OnOk result (string_bytes out.new ≡ string_bytes out.old ++ mapped_blocks blocks) }
 {
@@ -151,7 +149,6 @@ fn mapped_members(alloc: Global, format: &InstructionFormat) -> Result<String, A
     Ok(text)
 }
 
-/// Adds the arm of a format.
 pub(crate) fn push_map_arm(
     alloc: Global,
     out: &mut String,
