@@ -7,22 +7,20 @@ use meta_types::Text;
 /// What words ask of the program itself.
 #[derive(Clone, Copy, Debug, PartialEq, Eq)]
 pub enum Asked {
-    /// Its help.
+    /// The help of the program.
     Help,
-    /// Its version.
+    /// The version of the program.
     Version,
     /// Nothing: the words are for the program's work.
     Work,
 }
 
-/// Whether the word asks for the help.
 fn is_help(word: &Text) -> bool
     ensures { IsTrue result ↔ IsHelp word.now }
 {
     is_text(word, "--help") || is_text(word, "-h")
 }
 
-/// Whether the word asks for the version.
 fn is_version(word: &Text) -> bool
     ensures { IsTrue result ↔ IsVersion word.now }
 {
