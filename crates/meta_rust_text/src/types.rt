@@ -30,7 +30,6 @@ pub const {name}: Type = Type(0x{number:x});
     )
 }
 
-/// Adds the constant of a type.
 #[tactic(auto, unfolding(crate::specs::TypesText::type_constant))]
 fn push_type(alloc: Global, out: &mut String, ty: ValueType) -> Result<(), AllocError>
     ensures { OnOk result (string_bytes out.new ≡ string_bytes out.old ++ type_constant (type_parts_of ty)) }
