@@ -78,7 +78,6 @@ fn enum_arms(alloc: Global, ty: &str, values: &[Text]) -> Result<String, AllocEr
     Ok(arms)
 }
 
-/// Adds the getter of a setting.
 #[tactic(auto, using(crate::proofs::Templates::getter_steps), unfolding(crate::specs::GetterText::getter_text))]
 fn push_getter(alloc: Global, out: &mut String, setting: &Setting) -> Result<(), AllocError>
     ensures { OnOk result (string_bytes out.new ≡ string_bytes out.old ++ getter_text setting.now) }
@@ -147,7 +146,6 @@ fn predicate(alloc: Global, group: &SettingGroup) -> Result<String, AllocError>
     Ok(text)
 }
 
-/// Adds the getters of the settings of a group.
 #[tactic(auto, using(crate::proofs::Templates::getters_same))]
 pub(crate) fn push_getters(
     alloc: Global,
