@@ -27,7 +27,7 @@ without_blanks bytes = take (length bytes - suffix_len (λ byte. byte == 32) byt
 abbrev pub behind_comma : List ℕ → List ℕ
 behind_comma field = codes ", " ++ field
 
--- what stands between the name of an arm and its body: ` { F, G } => `, or ` => ` where there are no fields
+-- what stands between the name of an arm and its body: ` { F, G } => `, or ` => ` if there are no fields
 abbrev pub arm_mark : List (List ℕ) → List ℕ
 arm_mark [] = codes " => "
 arm_mark (field ∷ fields) = codes " { " ++ (field ++ (flat_map behind_comma fields ++ codes " } => "))
@@ -44,6 +44,6 @@ block_text level head = text_of (at level (without_blanks head ∷ codes " {" �
 abbrev pub end_text : ℕ → List ℕ
 end_text level = text_of (at level (codes "}" ∷ []) ∷ [])
 
--- an arm of a match: `NAME { F, G } => BODY,`, or `NAME => BODY,` where there are no fields
+-- an arm of a match: `NAME { F, G } => BODY,`, or `NAME => BODY,` if there are no fields
 abbrev pub arm_text : ℕ → List ℕ → List (List ℕ) → List ℕ → List ℕ
 arm_text level name fields body = text_of (at level (name ∷ arm_mark fields ∷ body ∷ codes "," ∷ []) ∷ [])
