@@ -25,7 +25,7 @@ pub record IsAnsweredAt (R : Replies) (lines : List (List ℕ)) (n : ℕ) (answe
   pub behind : Environment
   pub fed : Feeds R before line answer behind
 
--- it is wrong, for this reason
+-- the line at this place is wrong, for this reason
 abbrev pub IsWrongAt : Replies → List (List ℕ) → ℕ → Reason → Type 0
 IsWrongAt R lines n reason = IsAnsweredAt R lines n (Some reason)
 

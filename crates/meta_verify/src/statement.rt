@@ -148,7 +148,6 @@ fn parameter_words(line: &[u8]) -> Option<ParameterWords<'_>>
     Some(ParameterWords { value, name })
 }
 
-/// The parameter that the line states.
 fn parse_parameter(line: &[u8]) -> Option<TypedNumber>
     ensures found { IfSome result (λ r. IsStatement line.now (spec.OfParameter (typed_value_of r))) }
     ensures known { IfSome result IsTypedNumber }
@@ -160,7 +159,6 @@ fn parse_parameter(line: &[u8]) -> Option<TypedNumber>
     Some(TypedNumber { value, number })
 }
 
-/// Whether the word is `line`.
 fn is_line(word: &[u8]) -> bool
     ensures { IsTrue result ↔ (word.now ≡ codes "line") }
 {
