@@ -39,7 +39,6 @@ pub(crate) struct Ran {
 }
 
 impl Ran {
-    /// Runs words over a file.
     fn run_file(
         &mut self,
         alloc: Global,

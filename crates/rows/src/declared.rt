@@ -19,7 +19,6 @@ pub(crate) enum Declared<'d> {
     File(Outside, &'d [u8]),
 }
 
-/// The declarations of a text.
 pub(crate) fn loaded(alloc: Global, text: &[u8]) -> Result<Declarations, Trouble> {
     match load(alloc, PATH, text) {
         Ok(declarations) => Ok(declarations),
@@ -39,7 +38,6 @@ pub(crate) fn declared_by(alloc: Global, text: &[u8]) -> Result<Declarations, Tr
     }
 }
 
-/// The tables of declarations.
 fn generated(alloc: Global, declarations: &Declarations) -> Result<Tables, Trouble> {
     match generate(alloc, declarations) {
         Ok(tables) => Ok(tables),

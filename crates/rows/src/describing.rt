@@ -33,12 +33,10 @@ fn description(alloc: Global, built: &Built<'_>) -> Result<String, Trouble> {
     }
 }
 
-/// Whether the tables are those of what is built.
 fn are_tables_of(alloc: Global, tables: &Tables, built: &Built<'_>) -> Result<bool, AllocError> {
     Ok(tables_of(alloc, built)?.same(tables))
 }
 
-/// Whether both have the same tables.
 fn have_same_tables(alloc: Global, one: &Built<'_>, other: &Built<'_>) -> Result<bool, AllocError> {
     are_tables_of(alloc, &tables_of(alloc, one)?, other)
 }
@@ -85,7 +83,6 @@ pub(crate) fn write_described(
     Ok(())
 }
 
-/// Whether the items of a text describe what is built.
 fn do_items_describe(alloc: Global, built: &Built<'_>, text: &[u8]) -> Result<bool, Trouble> {
     match read_items(alloc, text) {
         Ok(read) => Ok(is_described(alloc, built, &read.items)?),
@@ -108,7 +105,7 @@ fn write_both(
     Ok(())
 }
 
-/// The same for declarations.
+/// Writes the same for declarations, which must be valid.
 fn write_of(
     alloc: Global,
     declarations: &Declarations,

@@ -20,7 +20,6 @@ impl<'t> Patching<'t> {
         Ok(line)
     }
 
-    /// Adds a line.
     fn push(&mut self, line: &str) -> Result<(), Trouble> {
         self.text.extend_from_slice(line.as_bytes())?;
         Ok(self.text.push(b'\n')?)

@@ -52,7 +52,6 @@ pub(crate) struct Session<'d> {
     outside: Outside,
 }
 
-/// Adds a line.
 fn add_line(bytes: &mut Vec<u8>, line: &str) -> Result<(), Trouble> {
     bytes.extend_from_slice(line.as_bytes())?;
     Ok(bytes.push(b'\n')?)
@@ -173,7 +172,6 @@ impl<'d> Session<'d> {
         }
     }
 
-    /// Edits the input.
     fn edit(&mut self, line: &str) -> Result<(), Trouble> {
         let mut edited = Edited::new(self.alloc);
         edited.begin(&self.input)?;
