@@ -37,7 +37,6 @@ fn slots_of(alloc: Global, hashes: &[usize]) -> Result<Vec<Option<u16>>, Trouble
     Ok(copied(alloc, &slots)?)
 }
 
-/// The slots of names.
 pub(crate) fn slots_of_names(alloc: Global, names: &[&str]) -> Result<Vec<Option<u16>>, Trouble> {
     let mut hashes = Vec::new(alloc);
     for name in names {

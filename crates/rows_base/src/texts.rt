@@ -3,7 +3,6 @@ use rows_words::{Case, Trouble, hash_of, pair_of, texts_of};
 use std::alloc::{AllocError, Global};
 use std::cmp::Ordering;
 
-/// Writes the camel case of a name.
 pub(crate) fn write_camel_case(
     alloc: Global,
     name: &str,
@@ -14,7 +13,6 @@ pub(crate) fn write_camel_case(
     Ok(())
 }
 
-/// Writes whether a text is a name.
 pub(crate) fn write_is_name(alloc: Global, text: &str, case: &mut Case<'_>) -> Result<(), Trouble> {
     let text = Text::new(alloc, text)?;
     case.yes_or_no(is_name(&text));

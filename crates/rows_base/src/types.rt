@@ -14,7 +14,6 @@ fn begin_row<T: Display>(value: &T, numbers: &[u64], case: &mut Case<'_>) {
     }
 }
 
-/// Adds a text to a row.
 fn add_to_row(text: Result<Text, AllocError>, case: &mut Case<'_>) {
     case.letter('|');
     case.made(text);
