@@ -65,7 +65,6 @@ impl<'l> Formats<'l> {
         case.field("formats ", &self.table.len());
     }
 
-    /// Adds a format to the table.
     fn add(
         &mut self,
         name: &'l str,

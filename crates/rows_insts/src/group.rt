@@ -78,7 +78,6 @@ pub(crate) fn write_presets(
     Ok(())
 }
 
-/// The preset of this name.
 pub(crate) fn preset_of<'g>(group: &'g SettingGroup, name: &str) -> Result<&'g Preset, Trouble> {
     for preset in group.presets() {
         if preset.name().as_str() == name {

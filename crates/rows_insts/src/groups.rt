@@ -306,7 +306,6 @@ impl<'l> Groups<'l> {
 }
 
 impl<'l> Answering<'l> for Groups<'l> {
-    /// Adds the answer to a line.
     fn answer_line(&mut self, line: &'l str, answers: &mut String) -> Result<(), AllocError> {
         let mut case = Case::of(self.alloc, line)?;
         let word = case.word();

@@ -292,7 +292,6 @@ impl<'l> Instructions<'l> {
         }
     }
 
-    /// Writes the answer to a line about formats.
     fn answer_on_formats(&mut self, word: &str, case: &mut Case<'l>) -> Result<(), Trouble> {
         match word {
             "formats" => {
@@ -311,7 +310,6 @@ impl<'l> Instructions<'l> {
 }
 
 impl<'l> Answering<'l> for Instructions<'l> {
-    /// Adds the answer to a line.
     fn answer_line(&mut self, line: &'l str, answers: &mut String) -> Result<(), AllocError> {
         let mut case = Case::of(self.alloc, line)?;
         let word = case.word();

@@ -167,7 +167,6 @@ impl<'l> Kinds<'l> {
         }
     }
 
-    /// The operand of this name and kind.
     pub(crate) fn operand(
         &self,
         variables: &Variables<'_>,

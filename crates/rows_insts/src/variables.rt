@@ -265,8 +265,10 @@ impl<'l> Variables<'l> {
         Ok(())
     }
 
-    /// Writes the answer to a line about sets and variables: to those that make a variable, `new`, `count`, `show X`, the variable as it
-    /// is, `is_of X`, whether it is of the registry, `can_derive FUNCTION X`, whether the function may be used of it, or one about a set.
+    /// Writes the answer to a line about variables or sets. `new` begins another registry, and `root`, `one`, `copy`, `derive` and `call`
+    /// make a variable. `count` writes how many there are, and `show X` what the registry has of a variable. `is_of X` writes whether it is
+    /// of the registry, and `can_derive FUNCTION X` whether the function may be used on it. `equal_variables` and `parent` compare
+    /// variables. Any other line is about a set.
     pub(crate) fn answer(&mut self, word: &str, case: &mut Case<'l>) -> Result<(), Trouble> {
         match word {
             "root" | "one" | "copy" | "derive" | "call" => return self.make(word, case),
