@@ -153,7 +153,6 @@ fn with_field(alloc: Global, vars: TypeVars, variable: TypeVar) -> Result<Declar
     declarations_of(vars, formats, all, Vec::new(alloc))
 }
 
-/// Whether declarations are described.
 fn are_described(alloc: Global, declarations: &Declarations) -> Result<bool, Trouble> {
     Ok(write_description(alloc, &built_of(alloc, declarations)?)?.is_some())
 }

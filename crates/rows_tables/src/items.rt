@@ -7,7 +7,6 @@ use meta_tokens::{Bytes, tokens_of, write_tokens};
 use rows_words::{Case, Trouble, write_bytes};
 use std::alloc::Global;
 
-/// The items of a text.
 fn items_of(alloc: Global, text: &[u8]) -> Result<Vec<Item>, Trouble> {
     match read_items(alloc, text) {
         Ok(read) => Ok(read.items),

@@ -15,7 +15,6 @@ const MOST_EDITS: usize = 20;
 /// What is written of parts that make no tables.
 const NONE: &str = "not well-formed";
 
-/// Adds copies of texts.
 fn push_copies(list: &mut Vec<Text>, alloc: Global, texts: &[Text]) -> Result<(), AllocError> {
     for text in texts {
         list.push(text.copy(alloc)?)?;
@@ -23,7 +22,6 @@ fn push_copies(list: &mut Vec<Text>, alloc: Global, texts: &[Text]) -> Result<()
     Ok(())
 }
 
-/// A copy of an entry.
 fn entry_copy(alloc: Global, entry: &Descriptor) -> Result<Descriptor, AllocError> {
     match (entry.name.copy(alloc), entry.description.copy(alloc)) {
         (Ok(name), Ok(description)) => Ok(Descriptor {
@@ -156,7 +154,6 @@ fn put<T: Drop>(list: &mut Vec<T>, place: usize, item: T, case: &mut Case<'_>) {
     }
 }
 
-/// Puts a text in a place.
 fn put_text(
     alloc: Global,
     list: &mut Vec<Text>,
@@ -203,7 +200,6 @@ fn resize<T: Copy + Drop>(list: &mut Vec<T>, count: usize, case: &mut Case<'_>) 
     }
 }
 
-/// The same for texts.
 fn resize_texts(alloc: Global, list: &mut Vec<Text>, count: usize) -> Result<(), Trouble> {
     list.truncate(count);
     for _ in list.len()..count {
@@ -257,7 +253,6 @@ fn next_detail(case: &mut Case<'_>) -> Detail {
     }
 }
 
-/// Changes a part of a group.
 fn edit_group(
     alloc: Global,
     group: &mut GroupParts,

@@ -21,7 +21,6 @@ fn made(alloc: Global, name: &str, built: &Built<'_>) -> Result<String, Trouble>
     }
 }
 
-/// Writes the text of this name to the sink.
 fn write(
     alloc: Global,
     name: &str,
@@ -70,7 +69,7 @@ pub(crate) fn built_of(alloc: Global, declarations: &Declarations) -> Result<Bui
     }
 }
 
-/// The same for declarations without a fault.
+/// Writes what the writer of a text does, over declarations without a fault.
 pub(crate) fn write_written(
     alloc: Global,
     outside: Outside,
