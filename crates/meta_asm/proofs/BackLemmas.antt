@@ -59,7 +59,7 @@ lines_back (l ∷ ls) h =
     ap lines_of_pieces pieces ∙ ap₂ ◌∷◌ (stripped l plain.return) (ap lines_of_pieces (sym more.is)
     ∙ lines_back ls (All-tail IsPlainLine l ls h))
 
--- and none of them is skipped
+-- if no line is empty, none is skipped
 pub all_filled : (lines : List (List ℕ)) → All (λ l. l ≢ []) lines → filled lines ≡ lines
 all_filled [] h = refl
 all_filled ([] ∷ ls) h = absurd (All-head (λ l. l ≢ []) [] ls h refl)
@@ -150,7 +150,7 @@ module _ (R : Replies) (M : Manners) (bytes : (env : Environment) (a : Applicati
   texts_filled env env' (l ∷ ls) (t ∷ ts) (short, rest) =
       All-cons (λ t. t ≢ []) t ts (has_text R M env l t short) (texts_filled (with_values env (defined_by short.statement)) env' ls ts rest)
 
-  -- ---- what was written so is written back
+  -- ---- a list that was written in the short form is written back
 
   -- the lines of what was written are the texts, and none of them is skipped
   filled_back : (lines texts : List (List ℕ)) (env : Environment) (out : List ℕ) → AreShort R M nothing_defined lines texts env

@@ -67,7 +67,7 @@ module _ (R : Replies) (M : Manners) (stated : (line : List ℕ) (s t : Statemen
         let more = each_reads (with_values env (defined_by short.statement)) env' ls ts n text rest at some in
         record { before = l ∷ more.before; between = more.between; short = (short, more.short); line = more.line; reads = more.reads }
 
-    -- so where all read, none is the first that reads as none
+    -- if all texts read as lines, there is no first text that reads as none
     pub reads_all : (lines texts : List (List ℕ)) (env : Environment) (n : ℕ) → AreShort R M nothing_defined lines (filled texts) env
         → IsFirstUnread R M texts n → ⊥
     reads_all lines texts env n h first =
@@ -124,7 +124,7 @@ module _ (R : Replies) (M : Manners) (stated : (line : List ℕ) (s t : Statemen
         ap₂ ◌∷◌ (one env l t u short also) (one_writing (with_values env (defined_by also.statement)) e f ls ts us
         (subst (λ s. AreShort R M (with_values env (defined_by s)) ls ts e) same rest) others)
 
-    -- where each line but the empty ones has a short form, none is wrong
+    -- if each line that isn't empty has a short form, no line is wrong
     none_wrong : (env env' before behind : Environment) (lines texts : List (List ℕ)) (n : ℕ) (line : List ℕ) (reason : Reason)
         → AreShort R M env (filled lines) texts env'
         → slice_get lines n ≡ Some line → LeadTo R env (take n lines) before → Feeds R before line (Some reason) behind → ⊥

@@ -39,7 +39,7 @@ module _ {X : Type 0} (now : X → List ℕ) (text first : List ℕ) (rest : Opt
       by None s n = cc
       by (Some x) s n = cc
 
-  -- and without it the number tells the type
+  -- without it the number gives the type
   pub isnt_written : is_some rest ≡ false → (opened : Bool) → text ≡ short_result_text (shortened opened r)
       → (opened ≡ false) × (text ≡ value_text r.value)
   isnt_written none true e = absurd (by rest none (open_rest e))
@@ -86,7 +86,7 @@ one_more_text (w ∷ ws) c cs ts =
 abbrev pub IsSpaced : List ℕ → List ℕ → Type 0
 IsSpaced piece text = (piece ≡ text) ⊎ (piece ≡ 32 ∷ text)
 
--- and so are all
+-- each piece is its text, or the text after a space
 abbrev pub AreSpaced : List (List ℕ) → List (List ℕ) → Type 0
 AreSpaced [] [] = ⊤
 AreSpaced [] (t ∷ ts) = ⊥

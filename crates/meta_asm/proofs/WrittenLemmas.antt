@@ -36,7 +36,7 @@ module _ (m : Manner) (a : spec.Application) (can : CanApply a) (plain : IsPlain
       ∙ ap (λ v. join_with_byte 32 (codes "line" ∷ a.name ∷ unwrap_or (control_written m.leaves_out a.control a.second) (codes "-")
       ∷ codes "-" ∷ v ∷ [])) values_are)
 
-  -- so that is what is read
+  -- what is shown is what is read
   pub has_written : (b : Application) → spec.IsStatement line (spec.OfApplication (applied b)) → HasNumbers b → (w : Written)
       → w.control ≡ b.control → w.second ≡ b.second → w.values ≡ b.values → HasWritten m a w
   has_written b states known w c s v =
