@@ -43,7 +43,7 @@ begin (Shared words) place (inr (is, inr h)) = inr (ap letter h.are)
 begin (File path words) place (inl h) = inl (ap letter h.1.are)
 begin (File path words) place (inr h) = inr (ap letter h.1.are)
 
--- and not with `asm`
+-- words with one too many don't begin with `asm`
 many_not_asm : (over : Over) (place : ℕ) → IsTooMany over place → BeginWithAsm (words_over over) → ⊥
 many_not_asm over place h g =
     let asm : letter (words_over over) ≡ 97 = ap letter g.are in
@@ -94,7 +94,7 @@ same_wrong over NoForm (WordTooMany k) h g = absurd (many_not_asm over k g h)
 same_wrong over NoForm NoVersion h g = absurd (version_not_asm (words_over over) g h)
 same_wrong over NoForm NoForm h g = refl
 
--- and words without a case don't have one
+-- the case of words, if they have one, is determined too
 pub same_if_any : (over : Over) (a b : Option Wrong) → IsWrongIfAny over a → IsWrongIfAny over b → a ≡ b
 same_if_any over None None h g = refl
 same_if_any over None (Some b) h g = absurd (h b g)
