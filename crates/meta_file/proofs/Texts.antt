@@ -15,7 +15,7 @@ use Rattle.meta_file.specs.File.{Reads, Declares, AreReadOf, IsWrongMessage, IsR
 abbrev pub IsReadExactly : Type 0
 IsReadExactly = (text : List ℕ) (items : List Item) → (items_in text ≡ Ok items) ↔ (AllFit items × (read_in text ≡ spelled_all items))
 
--- so the reader reads a text that reads as items as these
+-- the reader reads a text as the items that it reads as
 pub read_as : IsReadExactly → (text : List ℕ) (items : List Item) → Reads text items → items_in text ≡ Ok items
 read_as exactly text items h = (exactly text items).1 (h.fit, h.spelled)
 
