@@ -16,12 +16,12 @@ high : (b : ℕ) (later : Bool) (rest : List ℕ) → 128 ≤ b → snake_from l
 high b true rest h = grind (arith, nat_tests)
 high b false rest h = grind (arith, nat_tests)
 
--- so do bytes past ASCII
+-- bytes past ASCII stay as they are
 stay : (bs : List ℕ) (later : Bool) (rest : List ℕ) → ArePast bs → snake_from later (bs ++ rest) ≡ bs ++ snake_from later rest
 stay [] later rest h = refl
 stay (b ∷ bs) later rest (h, hs) = high b later (bs ++ rest) h ∙ ap (◌∷◌ b) (stay bs later rest hs)
 
--- and a character past ASCII
+-- a character past ASCII stays as it is
 snake_from-high : (c : ℕ) (later : Bool) (rest : List ℕ) → 128 ≤ c → snake_from later (encode c ++ rest) ≡ encode c ++ snake_from later rest
 snake_from-high c later rest h = stay (encode c) later rest (all_past (encode c) (past_ascii c h))
 
