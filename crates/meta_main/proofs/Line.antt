@@ -70,7 +70,7 @@ commands_plain [] named = plain_from (codes "the program takes no words") refl
 commands_plain (command ∷ commands) named =
     plain_append (codes "the commands are ") _ (plain_from (codes "the commands are ") refl) (names_plain (command ∷ commands) named)
 
--- and so is the line
+-- a usage line is plain
 pub line_plain : (commands : List CommandForm) (words : List (List ℕ)) (m : Misuse) (wrong line : List ℕ) → TellsWrong words m wrong
     → line ≡ wrong ++ (codes ": " ++ (commands_text commands ++ codes "; --help says more")) → ArePlainlyNamed commands → IsPlain line
 line_plain commands words m wrong line told is named =

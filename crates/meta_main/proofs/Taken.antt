@@ -18,7 +18,7 @@ abbrev tail_of : List (List ℕ) → List (List ℕ)
 tail_of [] = []
 tail_of (x ∷ xs) = xs
 
--- the first command of a name is one
+-- at most one command is the first of a name
 one_first : (commands : List CommandForm) (name : List ℕ) (c d : CommandForm) → IsFirstNamed commands name c
     → IsFirstNamed commands name d → c ≡ d
 one_first commands name c d h k = ⊎_elim
