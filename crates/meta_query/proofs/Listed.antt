@@ -14,7 +14,7 @@ use Rattle.meta_main.specs.declared.manual.CommandForm.{CommandForm}
 use Rattle.meta_query.specs.declared.command.Command.{Command}
 use Rattle.meta_query.specs.declared.command.Command.TheVariants.{Query, Recheck, Tables, Types, Settings, Instructions, Builder, Synth}
 
--- what two filled options hold
+-- the value of an option, or this one if it has none
 abbrev inner : {A : Type 0} → A → Option A → A
 inner d None = d
 inner d (Some x) = x

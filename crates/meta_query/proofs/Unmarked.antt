@@ -42,7 +42,7 @@ mark_ahead : (a text : List ℕ) (at : ℕ) → IsMarkAt (a ++ text) (length a +
 mark_ahead a text at h =
     record { begins = begins_ahead a text at h.begins; behind = h.behind; is = sym (drop_ahead a text at) ∙ h.is }
 
--- so two of them, one after the other, are such a text
+-- two such texts, one after the other, are such a text
 pub unmarked_both : (a b : List ℕ) → IsUnmarked a → IsUnmarked b → IsUnmarked (a ++ b)
 unmarked_both a b one other = record { begins = begins; no_mark = no_mark }
   where
