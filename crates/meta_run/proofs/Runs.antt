@@ -45,7 +45,7 @@ module _ {S K : Type 0} (left : S → Option (List ℕ)) (reads : S → ℕ) (ta
   given true input bytes g h = read_all input bytes (left s') (sym g.0 ∙ h.read) h.end
   given false input bytes g h = h.0 ∙ sym g
 
-  -- a text that was written whole answers it
+  -- a text that was written whole answers what was given
   answered : (has_input is_rejection : Bool) → IsAnsweredWhole left reads taken writes d s s' k k' has_input texts is_rejection
       → (input before : List ℕ) → IsGiven left reads taken writes d s s' k k' has_input input → taken k ≡ Some before
       → (text : List ℕ) × texts d input is_rejection text × (taken k' ≡ Some (before ++ text))
@@ -53,13 +53,13 @@ module _ {S K : Type 0} (left : S → Option (List ℕ)) (reads : S → ℕ) (ta
       let all = given has_input input h.input g h.read in
       (h.text, subst (λ i. texts d i is_rejection h.text) all h.answers, h.took ∙ ap (λ t. with_more t h.text) taken_is)
 
-  -- nothing that is given fails to be read
+  -- for an input that is given no read fails
   no_read_fault : (has_input : Bool) (input : List ℕ) → IsGiven left reads taken writes d s s' k k' has_input input → has_input ≡ true
       → Rose (reads s) (reads s') → ⊥
   no_read_fault true input g e rose = g.2 rose
   no_read_fault false input g e rose = absurd (cc)
 
-  -- or is too long
+  -- an input that is given isn't too long
   not_too_long : (has_input : Bool) (input : List ℕ) → IsGiven left reads taken writes d s s' k k' has_input input → has_input ≡ true
       → GaveMore longest_input (left s) (left s') → ⊥
   not_too_long true input g e more = gave_within input (left s') g.1 (subst (λ l. GaveMore longest_input l (left s')) g.0 more)
