@@ -29,7 +29,7 @@ use Rattle.meta_verify.specs.declared.statement.TypedNumber.{TypedNumber}
 use Rattle.meta_verify.specs.declared.statement.Application.{Application}
 use Rattle.meta_verify.proofs.EnvironmentLemmas.{number_back, redefined_here, redefined_later}
 
--- the numbers of the results' types are those that are held
+-- the numbers of the results' types are the stored ones
 pub result_numbers : (rs : List TypedNumber) → All IsTypedNumber rs
     → map number_of (map (λ (r : TypedValue). r.type) (map typed_value_of rs)) ≡ map (λ (r : TypedNumber). r.number) rs
 result_numbers [] h = refl

@@ -112,7 +112,7 @@ left_typed : (rs : List TypedNumber) (i : ℕ) (d : TypedNumber) → i < length 
     → map typed_value_of (drop i rs) ≡ typed_value_of (get_or rs i d) ∷ map typed_value_of (drop (i + 1) rs)
 left_typed rs i d l = ap (map typed_value_of) (drop_next rs i (get_or rs i d) (slice_get-get_or rs i d l))
 
--- the next is neither defined before nor seen
+-- the next result is neither defined before nor seen
 is_fresh : (a b : Bool) (c : Bool) → a ≡ false → true ≡ not b → c ≡ (a || b) → c ≡ false
 is_fresh false false c h k e = e
 is_fresh false true c h k e = absurd (cc)
