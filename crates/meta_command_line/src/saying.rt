@@ -30,7 +30,7 @@ fn usage_of(
     usage_line(alloc, &manual, words)
 }
 
-/// The line that a file is missing for the first word. If there is no first word, the error is `AllocError`.
+/// The line that a file is missing for the first word. If there were no first word, the error would be `AllocError`.
 fn file_missing(alloc: Global, words: &[Text]) -> Result<String, AllocError>
     requires { MissFile words.now }
     ensures plain { IfOk result (λ line. IsPlain (string_bytes line)) }
@@ -68,7 +68,7 @@ fn usage_of_both(
     usage_of(alloc, commands, &words)
 }
 
-/// The line that the word at this place is too many. If there is no such word, the error is `AllocError`.
+/// The line that the word at this place is too many. If there were no such word, the error would be `AllocError`.
 fn word_too_many(
     alloc: Global,
     commands: &'static [CommandForm],
