@@ -46,7 +46,8 @@ pub(crate) fn push_fields(
     Ok(())
 }
 
-/// The pattern of a format: the opcode, the values' member by this text, the blocks' by this one, and the others by this one.
+/// The pattern of a format. `opcode` is the text of the opcode. The other texts are those of a member: `values` of the member of the
+/// values, `blocks` of that of the blocks, and `others` of each other member.
 pub(crate) fn pattern(
     alloc: Global,
     opcode: &str,
