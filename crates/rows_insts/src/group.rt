@@ -31,7 +31,7 @@ pub(crate) fn write_setting(setting: &Setting, case: &mut Case<'_>) {
     write_prose(case, comment);
 }
 
-/// Writes the group's sizes and its default bytes, and for each byte what its settings give to it.
+/// Writes the group's name, its sizes and its default bytes. Each byte is what the settings of that byte give to it.
 pub(crate) fn write_bytes(
     alloc: Global,
     group: &SettingGroup,
