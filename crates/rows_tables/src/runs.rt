@@ -50,7 +50,8 @@ fn write_run(
 }
 
 /// Writes how a run of the words that are left ends over an input: `run WORDS`. `reads COUNT WORDS` and `writes COUNT WORDS` make COUNT
-/// runs, and in each the read or the write with the number of the run fails. The numbers begin with 0, and no call has that number.
+/// runs, numbered from 0. In each the read or the write with the number of the run fails. Calls are numbered from 1, so no call fails in
+/// the first run.
 pub(crate) fn write_runs(
     alloc: Global,
     mut outside: Outside,
