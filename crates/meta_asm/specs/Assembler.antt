@@ -53,7 +53,8 @@ module _ {S K : Type 0} (left : S → Option (List ℕ)) (reads : S → ℕ) (ta
       words ≡ words_for Short → AreValid d → (input before : List ℕ) → NothingFails input before ending
       → WritesShortForms input before ending ⊎ SaysWrong left reads taken writes d s s' k k' input before ending
 
-  -- If the word is `explicit`, the lines are written that the input reads as, or which text is the first that reads as no line.
+  -- If the word is `explicit`, the declarations are valid, and nothing failed, then the lines are written that the input reads as, or which
+  -- text is the first that reads as no line.
   abbrev pub SpellsList : List (List ℕ) → Ending → Type 0
   SpellsList words ending =
       words ≡ words_for Explicit → AreValid d → (input before : List ℕ) → NothingFails input before ending
