@@ -30,7 +30,7 @@ module _ {S K : Type 0} (left : S → Option (List ℕ)) (reads : S → ℕ) (ta
       × (taken k' ≡ Some (before ++ wrong_text (n + 1) reason))
 
   -- If there are no words and the declarations are valid, memory didn't run out, contracts see the bytes of the source, which are at most
-  -- the limit, and no count rose, then one of the two is said of the bytes that were left.
+  -- the limit, and those that the sink had taken, and no count rose, then one of the two is said of the bytes that were left.
   abbrev pub ChecksLines : List (List ℕ) → Ending → Type 0
   ChecksLines words ending =
       words ≡ [] → AreValid d → ending ≢ OutOfMemory → (input before : List ℕ)
